@@ -1,0 +1,2 @@
+mod Lexing
+pub mod Automata

@@ -1,0 +1,5 @@
+pub mod Samples
+mod Reading
+mod Rules
+mod Legality
+pub mod Laws

@@ -1,0 +1,12 @@
+pub mod Signs
+pub mod Kinds
+pub mod Nonterminals
+pub mod Grammar
+pub mod Form
+pub mod Spelling
+pub mod Layout
+pub mod Reading
+pub mod Depth
+pub mod Normal
+pub mod Parentheses
+pub mod StaticRules
