@@ -3,3 +3,4 @@ mod Reading
 mod Rules
 mod Legality
 pub mod Laws
+pub mod Views

@@ -10,3 +10,6 @@ pub mod Depth
 pub mod Normal
 pub mod Parentheses
 pub mod StaticRules
+pub mod View
+pub mod Program
+pub mod Stage

@@ -1,0 +1,43 @@
+-- Where the lexer stands, and the tokens that the parser asks it for.
+use Rattle.std.specs.Prelude.{ℕ, codes, length}
+use Rattle.jsx_base.specs.Token.{Text, Operand, Operator, Tag, TokenKind, IdentifierName, Punctuator, NumericLiteral, StringLiteral, JsxName}
+use Rattle.jsx_tree.specs.Signs.{Sign, Tok, AfterExpr}
+use Rattle.jsx_tree.specs.Spelling.{mode_of}
+use Rattle.jsx_tree.specs.Reading.{Place, At}
+use Rattle.jsx_syntax.specs.declared.lexer.Fixed.{Fixed}
+use Rattle.jsx_syntax.specs.declared.lexer.Fixed.TheVariants as fixed
+use Rattle.jsx_syntax.specs.declared.lexer.Leaf.{Leaf}
+use Rattle.jsx_syntax.specs.declared.lexer.Leaf.TheVariants as leaf
+
+-- behind a token, none at the text's begin, before the rest of the text
+pub record Here : Type 0 where
+  pub last : Text
+  pub rest : Text
+
+abbrev pub place_of : Here → Place
+place_of h = At h.last AfterExpr h.rest
+
+-- how many characters are left
+abbrev pub left : Here → ℕ
+left h = length h.rest
+
+abbrev pub sign_of : Fixed → Sign
+sign_of fixed.Const = Tok Operator IdentifierName (codes "const")
+sign_of fixed.Equals = Tok Operator Punctuator (codes "=")
+sign_of fixed.Semicolon = Tok Operator Punctuator (codes ";")
+sign_of fixed.Open = Tok Operator Punctuator (codes "(")
+sign_of fixed.Close = Tok Operator Punctuator (codes ")")
+sign_of fixed.Comma = Tok Operator Punctuator (codes ",")
+sign_of fixed.Dot = Tok Operator Punctuator (codes ".")
+sign_of fixed.Less = Tok Operand Punctuator (codes "<")
+sign_of fixed.TagSlash = Tok Tag Punctuator (codes "/")
+sign_of fixed.TagGreater = Tok Tag Punctuator (codes ">")
+
+abbrev pub kind_of : Leaf → TokenKind
+kind_of leaf.Name = IdentifierName
+kind_of leaf.Num = NumericLiteral
+kind_of leaf.Str = StringLiteral
+kind_of leaf.JsxName = JsxName
+
+abbrev pub leaf_sign : Leaf → Text → Sign
+leaf_sign l t = Tok (mode_of (kind_of l)) (kind_of l) t

@@ -1,0 +1,4 @@
+//! Reads a text as the one tree that the grammar gives it.
+#![tactic(auto)]
+
+mod lexer;

@@ -1,0 +1,65 @@
+-- What of the language the compiler takes so far: a table over kinds, leaves and a few further limits. Widening the language widens this table.
+use Rattle.std.specs.Prelude.{List, [], ◌∷◌, codes, Bool, true, false, IsTrue, not, ◌&&◌}
+use Rattle.std.specs.Char.{is_ascii_alphabetic}
+use Rattle.jsx_base.specs.Token.{Text, Operator, TokenKind, IdentifierName, Punctuator, JsxName, same, first_is}
+use Rattle.jsx_tree.specs.declared.text.Goal.TheVariants as goals
+use Rattle.jsx_tree.specs.Signs.{Sign, Tok, Semicolon, AfterExpr}
+use Rattle.jsx_tree.specs.Kinds.{ConstWord, Module, Var, Declarator, Binds, Element, Kind, program, statement, jsx, Tree, leaf, node, list, Forest, none, part}
+use Rattle.jsx_tree.specs.Nonterminals.{Nonterminal, Pat, TagName, WholeProgram, has_dash}
+use Rattle.jsx_tree.specs.Form.{Position, position, positions}
+use Rattle.jsx_tree.specs.Spelling.{spelled}
+use Rattle.jsx_tree.specs.Reading.{At, scan, ended_at}
+use Rattle.jsx_tree.specs.Program.{Reads}
+
+abbrev pub has_kind : Kind → Bool
+has_kind (program Module) = true
+has_kind (statement (Var ConstWord)) = true
+has_kind (statement Declarator) = true
+has_kind (jsx Element) = true
+has_kind k = false
+
+-- a tag that is one plain name, begins with an ASCII letter and isn't `this`
+abbrev pub is_plain_tag : Text → Bool
+is_plain_tag t = first_is is_ascii_alphabetic t && (not (has_dash t) && not (same t (codes "this")))
+
+-- which leaves may stand at a place
+abbrev pub leaf_at : Nonterminal → TokenKind → Text → Bool
+leaf_at (Pat Binds) IdentifierName t = true
+leaf_at TagName JsxName t = is_plain_tag t
+leaf_at c k t = false
+
+-- a declaration has one declarator
+abbrev pub has_one : Forest → Bool
+has_one (part (list (part d none)) none) = true
+has_one cs = false
+
+abbrev pub limits : Kind → Forest → Bool
+limits (statement (Var w)) cs = has_one cs
+limits k cs = true
+
+abbrev mutual
+  pub in_stage : Nonterminal → Tree → Bool
+  in_stage c (leaf k t) = leaf_at c k t
+  in_stage c (node k cs) = has_kind k && (limits k cs && in_stages (positions k) cs)
+  in_stage c (list ts) = each_in_stage c ts
+
+  pub in_stages : List Position → Forest → Bool
+  in_stages [] ts = true
+  in_stages (s ∷ ss) none = true
+  in_stages (position f c g b a ∷ ss) (part t ts) = in_stage c t && in_stages ss ts
+
+  pub each_in_stage : Nonterminal → Forest → Bool
+  each_in_stage c none = true
+  each_in_stage c (part t ts) = in_stage c t && each_in_stage c ts
+
+-- no semicolon may be missing yet
+abbrev pub with_semicolons : List Sign → List Sign
+with_semicolons [] = []
+with_semicolons (Semicolon ∷ ss) = Tok Operator Punctuator (codes ";") ∷ with_semicolons ss
+with_semicolons (s ∷ ss) = s ∷ with_semicolons ss
+
+-- the text reads as this module, which the compiler takes so far
+pub record ReadsSoFar (text : Text) (t : Tree) : Type 0 where
+  pub reads : Reads goals.Module text t
+  pub staged : IsTrue (in_stage WholeProgram t)
+  pub semicolons : IsTrue (ended_at (scan (At [] AfterExpr text) (with_semicolons (spelled t))))
