@@ -1,0 +1,4 @@
+pub mod Made
+pub mod Element
+pub mod StandsFor
+pub mod Compiles
