@@ -67,7 +67,7 @@ impl Source for MemSource {
         if self.reads.next_fails() {
             return Err(Failed);
         }
-        let mut rest = &self.bytes[self.given..];
+        let rest = &self.bytes[self.given..];
         let n = copy_front(rest, buf);
         self.given += n;
         Ok(n)
