@@ -1,5 +1,9 @@
 //! From the bytes of a source to the bytes of its code.
 #![tactic(auto)]
 
-/// Nothing yet.
-pub fn nothing() {}
+mod compiler;
+mod input;
+mod program;
+
+pub use compiler::{CompileError, Output, compile};
+pub use program::{Status, run};
