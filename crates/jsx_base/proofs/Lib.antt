@@ -1,2 +1,3 @@
 mod Lexing
 pub mod Automata
+pub mod Gains

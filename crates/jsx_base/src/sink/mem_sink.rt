@@ -72,6 +72,7 @@ impl Sink for MemSink {
         ensures all { OnOk result (self.new.holds ≡ self.old.holds ++ bytes.now) }
         ensures nothing { OnErr result (self.new.holds ≡ self.old.holds) }
         ensures room { self.old.room ≤ self.new.room + length bytes.now }
+        ensures room_kept { OnErr result (self.new.room ≡ self.old.room) }
 
         ensures same_list { self.new.writes.fail ≡ self.old.writes.fail }
         ensures next { self.new.writes.next ≡ one_more self.old.writes.next }
@@ -81,6 +82,7 @@ impl Sink for MemSink {
         if self.writes.next_fails() {
             return Err(Failed);
         }
-        self.bytes.extend_from_slice(bytes).map_err(|_| Failed)
+        self.bytes.extend_from_slice(bytes).unwrap();
+        Ok(())
     }
 }

@@ -44,7 +44,6 @@ impl<W: Write> Sink for StdSink<W> {
         ensures enough { n ≤ 2 ^ 64 - 1 }
         ensures same { self.new ≡ self.old }
     {
-        let _ = n;
         Ok(())
     }
 

@@ -1,6 +1,6 @@
 //! A source in memory.
 
-ghost use Rattle.std.specs.Prelude.{◌≡◌, ◌+◌, ◌-◌, ◌<◌, ◌≤◌, ◌↔◌, [], ◌++◌, length, take, drop, min, Ok, Some, IfOk, IsErr, OnOk, OnErr};
+ghost use Rattle.std.specs.Prelude.{◌≡◌, ◌+◌, ◌↔◌, ◌++◌, length, take, drop, min, Some, IfOk, IsErr, OnOk, OnErr};
 ghost use Rattle.jsx_base.specs.Calls.{NextFails};
 ghost use Rattle.jsx_base.specs.Faults.{one_more};
 
