@@ -4,3 +4,6 @@ mod Rules
 mod Legality
 pub mod Laws
 pub mod Views
+mod Patterns
+mod Classes
+mod Expressions
