@@ -7,3 +7,9 @@ pub mod Views
 mod Patterns
 mod Classes
 mod Expressions
+mod Statements
+mod Semicolons
+mod Modules
+mod JsxForms
+mod Depths
+mod Layouts
