@@ -2,7 +2,7 @@
 use Rattle.std.specs.Prelude.{List, [], ◌∷◌, codes, Bool, true, false, cond, ◌&&◌, ◌||◌, not}
 use Rattle.jsx_base.specs.Token.{Text, TokenKind, Punctuator, Elision, same, among}
 use Rattle.jsx_tree.specs.Signs.{Tok, Unless}
-use Rattle.jsx_tree.specs.Kinds.{RestPat, RestProperty, Call, ImportCall, Chain, Kind, function, expression, Tree, leaf, node, list, Forest, none, part}
+use Rattle.jsx_tree.specs.Kinds.{RestPat, RestProperty, Call, SuperCall, ImportCall, Chain, Kind, function, expression, Tree, leaf, node, list, Forest, none, part}
 use Rattle.jsx_tree.specs.Nonterminals.{Nonterminal, TemplatePart, NewCallee, in_homes, homes, leaf_in}
 use Rattle.jsx_base.specs.Token.{is_token, token}
 use Rattle.jsx_tree.specs.Spelling.{mode_of}
@@ -80,6 +80,7 @@ leads ps = false
 
 abbrev pub calls : Kind → Bool
 calls (expression Call) = true
+calls (expression SuperCall) = true
 calls (expression ImportCall) = true
 calls (expression Chain) = true
 calls k = false

@@ -4,7 +4,7 @@ use Prim.Native.String.{String}
 use Rattle.jsx_base.specs.Token.{Text, Operand, Operator, Tag, Children, IdentifierName, Punctuator, NoSubstitution, TemplateHead, TemplateMiddle, TemplateTail}
 use Rattle.jsx_tree.specs.Signs.{Ending, AfterBlock, AfterWord, AfterList, AfterBinding, AfterKey, AfterDo, Sign, Tok, Semicolon, Unless, SameLine, Ends, Space, Pad, Indent, Outdent, Unindent, Apart, Begin, Count, One, End}
 use Rattle.jsx_tree.specs.Kinds.{DeclareWord, VarWord, LetWord, ConstWord, Side, Imported, Exported, From, ProgramKind, Module, Script, FunctionBody, Directive, ImportBare, Import, ImportAll, ImportList, ImportBoth, Specifier, SpecifierAs, ExportNames, ExportFrom, ExportAll, ExportAllAs, ExportDecl, ExportDefaultFn, ExportDefaultClass, ExportDefaultExpr, StatementKind, Block, Var, Declarator, Empty, ExprStmt, If, Do, While, For, ForDeclaration, ForIn, ForOf, ForBinding, Continue, Break, Return, Throw, Debugger, Label, Switch, Case, Default, Try, Catch, FunctionDecl, ClassDecl, Holder, Static, Binds, Assigns, FunctionKind, FunctionExpr, ClassExpr, Method, Getter, Setter, Field, ComputedKey, ArrayPat, ObjectPat, PropertyPat, ShorthandPat, ShorthandInit, WithInit, RestPat, RestProperty, ParenTarget, BinaryOp, Nullish, Or, And, BitOr, BitXor, BitAnd, Equal, Unequal, StrictEqual, StrictUnequal, InOp, InstanceOf, ShiftLeft, ShiftRight, ShiftOut, Add, Subtract, Multiply, Divide, Remainder, Exponentiate, UnaryOp, Positive, Negative, Complement, Not, ExpressionKind, Seq, Assign, OpAssign, Arrow, ArrowBlock, BareArrow, BareArrowBlock, Cond, Binary, Unary, PrefixUpdate, PostfixUpdate, Call, Member, Index, Tagged, New, NewWithoutArguments, SuperCall, SuperMember, SuperIndex, ImportCall, ImportMeta, NewTarget, Chain, NameLink, IndexLink, CallLink, Array, Object, Property, Shorthand, Spread, Parenthesized, PlainTemplate, SubstitutedTemplate, TemplateSpan, JsxKind, Element, ElementWithChildren, Fragment, NamespacedName, MemberName, Attribute, Container, EmptyContainer, JsxSpread, Kind, program, statement, function, expression, jsx}
-use Rattle.jsx_tree.specs.Nonterminals.{Nonterminal, Expr, MemberObject, SimpleTarget, Ident, BindingIdent, Name, StringOnly, Pat, Slot, PatProp, Param, Declarators, Key, ClassMember, ObjectMember, Argument, ArrayItem, ChainLink, TemplateOf, TemplatePart, TemplateSpans, Stmt, SubStmt, Item, DirectiveOnly, Body, BlockOnly, CaseClause, CatchClause, Declaration, ClassOnly, ForInit, ForHead, ImportClause, ImportBindings, Specifiers, TagName, Attributes, AttributeName, AttributeValue, Child, MemberRoot, MemberPart, JsxWord, NullishLeft, NewCallee, DotObject, ForOfHead, SetterParam, level_of, binary, unary, update}
+use Rattle.jsx_tree.specs.Nonterminals.{Nonterminal, Expr, MemberObject, SimpleTarget, Ident, BindingIdent, Name, StringOnly, Pat, Slot, PatProp, PatElement, Param, Declarators, Key, ClassMember, ObjectMember, Argument, ArrayItem, ChainLink, TemplateOf, TemplatePart, TemplateSpans, Stmt, SubStmt, Item, DirectiveOnly, Body, BlockOnly, CaseClause, CatchClause, Declaration, ClassOnly, ForInit, ForHead, ImportClause, ImportBindings, Specifiers, TagName, Attributes, AttributeName, AttributeValue, Child, MemberRoot, MemberPart, JsxWord, NullishLeft, NewCallee, DotObject, ForOfHead, SetterParam, level_of, binary, unary, update}
 
 -- how the trees of one place stand together
 pub data ListShape : Type 0 where
@@ -198,7 +198,7 @@ function_production (Field h) = prefixed h (Part Key ∷ Within InField ∷ Fixe
 function_production ComputedKey = p "[" ∷ Part (Expr 1) ∷ p "]" ∷ []
 function_production (ArrayPat r) = count ∷ p "[" ∷ Many Elisions (Slot r) ∷ p "]" ∷ []
 function_production (ObjectPat r) = count ∷ braces (PatProp r)
-function_production (PropertyPat r) = count ∷ Part Key ∷ p ":" ∷ sp ∷ Part (Slot r) ∷ []
+function_production (PropertyPat r) = count ∷ Part Key ∷ p ":" ∷ sp ∷ Part (PatElement r) ∷ []
 function_production (ShorthandPat r) = count ∷ Part BindingIdent ∷ []
 function_production (ShorthandInit r) = count ∷ Fixed Begin ∷ Part BindingIdent ∷ sp ∷ count ∷ p "=" ∷ sp ∷ Part (Expr 1) ∷ Fixed End ∷ []
 function_production (WithInit r) = Part (Pat r) ∷ sp ∷ count ∷ p "=" ∷ sp ∷ Part (Expr 1) ∷ []

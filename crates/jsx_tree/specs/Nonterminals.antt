@@ -16,6 +16,8 @@ pub data Nonterminal : Type 0 where
   Pat : Role → Nonterminal
   Slot : Role → Nonterminal
   PatProp : Role → Nonterminal
+  -- the value of a pattern's property: a pattern with an initialiser or without, as a slot but never a hole or a rest
+  PatElement : Role → Nonterminal
   Param : Nonterminal
   Declarators : Nonterminal
   Key : Nonterminal
@@ -139,6 +141,8 @@ number NewCallee = 58
 number DotObject = 59
 number ForOfHead = 60
 number SetterParam = 61
+number (PatElement Binds) = 62
+number (PatElement Assigns) = 63
 
 abbrev pub floor : Nonterminal → ℕ
 floor (Expr n) = n
@@ -248,7 +252,7 @@ abbrev pub object : List Nonterminal
 object = Expr 17 ∷ MemberObject ∷ Argument ∷ ArrayItem ∷ ForInit ∷ []
 
 abbrev pub target : List Nonterminal
-target = SimpleTarget ∷ Pat Assigns ∷ Slot Assigns ∷ ForHead ∷ object
+target = SimpleTarget ∷ Pat Assigns ∷ PatElement Assigns ∷ Slot Assigns ∷ ForHead ∷ object
 
 abbrev pub primary : List Nonterminal
 primary = Expr 18 ∷ MemberObject ∷ Argument ∷ ArrayItem ∷ ForInit ∷ []
@@ -296,19 +300,19 @@ homes_of_function (Setter h) = holder h
 homes_of_function (Field InObject) = []
 homes_of_function (Field h) = ClassMember ∷ []
 homes_of_function ComputedKey = Key ∷ []
-homes_of_function (ArrayPat Binds) = SetterParam ∷ Pat Binds ∷ Slot Binds ∷ Param ∷ []
-homes_of_function (ObjectPat Binds) = SetterParam ∷ Pat Binds ∷ Slot Binds ∷ Param ∷ []
-homes_of_function (ArrayPat Assigns) = Pat Assigns ∷ Slot Assigns ∷ ForHead ∷ []
-homes_of_function (ObjectPat Assigns) = Pat Assigns ∷ Slot Assigns ∷ ForHead ∷ []
+homes_of_function (ArrayPat Binds) = SetterParam ∷ Pat Binds ∷ PatElement Binds ∷ Slot Binds ∷ Param ∷ []
+homes_of_function (ObjectPat Binds) = SetterParam ∷ Pat Binds ∷ PatElement Binds ∷ Slot Binds ∷ Param ∷ []
+homes_of_function (ArrayPat Assigns) = Pat Assigns ∷ PatElement Assigns ∷ Slot Assigns ∷ ForHead ∷ []
+homes_of_function (ObjectPat Assigns) = Pat Assigns ∷ PatElement Assigns ∷ Slot Assigns ∷ ForHead ∷ []
 homes_of_function (PropertyPat r) = PatProp r ∷ []
 homes_of_function (ShorthandPat r) = PatProp r ∷ []
 homes_of_function (ShorthandInit r) = PatProp r ∷ []
-homes_of_function (WithInit Binds) = SetterParam ∷ Slot Binds ∷ Param ∷ []
-homes_of_function (WithInit Assigns) = Slot Assigns ∷ []
+homes_of_function (WithInit Binds) = SetterParam ∷ PatElement Binds ∷ Slot Binds ∷ Param ∷ []
+homes_of_function (WithInit Assigns) = PatElement Assigns ∷ Slot Assigns ∷ []
 homes_of_function (RestPat Binds) = Slot Binds ∷ Param ∷ []
 homes_of_function (RestPat Assigns) = Slot Assigns ∷ []
 homes_of_function (RestProperty r) = PatProp r ∷ []
-homes_of_function ParenTarget = SimpleTarget ∷ Pat Assigns ∷ Slot Assigns ∷ ForHead ∷ []
+homes_of_function ParenTarget = SimpleTarget ∷ Pat Assigns ∷ PatElement Assigns ∷ Slot Assigns ∷ ForHead ∷ []
 
 abbrev pub homes_of_expression : ExpressionKind → List Nonterminal
 homes_of_expression Seq = Expr 0 ∷ ForInit ∷ []
@@ -402,6 +406,7 @@ word_in Ident t = is_ident t
 word_in BindingIdent t = is_bound t
 word_in SimpleTarget t = is_bound t
 word_in (Pat r) t = is_bound t
+word_in (PatElement r) t = is_bound t
 word_in (Slot r) t = is_bound t
 word_in Param t = is_bound t
 word_in SetterParam t = is_bound t

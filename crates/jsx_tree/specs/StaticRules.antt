@@ -56,7 +56,8 @@ is_constructor t = false
 abbrev pub is_good_member : Tree → Bool
 is_good_member (node (function (Getter InClass)) (part k cs)) = not (is_key (codes "constructor") k)
 is_good_member (node (function (Setter InClass)) (part k cs)) = not (is_key (codes "constructor") k)
-is_good_member (node (function (Field h)) (part k cs)) = not (is_key (codes "constructor") k) && not (is_key (codes "prototype") k)
+is_good_member (node (function (Field InClass)) (part k cs)) = not (is_key (codes "constructor") k)
+is_good_member (node (function (Field Static)) (part k cs)) = not (is_key (codes "constructor") k) && not (is_key (codes "prototype") k)
 is_good_member (node (function (Method Static)) (part k cs)) = not (is_key (codes "prototype") k)
 is_good_member (node (function (Getter Static)) (part k cs)) = not (is_key (codes "prototype") k)
 is_good_member (node (function (Setter Static)) (part k cs)) = not (is_key (codes "prototype") k)
@@ -159,8 +160,8 @@ abbrev mutual
 
 -- whether all escapes of a template's piece are those of strings
 abbrev pub escapes : State → Text → Bool
+escapes Dead t = false
 escapes s [] = true
-escapes Dead (c ∷ t) = false
 escapes (Done k) (c ∷ t) = escapes (step (InString 96) (cond (is_line_end c) 32 c)) t
 escapes s (c ∷ t) = escapes (step s (cond (is_line_end c) 32 c)) t
 
