@@ -1,2 +1,3 @@
 mod Lexing
+mod Literals
 pub mod Automata

@@ -1,6 +1,5 @@
 use Rattle.std.proofs.Common.{◌≡◌, ◌≤◌, ◌-◌, length, take}
 use Rattle.std.specs.Io.KnownBytes.{Appends}
-use Rattle.jsx_base.specs.StdSink.{writer, failed_writes}
 use Rattle.jsx_base.proofs.sink.std_sink.StdSinkSink.write.Given as goal
 
 abbrev pub invariant-loop-written : goal.invariant-loop-written
