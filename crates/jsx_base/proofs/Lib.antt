@@ -1,3 +1,4 @@
 mod Lexing
+mod Literals
 pub mod Automata
 pub mod Gains

@@ -1,10 +1,10 @@
 -- Depths, computed: of whole trees, and of fronts, given by the number of their tokens.
 use Rattle.std.specs.Prelude.{◌≡◌, ℕ, codes, true, false, refl}
 use Rattle.jsx_base.specs.Token.{NoSubstitution, TemplateHead, TemplateTail}
-use Rattle.jsx_tree.specs.Kinds.{Tree, VarWord, Imported, Import, ImportList, SpecifierAs, Var, Declarator, Empty, For, ForDeclaration, Return, Debugger, Label, InClass, Static, Binds, Method, Getter, Field, ComputedKey, WithInit, Seq, BareArrow, Tagged, ImportMeta, Chain, NameLink, CallLink, Spread, PlainTemplate, SubstitutedTemplate, Element, Attribute, Container, program, statement, function, expression, jsx, leaf, list, none, part}
+use Rattle.jsx_tree.specs.Kinds.{Tree, VarWord, Imported, Import, ImportList, SpecifierAs, Var, Declarator, Empty, If, For, ForDeclaration, Return, Debugger, Label, InClass, Static, Binds, Method, Getter, Field, ComputedKey, WithInit, Seq, BareArrow, Tagged, ImportMeta, Chain, NameLink, CallLink, Spread, PlainTemplate, SubstitutedTemplate, Element, Attribute, Container, program, statement, function, expression, jsx, leaf, list, none, part}
 use Rattle.jsx_tree.specs.Spelling.{spelled}
 use Rattle.jsx_tree.specs.Depth.{deep, depth, front}
-use Rattle.jsx_tree.proofs.Samples.{n, str, n0, n1, n2, n3, n4, l0, l1, l2, l3, stmt, script, jn, body_of, call, dot, paren, set_to, object_of, arrow}
+use Rattle.jsx_tree.proofs.Samples.{n, str, n0, n1, n2, n3, n4, l0, l1, l2, l3, stmt, script, jn, body_of, call, dot, paren, set_to, object_of, arrow, block}
 
 abbrev front_of : ℕ → Tree → ℕ
 front_of k t = deep (front k (spelled t))
@@ -108,3 +108,19 @@ container_2 = refl
 -- a chain is one node, its links are parts
 chain : depth (n2 (expression Chain) (n "a") (l3 (n1 (expression (NameLink true)) (n "b")) (n1 (expression (CallLink false)) (l1 (paren (n "c")))) (n1 (expression (NameLink false)) (n "d")))) ≡ 3
 chain = refl
+
+-- if (a) b; else {c}: the fronts up to `if`, `a`, the brace and `c`
+abbrev if_else : Tree
+if_else = n3 (statement If) (n "a") (stmt (n "b")) (l1 (block (l1 (stmt (n "c")))))
+
+if_1 : front_of 1 if_else ≡ 1
+if_1 = refl
+
+if_3 : front_of 3 if_else ≡ 2
+if_3 = refl
+
+if_7 : front_of 7 if_else ≡ 2
+if_7 = refl
+
+if_8 : front_of 8 if_else ≡ 3
+if_8 = refl

@@ -2,10 +2,10 @@
 use Rattle.std.specs.Prelude.{◌≡◌, ℕ, List, [], ◌∷◌, codes, true, false, refl, cond, nat_eq}
 use Prim.Native.String.{String}
 use Rattle.jsx_base.specs.Token.{same, JsxString, JsxText}
-use Rattle.jsx_tree.specs.Kinds.{Tree, ConstWord, Var, Declarator, FunctionDecl, InObject, Getter, ComputedKey, Less, Seq, Binary, Property, Spread, Element, ElementWithChildren, Fragment, NamespacedName, MemberName, Attribute, Container, EmptyContainer, JsxSpread, statement, function, expression, jsx, leaf, list, none, part}
+use Rattle.jsx_tree.specs.Kinds.{Tree, ConstWord, Var, Declarator, InObject, Getter, ComputedKey, Less, Seq, Binary, Property, Spread, Element, ElementWithChildren, Fragment, NamespacedName, MemberName, Attribute, Container, EmptyContainer, JsxSpread, statement, function, expression, jsx, leaf, list, none, part}
 use Rattle.jsx_tree.specs.Spelling.{spelled}
 use Rattle.jsx_tree.specs.Layout.{Note, laid, Beside}
-use Rattle.jsx_tree.proofs.Samples.{n, num, str, n0, n1, n2, n3, n4, l0, l1, l2, l3, stmt, script, jn, module_of, body_of, call, dot, set_to, object_of, reads_expr, reads_module, keeps, prints}
+use Rattle.jsx_tree.proofs.Samples.{n, num, str, n0, n1, n2, n4, l0, l1, l2, l3, stmt, script, jn, module_of, body_of, call, dot, set_to, object_of, reads_expr, reads_module, keeps, prints}
 
 abbrev text_of : String → Tree
 text_of s = leaf JsxText (codes s)

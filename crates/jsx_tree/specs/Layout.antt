@@ -1,4 +1,4 @@
--- The text of a tree: its tokens with blanks, line ends and comments between them.
+-- The text of a tree: its tokens (ECMA-262 section 12) with blanks, line ends and comments between them.
 use Rattle.std.specs.Prelude.{ℕ, suc, List, [], ◌∷◌, ◌++◌, codes, Bool, true, false, cond, nat_eq, ◌||◌}
 use Rattle.jsx_tree.specs.Kinds.{Tree}
 use Rattle.jsx_base.specs.Token.{Text}

@@ -1,4 +1,4 @@
--- Where parentheses are put.
+-- Where parentheses are put (ECMA-262 sections 13.2, parenthesized expressions, and 14.5).
 use Rattle.std.specs.Prelude.{List, [], ◌∷◌, codes, Bool, true, false, cond, not, ◌&&◌, ◌||◌}
 use Rattle.jsx_base.specs.Token.{Text, IdentifierName, NumericLiteral, StringLiteral, same, among}
 use Rattle.jsx_tree.specs.Kinds.{Module, Script, FunctionBody, ExprStmt, ForOf, ParenTarget, InOp, Binary, Parenthesized, Kind, program, statement, function, expression, Tree, leaf, node, list, Forest, none, part}
@@ -28,7 +28,7 @@ is_expression (list ts) = false
 abbrev pub parens_of : Tree → Tree
 parens_of e = node (expression Parenthesized) (part e none)
 
--- where a number would take the dot that follows
+-- where a number would take the dot that follows: `(1).a`
 abbrev pub is_dotted_number : Nonterminal → Tree → Bool
 is_dotted_number DotObject (leaf NumericLiteral t) = true
 is_dotted_number c t = false
@@ -43,7 +43,7 @@ as_laid (leaf s t) = leaf s t
 as_laid (node k cs) = laid_node k cs
 as_laid (list ts) = list ts
 
--- whether an expression stands at a place only in parentheses
+-- whether an expression stands at a place only in parentheses: it isn't at home there, or it would begin with a token that may not come first
 abbrev pub wants : Nonterminal → List Text → Tree → Bool
 wants c g t = asks c && (is_expression t && (not (admits c (as_laid t)) || (among (first_token (spelled t)) g || is_dotted_number c t)))
 
@@ -51,7 +51,7 @@ abbrev pub wrapped : Nonterminal → List Text → Tree → Tree
 wrapped c g t = cond (wants c g t) (parens_of t) t
 
 abbrev mutual
-  -- what the table asks by itself
+  -- what the productions ask by themselves
   pub dress : Nonterminal → List Text → Tree → Tree
   dress c g (leaf s t) = wrapped c g (leaf s t)
   dress c g (node k cs) = wrapped c g (node k (dresses (positions k) cs))
