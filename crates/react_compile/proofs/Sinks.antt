@@ -1,6 +1,5 @@
 -- What a sink gains.
-use Rattle.std.proofs.Common.{◌≡◌, ℕ, List, [], append-nil, refl, sym, ap, inl, inr, Option, Some, None, ◌⊎◌}
-use Rattle.std.specs.Io.KnownBytes.{append_known}
+use Rattle.std.proofs.Common.{ℕ, List, [], append-nil, refl, sym, ap, inl, inr, Option, Some, None, ◌⊎◌}
 use Rattle.jsx_base.specs.Sink.{Gains, GainsPrefix}
 use Rattle.react_compile.specs.Run.{TellsPrefix, bad_words, read_fault, out_of_memory, syntax_error, input_too_big}
 

@@ -1,5 +1,5 @@
 -- Bytes of a source, piece after piece.
-use Rattle.std.proofs.Common.{◌≡◌, ℕ, ◌+◌, ◌<◌, ◌≤◌, List, [], ◌++◌, arith, inl, inr, append_assoc, append-nil, refl, sym, ap, ◌∙◌, Option, Some, None, subst, length, take, drop, ◌↔◌, IfSome}
+use Rattle.std.proofs.Common.{◌≡◌, ℕ, ◌≤◌, List, [], ◌++◌, arith, inl, inr, append_assoc, append-nil, refl, sym, ap, ◌∙◌, Option, Some, None, subst, length, take, drop, ◌↔◌, IfSome}
 use Rattle.std.proofs.Math.Seq.{take-append_seam}
 use Rattle.std.specs.Io.KnownBytes.{prepend_known}
 use Rattle.jsx_base.specs.Faults.{Rose}

@@ -1,5 +1,6 @@
 -- What a run leaves: what it took of its source, and what its sinks gained.
-use Rattle.std.specs.Prelude.{◌≡◌, ◌⊎◌, ℕ, ◌<◌, List, [], codes, Option, IfSome, length}
+use Rattle.std.specs.Prelude.{◌≡◌, ◌⊎◌, ℕ, ◌<◌, ◌≤◌, List, [], codes, Option, Some, IfSome, length}
+use Rattle.jsx_base.specs.Faults.{Rose}
 use Rattle.jsx_base.specs.Source.{Gives}
 use Rattle.jsx_base.specs.Sink.{Gains, GainsPrefix}
 use Rattle.jsx_tree.specs.Kinds.{Tree}
@@ -77,3 +78,14 @@ pub record TellsPrefix (held holds : Option (List ℕ)) : Type 0 where
   pub line : List ℕ
   pub is_line : (line ≡ bad_words) ⊎ ((line ≡ read_fault) ⊎ ((line ≡ out_of_memory) ⊎ ((line ≡ syntax_error) ⊎ (line ≡ input_too_big))))
   pub gains : GainsPrefix held holds line
+
+-- what a run without words is given so that it has to give code: a source that tells its bytes, few enough, which read, and no fault in this call
+pub record IsValid (left : Option (List ℕ)) (reads_old reads_new out_old out_new err_old err_new : ℕ) : Type 0 where
+  pub bytes : List ℕ
+  pub told : left ≡ Some bytes
+  pub few : length bytes ≤ max_source
+  pub tree : Tree
+  pub is_source : IsSource bytes tree
+  pub read : Rose reads_old reads_new → ⊥
+  pub out : Rose out_old out_new → ⊥
+  pub err : Rose err_old err_new → ⊥

@@ -6,10 +6,12 @@ ghost use Rattle.jsx_base.specs.Sink.{Gains, GainsPrefix};
 ghost use Rattle.jsx_tree.specs.Kinds.{Tree};
 ghost use Rattle.react_compile.specs.Status.{code_of, IsTold};
 ghost use Rattle.react_compile.specs.Compiles.{IsSource};
-ghost use Rattle.react_compile.specs.Run.{WritesCode, WritesPrefix, TellsSyntaxError, TellsTooBig, TellsPrefix, GainsCode, GainsCodePrefix, bad_words, read_fault, out_of_memory, syntax_error, max_source};
+ghost use Rattle.react_compile.specs.Run.{WritesCode, WritesPrefix, TellsSyntaxError, TellsTooBig, TellsPrefix, GainsCode, GainsCodePrefix, IsValid, bad_words, read_fault, out_of_memory, syntax_error, max_source};
 
 use crate::compiler::{CompileError, compile};
 use crate::input::{InputError, read_all};
+#[cfg(test)]
+use crate::input::MAX_SOURCE;
 use jsx_base::{Sink, Source};
 use std::alloc::Global;
 
@@ -171,6 +173,9 @@ pub fn run<S: Source, O: Sink, E: Sink>(
     ensures write { result ≡ Status.Write → Rose (O.faults out.old) (O.faults out.new) ⊎ Rose (E.faults err.old) (E.faults err.new) }
     ensures write_says { result ≡ Status.Write → TellsPrefix (E.holds err.old) (E.holds err.new) }
     ensures memory_says { result ≡ Status.Memory → Gains (E.holds err.old) (E.holds err.new) out_of_memory }
+
+    // Valid input gives code, or want of memory.
+    ensures complete { words.now ≡ [] → IsValid (S.left input.old) (S.faults input.old) (S.faults input.new) (O.faults out.old) (O.faults out.new) (E.faults err.old) (E.faults err.new) → (result ≡ Status.Done) ⊎ (result ≡ Status.Memory) }
 {
     if !words.is_empty() {
         return tell(err, BAD_WORDS, Status::Usage);
@@ -182,3 +187,6 @@ pub fn run<S: Source, O: Sink, E: Sink>(
         Err(InputError::Memory) => short_of_memory(err),
     }
 }
+
+#[cfg(test)]
+mod tests;

@@ -1,6 +1,5 @@
-use Rattle.std.proofs.Common.{◌≡◌, ◌<◌, ◌≤◌, ◌++◌, vec_len, arith, sym, ap, ◌∙◌, subst, refl, take}
+use Rattle.std.proofs.Common.{◌++◌, arith, sym, ap, ◌∙◌, subst, take}
 use Rattle.jsx_base.specs.Source.{Gives}
-use Rattle.react_compile.specs.Run.{TakesAll}
 use Rattle.react_compile.proofs.Sources.{gives_nothing, gives_more, takes_all, rose_since, written_back}
 use Rattle.react_compile.proofs.input.read_all.Goals as goal
 
