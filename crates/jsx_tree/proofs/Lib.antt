@@ -13,3 +13,4 @@ mod Modules
 mod JsxForms
 mod Depths
 mod Layouts
+mod SoFar
