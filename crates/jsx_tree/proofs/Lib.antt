@@ -14,3 +14,4 @@ mod JsxForms
 mod Depths
 mod Layouts
 mod SoFar
+mod Programs
