@@ -15,3 +15,4 @@ mod Depths
 mod Layouts
 mod SoFar
 mod Programs
+mod Corners
