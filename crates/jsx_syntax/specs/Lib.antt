@@ -1,1 +1,4 @@
 pub mod Here
+pub mod Characters
+pub mod Ahead
+pub mod Gaps
