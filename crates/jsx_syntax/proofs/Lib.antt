@@ -1,2 +1,7 @@
 pub mod Gaps
 pub mod Endings
+pub mod Families
+pub mod Fronts
+pub mod Pieces
+pub mod Names
+pub mod Marks

@@ -1,0 +1,116 @@
+-- Punctuators at the front of a text.
+use Rattle.std.proofs.Common.{◌≡◌, ℕ, ◌<◌, List, [], ◌∷◌, Bool, true, false, cond, ◌||◌, ◌&&◌, codes, length, refl, sym, ap, ◌∙◌, subst, arith}
+use Rattle.std.specs.Prelude.{nat_eq}
+use Rattle.std.proofs.lemmas.Bool.{false≢true, and_right}
+use Rattle.jsx_base.specs.Token.{Text, Mode, Operand, Operator, Tag, TokenKind, Punctuator, Lexeme, begins, first_is, is_digit, longer, longest, punctuators, same, is_kind, is_token, at_front, punct, lexed, no_token, Done}
+use Rattle.jsx_syntax.specs.Ahead.{IsAhead, IsNotAhead}
+
+abbrev mark : ℕ → Text → Lexeme
+mark c rest = record { kind = Punctuator; raw = c ∷ []; rest = rest }
+
+self : (c : ℕ) → (nat_eq c c && true) ≡ true → (text : Text) → is_token (mark c text) Punctuator (c ∷ []) ≡ true
+self c e text = e
+
+-- the mark c is at the front, before the text
+record Marks (m : Mode) (c : ℕ) (text : Text) : Type 0 where
+  pub first : at_front m true (c ∷ text) ≡ mark c text
+  pub other : at_front m false (c ∷ text) ≡ mark c text
+
+front : (m : Mode) (c : ℕ) (text : Text) (f : Bool) → Marks m c text → at_front m f (c ∷ text) ≡ mark c text
+front m c text true h = h.first
+front m c text false h = h.other
+
+is_mark : (m : Mode) (c : ℕ) (text : Text) → (nat_eq c c && true) ≡ true → Marks m c text → IsAhead m Punctuator (c ∷ text) (c ∷ []) text
+is_mark m c text e h = record
+    { it = λ f. ap (λ x. is_token x Punctuator (c ∷ [])) (front m c text f h) ∙ self c e text
+    ; behind = λ f. ap (λ x. x.rest) (front m c text f h)
+    ; shorter = omega arith }
+
+-- one that no longer one begins with
+pub open_is : (text : Text) → IsAhead Operator Punctuator (40 ∷ text) (codes "(") text
+open_is text = is_mark Operator 40 text refl (record { first = refl; other = refl })
+
+pub close_is : (text : Text) → IsAhead Operator Punctuator (41 ∷ text) (codes ")") text
+close_is text = is_mark Operator 41 text refl (record { first = refl; other = refl })
+
+pub comma_is : (text : Text) → IsAhead Operator Punctuator (44 ∷ text) (codes ",") text
+comma_is text = is_mark Operator 44 text refl (record { first = refl; other = refl })
+
+pub semicolon_is : (text : Text) → IsAhead Operator Punctuator (59 ∷ text) (codes ";") text
+semicolon_is text = is_mark Operator 59 text refl (record { first = refl; other = refl })
+
+-- in a tag
+tag_slash : (text : Text) → Marks Tag 47 text
+tag_slash [] = record { first = refl; other = refl }
+tag_slash (d ∷ text) = record { first = refl; other = refl }
+
+pub tag_slash_is : (text : Text) → IsAhead Tag Punctuator (47 ∷ text) (codes "/") text
+tag_slash_is text = is_mark Tag 47 text refl (tag_slash text)
+
+tag_greater : (text : Text) → Marks Tag 62 text
+tag_greater [] = record { first = refl; other = refl }
+tag_greater (d ∷ text) = record { first = refl; other = refl }
+
+pub tag_greater_is : (text : Text) → IsAhead Tag Punctuator (62 ∷ text) (codes ">") text
+tag_greater_is text = is_mark Tag 62 text refl (tag_greater text)
+
+-- `<` where an expression may begin, but for `<!--`
+less_by : (f : Bool) (text : Text) → lexed Operand (Done Punctuator) 60 text ≡ mark 60 text
+less_by f [] = refl
+less_by f (d ∷ text) = refl
+
+abbrev less_at : Bool → Bool → Text → Lexeme
+less_at f b text = cond (b || (f && false)) (no_token (60 ∷ text)) (lexed Operand (Done Punctuator) 60 text)
+
+less_front : (f b : Bool) (text : Text) → b ≡ false → less_at f b text ≡ mark 60 text
+less_front f true text e = absurd (false≢true (sym e))
+less_front true false text e = less_by true text
+less_front false false text e = less_by false text
+
+pub less_is : (text : Text) → begins (codes "!--") text ≡ false → IsAhead Operand Punctuator (60 ∷ text) (codes "<") text
+less_is text e = is_mark Operand 60 text refl (record { first = less_front true (begins (codes "!--") text) text e; other = less_front false (begins (codes "!--") text) text e })
+
+comment_front : (f b : Bool) (text : Text) → b ≡ true → is_token (less_at f b text) Punctuator (codes "<") ≡ false
+comment_front f true text e = refl
+comment_front f false text e = absurd (false≢true e)
+
+pub less_is_not : (text : Text) → begins (codes "!--") text ≡ true → IsNotAhead Operand Punctuator (60 ∷ text) (codes "<")
+less_is_not text e = record { not_it = λ f. comment_front f (begins (codes "!--") text) text e }
+
+-- `=`, but for `==`, `===` and `=>`
+abbrev equals_by : Bool → Bool → Bool → Text
+equals_by a b g = longer (cond (a && true) (codes "==") []) (longer (cond (a && b) (codes "===") []) (longer (codes "=") (longer (cond (g && true) (codes "=>") []) [])))
+
+equals_longest : (f : Bool) (d : ℕ) (text : Text) → at_front Operator f (61 ∷ d ∷ text) ≡ punct (equals_by (nat_eq 61 d) (begins (codes "=") text) (nat_eq 62 d)) (61 ∷ d ∷ text)
+equals_longest true d text = refl
+equals_longest false d text = refl
+
+equals_alone : (a b g : Bool) (d : ℕ) (text : Text) → a ≡ false → g ≡ false → punct (equals_by a b g) (61 ∷ d ∷ text) ≡ mark 61 (d ∷ text)
+equals_alone true b g d text e h = absurd (false≢true (sym e))
+equals_alone false b true d text e h = absurd (false≢true (sym h))
+equals_alone false b false d text e h = refl
+
+equals : (text : Text) → first_is (nat_eq 61) text ≡ false → first_is (nat_eq 62) text ≡ false → Marks Operator 61 text
+equals [] e h = record { first = refl; other = refl }
+equals (d ∷ text) e h =
+    let alone = equals_alone (nat_eq 61 d) (begins (codes "=") text) (nat_eq 62 d) d text e h in
+    record { first = equals_longest true d text ∙ alone; other = equals_longest false d text ∙ alone }
+
+pub equals_is : (text : Text) → first_is (nat_eq 61) text ≡ false → first_is (nat_eq 62) text ≡ false → IsAhead Operator Punctuator (61 ∷ text) (codes "=") text
+equals_is text e h = is_mark Operator 61 text refl (equals text e h)
+
+equals_more : (a b g : Bool) (text : Text) → (a || g) ≡ true → is_token (punct (equals_by a b g) text) Punctuator (codes "=") ≡ false
+equals_more true true true text h = refl
+equals_more true true false text h = refl
+equals_more true false true text h = refl
+equals_more true false false text h = refl
+equals_more false true true text h = refl
+equals_more false false true text h = refl
+equals_more false b false text h = absurd (false≢true h)
+
+pub equals_is_not : (text : Text) → (first_is (nat_eq 61) text || first_is (nat_eq 62) text) ≡ true → IsNotAhead Operator Punctuator (61 ∷ text) (codes "=")
+equals_is_not [] h = absurd (false≢true h)
+equals_is_not (d ∷ text) h = record
+    { not_it = λ f. ap (λ x. is_token x Punctuator (codes "=")) (equals_longest f d text) ∙ equals_more (nat_eq 61 d) (begins (codes "=") text) (nat_eq 62 d) (61 ∷ d ∷ text) h }
+
+-- `.`, but for `...` and a number's
