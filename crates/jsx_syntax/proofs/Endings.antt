@@ -1,5 +1,5 @@
 -- Texts that end with another.
-use Rattle.std.proofs.Common.{◌≡◌, ℕ, List, [], ◌∷◌, ◌++◌, sym, refl, ap, ◌∙◌, append_assoc}
+use Rattle.std.proofs.Common.{◌≡◌, ℕ, List, [], ◌∷◌, ◌++◌, ◌-◌, take, length, sym, refl, ap, ◌∙◌, subst, arith, append_assoc, length-append, take_at}
 use Rattle.std.specs.Prelude.{encode_utf8}
 use Rattle.jsx_syntax.specs.Characters.{Follows, EndsWith}
 
@@ -13,3 +13,13 @@ ends_behind s t rest c e f = record
 
 pub ends_within : (s t u : List ℕ) → EndsWith s t → EndsWith t u → EndsWith s u
 ends_within s t u e f = record { front = e.front ++ f.front; is = e.is ∙ ap (λ x. e.front ++ x) f.is ∙ sym (append_assoc e.front f.front u) }
+
+pub front_length : (s rest : List ℕ) (e : EndsWith s rest) → length e.front ≡ length s - length rest
+front_length s rest e = omega (arith, ap length e.is, length-append e.front rest)
+
+-- what stands before the rest
+pub front_is : (s rest : List ℕ) → EndsWith s rest → s ≡ take (length s - length rest) s ++ rest
+front_is s rest e =
+    let f : take (length s - length rest) s ≡ e.front =
+    ap (take (length s - length rest)) e.is ∙ take_at e.front rest (length s - length rest) (front_length s rest e) in
+    e.is ∙ ap (λ t. t ++ rest) (sym f)

@@ -14,7 +14,7 @@ either P false x y p q = q
 
 -- no token of the kind k
 
-abbrev NotKind : TokenKind → Lexeme → Type 0
+abbrev pub NotKind : TokenKind → Lexeme → Type 0
 NotKind k x = is_kind x.kind k ≡ false
 
 ended_kind : (k j : TokenKind) (raw rest : Text) → is_kind NoToken k ≡ false → is_kind j k ≡ false → NotKind k (ended j raw rest)
@@ -38,7 +38,7 @@ punct_kind : (k : TokenKind) (q text : Text) → is_kind NoToken k ≡ false →
 punct_kind k [] text n p = n
 punct_kind k (c ∷ q) text n p = p
 
-kind_by : (k : TokenKind) (s : State) (c : ℕ) (text : Text) → is_kind NoToken k ≡ false → may_be s k ≡ false → NotKind k (ended (accepts (last_state s text)) (c ∷ taken s text) (left s text))
+pub kind_by : (k : TokenKind) (s : State) (c : ℕ) (text : Text) → is_kind NoToken k ≡ false → may_be s k ≡ false → NotKind k (ended (accepts (last_state s text)) (c ∷ taken s text) (left s text))
 kind_by k s c text n h = ended_kind k (accepts (last_state s text)) (c ∷ taken s text) (left s text) n (not_kind k s text n h)
 
 lexed_kind : (k : TokenKind) (m : Mode) (s : State) (c : ℕ) (text : Text) → is_kind NoToken k ≡ false → is_kind Punctuator k ≡ false → may_be s k ≡ false → NotKind k (lexed m s c text)

@@ -3,5 +3,5 @@ pub mod Endings
 pub mod Families
 pub mod Fronts
 pub mod Pieces
-pub mod Names
+pub mod NameLaws
 pub mod Marks

@@ -1,9 +1,10 @@
 -- Punctuators at the front of a text.
 use Rattle.std.proofs.Common.{◌≡◌, ℕ, ◌<◌, List, [], ◌∷◌, Bool, true, false, cond, ◌||◌, ◌&&◌, codes, length, refl, sym, ap, ◌∙◌, subst, arith}
 use Rattle.std.specs.Prelude.{nat_eq}
-use Rattle.std.proofs.lemmas.Bool.{false≢true, and_right}
-use Rattle.jsx_base.specs.Token.{Text, Mode, Operand, Operator, Tag, TokenKind, Punctuator, Lexeme, begins, first_is, is_digit, longer, longest, punctuators, same, is_kind, is_token, at_front, punct, lexed, no_token, Done}
+use Rattle.std.proofs.lemmas.Bool.{false≢true, and_left}
+use Rattle.jsx_base.specs.Token.{Text, Mode, Operand, Operator, Tag, TokenKind, Punctuator, Lexeme, begins, first_is, is_digit, longer, longest, punctuators, same, is_kind, is_token, at_front, punct, lexed, no_token, Dead, Done, InFraction}
 use Rattle.jsx_syntax.specs.Ahead.{IsAhead, IsNotAhead}
+use Rattle.jsx_syntax.proofs.Fronts.{kind_by}
 
 abbrev mark : ℕ → Text → Lexeme
 mark c rest = record { kind = Punctuator; raw = c ∷ []; rest = rest }
@@ -114,3 +115,49 @@ equals_is_not (d ∷ text) h = record
     { not_it = λ f. ap (λ x. is_token x Punctuator (codes "=")) (equals_longest f d text) ∙ equals_more (nat_eq 61 d) (begins (codes "=") text) (nat_eq 62 d) (61 ∷ d ∷ text) h }
 
 -- `.`, but for `...` and a number's
+abbrev dot_by : Bool → Bool → Text
+dot_by a b = longer (codes ".") (longer (cond (a && b) (codes "...") []) [])
+
+dot_state : (f : Bool) (d : ℕ) (text : Text) → at_front Operator f (46 ∷ d ∷ text) ≡ lexed Operator (cond (is_digit d) (InFraction false) Dead) 46 (d ∷ text)
+dot_state true d text = refl
+dot_state false d text = refl
+
+dot_longest : (f : Bool) (d : ℕ) (text : Text) → is_digit d ≡ false → at_front Operator f (46 ∷ d ∷ text) ≡ punct (dot_by (nat_eq 46 d) (begins (codes ".") text)) (46 ∷ d ∷ text)
+dot_longest f d text e = dot_state f d text ∙ ap (λ q. lexed Operator (cond q (InFraction false) Dead) 46 (d ∷ text)) e
+
+dot_alone : (a b : Bool) (d : ℕ) (text : Text) → (a && b) ≡ false → punct (dot_by a b) (46 ∷ d ∷ text) ≡ mark 46 (d ∷ text)
+dot_alone a b d text e = ap (λ x. punct (longer (codes ".") (longer (cond x (codes "...") []) [])) (46 ∷ d ∷ text)) e
+
+dot : (text : Text) → first_is is_digit text ≡ false → begins (codes "..") text ≡ false → Marks Operator 46 text
+dot [] e h = record { first = refl; other = refl }
+dot (d ∷ text) e h =
+    let alone = dot_alone (nat_eq 46 d) (begins (codes ".") text) d text h in
+    record { first = dot_longest true d text e ∙ alone; other = dot_longest false d text e ∙ alone }
+
+pub dot_is : (text : Text) → first_is is_digit text ≡ false → begins (codes "..") text ≡ false → IsAhead Operator Punctuator (46 ∷ text) (codes ".") text
+dot_is text e h = is_mark Operator 46 text refl (dot text e h)
+
+dots : (x : Bool) (text : Text) → x ≡ true → is_token (punct (longer (codes ".") (longer (cond x (codes "...") []) [])) text) Punctuator (codes ".") ≡ false
+dots true text h = refl
+dots false text h = absurd (false≢true h)
+
+number : (d : ℕ) (text : Text) → is_token (lexed Operator (InFraction false) 46 (d ∷ text)) Punctuator (codes ".") ≡ false
+number d text =
+    let x : Lexeme = lexed Operator (InFraction false) 46 (d ∷ text) in
+    and_left (is_kind x.kind Punctuator) (same x.raw (codes ".")) (kind_by Punctuator (InFraction false) 46 (d ∷ text) refl refl)
+
+spread_by : (q : Bool) (d : ℕ) (text : Text) → begins (codes "..") (d ∷ text) ≡ true → is_token (lexed Operator (cond q (InFraction false) Dead) 46 (d ∷ text)) Punctuator (codes ".") ≡ false
+spread_by true d text h = number d text
+spread_by false d text h = dots (nat_eq 46 d && begins (codes ".") text) (46 ∷ d ∷ text) h
+
+-- `...`
+pub spread_is_not : (text : Text) → begins (codes "..") text ≡ true → IsNotAhead Operator Punctuator (46 ∷ text) (codes ".")
+spread_is_not [] h = absurd (false≢true h)
+spread_is_not (d ∷ text) h = record
+    { not_it = λ f. ap (λ x. is_token x Punctuator (codes ".")) (dot_state f d text) ∙ spread_by (is_digit d) d text h }
+
+-- a number's
+pub point_is_not : (text : Text) → first_is is_digit text ≡ true → IsNotAhead Operator Punctuator (46 ∷ text) (codes ".")
+point_is_not [] h = absurd (false≢true h)
+point_is_not (d ∷ text) h = record
+    { not_it = λ f. ap (λ x. is_token x Punctuator (codes ".")) (dot_state f d text ∙ ap (λ q. lexed Operator (cond q (InFraction false) Dead) 46 (d ∷ text)) h) ∙ number d text }

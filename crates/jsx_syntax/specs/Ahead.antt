@@ -1,6 +1,6 @@
 -- What stands at the front of a text, whatever stood before it.
-use Rattle.std.specs.Prelude.{◌≡◌, ◌<◌, Bool, true, false, length}
-use Rattle.jsx_base.specs.Token.{Text, Mode, Operator, Tag, TokenKind, IdentifierName, JsxName, State, InName, InJsxName, at_front, is_token, is_kind}
+use Rattle.std.specs.Prelude.{◌≡◌, ◌<◌, ℕ, nat_eq, ◌||◌, Bool, true, false, length}
+use Rattle.jsx_base.specs.Token.{Text, Mode, Operator, Tag, TokenKind, IdentifierName, JsxName, State, InName, InJsxName, is_part, at_front, is_token, is_kind}
 use Rattle.jsx_tree.specs.Form.{is_leaf}
 
 -- The token of this kind and text, with that rest behind it. The flag says whether it is the first of its line.
@@ -33,3 +33,8 @@ name_kind false = IdentifierName
 abbrev pub name_state : Bool → State
 name_state true = InJsxName
 name_state false = InName
+
+-- what a name goes on with
+abbrev pub goes_on : Bool → ℕ → Bool
+goes_on true c = is_part c || nat_eq c 45
+goes_on false c = is_part c

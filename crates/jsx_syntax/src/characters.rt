@@ -91,3 +91,11 @@ pub fn is_blank(c: char) -> bool
             | '\u{2000}'..='\u{200A}'
     )
 }
+
+/// What stands before the rest of a text.
+pub fn before<'s>(text: &'s str, rest: &str) -> &'s str
+    requires { EndsWith text.now rest.now }
+    ensures { chars text.now ≡ chars result.now ++ chars rest.now }
+{
+    text.split_at(text.len() - rest.len()).0
+}

@@ -3,4 +3,5 @@
 
 mod characters;
 mod gap;
+mod names;
 mod lexer;

@@ -3,7 +3,7 @@ use Rattle.std.proofs.Common.{◌≡◌, ℕ, List, [], ◌∷◌, ◌++◌, Boo
 use Rattle.std.specs.Prelude.{nat_eq}
 use Rattle.std.proofs.lemmas.Bool.{false≢true, and_left, and_right, and_from, or_from, eqb-true, false_from_ne_true}
 use Rattle.jsx_base.specs.Token.{Text, Mode, Operator, Tag, TokenKind, IdentifierName, JsxName, NoToken, Punctuator, is_over, gap_after_blank, begins, first_is, is_digit, is_start, is_part, is_one_of, State, Dead, Done, InName, InJsxName, step, is_dead, accepts, taken, left, last_state, ended, lexed, state, no_token, at_front}
-use Rattle.jsx_syntax.specs.Ahead.{IsAhead, IsPiece, NoneAhead, name_mode, name_kind, name_state}
+use Rattle.jsx_syntax.specs.Ahead.{IsAhead, IsPiece, NoneAhead, name_mode, name_kind, name_state, goes_on}
 use Rattle.jsx_syntax.specs.Gaps.{IsBehind}
 use Rattle.jsx_syntax.proofs.Families.{may_be, either, only}
 use Rattle.jsx_syntax.proofs.Fronts.{none_ahead, none_at_end}
@@ -12,11 +12,6 @@ use Rattle.jsx_syntax.proofs.Pieces.{Lexes, Alone, alone, is_ahead, raw_is, stil
 first_of : (b : Bool) (x y : State) → b ≡ true → cond b x y ≡ x
 first_of true x y e = refl
 first_of false x y e = absurd (false≢true e)
-
--- what a name goes on with
-abbrev pub goes_on : Bool → ℕ → Bool
-goes_on true c = is_part c || nat_eq c 45
-goes_on false c = is_part c
 
 pub name_step : (d : Bool) (c : ℕ) → step (name_state d) c ≡ cond (goes_on d c) (name_state d) Dead
 name_step true c = refl
@@ -86,3 +81,22 @@ no_name false whole c text w h = subst (NoneAhead Operator IdentifierName) (sym 
 pub no_name_at_end : (d : Bool) (whole : Text) → whole ≡ [] → NoneAhead (name_mode d) (name_kind d) whole
 no_name_at_end true whole w = subst (NoneAhead Tag JsxName) (sym w) (none_at_end JsxName Tag refl)
 no_name_at_end false whole w = subst (NoneAhead Operator IdentifierName) (sym w) (none_at_end IdentifierName Operator refl)
+
+pub record NameGoes (d : Bool) (whole text : Text) : Type 0 where
+  pub rest_is : left (name_state d) text ≡ left (name_state d) whole
+
+goes_by : (d b : Bool) (c : ℕ) (text : Text) → b ≡ true → left (name_state d) text ≡ cond (is_dead (cond b (name_state d) Dead)) (c ∷ text) (left (cond b (name_state d) Dead) text)
+goes_by d false c text e = absurd (false≢true e)
+goes_by d true c text e = sym (ap (λ x. cond x (c ∷ text) (left (name_state d) text)) (alive d))
+
+-- a character of the name further
+pub name_goes : (d : Bool) (whole : Text) (c : ℕ) (text : Text) → whole ≡ c ∷ text → goes_on d c ≡ true → NameGoes d whole text
+name_goes d whole c text w h =
+    subst (λ x. NameGoes d x text) (sym w)
+    (record { rest_is = goes_by d (goes_on d c) c text h ∙ sym (ap (λ s. cond (is_dead s) (c ∷ text) (left s text)) (name_step d c)) })
+
+-- behind the name
+pub name_ends : (d : Bool) (whole : Text) (c : ℕ) (text : Text) → whole ≡ c ∷ text → goes_on d c ≡ false → whole ≡ left (name_state d) whole
+name_ends d whole c text w h =
+    subst (λ x. x ≡ left (name_state d) x) (sym w)
+    (sym (ap (λ s. cond (is_dead s) (c ∷ text) (left s text)) (name_step d c) ∙ ap (λ b. cond (is_dead (cond b (name_state d) Dead)) (c ∷ text) (left (cond b (name_state d) Dead) text)) h))
