@@ -1,10 +1,10 @@
 -- What the token at the front of a text can't be.
-use Rattle.std.proofs.Common.{◌≡◌, ℕ, List, [], ◌∷◌, Bool, true, false, cond, ◌||◌, ◌&&◌, codes, refl, sym, ap, ◌∙◌, subst}
+use Rattle.std.proofs.Common.{◌≡◌, ℕ, List, [], ◌∷◌, Bool, true, false, cond, ◌||◌, ◌&&◌, codes, refl, sym, ◌∙◌, subst}
 use Rattle.std.specs.Prelude.{nat_eq}
 use Rattle.std.proofs.lemmas.Bool.{false≢true, and_left, and_right, and_parts, eqb-true, eq-eqb, false_from_ne_true}
 use Rattle.jsx_base.specs.Token.{Text, Mode, TokenKind, IdentifierName, Punctuator, NumericLiteral, BigIntLiteral, StringLiteral, RegExpLiteral, NoSubstitution, TemplateHead, TemplateMiddle, TemplateTail, JsxName, JsxString, JsxText, Elision, NoToken}
 use Rattle.jsx_base.specs.Token.{is_kind, State, Dead, Done, InName, BehindZero, InDigits, BehindPoint, InFraction, BehindE, BehindSign, InExponent, InBase, BehindN, InString, InEscape, InHex, InUnicode, InBraces, BehindNul, BehindCr, AtRegExp, InRegExp, InRegExpEscape, InFlags, InPiece, InPieceEscape, BehindDollar, InJsxName, InJsxString, InJsxText}
-use Rattle.jsx_base.specs.Token.{Lexeme, same, begins, longer, is_longer, longest, punctuators, punctuator, punct, drop_as, first_is, is_digit, is_start, is_code, ended, no_token, lexed, state, at_front, is_token, accepts, last_state, taken, left}
+use Rattle.jsx_base.specs.Token.{Lexeme, same, begins, is_longer, longest, punctuators, punctuator, punct, drop_as, first_is, is_digit, is_start, is_code, ended, no_token, lexed, state, at_front, is_token, accepts, last_state, taken, left}
 use Rattle.jsx_syntax.specs.Ahead.{IsNotAhead, NoneAhead}
 use Rattle.jsx_syntax.proofs.Families.{may_be, not_kind}
 
@@ -73,9 +73,10 @@ lexed_kind k m (InJsxString q) c text n p h = kind_by k (InJsxString q) c text n
 lexed_kind k m InJsxText c text n p h = kind_by k InJsxText c text n h
 
 pub none_ahead : (k : TokenKind) (m : Mode) (c : ℕ) (text : Text) → is_kind NoToken k ≡ false → is_kind Punctuator k ≡ false → may_be (state m c text) k ≡ false → NoneAhead m k (c ∷ text)
-none_ahead k m c text n p h = record
-    { none = λ f.
-      either (NotKind k) (is_code m && (begins (codes "<!--") (c ∷ text) || (f && begins (codes "-->") (c ∷ text)))) _ _ n (lexed_kind k m (state m c text) c text n p h) }
+none_ahead k m c text n p h = record {
+  none = λ f.
+      either (NotKind k) (is_code m && (begins (codes "<!--") (c ∷ text) || (f && begins (codes "-->") (c ∷ text)))) _ _ n (lexed_kind k m (state m c text) c text n p h);
+}
 
 pub none_at_end : (k : TokenKind) (m : Mode) → is_kind NoToken k ≡ false → NoneAhead m k []
 none_at_end k m n = record { none = λ f. n }
@@ -176,7 +177,8 @@ not_it k d t x e = and_right (is_kind x.kind k) (same x.raw (d ∷ t)) e
 
 pub other_ahead : (k : TokenKind) (d : ℕ) (t : Text) (m : Mode) (text : Text) → first_is (nat_eq d) text ≡ false → IsNotAhead m k text (d ∷ t)
 other_ahead k d t m [] e = record { not_it = λ f. not_it k d t (no_token []) refl }
-other_ahead k d t m (c ∷ text) e = record
-    { not_it = λ f. not_it k d t (at_front m f (c ∷ text))
+other_ahead k d t m (c ∷ text) e = record {
+  not_it = λ f. not_it k d t (at_front m f (c ∷ text))
       (either (NotFirst d t) (is_code m && (begins (codes "<!--") (c ∷ text) || (f && begins (codes "-->") (c ∷ text)))) _ _ refl
-      (lexed_first d t m (state m c text) c text (turned d c e))) }
+      (lexed_first d t m (state m c text) c text (turned d c e)));
+}

@@ -1,8 +1,8 @@
 -- Behind a gap stands a token's first character.
-use Rattle.std.proofs.Common.{◌≡◌, ℕ, zero, suc, List, [], ◌∷◌, ◌++◌, Bool, true, false, cond, ◌||◌, ◌&&◌, codes, sym, refl, ap, ◌∙◌, subst}
+use Rattle.std.proofs.Common.{◌≡◌, ℕ, zero, suc, [], ◌∷◌, Bool, true, false, cond, codes, sym, refl, ap, ◌∙◌, subst}
 use Rattle.std.proofs.lemmas.Bool.{false≢true}
 use Rattle.jsx_syntax.specs.Gaps.{IsBehind}
-use Rattle.jsx_base.specs.Token.{Text, Gap, Blank, InLineComment, Opening, InBlockComment, Closing, BehindGap, gap_next, gap_after_blank, is_over, behind_gap, is_cut, skip, is_line_end, is_blank, begins}
+use Rattle.jsx_base.specs.Token.{Text, Gap, Blank, InLineComment, Opening, InBlockComment, Closing, BehindGap, gap_next, gap_after_blank, is_over, behind_gap, is_cut, skip, is_line_end, begins}
 
 pub not_cut : (text : Text) → is_cut BehindGap text ≡ false
 not_cut [] = refl
@@ -58,6 +58,7 @@ pub ends : (g h : Gap) (c : ℕ) (whole text : Text) → whole ≡ c ∷ text �
 ends g h c whole text e k o =
     let m : is_over (gap_next g c text) ≡ true = ap is_over (sym k ∙ o) in
     subst (Ends g) (sym e)
-    (record
-    { rest_is = sym (ap (λ b. cond b (c ∷ text) (behind_gap (gap_next g c text) text)) m)
-    ; cut_is = sym (ap (λ x. is_cut x text) (sym k ∙ o) ∙ not_cut text) })
+    (record {
+      rest_is = sym (ap (λ b. cond b (c ∷ text) (behind_gap (gap_next g c text) text)) m);
+      cut_is = sym (ap (λ x. is_cut x text) (sym k ∙ o) ∙ not_cut text);
+    })

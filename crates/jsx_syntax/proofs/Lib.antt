@@ -4,4 +4,6 @@ pub mod Families
 pub mod Fronts
 pub mod Pieces
 pub mod NameLaws
-pub mod Marks
+pub mod MarkLaws
+pub mod Words
+pub mod Takes

@@ -1,8 +1,8 @@
 -- Names of code and of JSX.
-use Rattle.std.proofs.Common.{◌≡◌, ℕ, List, [], ◌∷◌, ◌++◌, Bool, true, false, cond, ◌||◌, ◌&&◌, codes, refl, sym, ap, ◌∙◌, subst}
+use Rattle.std.proofs.Common.{◌≡◌, ℕ, [], ◌∷◌, ◌++◌, Bool, true, false, cond, ◌||◌, ◌&&◌, codes, refl, sym, ap, ◌∙◌, subst}
 use Rattle.std.specs.Prelude.{nat_eq}
 use Rattle.std.proofs.lemmas.Bool.{false≢true, and_left, and_right, and_from, or_from, eqb-true, false_from_ne_true}
-use Rattle.jsx_base.specs.Token.{Text, Mode, Operator, Tag, TokenKind, IdentifierName, JsxName, NoToken, Punctuator, is_over, gap_after_blank, begins, first_is, is_digit, is_start, is_part, is_one_of, State, Dead, Done, InName, InJsxName, step, is_dead, accepts, taken, left, last_state, ended, lexed, state, no_token, at_front}
+use Rattle.jsx_base.specs.Token.{Text, Operator, Tag, IdentifierName, JsxName, is_over, gap_after_blank, begins, first_is, is_digit, is_start, is_one_of, State, Dead, InName, InJsxName, step, is_dead, accepts, taken, left, last_state, ended, lexed, state, no_token, at_front}
 use Rattle.jsx_syntax.specs.Ahead.{IsAhead, IsPiece, NoneAhead, name_mode, name_kind, name_state, goes_on}
 use Rattle.jsx_syntax.specs.Gaps.{IsBehind}
 use Rattle.jsx_syntax.proofs.Families.{may_be, either, only}

@@ -1,7 +1,7 @@
 -- A token that an automaton takes is at the front of its text, and its raw text alone is that token.
-use Rattle.std.proofs.Common.{◌≡◌, ℕ, ◌<◌, ◌≤◌, suc, List, [], ◌∷◌, ◌++◌, Bool, true, false, cond, ◌||◌, ◌&&◌, codes, length, refl, sym, ap, ◌∙◌, subst, append-nil, arith}
+use Rattle.std.proofs.Common.{◌≡◌, ℕ, ◌≤◌, [], ◌∷◌, ◌++◌, Bool, true, false, cond, ◌||◌, ◌&&◌, codes, length, refl, sym, ap, ◌∙◌, subst, append-nil, arith}
 use Rattle.std.specs.Prelude.{nat_eq}
-use Rattle.std.proofs.lemmas.Bool.{false≢true, and_left, and_from, eq-eqb}
+use Rattle.std.proofs.lemmas.Bool.{false≢true, and_from, eq-eqb}
 use Rattle.std.proofs.lemmas.List.{append_cancel_right}
 use Rattle.jsx_base.specs.Token.{Text, Mode, TokenKind, Gap, Blank, InLineComment, Opening, BehindGap, gap_after_blank, is_over, is_blank, is_line_end, begins, skip, skips, breaks, is_kind, kind_number, same, State, step, is_dead, taken, left, last_state, Lexeme, at_front, token, is_token}
 use Rattle.jsx_base.proofs.Automata.{runs, read_on, Read}
@@ -64,10 +64,11 @@ raw_is s c text raw rest r e =
 pub is_ahead : (m : Mode) (k : TokenKind) (s : State) (c : ℕ) (text raw rest : Text) → Lexes m k s c text → rest ≡ left s text → c ∷ text ≡ raw ++ rest → IsAhead m k (c ∷ text) raw rest
 is_ahead m k s c text raw rest l r e =
     subst (λ w. IsAhead m k (c ∷ text) w rest) (raw_is s c text raw rest r e)
-    (record
-    { it = λ f. is_it k (at_front m f (c ∷ text)) (c ∷ taken s text) (left s text) (l.front f)
-    ; behind = λ f. ap (λ x. x.rest) (l.front f) ∙ sym r
-    ; shorter = let h = left_within s text in omega (arith, ap length r) })
+    (record {
+      it = λ f. is_it k (at_front m f (c ∷ text)) (c ∷ taken s text) (left s text) (l.front f);
+      behind = λ f. ap (λ x. x.rest) (l.front f) ∙ sym r;
+      shorter = let h = left_within s text in omega (arith, ap length r);
+    })
 
 pub record Alone (m : Mode) (k : TokenKind) (raw : Text) : Type 0 where
   pub it : is_token (token m false raw) k raw ≡ true

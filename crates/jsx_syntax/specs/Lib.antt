@@ -2,3 +2,4 @@ pub mod Here
 pub mod Characters
 pub mod Ahead
 pub mod Gaps
+pub mod Spelled

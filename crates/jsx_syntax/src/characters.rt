@@ -2,7 +2,7 @@
 
 ghost use Rattle.std.specs.Prelude.{◌≡◌, ◌<◌, ◌++◌, ◌∷◌, [], IsTrue, MatchOption, nat_eq, false, true, length};
 ghost use Rattle.std.specs.Str.{chars};
-ghost use Rattle.jsx_base.specs.Token.{first_is, is_start, is_part, is_blank, is_line_end};
+ghost use Rattle.jsx_base.specs.Token.{first_is, same, is_start, is_part, is_blank, is_line_end, is_digit};
 ghost use Rattle.jsx_syntax.specs.Characters.{Follows, EndsWith};
 
 /// The first character and the text behind it.
@@ -17,19 +17,21 @@ pub fn first(text: &str) -> Option<(char, &str)>
     }
 }
 
+/// Whether the text has no characters.
+#[inline]
+pub fn is_empty(text: &str) -> bool
+    ensures { result ≡ same (chars text.now) [] }
+{
+    first(text).is_none()
+}
+
 /// The text behind its first character, if that is this one.
 #[inline]
 pub fn behind(text: &str, c: char) -> Option<&str>
     ensures { MatchOption result (first_is (nat_eq c) (chars text.now) ≡ false) (λ rest. Follows text.now c rest.now) }
 {
     match first(text) {
-        Some((d, rest)) => {
-            if c == d {
-                Some(rest)
-            } else {
-                None
-            }
-        }
+        Some((d, rest)) => { if c == d { Some(rest) } else { None } }
         None => None,
     }
 }
@@ -42,12 +44,26 @@ pub fn begins_with(text: &str, c: char) -> bool
     behind(text, c).is_some()
 }
 
+/// Whether the text begins with a decimal digit.
+#[inline]
+pub fn begins_with_digit(text: &str) -> bool
+    ensures { result ≡ first_is is_digit (chars text.now) }
+{
+    match first(text) {
+        Some((c, _)) => c.is_ascii_digit(),
+        None => false,
+    }
+}
+
 /// Whether a name may begin with the character.
 #[inline]
 pub fn is_start(c: char) -> bool
     ensures { result ≡ is_start c }
 {
-    c.is_ascii_alphabetic() || c == '$' || c == '_' || (c >= '\u{80}' && unicode_ident::is_xid_start(c))
+    c.is_ascii_alphabetic()
+        || c == '$'
+        || c == '_'
+        || (c >= '\u{80}' && unicode_ident::is_xid_start(c))
 }
 
 /// Whether a name may go on with the character.

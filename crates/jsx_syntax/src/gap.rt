@@ -98,7 +98,10 @@ pub fn skip(text: &str) -> Ahead
     while let Some((c, behind)) = first(rest) {
         let after = next(gap, c, behind);
         if let Gap::Over = after {
-            return Ahead { rest, is_cut: false };
+            return Ahead {
+                rest,
+                is_cut: false,
+            };
         }
         gap = after;
         rest = behind;

@@ -3,5 +3,6 @@
 
 mod characters;
 mod gap;
-mod names;
 mod lexer;
+mod marks;
+mod names;

@@ -1,7 +1,6 @@
-use Rattle.std.proofs.Common.{◌≡◌, ◌-◌, ◌++◌, List, ℕ, take, drop, length, sym, ap, ◌∙◌, subst, arith, length-append, take-append-drop}
+use Rattle.std.proofs.Common.{◌≡◌, ◌-◌, ◌++◌, take, length, sym, ap, ◌∙◌, subst}
 use Rattle.std.proofs.lemmas.Str.{IsCharBoundary-at_seam, IsUtf8-take, chars-append}
 use Rattle.std.specs.Str.{chars, IsCharBoundary}
-use Rattle.jsx_syntax.specs.Characters.{EndsWith}
 use Rattle.jsx_syntax.proofs.Endings.{front_length, front_is}
 use Rattle.jsx_syntax.proofs.characters.before.Goals as goal
 

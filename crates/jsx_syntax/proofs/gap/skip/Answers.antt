@@ -1,6 +1,5 @@
 use Rattle.std.proofs.Common.{◌≡◌, false, refl, ap, ◌∙◌}
 use Rattle.std.proofs.lemmas.Str.{IsUtf8-past_char}
-use Rattle.std.specs.Str.{chars}
 use Rattle.jsx_base.specs.Token.{is_over}
 use Rattle.jsx_syntax.specs.Gaps.{gap_of}
 use Rattle.jsx_syntax.specs.declared.gap.Gap.{Gap}
@@ -28,9 +27,10 @@ loop-c-preserved c =
     let l = c.loop-c in
     let within = inside c.next-after.result c.in_default-after.not-Over in
     let e = goes (gap_of l.gap) (gap_of c.next-after.result) c.in-Some.c _ _ c.in-Some.ensures.chars_are c.next-after.ensures within in
-    record
-    { rest = e.rest_is ∙ l.invariant.rest
-    ; cut = e.cut_is ∙ l.invariant.cut
-    ; ends = ends_behind _ _ _ _ l.invariant.ends c.in-Some.ensures
-    ; inside = within
-    ; text = IsUtf8-past_char _ _ _ l.invariant.text c.in-Some.ensures.bytes_are }
+    record {
+      rest = e.rest_is ∙ l.invariant.rest;
+      cut = e.cut_is ∙ l.invariant.cut;
+      ends = ends_behind _ _ _ _ l.invariant.ends c.in-Some.ensures;
+      inside = within;
+      text = IsUtf8-past_char _ _ _ l.invariant.text c.in-Some.ensures.bytes_are;
+    }

@@ -1,4 +1,4 @@
-use Rattle.std.proofs.Common.{◌≡◌, sym, ◌∙◌}
+use Rattle.std.proofs.Common.{sym, ◌∙◌}
 use Rattle.jsx_syntax.proofs.Endings.{ends_within, ends_behind, ends_with_all}
 use Rattle.jsx_syntax.proofs.NameLaws.{no_name, name_is}
 use Rattle.jsx_syntax.proofs.names.name.Goals as goal

@@ -1,8 +1,8 @@
 -- Punctuators at the front of a text.
-use Rattle.std.proofs.Common.{◌≡◌, ℕ, ◌<◌, List, [], ◌∷◌, Bool, true, false, cond, ◌||◌, ◌&&◌, codes, length, refl, sym, ap, ◌∙◌, subst, arith}
+use Rattle.std.proofs.Common.{◌≡◌, ℕ, [], ◌∷◌, Bool, true, false, cond, ◌||◌, ◌&&◌, codes, refl, sym, ap, ◌∙◌, subst, arith, ⊎_elim}
 use Rattle.std.specs.Prelude.{nat_eq}
-use Rattle.std.proofs.lemmas.Bool.{false≢true, and_left}
-use Rattle.jsx_base.specs.Token.{Text, Mode, Operand, Operator, Tag, TokenKind, Punctuator, Lexeme, begins, first_is, is_digit, longer, longest, punctuators, same, is_kind, is_token, at_front, punct, lexed, no_token, Dead, Done, InFraction}
+use Rattle.std.proofs.lemmas.Bool.{false≢true, and_left, eqb-true, or_cases}
+use Rattle.jsx_base.specs.Token.{Text, Mode, Operand, Operator, Tag, Punctuator, Lexeme, begins, first_is, is_digit, is_one_of, longer, same, is_kind, is_token, at_front, punct, lexed, no_token, Dead, Done, InFraction}
 use Rattle.jsx_syntax.specs.Ahead.{IsAhead, IsNotAhead}
 use Rattle.jsx_syntax.proofs.Fronts.{kind_by}
 
@@ -22,10 +22,11 @@ front m c text true h = h.first
 front m c text false h = h.other
 
 is_mark : (m : Mode) (c : ℕ) (text : Text) → (nat_eq c c && true) ≡ true → Marks m c text → IsAhead m Punctuator (c ∷ text) (c ∷ []) text
-is_mark m c text e h = record
-    { it = λ f. ap (λ x. is_token x Punctuator (c ∷ [])) (front m c text f h) ∙ self c e text
-    ; behind = λ f. ap (λ x. x.rest) (front m c text f h)
-    ; shorter = omega arith }
+is_mark m c text e h = record {
+  it = λ f. ap (λ x. is_token x Punctuator (c ∷ [])) (front m c text f h) ∙ self c e text;
+  behind = λ f. ap (λ x. x.rest) (front m c text f h);
+  shorter = omega arith;
+}
 
 -- one that no longer one begins with
 pub open_is : (text : Text) → IsAhead Operator Punctuator (40 ∷ text) (codes "(") text
@@ -39,6 +40,22 @@ comma_is text = is_mark Operator 44 text refl (record { first = refl; other = re
 
 pub semicolon_is : (text : Text) → IsAhead Operator Punctuator (59 ∷ text) (codes ";") text
 semicolon_is text = is_mark Operator 59 text refl (record { first = refl; other = refl })
+
+singles : (c : ℕ) → is_one_of c (codes "();,") ≡ true → (P : ℕ → Type 0) → P 40 → P 41 → P 59 → P 44 → P c
+singles c h P p q r s =
+    ⊎_elim (λ (e : nat_eq c 40 ≡ true). subst P (sym (eqb-true c 40 e)) p)
+    (λ (h : is_one_of c (codes ");,") ≡ true).
+    ⊎_elim (λ (e : nat_eq c 41 ≡ true). subst P (sym (eqb-true c 41 e)) q)
+    (λ (h : is_one_of c (codes ";,") ≡ true).
+    ⊎_elim (λ (e : nat_eq c 59 ≡ true). subst P (sym (eqb-true c 59 e)) r)
+    (λ (h : is_one_of c (codes ",") ≡ true).
+    ⊎_elim (λ (e : nat_eq c 44 ≡ true). subst P (sym (eqb-true c 44 e)) s) (λ (h : false ≡ true). absurd (false≢true h)) (or_cases (nat_eq c 44) false h))
+    (or_cases (nat_eq c 59) (is_one_of c (codes ",")) h))
+    (or_cases (nat_eq c 41) (is_one_of c (codes ";,")) h))
+    (or_cases (nat_eq c 40) (is_one_of c (codes ");,")) h)
+
+pub single_is : (c : ℕ) (text : Text) → is_one_of c (codes "();,") ≡ true → IsAhead Operator Punctuator (c ∷ text) (c ∷ []) text
+single_is c text h = singles c h (λ c. IsAhead Operator Punctuator (c ∷ text) (c ∷ []) text) (open_is text) (close_is text) (semicolon_is text) (comma_is text)
 
 -- in a tag
 tag_slash : (text : Text) → Marks Tag 47 text
@@ -54,6 +71,14 @@ tag_greater (d ∷ text) = record { first = refl; other = refl }
 
 pub tag_greater_is : (text : Text) → IsAhead Tag Punctuator (62 ∷ text) (codes ">") text
 tag_greater_is text = is_mark Tag 62 text refl (tag_greater text)
+
+pub in_tag_is : (c : ℕ) (text : Text) → is_one_of c (codes "/>") ≡ true → IsAhead Tag Punctuator (c ∷ text) (c ∷ []) text
+in_tag_is c text h =
+    let P : ℕ → Type 0 = λ c. IsAhead Tag Punctuator (c ∷ text) (c ∷ []) text in
+    ⊎_elim (λ (e : nat_eq c 47 ≡ true). subst P (sym (eqb-true c 47 e)) (tag_slash_is text))
+    (λ (h : is_one_of c (codes ">") ≡ true).
+    ⊎_elim (λ (e : nat_eq c 62 ≡ true). subst P (sym (eqb-true c 62 e)) (tag_greater_is text)) (λ (h : false ≡ true). absurd (false≢true h)) (or_cases (nat_eq c 62) false h))
+    (or_cases (nat_eq c 47) (is_one_of c (codes ">")) h)
 
 -- `<` where an expression may begin, but for `<!--`
 less_by : (f : Bool) (text : Text) → lexed Operand (Done Punctuator) 60 text ≡ mark 60 text
