@@ -7,3 +7,4 @@ pub mod NameLaws
 pub mod MarkLaws
 pub mod Words
 pub mod Takes
+pub mod States

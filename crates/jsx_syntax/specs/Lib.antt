@@ -3,3 +3,4 @@ pub mod Characters
 pub mod Ahead
 pub mod Gaps
 pub mod Spelled
+pub mod Automaton
