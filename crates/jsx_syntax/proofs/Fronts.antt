@@ -17,7 +17,7 @@ either P false x y p q = q
 abbrev pub NotKind : TokenKind → Lexeme → Type 0
 NotKind k x = is_kind x.kind k ≡ false
 
-ended_kind : (k j : TokenKind) (raw rest : Text) → is_kind NoToken k ≡ false → is_kind j k ≡ false → NotKind k (ended j raw rest)
+pub ended_kind : (k j : TokenKind) (raw rest : Text) → is_kind NoToken k ≡ false → is_kind j k ≡ false → NotKind k (ended j raw rest)
 ended_kind k NoToken raw rest n h = n
 ended_kind k NumericLiteral raw rest n h = either (NotKind k) (first_is is_start rest || first_is is_digit rest) _ _ n h
 ended_kind k BigIntLiteral raw rest n h = either (NotKind k) (first_is is_start rest || first_is is_digit rest) _ _ n h

@@ -8,3 +8,4 @@ pub mod MarkLaws
 pub mod Words
 pub mod Takes
 pub mod States
+pub mod LiteralLaws

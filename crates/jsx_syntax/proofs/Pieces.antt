@@ -99,3 +99,9 @@ pub still_behind : (c : ℕ) (text u : Text) → nat_eq 47 c ≡ false → is_ov
 still_behind c text u n h =
     unless_blank (is_blank c || is_line_end c) _ _ h
     (ap (λ b. is_over (cond (b && begins (codes "/") u) InLineComment (cond (b && begins (codes "*") u) (Opening 1) BehindGap))) n)
+
+-- what the automaton takes, it takes whole
+pub left_taken : (s : State) (text : Text) → left s (taken s text) ≡ []
+left_taken s text =
+    let r : Read s (taken s text) [] = read_on s (taken s text) [] (runs_taken s text) refl in
+    ap (left s) (sym (append-nil (taken s text))) ∙ r.leaves

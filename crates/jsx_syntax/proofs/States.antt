@@ -1,7 +1,6 @@
 -- The code's states and the automata's.
-use Rattle.std.proofs.Common.{◌≡◌, ℕ, List, [], ◌∷◌, Bool, true, false, cond, refl, sym, ap, ◌∙◌, subst}
-use Rattle.std.proofs.lemmas.Bool.{false≢true}
-use Rattle.jsx_base.specs.Token.{Text, State as Taken, step, is_dead, left, last_state, accepts, is_kind, NumericLiteral, StringLiteral}
+use Rattle.std.proofs.Common.{◌≡◌, ℕ, ◌∷◌, true, false, cond, refl, sym, ap, subst}
+use Rattle.jsx_base.specs.Token.{Text, State as Taken, step, is_dead, left, last_state}
 use Rattle.jsx_syntax.specs.declared.automaton.Number.{Number}
 use Rattle.jsx_syntax.specs.declared.automaton.Number.TheVariants as number
 use Rattle.jsx_syntax.specs.declared.automaton.Quoted.{Quoted}
@@ -46,9 +45,10 @@ further s t c whole text w e n =
     let m : is_dead (step s c) ≡ false = subst (λ x. is_dead x ≡ false) e n in
     subst (λ x. Runs s t x text) (sym w)
     (subst (λ x. Runs s x (c ∷ text) text) (sym e)
-    (record
-    { rest_is = sym (ap (λ b. cond b (c ∷ text) (left (step s c) text)) m)
-    ; last_is = sym (ap (λ b. cond b s (last_state (step s c) text)) m) }))
+    (record {
+      rest_is = sym (ap (λ b. cond b (c ∷ text) (left (step s c) text)) m);
+      last_is = sym (ap (λ b. cond b s (last_state (step s c) text)) m);
+    }))
 
 pub record Stops (s : Taken) (whole : Text) : Type 0 where
   pub rest_is : whole ≡ left s whole
@@ -59,6 +59,7 @@ pub stops : (s t : Taken) (c : ℕ) (whole text : Text) → whole ≡ c ∷ text
 stops s t c whole text w e d =
     let m : is_dead (step s c) ≡ true = subst (λ x. is_dead x ≡ true) e d in
     subst (Stops s) (sym w)
-    (record
-    { rest_is = sym (ap (λ b. cond b (c ∷ text) (left (step s c) text)) m)
-    ; last_is = sym (ap (λ b. cond b s (last_state (step s c) text)) m) })
+    (record {
+      rest_is = sym (ap (λ b. cond b (c ∷ text) (left (step s c) text)) m);
+      last_is = sym (ap (λ b. cond b s (last_state (step s c) text)) m);
+    })

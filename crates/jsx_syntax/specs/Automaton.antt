@@ -1,6 +1,6 @@
 -- The automata of numbers and strings, as the code runs them.
-use Rattle.std.specs.Prelude.{ℕ, Bool, cond, ◌||◌, ◌&&◌}
-use Rattle.jsx_base.specs.Token.{Base as Digits, Hexadecimal, Octal, BinaryDigits, State as Taken, Dead, Done, StringLiteral, BehindZero, InDigits, BehindPoint, InFraction, BehindE, BehindSign, InExponent, InBase, BehindN, InString, InEscape, InHex, InUnicode, InBraces, BehindNul, BehindCr, digit_step, is_letter}
+use Rattle.std.specs.Prelude.{ℕ, Bool, cond, ◌||◌, ◌&&◌, nat_eq, true, false}
+use Rattle.jsx_base.specs.Token.{Base as Digits, Hexadecimal, Octal, BinaryDigits, State as Taken, Dead, Done, StringLiteral, BehindZero, InDigits, BehindPoint, InFraction, BehindE, BehindSign, InExponent, InBase, BehindN, InString, InEscape, InHex, InUnicode, InBraces, BehindNul, BehindCr, digit_step, is_letter, is_digit, first_is, Text}
 use Rattle.jsx_syntax.specs.declared.automaton.Base.{Base}
 use Rattle.jsx_syntax.specs.declared.automaton.Base.TheVariants as base
 use Rattle.jsx_syntax.specs.declared.automaton.Number.{Number}
@@ -44,3 +44,7 @@ state_of (state.Quoted q s) = quoted_state q s
 -- behind a digit of the fraction or not, and before its first
 abbrev pub in_fraction : Bool → Bool → ℕ → Taken
 in_fraction is_digit is_first c = digit_step InFraction is_digit c (cond ((is_digit || is_first) && is_letter 101 c) BehindE Dead)
+
+-- where a number may begin
+abbrev pub number_start : ℕ → Text → Taken
+number_start c text = cond (nat_eq c 48) BehindZero (cond (is_digit c) (InDigits true) (cond (nat_eq c 46 && first_is is_digit text) (InFraction false) Dead))

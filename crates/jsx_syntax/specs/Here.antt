@@ -1,6 +1,6 @@
 -- Where the lexer stands, and the tokens that the parser asks it for.
 use Rattle.std.specs.Prelude.{ℕ, codes, length}
-use Rattle.jsx_base.specs.Token.{Text, Operand, Operator, Tag, TokenKind, IdentifierName, Punctuator, JsxName}
+use Rattle.jsx_base.specs.Token.{Text, Operand, Operator, Tag, TokenKind, IdentifierName, Punctuator, NumericLiteral, StringLiteral, JsxName}
 use Rattle.jsx_tree.specs.Signs.{Sign, Tok, AfterExpr}
 use Rattle.jsx_tree.specs.Spelling.{mode_of}
 use Rattle.jsx_tree.specs.Reading.{Place, At}
@@ -35,6 +35,8 @@ sign_of fixed.TagGreater = Tok Tag Punctuator (codes ">")
 
 abbrev pub kind_of : Leaf → TokenKind
 kind_of leaf.Name = IdentifierName
+kind_of leaf.Num = NumericLiteral
+kind_of leaf.Str = StringLiteral
 kind_of leaf.JsxName = JsxName
 
 abbrev pub leaf_sign : Leaf → Text → Sign

@@ -12,6 +12,7 @@ ghost use Rattle.jsx_syntax.specs.Gaps.{IsBehind};
 
 use crate::characters::is_empty;
 use crate::gap::skip;
+use crate::literal::{number, string};
 use crate::marks::{behind_fixed, spelling};
 use crate::names::{Piece, name};
 use jsx_base::BytePos;
@@ -41,6 +42,8 @@ pub enum Fixed {
 pub enum Leaf {
     /// A name, reserved or not.
     Name,
+    Num,
+    Str,
     JsxName,
 }
 
@@ -137,6 +140,8 @@ fn piece(leaf: Leaf, ahead: &str) -> Option<Piece>
 {
     match leaf {
         Leaf::Name => name(false, ahead),
+        Leaf::Num => number(ahead),
+        Leaf::Str => string(ahead),
         Leaf::JsxName => name(true, ahead),
     }
 }

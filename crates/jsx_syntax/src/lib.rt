@@ -5,6 +5,7 @@ mod automaton;
 mod characters;
 mod gap;
 mod lexer;
+mod literal;
 mod marks;
 mod names;
 mod number;

@@ -4,7 +4,7 @@ ghost use Rattle.std.specs.Prelude.{◌≡◌};
 ghost use Rattle.jsx_base.specs.Token.{step, behind_zero, InDigits, BehindE, InExponent, InBase};
 ghost use Rattle.jsx_syntax.specs.Automaton.{state_of, number_state, base_of, in_fraction};
 
-use crate::automaton::{is_base_digit, is_letter, Base, Number, State};
+use crate::automaton::{Base, Number, State, is_base_digit, is_letter};
 
 /// A character behind a 0 at the begin.
 fn behind_zero(c: char) -> State

@@ -4,7 +4,7 @@ ghost use Rattle.std.specs.Prelude.{◌≡◌};
 ghost use Rattle.jsx_base.specs.Token.{step, in_string, escape, InHex, InUnicode, InBraces};
 ghost use Rattle.jsx_syntax.specs.Automaton.{state_of, quoted_state};
 
-use crate::automaton::{hex_value, is_hex, Quoted, State};
+use crate::automaton::{Quoted, State, hex_value, is_hex};
 
 /// A character of the body.
 fn in_body(quote: char, c: char) -> State
