@@ -1,1 +1,6 @@
 pub mod Here
+pub mod Characters
+pub mod Ahead
+pub mod Gaps
+pub mod Spelled
+pub mod Automaton
