@@ -215,6 +215,23 @@ mod tests {
         }
     }
 
+    fn places(text: &str) -> (u32, u32, u32) {
+        if text.len() >= 100 {
+            return (0, 0, 0);
+        }
+        let mut lexer = Lexer::new(text);
+        let start = lexer.last_place().0;
+        lexer.leaf(Leaf::Name);
+        let name = lexer.last_place().0;
+        lexer.take(Fixed::Equals);
+        (start, name, lexer.last_place().0)
+    }
+
+    #[test]
+    fn places_in_bytes(rt: HostRuntime) {
+        assert_eq!(rt; places(" /* \u{E9} */\u{A0}\u{E9}a = 1"), (0, 11, 15));
+    }
+
     #[test]
     fn ends(rt: HostRuntime) {
         for (text, want) in [
