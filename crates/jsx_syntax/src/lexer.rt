@@ -145,3 +145,104 @@ fn piece(leaf: Leaf, ahead: &str) -> Option<Piece>
         Leaf::JsxName => name(true, ahead),
     }
 }
+
+#[cfg(test)]
+mod tests {
+    use super::{Fixed, Leaf, Lexer};
+
+    fn takes(text: &str, fixed: Fixed) -> bool {
+        text.len() < 100 && Lexer::new(text).take(fixed)
+    }
+
+    fn leaf(text: &str, leaf: Leaf) -> &str {
+        if text.len() >= 100 {
+            return "";
+        }
+        Lexer::new(text).leaf(leaf).unwrap_or("")
+    }
+
+    fn is_at_end(text: &str) -> bool {
+        text.len() < 100 && Lexer::new(text).is_at_end()
+    }
+
+    #[test]
+    fn takes_marks(rt: HostRuntime) {
+        for (text, fixed, want) in [
+            ("const a", Fixed::Const, true),
+            ("constant", Fixed::Const, false),
+            ("= 1", Fixed::Equals, true),
+            ("== 1", Fixed::Equals, false),
+            ("=> 1", Fixed::Equals, false),
+            ("/* \u{2028} * */ ;", Fixed::Semicolon, true),
+            ("// a;", Fixed::Semicolon, false),
+            ("// a\u{2028};", Fixed::Semicolon, true),
+            ("..a", Fixed::Dot, true),
+            ("...a", Fixed::Dot, false),
+            (".5", Fixed::Dot, false),
+            ("<a", Fixed::Less, true),
+            ("<!-- a", Fixed::Less, false),
+            (" />", Fixed::TagSlash, true),
+        ] {
+            assert_eq!(rt; takes(text, fixed), want, "at {text}");
+        }
+    }
+
+    #[test]
+    fn takes_leaves(rt: HostRuntime) {
+        for (text, kind, want) in [
+            (
+                "\u{FEFF}/* a\n* */ caf\u{E9}1 = 2",
+                Leaf::Name,
+                "caf\u{E9}1",
+            ),
+            ("1a", Leaf::Name, ""),
+            ("/* a", Leaf::Name, ""),
+            ("data-x=", Leaf::JsxName, "data-x"),
+            ("1_000.5e-1_0;", Leaf::Num, "1_000.5e-1_0"),
+            (".5.", Leaf::Num, ".5"),
+            ("0xfF)", Leaf::Num, "0xfF"),
+            ("3in []", Leaf::Num, ""),
+            ("10n", Leaf::Num, ""),
+            (
+                "'\\u{10FFFF}\\x41\\\r\n'b",
+                Leaf::Str,
+                "'\\u{10FFFF}\\x41\\\r\n'",
+            ),
+            ("'\\u{110000}'", Leaf::Str, ""),
+            ("'a\nb'", Leaf::Str, ""),
+        ] {
+            assert_eq!(rt; leaf(text, kind), want, "at {text}");
+        }
+    }
+
+    fn places(text: &str) -> (u32, u32, u32) {
+        if text.len() >= 100 {
+            return (0, 0, 0);
+        }
+        let mut lexer = Lexer::new(text);
+        let start = lexer.last_place().0;
+        lexer.leaf(Leaf::Name);
+        let name = lexer.last_place().0;
+        lexer.take(Fixed::Equals);
+        (start, name, lexer.last_place().0)
+    }
+
+    #[test]
+    fn places_in_bytes(rt: HostRuntime) {
+        assert_eq!(rt; places(" /* \u{E9} */\u{A0}\u{E9}a = 1"), (0, 11, 15));
+    }
+
+    #[test]
+    fn ends(rt: HostRuntime) {
+        for (text, want) in [
+            ("", true),
+            (" // a", true),
+            ("/* a", false),
+            ("/**/", true),
+            ("/*/", false),
+            ("a", false),
+        ] {
+            assert_eq!(rt; is_at_end(text), want, "at {text}");
+        }
+    }
+}
