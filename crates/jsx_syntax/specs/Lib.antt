@@ -1,1 +1,3 @@
 pub mod Here
+pub mod Answers
+pub mod Pieces

@@ -1,0 +1,5 @@
+pub mod Tokens
+pub mod Unique
+pub mod Steps
+pub mod Leaves
+pub mod Spellings
