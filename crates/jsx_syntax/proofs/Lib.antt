@@ -3,3 +3,4 @@ pub mod Unique
 pub mod Steps
 pub mod Leaves
 pub mod Spellings
+pub mod Trees

@@ -46,6 +46,16 @@ barred_list {c} {x} b = record { no = at }
     at : (g : Given) (y : Place) → Past (Listed c) x g y → ⊥
     at g y (listed p) = b.no _ _ p
 
+-- a tree of a class in a list of its own
+pub listed_form : {f : Form} {c : Class} {t : Tree} {x y : Place} → class_of f ≡ c → Built f t x y → Past (Listed c) x (one (single t)) y
+listed_form e b = listed (formed e b)
+
+pub barred_listed : (f : Form) (c : Class) (x : Place) → class_of f ≡ c → NoWalk (template f) x → Barred (Listed c) x
+barred_listed f c x e n = barred_list (barred_form f c x e n)
+
+pub refused_listed : {T : Type 0} (answer : Result T ParseError) (f : Form) (c : Class) (x : Place) → class_of f ≡ c → Refused answer (NoWalk (template f) x) → Refused answer (Barred (Listed c) x)
+refused_listed answer f c x e r = record { bars = λ at syntax. barred_listed f c x e (r.bars at syntax) }
+
 -- ---- an error behind some pieces of a form, and a form with all its pieces
 
 pub fails_1 : {T U : Type 0} (answer : Result T ParseError) (ps : List Piece) {e : ParseError} {p1 : Piece} {x0 : Place}

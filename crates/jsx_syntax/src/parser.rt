@@ -17,6 +17,11 @@ use jsx_base::{BytePos, Span};
 use jsx_tree::{DeclareWord, Expr, Ident, Jsx, Pat, Stmt, Tag, Text};
 use std::alloc::Global;
 
+/// From a place to the end of the token that was taken last.
+fn span_from(lo: u32, lexer: &Lexer) -> Option<Span> {
+    Some(Span::new(BytePos(lo), BytePos(lexer.end_at())))
+}
+
 /// The error where the parser stands.
 fn give_up(lexer: &Lexer) -> ParseError {
     ParseError::Syntax(BytePos(lexer.last_at()))
@@ -63,4 +68,49 @@ fn tag_name<'s>(lexer: &mut Lexer<'s>) -> Result<Text<'s>, ParseError>
         return Err(give_up(lexer));
     }
     Ok(Text::Read(raw, BytePos(lexer.last_at())))
+}
+
+/// A JSX element with neither attributes nor children: `<a/>`.
+#[tactic(auto, using(crate::proofs::Steps::steps))]
+fn element<'s>(lexer: &mut Lexer<'s>) -> Result<Jsx<'s>, ParseError>
+    ensures read { IfOk result (λ j. Built piece.Empty (view_jsx j) (place_of lexer.old) (place_of lexer.new)) }
+    ensures shorter { OnOk result (left lexer.new < left lexer.old) }
+    ensures refused { Refused result (NoWalk (template piece.Empty) (place_of lexer.old)) }
+{
+    expect(lexer, Fixed::Less)?;
+    let lo = lexer.last_at();
+    let name = tag_name(lexer)?;
+    expect(lexer, Fixed::TagSlash)?;
+    expect(lexer, Fixed::TagGreater)?;
+    Ok(Jsx::Element(span_from(lo, lexer), Tag::Name(name)))
+}
+
+/// A variable and its initializer: `a = <b/>`.
+#[tactic(auto, using(crate::proofs::Steps::steps))]
+fn declarator<'s>(alloc: Global, lexer: &mut Lexer<'s>) -> Result<Pat<'s>, ParseError>
+    ensures read { IfOk result (λ p. Built piece.Bound (view_pat p) (place_of lexer.old) (place_of lexer.new)) }
+    ensures shorter { OnOk result (left lexer.new < left lexer.old) }
+    ensures refused { Refused result (NoWalk (template piece.Bound) (place_of lexer.old)) }
+{
+    let text = binding_identifier(lexer)?;
+    let lo = lexer.last_at();
+    let name = Pat::Ident(span_from(lo, lexer), Ident { text });
+    expect(lexer, Fixed::Equals)?;
+    let value = Expr::Jsx(element(lexer)?);
+    Ok(Pat::Binding(span_from(lo, lexer), Box::new(alloc, name)?, Some(Box::new(alloc, value)?)))
+}
+
+/// A lexical declaration: `const a = <b/>;`.
+#[tactic(auto, using(crate::proofs::Steps::steps))]
+fn declaration<'s>(alloc: Global, lexer: &mut Lexer<'s>) -> Result<Stmt<'s>, ParseError>
+    ensures read { IfOk result (λ s. Built piece.Constant (view_stmt s) (place_of lexer.old) (place_of lexer.new)) }
+    ensures shorter { OnOk result (left lexer.new < left lexer.old) }
+    ensures refused { Refused result (NoWalk (template piece.Constant) (place_of lexer.old)) }
+{
+    expect(lexer, Fixed::Const)?;
+    let lo = lexer.last_at();
+    let mut declarators = Vec::new(alloc);
+    declarators.push(declarator(alloc, lexer)?)?;
+    expect(lexer, Fixed::Semicolon)?;
+    Ok(Stmt::Var(span_from(lo, lexer), DeclareWord::Const, declarators))
 }
