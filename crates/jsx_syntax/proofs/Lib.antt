@@ -4,3 +4,5 @@ pub mod Steps
 pub mod Leaves
 pub mod Spellings
 pub mod Trees
+pub mod Meaning
+pub mod Whole
