@@ -6,3 +6,4 @@ pub mod Spellings
 pub mod Trees
 pub mod Meaning
 pub mod Whole
+pub mod Runs
