@@ -7,3 +7,4 @@ pub mod Trees
 pub mod Meaning
 pub mod Whole
 pub mod Runs
+pub mod Modules

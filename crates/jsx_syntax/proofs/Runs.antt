@@ -95,32 +95,32 @@ not_string (form Constant c w) = refl
 not_string (form Bound c w) = cc
 not_string (form Empty c w) = cc
 
-all_fit : {x y : Place} {ts : List Tree} → Run x ts y → fit_each Item (forest ts) ≡ true
+pub all_fit : {x y : Place} {ts : List Tree} → Run x ts y → fit_each Item (forest ts) ≡ true
 all_fit stop = refl
 all_fit (more {t = t} p r) = let f = (fits_past p).formed in and_both _ _ (and_left (admits Item t) (fits_below Item t) f) (and_both _ _ (and_right (admits Item t) (fits_below Item t) f) (all_fit r))
 
-all_staged : {x y : Place} {ts : List Tree} → Run x ts y → each_in_stage Item (forest ts) ≡ true
+pub all_staged : {x y : Place} {ts : List Tree} → Run x ts y → each_in_stage Item (forest ts) ≡ true
 all_staged stop = refl
 all_staged (more p r) = and_both _ _ (fits_past p).staged (all_staged r)
 
-all_legal : (v : Surroundings) {x y : Place} {ts : List Tree} → Run x ts y → each_legal v (forest ts) ≡ true
+pub all_legal : (v : Surroundings) {x y : Place} {ts : List Tree} → Run x ts y → each_legal v (forest ts) ≡ true
 all_legal v stop = refl
 all_legal v (more p r) = and_both _ _ ((fits_past p).lawful v) (all_legal v r)
 
-all_before : {x y : Place} {ts : List Tree} → Run x ts y → last_only (forest ts) ≡ true
+pub all_before : {x y : Place} {ts : List Tree} → Run x ts y → last_only (forest ts) ≡ true
 all_before stop = refl
 all_before (more p stop) = refl
 all_before (more p (more q r)) = and_both _ _ (ap not (not_last p)) (all_before (more q r))
 
-first_is_none : {x y : Place} {ts : List Tree} → Run x ts y → first_of_list is_string_stmt (forest ts) ≡ false
+pub first_is_none : {x y : Place} {ts : List Tree} → Run x ts y → first_of_list is_string_stmt (forest ts) ≡ false
 first_is_none stop = refl
 first_is_none (more p r) = not_string p
 
-gathered_more : (p : Place) (x : List Sign) (xs : List (List Sign)) → scan p (with_semicolons (gathered TopLines (x ∷ xs))) ≡ scan (scan p (with_semicolons x)) (with_semicolons (gathered TopLines xs))
+pub gathered_more : (p : Place) (x : List Sign) (xs : List (List Sign)) → scan p (with_semicolons (gathered TopLines (x ∷ xs))) ≡ scan (scan p (with_semicolons x)) (with_semicolons (gathered TopLines xs))
 gathered_more p x [] = scan_both p x (Line ∷ [])
 gathered_more p x (y ∷ ys) = scan_both p x (Line ∷ gathered TopLines (y ∷ ys))
 
-all_scan : {x y : Place} {ts : List Tree} → Run x ts y → scan x (with_semicolons (gathered TopLines (each_said (forest ts)))) ≡ y
+pub all_scan : {x y : Place} {ts : List Tree} → Run x ts y → scan x (with_semicolons (gathered TopLines (each_said (forest ts)))) ≡ y
 all_scan stop = refl
 all_scan {x} (more {t = t} {ts = ts} p r) =
     gathered_more x (spelled t) (each_said (forest ts)) ∙ (ap (λ q. scan q (with_semicolons (gathered TopLines (each_said (forest ts))))) (fits_past p).scanned ∙ all_scan r)
@@ -165,6 +165,6 @@ plain_too (Semicolon ∷ ms) x f =
     ap (λ p. scan p ms) (semi_too x f1) ∙ plain_too ms (forth (Tok Operator Punctuator (codes ";")) x) f
 plain_too (m ∷ ms) x f = plain_too ms (forth m x) f
 
-found_end : (x : Place) → ended_at x ≡ true → IsTrue (is_found x)
+pub found_end : (x : Place) → ended_at x ≡ true → IsTrue (is_found x)
 found_end Lost e = cc
 found_end (At q f text) e = refl
