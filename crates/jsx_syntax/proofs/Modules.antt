@@ -14,11 +14,12 @@ use Rattle.jsx_tree.specs.StaticRules.{Surroundings, outside, enter, legal, each
 use Rattle.jsx_tree.specs.Program.{Reads}
 use Rattle.jsx_tree.specs.Stage.{ReadsSoFar, has_kind, in_stage, in_stages, each_in_stage, with_semicolons}
 use Rattle.jsx_tree.specs.View.{forest}
-use Rattle.jsx_syntax.specs.Pieces.{is_found}
+use Rattle.jsx_syntax.specs.Pieces.{is_found, Run, stop, more}
+use Rattle.jsx_syntax.specs.Answers.{ToEnd, NoRun, NoTree}
 use Rattle.jsx_syntax.proofs.Tokens.{and_left, and_right, and_both, found_first}
 use Rattle.jsx_syntax.proofs.Meaning.{scan_both}
 use Rattle.jsx_syntax.proofs.Whole.{Staged, module', constant, bound, element, staged, statement_past}
-use Rattle.jsx_syntax.proofs.Runs.{Run, stop, more, one_run, all_fit, all_staged, all_legal, all_before, first_is_none, gathered_more, all_scan, plain_too, found_end}
+use Rattle.jsx_syntax.proofs.Runs.{one_run, all_fit, all_staged, all_legal, all_before, first_is_none, gathered_more, all_scan, plain_too, found_end}
 
 abbrev pub begin : Text → Place
 begin text = At [] AfterExpr text
@@ -149,3 +150,13 @@ one_module text t u p q =
     let a = run_of text t p in
     let b = run_of text u q in
     a.is ∙ (ap (λ ts. module_of (forest ts)) (one_run a.run a.ended b.run b.ended) ∙ sym b.is)
+
+-- ---- from the parser's begin
+
+pub whole : {text : Text} {x : Place} {ds ts : List Tree} → x ≡ begin text → ToEnd ts x → ds ≡ [] → ReadsSoFar text (node (program Module) (part (list (forest ds)) (part (list (forest ts)) none)))
+whole {text} {x} {ds} {ts} same e none' =
+    subst (λ us. ReadsSoFar text (node (program Module) (part (list (forest us)) (part (list (forest ts)) none)))) (sym none')
+    (reads_module (subst (λ p. Run p ts e.end) same e.run) e.ended)
+
+pub unread : {text : Text} {x : Place} → x ≡ begin text → NoRun x → NoTree text
+unread {text} {x} same n = record { no = λ t r. let o = run_of text t r in n.no o.trees (record { end = o.end; run = subst (λ p. Run p o.trees o.end) (sym same) o.run; ended = o.ended }) }

@@ -1,11 +1,11 @@
 -- Statements one behind the other, and a module.
-use Rattle.std.proofs.Common.{◌≡◌, Bool, true, false, not, cond, List, [], ◌∷◌, ◌++◌, map, refl, sym, ◌∙◌, ap, subst}
+use Rattle.std.proofs.Common.{◌≡◌, Bool, true, false, not, cond, List, [], ◌∷◌, ◌++◌, map, Box, Global, refl, sym, ◌∙◌, ap, subst}
 use Rattle.std.specs.Prelude.{IsTrue, codes, ◌&&◌, ◌||◌}
 use Rattle.jsx_base.specs.Token.{Text, Operator, IdentifierName, Punctuator, Lexeme, begins, breaks, skip, same, is_end, is_cut, Blank, is_token, no_token, lexed, state, at_front, token}
 use Rattle.jsx_tree.specs.declared.text.Goal.TheVariants as goals
 use Rattle.jsx_tree.specs.Signs.{AfterExpr, Sign, Tok, Semicolon, Line, Begin, End}
 use Rattle.jsx_tree.specs.Kinds.{Module, Kind, program, Tree, leaf, node, list, Forest, none, part}
-use Rattle.jsx_tree.specs.Nonterminals.{Item, DirectiveOnly, WholeProgram, in_homes, homes}
+use Rattle.jsx_tree.specs.Nonterminals as places
 use Rattle.jsx_tree.specs.Grammar.{TopLines}
 use Rattle.jsx_tree.specs.Form.{Several, is, is_last, last_only, admits, shaped, fits_below, fit_slots, fit_each, positions}
 use Rattle.jsx_tree.specs.Spelling.{spelled, each_said, gathered}
@@ -13,21 +13,28 @@ use Rattle.jsx_tree.specs.Reading.{Place, Lost, At, forth, scan, ended_at, reads
 use Rattle.jsx_tree.specs.StaticRules.{Surroundings, outside, legal, each_legal, first_of_list, is_string_stmt}
 use Rattle.jsx_tree.specs.Program.{Reads}
 use Rattle.jsx_tree.specs.Stage.{ReadsSoFar, has_kind, in_stage, each_in_stage, with_semicolons}
-use Rattle.jsx_tree.specs.View.{forest}
-use Rattle.jsx_syntax.specs.Pieces.{is_found, Statement, Constant, Bound, Empty, Part, one, Past, fixed, form, Walk, next}
+use Rattle.jsx_tree.specs.declared.tree.Stmt.{Stmt}
+use Rattle.jsx_tree.specs.declared.tree.Item.{Item}
+use Rattle.jsx_tree.specs.declared.tree.Item.TheVariants as item
+use Rattle.jsx_tree.specs.View.{forest, view_stmt, view_item}
+use Rattle.jsx_syntax.specs.Pieces.{is_found, Statement, Constant, Bound, Empty, Part, one, Past, fixed, form, Walk, next, Run, stop, more}
 use Rattle.jsx_syntax.specs.Answers.{Barred}
 use Rattle.jsx_syntax.proofs.Tokens.{and_left, and_right, and_both, same_is, found_before, found_first}
 use Rattle.jsx_syntax.proofs.Unique.{one_past, one_inj}
 use Rattle.jsx_syntax.proofs.Meaning.{Fits, fits_statement, scan_both}
 use Rattle.jsx_syntax.proofs.Whole.{Staged, module', constant, bound, element, staged, statement_past}
 
-pub data Run : Place → List Tree → Place → Type 0 where
-  stop : {x : Place} → Run x [] x
-  more : {x y z : Place} {t : Tree} {ts : List Tree} → Past (Part Statement) x (one t) y → Run y ts z → Run x (t ∷ ts) z
-
 pub run_on : {x y z : Place} {ts : List Tree} {t : Tree} → Run x ts y → Past (Part Statement) y (one t) z → Run x (ts ++ t ∷ []) z
 run_on stop p = more p stop
 run_on (more q r) p = more q (run_on r p)
+
+view_push : (is : List Item) (i : Item) → map view_item (is ++ i ∷ []) ≡ map view_item is ++ view_item i ∷ []
+view_push [] i = refl
+view_push (j ∷ is) i = ap (λ ts. view_item j ∷ ts) (view_push is i)
+
+pub run_push : {x y z : Place} (is js : List Item) (b : Box Stmt Global) (s : Stmt) → Run x (map view_item is) y → Past (Part Statement) y (one (view_stmt s)) z → js ≡ is ++ item.Stmt b ∷ [] → b.value ≡ s → Run x (map view_item js) z
+run_push {x} {y} {z} is js b s r p e f =
+    subst (λ ts. Run x ts z) (sym (ap (map view_item) e ∙ view_push is (item.Stmt b))) (run_on r (subst (λ t. Past (Part Statement) y (one (view_stmt t)) z) (sym f) p))
 
 -- ---- the end of a text begins no statement
 
@@ -80,7 +87,7 @@ nothing_more r f e b = no_run r.run f e b
 
 -- ---- what each statement of a run keeps
 
-fits_past : {x y : Place} {t : Tree} → Past (Part Statement) x (one t) y → Fits Item t x y
+fits_past : {x y : Place} {t : Tree} → Past (Part Statement) x (one t) y → Fits places.Item t x y
 fits_past (form Constant c w) = fits_statement w
 fits_past (form Bound c w) = cc
 fits_past (form Empty c w) = cc
@@ -95,11 +102,11 @@ not_string (form Constant c w) = refl
 not_string (form Bound c w) = cc
 not_string (form Empty c w) = cc
 
-pub all_fit : {x y : Place} {ts : List Tree} → Run x ts y → fit_each Item (forest ts) ≡ true
+pub all_fit : {x y : Place} {ts : List Tree} → Run x ts y → fit_each places.Item (forest ts) ≡ true
 all_fit stop = refl
-all_fit (more {t = t} p r) = let f = (fits_past p).formed in and_both _ _ (and_left (admits Item t) (fits_below Item t) f) (and_both _ _ (and_right (admits Item t) (fits_below Item t) f) (all_fit r))
+all_fit (more {t = t} p r) = let f = (fits_past p).formed in and_both _ _ (and_left (admits places.Item t) (fits_below places.Item t) f) (and_both _ _ (and_right (admits places.Item t) (fits_below places.Item t) f) (all_fit r))
 
-pub all_staged : {x y : Place} {ts : List Tree} → Run x ts y → each_in_stage Item (forest ts) ≡ true
+pub all_staged : {x y : Place} {ts : List Tree} → Run x ts y → each_in_stage places.Item (forest ts) ≡ true
 all_staged stop = refl
 all_staged (more p r) = and_both _ _ (fits_past p).staged (all_staged r)
 

@@ -86,3 +86,8 @@ mutual
   pub data Walk : List Piece → Place → Forest → Place → Type 0 where
     done : {x : Place} → Walk [] x none x
     next : {p : Piece} {ps : List Piece} {x y z : Place} {g : Given} {ts : Forest} → Past p x g y → Walk ps y ts z → Walk (p ∷ ps) x (with g ts) z
+
+-- statements, one behind the other
+pub data Run : Place → List Tree → Place → Type 0 where
+  stop : {x : Place} → Run x [] x
+  more : {x y z : Place} {t : Tree} {ts : List Tree} → Past (Part Statement) x (one t) y → Run y ts z → Run x (t ∷ ts) z

@@ -2,9 +2,10 @@
 #![tactic(auto)]
 
 mod error;
+mod identifiers;
 mod lexer;
+mod module;
 mod parser;
-mod words;
 
 pub use error::ParseError;
-
+pub use module::{one_tree, parse};

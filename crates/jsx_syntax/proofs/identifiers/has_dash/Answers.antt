@@ -6,7 +6,7 @@ use Rattle.std.proofs.lemmas.Iterator.{YieldsList-from_chars}
 use Rattle.std.proofs.lemmas.Iterator.Search.{any_from_yields_List}
 use Rattle.jsx_base.specs.Token.{Text}
 use Rattle.jsx_tree.specs.Nonterminals as grammar
-use Rattle.jsx_syntax.proofs.words.has_dash.Goals as goal
+use Rattle.jsx_syntax.proofs.identifiers.has_dash.Goals as goal
 
 as_any : (t : Text) → list_any (λ c. nat_eq c 45) t ≡ grammar.has_dash t
 as_any [] = refl
