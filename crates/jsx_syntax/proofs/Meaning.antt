@@ -42,11 +42,12 @@ pub record Fits (c : Nonterminal) (t : Tree) (x y : Place) : Type 0 where
   pub scanned : scan x (with_semicolons (spelled t)) ≡ y
 
 pub fits_value : {x y : Place} {ts : Forest} → Walk (template Empty) x ts y → Fits (Expr 1) (node (jsx Element) ts) x y
-fits_value (next (fixed e1 f1) (next (leaf' {t = t} a b l e2 f2) (next absent (next (fixed e3 f3) (next (fixed e4 f4) done))))) = record
-    { formed = and_both _ _ l refl
-    ; staged = and_both _ _ b refl
-    ; lawful = λ v. refl
-    ; scanned = cc }
+fits_value (next (fixed e1 f1) (next (leaf' {t = t} a b l e2 f2) (next absent (next (fixed e3 f3) (next (fixed e4 f4) done))))) = record {
+  formed = and_both _ _ l refl;
+  staged = and_both _ _ b refl;
+  lawful = λ v. refl;
+  scanned = cc;
+}
 
 only_one : (c : Nonterminal) (t : Tree) → is c t ≡ true → ((admits c t && (fits_below c t && true)) && true) ≡ true
 only_one c t e = and_both _ _ (and_both _ _ (and_left (admits c t) (fits_below c t) e) (and_both _ _ (and_right (admits c t) (fits_below c t) e) refl)) refl
@@ -54,14 +55,15 @@ only_one c t e = and_both _ _ (and_both _ _ (and_left (admits c t) (fits_below c
 pub fits_binding : {x y : Place} {ts : Forest} → Walk (template Bound) x ts y → Fits Declarators (node (statement Declarator) ts) x y
 fits_binding {x} {y} (next {y = x1} (leaf' {t = t} a b l e1 f1) (next {y = x2} (fixed e2 f2) (next (listed {t = u} (form Empty {ts = us} e w)) done))) =
     let v = fits_value w in
-    record
-    { formed = and_both _ _ a (and_both _ _ l (only_one (Expr 1) (node (jsx Element) us) v.formed))
-    ; staged = and_both _ _ b (and_both _ _ (and_both _ _ v.staged refl) refl)
-    ; lawful = λ s. and_both _ _ (and_both _ _ (v.lawful s) refl) refl
-    ; scanned =
-        let n = Tok Operator IdentifierName t in
-        let same : forth (Tok Operator Punctuator (codes "=")) (forth (Ends AfterBinding) (forth n x)) ≡ x2 = past_ends Operator Punctuator (codes "=") AfterBinding (forth n x) ∙ (ap (forth (Tok Operator Punctuator (codes "="))) e1 ∙ e2) in
-        scan_alone (forth (Tok Operator Punctuator (codes "=")) (forth (Ends AfterBinding) (forth n x))) (spelled u) (End ∷ []) ∙ (ap (λ p. scan p (with_semicolons (spelled u))) same ∙ v.scanned) }
+    record {
+      formed = and_both _ _ a (and_both _ _ l (only_one (Expr 1) (node (jsx Element) us) v.formed));
+      staged = and_both _ _ b (and_both _ _ (and_both _ _ v.staged refl) refl);
+      lawful = λ s. and_both _ _ (and_both _ _ (v.lawful s) refl) refl;
+      scanned =
+          let n = Tok Operator IdentifierName t in
+          let same : forth (Tok Operator Punctuator (codes "=")) (forth (Ends AfterBinding) (forth n x)) ≡ x2 = past_ends Operator Punctuator (codes "=") AfterBinding (forth n x) ∙ (ap (forth (Tok Operator Punctuator (codes "="))) e1 ∙ e2) in
+          scan_alone (forth (Tok Operator Punctuator (codes "=")) (forth (Ends AfterBinding) (forth n x))) (spelled u) (End ∷ []) ∙ (ap (λ p. scan p (with_semicolons (spelled u))) same ∙ v.scanned);
+    }
 fits_binding (next p (next q (next (listed (form Constant e w)) done))) = cc
 fits_binding (next p (next q (next (listed (form Bound e w)) done))) = cc
 
@@ -73,11 +75,12 @@ has_value Empty e w = cc
 pub fits_statement : {x y : Place} {ts : Forest} → Walk (template Constant) x ts y → Fits Item (node (statement (Var ConstWord)) ts) x y
 fits_statement {x} {y} (next {y = x1} (fixed e1 f1) (next {y = x2} (listed {t = d} (form Bound {ts = us} e w)) (next (fixed e2 f2) done))) =
     let v = fits_binding w in
-    record
-    { formed = only_one Declarators (node (statement Declarator) us) v.formed
-    ; staged = and_both _ _ (and_both _ _ v.staged refl) refl
-    ; lawful = λ s. and_both _ _ (and_both _ _ (and_both _ _ (has_value Bound e w) refl) refl) (and_both _ _ (and_both _ _ (v.lawful s) refl) refl)
-    ; scanned = scan_alone (forth (Tok Operator IdentifierName (codes "const")) x) (spelled d) (Semicolon ∷ End ∷ [])
-        ∙ (ap (λ p. forth (Tok Operator Punctuator (codes ";")) (scan p (with_semicolons (spelled d)))) e1 ∙ (ap (forth (Tok Operator Punctuator (codes ";"))) v.scanned ∙ e2)) }
+    record {
+      formed = only_one Declarators (node (statement Declarator) us) v.formed;
+      staged = and_both _ _ (and_both _ _ v.staged refl) refl;
+      lawful = λ s. and_both _ _ (and_both _ _ (and_both _ _ (has_value Bound e w) refl) refl) (and_both _ _ (and_both _ _ (v.lawful s) refl) refl);
+      scanned = scan_alone (forth (Tok Operator IdentifierName (codes "const")) x) (spelled d) (Semicolon ∷ End ∷ [])
+          ∙ (ap (λ p. forth (Tok Operator Punctuator (codes ";")) (scan p (with_semicolons (spelled d)))) e1 ∙ (ap (forth (Tok Operator Punctuator (codes ";"))) v.scanned ∙ e2));
+    }
 fits_statement (next p (next (listed (form Constant e w)) q)) = cc
 fits_statement (next p (next (listed (form Empty e w)) q)) = cc

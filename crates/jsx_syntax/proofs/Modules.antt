@@ -35,13 +35,15 @@ reads_module {text} {ts} {y} r e =
     let scanned : scan (begin text) (with_semicolons (spelled (module_of (forest ts)))) ≡ y = scan_module (begin text) (forest ts) ∙ all_scan r in
     let ended : ended_at (scan (begin text) (with_semicolons (spelled (module_of (forest ts))))) ≡ true = ap ended_at scanned ∙ e in
     let plain = plain_too (spelled (module_of (forest ts))) (begin text) (found_end _ ended) in
-    record
-    { reads = record
-        { of_goal = refl
-        ; read = and_both _ _ (and_both _ _ (all_before r) (and_both _ _ (all_fit r) refl)) (ap ended_at plain ∙ ended)
-        ; is_legal = and_both _ _ (ap not (first_is_none r)) (and_both _ _ (all_legal (enter (part (list none) (part (list (forest ts)) none)) InModuleCode outside) r) refl) }
-    ; staged = and_both _ _ (all_staged r) refl
-    ; semicolons = ended }
+    record {
+      reads = record {
+        of_goal = refl;
+        read = and_both _ _ (and_both _ _ (all_before r) (and_both _ _ (all_fit r) refl)) (ap ended_at plain ∙ ended);
+        is_legal = and_both _ _ (ap not (first_is_none r)) (and_both _ _ (all_legal (enter (part (list none) (part (list (forest ts)) none)) InModuleCode outside) r) refl);
+      };
+      staged = and_both _ _ (all_staged r) refl;
+      semicolons = ended;
+    }
 
 -- ---- and back
 
@@ -63,7 +65,7 @@ run_forest v (part t ts) {x} {y} m s l e f =
     let e' : scan z (with_semicolons (gathered TopLines (each_said ts))) ≡ y = sym (gathered_more x (spelled t) (each_said ts)) ∙ e in
     let found = found_first (with_semicolons (gathered TopLines (each_said ts))) z (subst (λ p. IsTrue (is_found p)) (sym e') f) in
     more (statement_past v t (and_left (admits Item t) _ m) (and_left (fits_below Item t) _ m1) (and_left (in_stage Item t) _ s) (and_left (legal v t) _ l) refl found)
-        (run_forest v ts (and_right (fits_below Item t) _ m1) (and_right (in_stage Item t) _ s) (and_right (legal v t) _ l) e' f)
+    (run_forest v ts (and_right (fits_below Item t) _ m1) (and_right (in_stage Item t) _ s) (and_right (legal v t) _ l) e' f)
 
 no_directive : {k : Kind} → Staged k → in_homes DirectiveOnly (homes k) ≡ true → ⊥
 no_directive module' h = cc
@@ -133,12 +135,13 @@ run_module text ts r =
     let ended : ended_at end ≡ true = ap ended_at (sym same) ∙ r.semicolons in
     let fits : (last_only ts && (fit_each Item ts && true)) ≡ true = and_left _ _ r.reads.read in
     let lawful : (each_legal v ts && true) ≡ true = and_right (not (first_of_list is_string_stmt ts)) (each_legal v ts && true) r.reads.is_legal in
-    record
-    { trees = trees_of ts
-    ; end = end
-    ; is = ap module_of (sym (forest_back ts))
-    ; run = run_forest v ts (and_left (fit_each Item ts) true (and_right (last_only ts) (fit_each Item ts && true) fits)) (and_left (each_in_stage Item ts) true r.staged) (and_left (each_legal v ts) true lawful) refl (found_end _ ended)
-    ; ended = ended }
+    record {
+      trees = trees_of ts;
+      end = end;
+      is = ap module_of (sym (forest_back ts));
+      run = run_forest v ts (and_left (fit_each Item ts) true (and_right (last_only ts) (fit_each Item ts && true) fits)) (and_left (each_in_stage Item ts) true r.staged) (and_left (each_legal v ts) true lawful) refl (found_end _ ended);
+      ended = ended;
+    }
 
 pub run_of : (text : Text) (t : Tree) → ReadsSoFar text t → RunOf text t
 run_of text t r =

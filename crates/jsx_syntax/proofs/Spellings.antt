@@ -28,8 +28,8 @@ same_bytes w bs u p =
     let e : encodes w ≡ w = (bytes_eq-Decides (encodes w) w).0 (and_left _ _ p) in
     by_both _ _
     (λ is. let f : w ≡ bs = (bytes_eq-Decides w bs).0 is in
-        let g : chars bs ≡ w = ap chars (sym f) ∙ (ap chars (sym e) ∙ chars-encodes w (and_right _ _ p)) in
-        ap (λ t. same t w) g ∙ same_self w)
+    let g : chars bs ≡ w = ap chars (sym f) ∙ (ap chars (sym e) ∙ chars-encodes w (and_right _ _ p)) in
+    ap (λ t. same t w) g ∙ same_self w)
     (λ is. (bytes_eq-Decides w bs).1 (let g : chars bs ≡ w = same_is _ _ is in sym e ∙ (ap encodes (sym g) ∙ encodes-chars bs u)))
 
 any_among : (ws : List Text) (bs : List ℕ) → IsUtf8 bs → all_plain ws ≡ true → list_any (λ y. bytes_eq y bs) ws ≡ among (chars bs) ws

@@ -148,7 +148,7 @@ walks_binding n u {x} {y} fine whole h m s e f =
     let x2 = forth (Tok Operator Punctuator (codes "=")) x1 in
     let same : forth (Tok Operator Punctuator (codes "=")) (forth (Ends AfterBinding) x1) ≡ x2 = past_ends Operator Punctuator (codes "=") AfterBinding x1 in
     let e' : scan x2 (with_semicolons (spelled u)) ≡ y =
-        ap (λ p. scan p (with_semicolons (spelled u))) (sym same) ∙ (sym (scan_alone (forth (Tok Operator Punctuator (codes "=")) (forth (Ends AfterBinding) x1)) (spelled u) (End ∷ [])) ∙ e) in
+    ap (λ p. scan p (with_semicolons (spelled u))) (sym same) ∙ (sym (scan_alone (forth (Tok Operator Punctuator (codes "=")) (forth (Ends AfterBinding) x1)) (spelled u) (End ∷ [])) ∙ e) in
     let f2 = found_first (with_semicolons (spelled u)) x2 (found_at e' f) in
     let f1 = found_before (Tok Operator Punctuator (codes "=")) x1 f2 in
     next (leaf' fine refl whole refl f1) (next (fixed refl f2) (next (listed (value_past u h m s e' f)) done))
@@ -182,7 +182,7 @@ binding_walk (part a (part b none)) {x} {y} m s i e f =
     let same : part a (part b none) ≡ binding_of t.name o.value = (λ j. part (t.is j) (part (o.is j) none)) in
     subst (λ cs. Walk (template Bound) x cs y) (sym same)
     (walks_binding t.name o.value t.fine t.whole (and_left (admits (Expr 1) o.value) _ m3) (and_left (fits_below (Expr 1) o.value) true (and_right (admits (Expr 1) o.value) (fits_below (Expr 1) o.value && true) m3)) (and_left (in_stage (Expr 1) o.value) true s3)
-        (subst (λ cs. scan x (with_semicolons (spelled (node (statement Declarator) cs))) ≡ y) same e) f)
+    (subst (λ cs. scan x (with_semicolons (spelled (node (statement Declarator) cs))) ≡ y) same e) f)
 
 record IsBinding (t : Tree) : Type 0 where
   parts : Forest

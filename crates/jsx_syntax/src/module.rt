@@ -42,7 +42,10 @@ pub fn parse<'s>(alloc: Global, text: &'s str) -> Result<Program<'s>, ParseError
     let mut lexer = Lexer::new(text);
     match items(alloc, &mut lexer) {
         Ok(body) => Ok(Program::Module(Module {
-            span: Span { lo: BytePos(0), hi: end },
+            span: Span {
+                lo: BytePos(0),
+                hi: end,
+            },
             directives: Vec::new(alloc),
             body,
         })),
@@ -54,5 +57,4 @@ pub fn parse<'s>(alloc: Global, text: &'s str) -> Result<Program<'s>, ParseError
 /// A text has one tree at most.
 pub fn one_tree()
     ensures { (text : Text) (t u : Tree) → ReadsSoFar text t → ReadsSoFar text u → t ≡ u }
-{
-}
+{}

@@ -11,8 +11,8 @@ ghost use Rattle.jsx_syntax.specs.Pieces as piece;
 ghost use Rattle.jsx_syntax.specs.Answers.{Barred, NoWalk, Refused, Built};
 
 use crate::error::ParseError;
-use crate::lexer::{Fixed, Leaf, Lexer};
 use crate::identifiers::{is_bound, is_plain_tag};
+use crate::lexer::{Fixed, Leaf, Lexer};
 use jsx_base::{BytePos, Span};
 use jsx_tree::{DeclareWord, Expr, Ident, Jsx, Pat, Stmt, Tag, Text};
 use std::alloc::Global;
@@ -100,7 +100,11 @@ fn declarator<'s>(alloc: Global, lexer: &mut Lexer<'s>) -> Result<Pat<'s>, Parse
     let lo = lexer.last_place();
     expect(lexer, Fixed::Equals)?;
     let value = Expr::Jsx(element(lexer)?);
-    Ok(Pat::Binding(span_to(lo, lexer, ">"), Box::new(alloc, name)?, Some(Box::new(alloc, value)?)))
+    Ok(Pat::Binding(
+        span_to(lo, lexer, ">"),
+        Box::new(alloc, name)?,
+        Some(Box::new(alloc, value)?),
+    ))
 }
 
 /// A lexical declaration: `const a = <b/>;`.

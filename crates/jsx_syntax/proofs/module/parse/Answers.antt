@@ -12,5 +12,7 @@ pub returns-in-Ok-clause-read : goal.returns-in-Ok-clause-read
 returns-in-Ok-clause-read c = whole (λ i. At (c.new-lexer.ensures.last i) AfterExpr (c.new-lexer.ensures.rest i)) c.in-Ok.ensures.read (ap (map directive) c.new.ensures.items)
 
 pub returns-in-Err-Syntax-clause-refused : goal.returns-in-Err-Syntax-clause-refused
-returns-in-Err-Syntax-clause-refused c = record { bars = λ at e.
-    unread (λ i. At (c.new-lexer.ensures.last i) AfterExpr (c.new-lexer.ensures.rest i)) (c.in-Err-Syntax.ensures.refused.bars c.in-Err-Syntax.at (ap Err c.in-Err-Syntax.field-0-is)) }
+returns-in-Err-Syntax-clause-refused c = record {
+  bars = λ at e.
+      unread (λ i. At (c.new-lexer.ensures.last i) AfterExpr (c.new-lexer.ensures.rest i)) (c.in-Err-Syntax.ensures.refused.bars c.in-Err-Syntax.at (ap Err c.in-Err-Syntax.field-0-is));
+}
