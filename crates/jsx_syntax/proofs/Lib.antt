@@ -9,3 +9,13 @@ pub mod Words
 pub mod Takes
 pub mod States
 pub mod LiteralLaws
+pub mod Tokens
+pub mod Unique
+pub mod Steps
+pub mod Leaves
+pub mod Spellings
+pub mod Trees
+pub mod Meaning
+pub mod Whole
+pub mod Runs
+pub mod Modules

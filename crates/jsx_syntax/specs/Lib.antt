@@ -4,3 +4,5 @@ pub mod Ahead
 pub mod Gaps
 pub mod Spelled
 pub mod Automaton
+pub mod Answers
+pub mod Pieces

@@ -3,10 +3,17 @@
 
 mod automaton;
 mod characters;
+mod error;
 mod gap;
+mod identifiers;
 mod lexer;
 mod literal;
 mod marks;
+mod module;
 mod names;
 mod number;
+mod parser;
 mod quoted;
+
+pub use error::ParseError;
+pub use module::{one_tree, parse};
