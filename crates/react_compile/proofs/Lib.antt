@@ -1,3 +1,5 @@
 pub mod Tests
 pub mod Characters
 pub mod Printing
+pub mod Becomes
+pub mod Words
