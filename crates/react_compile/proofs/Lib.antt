@@ -3,3 +3,5 @@ pub mod Characters
 pub mod Printing
 pub mod Becomes
 pub mod Words
+pub mod Tags
+pub mod Quoted

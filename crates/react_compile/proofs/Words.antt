@@ -81,14 +81,14 @@ shorter g (c ∷ t) = go (is_over (gap_next g c t)) (shorter (gap_next g c t) t)
     go false h = omega arith
 
 -- what isn't skipped
-over : (c : ℕ) (t : Text) → skip (c ∷ t) ≡ c ∷ t → is_over (gap_next Blank c t) ≡ true
+pub over : (c : ℕ) (t : Text) → skip (c ∷ t) ≡ c ∷ t → is_over (gap_next Blank c t) ≡ true
 over c t h = go (is_over (gap_next Blank c t)) h
   where
     go : (b : Bool) → cond b (c ∷ t) (behind_gap (gap_next Blank c t) t) ≡ c ∷ t → b ≡ true
     go true e = refl
     go false e = let k : length (behind_gap (gap_next Blank c t) t) ≤ length t = shorter (gap_next Blank c t) t in let l : length (behind_gap (gap_next Blank c t) t) ≡ suc (length t) = ap length e in absurd (omega arith)
 
-not_blank : (c : ℕ) (t : Text) → is_over (gap_next Blank c t) ≡ true → (is_blank c || is_line_end c) ≡ false
+pub not_blank : (c : ℕ) (t : Text) → is_over (gap_next Blank c t) ≡ true → (is_blank c || is_line_end c) ≡ false
 not_blank c t h = go (is_blank c || is_line_end c) h
   where
     go : (b : Bool) → is_over (gap b (nat_eq 47 c) (begins (47 ∷ []) t) (begins (42 ∷ []) t)) ≡ true → b ≡ false
@@ -100,7 +100,7 @@ front_of c h u = record { unskipped = u; no_slash = unlike is_start 47 c h refl;
 
 -- ---- which state begins a name
 
-first_only : {k : TokenKind} (b : Bool) (x : State) {y : State} → b ≡ false → Never k y → Never k (cond b x y)
+pub first_only : {k : TokenKind} (b : Bool) (x : State) {y : State} → b ≡ false → Never k y → Never k (cond b x y)
 first_only true x h j = cc
 first_only false x h j = j
 
@@ -109,7 +109,7 @@ start_never c t h =
     first_only (is_start c) InName h (either _ (to BehindZero refl) (either _ (to (InDigits true) refl) (either _ (to (InFraction false) refl)
     (either _ (to (InString c) refl) (either _ (to (InPiece NoSubstitution TemplateHead) refl) dead)))))
 
-ended_kind : (k j : TokenKind) (raw rest : Text) → is_kind NoToken k ≡ false → is_kind j k ≡ false → is_kind (ended j raw rest).kind k ≡ false
+pub ended_kind : (k j : TokenKind) (raw rest : Text) → is_kind NoToken k ≡ false → is_kind j k ≡ false → is_kind (ended j raw rest).kind k ≡ false
 ended_kind k NoToken raw rest n h = n
 ended_kind k NumericLiteral raw rest n h = go (first_is is_start rest || first_is is_digit rest)
   where
@@ -140,7 +140,7 @@ pub record Begun (text x : Text) : Type 0 where
   pub starts : is_start first ≡ true
   pub runs_on : runs InName others ≡ true
 
-taken_all : (s : State) (t : Text) → left s t ≡ [] → taken s t ≡ t
+pub taken_all : (s : State) (t : Text) → left s t ≡ [] → taken s t ≡ t
 taken_all s [] h = refl
 taken_all s (c ∷ t) h = go (is_dead (step s c)) (taken_all (step s c) t) h
   where
@@ -148,7 +148,7 @@ taken_all s (c ∷ t) h = go (is_dead (step s c)) (taken_all (step s c) t) h
     go true r e = cc
     go false r e = ap (λ x. c ∷ x) (r e)
 
-runs_all : (s : State) (t : Text) → left s t ≡ [] → runs s t ≡ true
+pub runs_all : (s : State) (t : Text) → left s t ≡ [] → runs s t ≡ true
 runs_all s [] h = refl
 runs_all s (c ∷ t) h = go (is_dead (step s c)) (runs_all (step s c) t) h
   where
