@@ -5,3 +5,5 @@ pub mod Becomes
 pub mod Words
 pub mod Tags
 pub mod Quoted
+pub mod Shapes
+pub mod ReadBack
