@@ -7,3 +7,4 @@ pub mod Tags
 pub mod Quoted
 pub mod Shapes
 pub mod ReadBack
+pub mod Modules

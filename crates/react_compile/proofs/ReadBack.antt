@@ -18,7 +18,7 @@ use Rattle.react_compile.proofs.Quoted.{AllPlain, plain_tag, quoted_plain, strin
 
 -- ---- one token
 
-name_at : (q : Text) (e : Ending) (x rest : Text) → Word x → stops InName rest ≡ true → forth (Tok Operator IdentifierName x) (At q e (x ++ rest)) ≡ At x AfterExpr rest
+pub name_at : (q : Text) (e : Ending) (x rest : Text) → Word x → stops InName rest ≡ true → forth (Tok Operator IdentifierName x) (At q e (x ++ rest)) ≡ At x AfterExpr rest
 name_at q e x rest w s =
     ap (λ l. token_at l IdentifierName x) (word_token (same q []) x rest w s)
     ∙ ap (λ b. cond b (At x AfterExpr rest) Lost) (same_self x)
