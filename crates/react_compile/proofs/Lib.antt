@@ -8,3 +8,4 @@ pub mod Quoted
 pub mod Shapes
 pub mod ReadBack
 pub mod Modules
+pub mod Lowered

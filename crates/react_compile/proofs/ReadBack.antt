@@ -48,7 +48,7 @@ closed : (q rest : Text) → scan (At q AfterExpr (codes ", null)" ++ rest)) clo
 closed [] rest = refl
 closed (d ∷ q) rest = refl
 
-abbrev with_type : Tree → Tree
+abbrev pub with_type : Tree → Tree
 with_type t = node (expression Call) (part pragma (part (list (part t (part (name (codes "null")) none))) none))
 
 name_call : (q : Text) (e : Ending) (t rest : Text) → Word t
