@@ -51,7 +51,6 @@ to s h = record { says = h }
 pub dead : {k : TokenKind} → Never k Dead
 dead = record { says = refl }
 
-
 in_string_never : (k : TokenKind) (q c : ℕ) → not (is_kind StringLiteral k) ≡ true → Never k (step (InString q) c)
 in_string_never k q c h = either _ (to (Done StringLiteral) h) (either _ (to (InEscape q) h) (either _ dead (to (InString q) h)))
 

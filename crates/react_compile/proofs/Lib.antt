@@ -9,3 +9,4 @@ pub mod Shapes
 pub mod ReadBack
 pub mod Modules
 pub mod Lowered
+pub mod Stands

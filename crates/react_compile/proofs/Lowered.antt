@@ -69,7 +69,7 @@ fits_item (constant {d} h) =
     let i : is Declarators (lowered d) ≡ true = fits_declarator h in
     let a : admits Declarators (lowered d) ≡ true = here _ (fits_below Declarators (lowered d)) i in
     let f : fits_below Declarators (lowered d) ≡ true = there (admits Declarators (lowered d)) _ i in
-    rw (a, f) refl
+    rw (a, f) (refl {a = true})
 
 fits_items : {ts : Forest} → AreItems ts → fit_each Item (each_lowered ts) ≡ true
 fits_items no_items = refl

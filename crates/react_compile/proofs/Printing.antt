@@ -51,5 +51,7 @@ line_step f xs i x s lt e =
     ap (λ ys. s ++ lines (forest (map f ys))) (next_at xs i x lt e) ∙ rw (append_assoc (s ++ code_of (f x)) (codes "\n") rest, append_assoc s (code_of (f x)) (codes "\n" ++ rest)) refl
 
 pub ruleset listing = (printing, first_step, later_step)
+
 pub ruleset lining = (printing, line_step)
+
 pub ruleset whole = (printing, chars-nil)

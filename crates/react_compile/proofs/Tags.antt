@@ -89,8 +89,14 @@ has_dash_first c t h = go (nat_eq c 45) h
 
 pub word_of_tag : (x : Text) → TagName x → has_dash x ≡ false → Word x
 word_of_tag x g n =
-    record { first = g.first; others = g.others; is = g.is; front = g.front; starts = g.starts
-    ; runs_on = no_dash g.others g.runs_on (has_dash_first g.first g.others (subst (λ y. has_dash y ≡ false) g.is n)) }
+    record {
+      first = g.first;
+      others = g.others;
+      is = g.is;
+      front = g.front;
+      starts = g.starts;
+      runs_on = no_dash g.others g.runs_on (has_dash_first g.first g.others (subst (λ y. has_dash y ≡ false) g.is n));
+    }
 
 all_lower : List Text → Bool
 all_lower [] = true

@@ -22,7 +22,7 @@ pub same_is : (s t : Text) → same s t ≡ true → s ≡ t
 same_is [] [] h = refl
 same_is [] (c ∷ t) h = cc
 same_is (b ∷ s) [] h = cc
-same_is (b ∷ s) (c ∷ t) h = let e : b ≡ c = number_is b c (here _ _ h) in let f : s ≡ t = same_is s t (there _ _ h) in cc
+same_is (b ∷ s) (c ∷ t) h = let e : b ≡ c = number_is b c (here _ _ h) in let f : s ≡ t = same_is s t (there (nat_eq b c) (same s t) h) in cc
 
 pub same_self : (t : Text) → same t t ≡ true
 same_self [] = refl

@@ -2,14 +2,19 @@
 
 ghost use Rattle.std.specs.Prelude.{◌≡◌, ◌++◌, List, codes, OnOk, IfOk, IsTrue, string_bytes, map};
 ghost use Rattle.std.specs.Str.{chars};
+ghost use Rattle.jsx_base.specs.Token as token;
 ghost use Rattle.jsx_base.specs.Token.{same, first_is};
+ghost use Rattle.jsx_tree.specs.Stage.{ReadsSoFar};
+ghost use Rattle.react_compile.specs.Compiles.{IsCodeFor};
 ghost use Rattle.jsx_tree.specs.Nonterminals.{has_dash};
 ghost use Rattle.jsx_tree.specs.Grammar.{vars};
 ghost use Rattle.jsx_tree.specs.View.{text_of, forest, optional_of, word_of, view_expr, view_access, view_pat, view_stmt, view_item, directive, view};
 ghost use Rattle.react_compile.specs.Element.{is_lower};
 ghost use Rattle.react_compile.specs.Printed.{is_ascii, is_string_tag, tag_code, tag_text, element_code, jsx_code, code_of, initializer, listed, lines, module_code};
 
-use jsx_tree::{Access, DeclareWord, Expr, Ident, Item, Jsx, Module, Pat, Program, Stmt, Tag, Text};
+use jsx_tree::{
+    Access, DeclareWord, Expr, Ident, Item, Jsx, Module, Pat, Program, Stmt, Tag, Text,
+};
 use std::alloc::{AllocError, Global};
 use std::marker::Model;
 
@@ -224,11 +229,11 @@ impl Code {
     }
 
     #[tactic(auto, using(crate::proofs::Printing::printing))]
-    fn module(&mut self, module: &Module<'_>) -> Result<(), AllocError>
-        ensures { OnOk result (self.new ≡ self.old ++ module_code module.now) }
+    fn module(&mut self, source: &Module<'_>) -> Result<(), AllocError>
+        ensures { OnOk result (self.new ≡ self.old ++ module_code source.now) }
     {
-        self.directives(&module.directives)?;
-        self.items(&module.body)
+        self.directives(&source.directives)?;
+        self.items(&source.body)
     }
 }
 
@@ -268,8 +273,18 @@ fn is_string_tag(name: &str) -> bool
 }
 
 /// The code of a program.
-#[tactic(auto, using(crate::proofs::Printing::whole))]
+#[tactic(auto, using(crate::proofs::Stands::code_stands))]
 pub(crate) fn print(alloc: Global, program: &Program<'_>) -> Result<String, AllocError>
+    // The code of a module that reads stands for it.
+    ensures code { IfOk result (λ code. (source : token.Text) → ReadsSoFar source (view program.now) → IsCodeFor (view program.now) (string_bytes code)) }
+    // Its characters; a module without items has none.
+    ensures printed { IfOk result (λ code. chars (string_bytes code) ≡ code_of (view program.now)) }
+{
+    code_of(alloc, program)
+}
+
+#[tactic(auto, using(crate::proofs::Printing::whole))]
+fn code_of(alloc: Global, program: &Program<'_>) -> Result<String, AllocError>
     ensures { IfOk result (λ code. chars (string_bytes code) ≡ code_of (view program.now)) }
 {
     match program {

@@ -10,9 +10,10 @@ use Rattle.react_compile.proofs.Characters.{chars_ascii, encodes_ascii}
 use Rattle.react_compile.proofs.print.is_this.Goals as goal
 
 this_is : (bs : List ℕ) → IsUtf8 bs → Decides (same (chars bs) (codes "this")) (bs ≡ codes "this")
-this_is bs u =
-    (λ h. sym (encodes-chars bs u) ∙ ap encodes (same_is (chars bs) (codes "this") h) ∙ encodes_ascii (codes "this") refl
-    , λ h. ap (λ t. same t (codes "this")) (ap chars h ∙ chars_ascii (codes "this") refl))
+this_is bs u = (
+  λ h. sym (encodes-chars bs u) ∙ ap encodes (same_is (chars bs) (codes "this") h) ∙ encodes_ascii (codes "this") refl,
+  λ h. ap (λ t. same t (codes "this")) (ap chars h ∙ chars_ascii (codes "this") refl),
+)
 
 pub returns : goal.returns
 returns c =
