@@ -5,3 +5,5 @@ pub mod Compiles
 pub mod Run
 pub mod Status
 pub mod Input
+pub mod Printed
+pub mod ParseErrors

@@ -3,6 +3,7 @@
 
 mod compiler;
 mod input;
+mod print;
 mod program;
 
 pub use compiler::{CompileError, Output, compile};
