@@ -1,12 +1,10 @@
 -- Errors of the parser as errors of the compiler.
-use Rattle.std.proofs.Common.{◌≡◌, ℕ, List, refl, sym, ap, ◌∙◌, subst}
-use Rattle.std.specs.Prelude.{Result, Ok, Err, IsOkUnless}
+use Rattle.std.proofs.Common.{◌≡◌, ℕ, List, refl, sym, ◌∙◌, subst}
+use Rattle.std.specs.Prelude.{Result, Err, IsOkUnless}
 use Rattle.std.specs.Result.{IsErrAnd}
 use Rattle.std.specs.Str.{chars}
 use Rattle.std.proofs.lemmas.Result.{err_from_is_err_and}
-use Rattle.jsx_base.specs.Token.{Text}
 use Rattle.jsx_tree.specs.Kinds.{Tree}
-use Rattle.jsx_tree.specs.Stage.{ReadsSoFar}
 use Rattle.jsx_syntax.specs.Answers.{Refused, NoTree}
 use Rattle.jsx_syntax.specs.declared.error.ParseError.{ParseError}
 use Rattle.jsx_syntax.specs.declared.error.ParseError.TheVariants as parse
