@@ -1,0 +1,82 @@
+-- What hashing a value feeds, as bytes, and the context that it leaves.
+use Rattle.std.specs.Prelude.{◌≡◌, ℕ, ◌+◌, ◌%◌, ◌^◌, ◌==◌, nat_lt, ℤ, List, [], ◌∷◌, ◌++◌, length, map, sum_by, Bool, true, false, if◌then◌else◌, Option, None, Some, Result, Ok, Err}
+use Rattle.std.specs.Int.{w8, w64, w128, to_le_bytes, cast_unsigned}
+use Rattle.std.specs.declared.cmp.Ordering.{Ordering}
+use Rattle.std.specs.declared.cmp.Ordering.TheVariants.{Less, Equal, Greater}
+use Rattle.jsx_kit.specs.SipHash.{Feeds, sip128, as_number}
+use Rattle.jsx_kit.specs.declared.hasher.StableHasher.{StableHasher}
+
+-- the bytes fed, and the context left
+pub record Fed (C : Type 0) : Type 0 where
+  pub bytes : List ℕ
+  pub after : C
+
+-- these bytes, and the context as it was
+abbrev pub just : {C : Type 0} → List ℕ → C → Fed C
+just bytes context = record { bytes = bytes; after = context }
+
+-- the one, and then the other, which was taken with the context that the one left
+abbrev pub joined : {C : Type 0} → Fed C → Fed C → Fed C
+joined f g = record { bytes = f.bytes ++ g.bytes; after = g.after }
+
+-- hashing led from the one hasher to the other and left this context, as f says
+pub record Hashed {C : Type 0} (f : Fed C) (old new : StableHasher) (left : C) : Type 0 where
+  pub feeds : Feeds old new f.bytes
+  pub leaves : left ≡ f.after
+
+-- ---- whole numbers and their kin
+
+-- an isize is one byte where its value as a u64 is below 255, else the byte 255 and its eight bytes
+abbrev pub isize_bytes : ℤ → List ℕ
+isize_bytes z = if nat_lt (cast_unsigned w64 z) 255 then cast_unsigned w64 z ∷ [] else 255 ∷ to_le_bytes w64 (cast_unsigned w64 z)
+
+abbrev pub bool_bytes : Bool → List ℕ
+bool_bytes false = 0 ∷ []
+bool_bytes true = 1 ∷ []
+
+-- an i8: -1, 0 or 1
+abbrev pub ordering_bytes : Ordering → List ℕ
+ordering_bytes Less = 255 ∷ []
+ordering_bytes Equal = 0 ∷ []
+ordering_bytes Greater = 1 ∷ []
+
+abbrev pub length_bytes : ℕ → List ℕ
+length_bytes n = to_le_bytes w64 n
+
+-- a text is its length twice, and then its bytes
+abbrev pub text_bytes : List ℕ → List ℕ
+text_bytes text = length_bytes (length text) ++ (length_bytes (length text) ++ text)
+
+-- ---- values of parts
+
+module _ {C : Type 0} where
+  abbrev pub fed_option : {T : Type 0} → (T → C → Fed C) → Option T → C → Fed C
+  fed_option fed None c = just (0 ∷ []) c
+  fed_option fed (Some x) c = joined (just (1 ∷ []) c) (fed x c)
+
+  abbrev pub fed_result : {T E : Type 0} → (T → C → Fed C) → (E → C → Fed C) → Result T E → C → Fed C
+  fed_result ok err (Ok x) c = joined (just (0 ∷ []) c) (ok x c)
+  fed_result ok err (Err e) c = joined (just (1 ∷ []) c) (err e c)
+
+  -- each item in turn
+  abbrev pub fed_each : {T : Type 0} → (T → C → Fed C) → List T → C → Fed C
+  fed_each fed [] c = just [] c
+  fed_each fed (x ∷ xs) c = joined (fed x c) (fed_each fed xs (fed x c).after)
+
+  -- a slice is its length, and then its items
+  abbrev pub fed_slice : {T : Type 0} → (T → C → Fed C) → List T → C → Fed C
+  fed_slice fed xs c = joined (just (length_bytes (length xs)) c) (fed_each fed xs c)
+
+  -- ---- where that is said: of a map or a set only where hashing an item leaves the context as it was
+
+  abbrev pub OptionIsSaid : {T : Type 0} → (T → C → Type 0) → Option T → C → Type 0
+  OptionIsSaid said None c = Unit {0}
+  OptionIsSaid said (Some x) c = said x c
+
+  abbrev pub ResultIsSaid : {T E : Type 0} → (T → C → Type 0) → (E → C → Type 0) → Result T E → C → Type 0
+  ResultIsSaid ok err (Ok x) c = ok x c
+  ResultIsSaid ok err (Err e) c = err e c
+
+  abbrev pub EachIsSaid : {T : Type 0} → (T → C → Fed C) → (T → C → Type 0) → List T → C → Type 0
+  EachIsSaid fed said [] c = Unit {0}
+  EachIsSaid fed said (x ∷ xs) c = said x c × EachIsSaid fed said xs (fed x c).after
