@@ -1,1 +1,2 @@
 pub mod Absorbing
+pub mod Hashing

@@ -24,6 +24,12 @@ pub record Hashed {C : Type 0} (f : Fed C) (old new : StableHasher) (left : C) :
   pub feeds : Feeds old new f.bytes
   pub leaves : left ≡ f.after
 
+-- the key is hashed in each context as the wanted one is, and compares equal to it
+pub record IsKey {C K : Type 0} (fed : K → C → Fed C) (said : K → C → Type 0) (cmp : K → K → Ordering) (key wanted : K) : Type 0 where
+  pub fed_alike : (context : C) → fed key context ≡ fed wanted context
+  pub said_alike : (context : C) → said wanted context → said key context
+  pub compares : cmp key wanted ≡ Equal
+
 -- ---- whole numbers and their kin
 
 -- an isize is one byte where its value as a u64 is below 255, else the byte 255 and its eight bytes
