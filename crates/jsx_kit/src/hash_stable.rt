@@ -7,11 +7,10 @@ ghost use Rattle.std.specs.Int.NonZero.{non_zero_u32_get};
 ghost use Rattle.std.specs.String.{string_bytes};
 ghost use Rattle.jsx_kit.specs.Fed.{Fed, Hashed, just, bool_bytes, ordering_bytes, isize_bytes, text_bytes};
 
+use crate::hasher::StableHasher;
 use std::alloc::{AllocError, Global};
 use std::cmp::Ordering;
 use std::num::NonZeroU32;
-
-use crate::hasher::StableHasher;
 
 /// What can be hashed in a context `CTX`, alike in each run and on every machine.
 pub trait HashStable<CTX> {
