@@ -1,5 +1,6 @@
 -- What hashing a value feeds, as bytes, and the context that it leaves.
 use Rattle.std.specs.Prelude.{◌≡◌, ℕ, ◌+◌, ◌%◌, ◌^◌, ◌==◌, nat_lt, ℤ, List, [], ◌∷◌, ◌++◌, length, map, sum_by, Bool, true, false, if◌then◌else◌, Option, None, Some, Result, Ok, Err}
+use Rattle.std.specs.List.{flat_map, All}
 use Rattle.std.specs.Int.{w8, w64, w128, to_le_bytes, cast_unsigned}
 use Rattle.std.specs.declared.cmp.Ordering.{Ordering}
 use Rattle.std.specs.declared.cmp.Ordering.TheVariants.{Less, Equal, Greater}
@@ -86,3 +87,52 @@ module _ {C : Type 0} where
   abbrev pub EachIsSaid : {T : Type 0} → (T → C → Fed C) → (T → C → Type 0) → List T → C → Type 0
   EachIsSaid fed said [] c = Unit {0}
   EachIsSaid fed said (x ∷ xs) c = said x c × EachIsSaid fed said xs (fed x c).after
+
+-- ---- maps and sets, whose items come in some order
+
+-- the bytes' own hash, as a number
+abbrev pub own_hash : List ℕ → ℕ
+own_hash bytes = as_number (sip128 bytes)
+
+-- `None`, or the wrapping sum of the items' own hashes
+abbrev pub sum_of_hashes : List (List ℕ) → Option ℕ
+sum_of_hashes [] = None
+sum_of_hashes (x ∷ xs) = Some (sum_by own_hash (x ∷ xs) % 2 ^ 128)
+
+abbrev pub sum_bytes : Option ℕ → List ℕ
+sum_bytes None = 0 ∷ []
+sum_bytes (Some sum) = 1 ∷ to_le_bytes w128 sum
+
+-- what the items' bytes are reduced to: the number of the items; for one item the item itself, else the sum
+abbrev pub reduced : List (List ℕ) → List ℕ
+reduced items = length_bytes (length items) ++ (if length items == 1 then flat_map (λ bytes. bytes) items else sum_bytes (sum_of_hashes items))
+
+module _ {C T : Type 0} (fed : T → C → Fed C) where
+  abbrev pub bytes_of_each : List T → C → List (List ℕ)
+  bytes_of_each items c = map (λ x. (fed x c).bytes) items
+
+  -- each item in the context that the map or set was hashed in
+  abbrev pub fed_items : List T → C → Fed C
+  fed_items items c = just (reduced (bytes_of_each items c)) c
+
+  -- what hashing an item feeds is said, and it leaves the context as it was
+  abbrev pub IsSteady : (T → C → Type 0) → C → T → Type 0
+  IsSteady said c x = said x c × ((fed x c).after ≡ c)
+
+  abbrev pub AreSteady : (T → C → Type 0) → List T → C → Type 0
+  AreSteady said items c = All (IsSteady said c) items
+
+-- an entry of a map is its key's stable key, and then its value; an item of a set is its stable key
+module _ {C K X : Type 0} (stable_key : K → C → X) (key_fed : X → C → Fed C) (key_said : X → C → Type 0) where
+  abbrev pub fed_key : K → C → Fed C
+  fed_key k c = key_fed (stable_key k c) c
+
+  abbrev pub KeyIsSaid : K → C → Type 0
+  KeyIsSaid k c = key_said (stable_key k c) c
+
+  module _ {V : Type 0} (value_fed : V → C → Fed C) (value_said : V → C → Type 0) where
+    abbrev pub fed_entry : K × V → C → Fed C
+    fed_entry e c = joined (fed_key e.0 c) (value_fed e.1 (fed_key e.0 c).after)
+
+    abbrev pub EntryIsSaid : K × V → C → Type 0
+    EntryIsSaid e c = KeyIsSaid e.0 c × value_said e.1 (fed_key e.0 c).after

@@ -4,6 +4,7 @@
 mod hash_parts;
 mod hash_stable;
 mod hasher;
+mod reduce;
 mod sip;
 
 pub use hash_stable::{HashStable, ToStableHashKey};
