@@ -71,7 +71,7 @@ InTurn-more {C} {T} {fed} {said} {items} {start} {m} {old} {a} x e b s h = recor
       let bytes = bytes_of_each fed items start in
       let last = (fed x start).bytes in
       let all : flat_map (λ bs. bs) (bytes_of_each fed (items ++ x ∷ []) start) ≡ flat_map (λ bs. bs) bytes ++ last =
-          rw (bytes_of_each-push fed items x start, flat_map-append (λ (bs : List ℕ). bs) bytes (last ∷ []), append-nil last) refl in
+      rw (bytes_of_each-push fed items x start, flat_map-append (λ (bs : List ℕ). bs) bytes (last ∷ []), append-nil last) refl in
       (rw all (Feeds_append old a b before.0 k.0), k.1);
 }
 

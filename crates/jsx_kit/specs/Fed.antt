@@ -122,17 +122,16 @@ module _ {C T : Type 0} (fed : T → C → Fed C) where
   abbrev pub AreSteady : (T → C → Type 0) → List T → C → Type 0
   AreSteady said items c = All (IsSteady said c) items
 
--- an entry of a map is its key's stable key, and then its value; an item of a set is its stable key
-module _ {C K X : Type 0} (stable_key : K → C → X) (key_fed : X → C → Fed C) (key_said : X → C → Type 0) where
+-- an item of a set is its stable key; an entry of a map is its key's stable key, and then its value
+module _ {C K X : Type 0} (stable_key : K → C → X) (key_fed : X → C → Fed C) where
   abbrev pub fed_key : K → C → Fed C
   fed_key k c = key_fed (stable_key k c) c
 
-  abbrev pub KeyIsSaid : K → C → Type 0
-  KeyIsSaid k c = key_said (stable_key k c) c
+  abbrev pub fed_entry : {V : Type 0} → (V → C → Fed C) → K × V → C → Fed C
+  fed_entry value_fed e c = joined (fed_key e.0 c) (value_fed e.1 (fed_key e.0 c).after)
 
-  module _ {V : Type 0} (value_fed : V → C → Fed C) (value_said : V → C → Type 0) where
-    abbrev pub fed_entry : K × V → C → Fed C
-    fed_entry e c = joined (fed_key e.0 c) (value_fed e.1 (fed_key e.0 c).after)
+  abbrev pub KeyIsSaid : (X → C → Type 0) → K → C → Type 0
+  KeyIsSaid key_said k c = key_said (stable_key k c) c
 
-    abbrev pub EntryIsSaid : K × V → C → Type 0
-    EntryIsSaid e c = KeyIsSaid e.0 c × value_said e.1 (fed_key e.0 c).after
+  abbrev pub EntryIsSaid : {V : Type 0} → (X → C → Type 0) → (V → C → Type 0) → K × V → C → Type 0
+  EntryIsSaid key_said value_said e c = KeyIsSaid key_said e.0 c × value_said e.1 (fed_key e.0 c).after

@@ -1,6 +1,7 @@
 //! Stable hashing, taking values, locks, passes and the records of plugins.
 #![tactic(auto)]
 
+mod hash_maps;
 mod hash_parts;
 mod hash_stable;
 mod hasher;

@@ -7,10 +7,9 @@ ghost use Rattle.std.specs.Iterator.{Drains, IsFinite};
 ghost use Rattle.jsx_kit.specs.SipHash.{Feeds};
 ghost use Rattle.jsx_kit.specs.Fed.{Fed, Hashed, fed_items, fed_key, fed_entry, KeyIsSaid, EntryIsSaid, AreSteady, sum_of_hashes, bytes_of_each};
 
-use std::alloc::{AllocError, Global};
-
 use crate::hash_stable::{HashStable, ToStableHashKey};
 use crate::hasher::StableHasher;
+use std::alloc::{AllocError, Global};
 
 /// An item as the iterator of a map or a set hands it out.
 pub trait Item<HCX> {
@@ -32,7 +31,7 @@ pub trait Item<HCX> {
 
 /// An item of a set is its stable key.
 impl<'a, K: ToStableHashKey<HCX>, HCX> Item<HCX> for &'a K {
-    ghost fed_item = { λ x c. fed_key K.stable_key K.KeyType.fed K.KeyType.is_said x.now c };
+    ghost fed_item = { λ x c. fed_key K.stable_key K.KeyType.fed x.now c };
 
     ghost item_is_said = { λ x c. KeyIsSaid K.stable_key K.KeyType.fed K.KeyType.is_said x.now c };
 
@@ -49,9 +48,9 @@ impl<'a, K: ToStableHashKey<HCX>, HCX> Item<HCX> for &'a K {
 
 /// An entry of a map is its key's stable key, and then its value.
 impl<'a, K: ToStableHashKey<HCX>, V: HashStable<HCX>, HCX> Item<HCX> for (&'a K, &'a V) {
-    ghost fed_item = { λ x c. fed_entry K.stable_key K.KeyType.fed K.KeyType.is_said V.fed V.is_said (x.0.now, x.1.now) c };
+    ghost fed_item = { λ x c. fed_entry K.stable_key K.KeyType.fed V.fed (x.0.now, x.1.now) c };
 
-    ghost item_is_said = { λ x c. EntryIsSaid K.stable_key K.KeyType.fed K.KeyType.is_said V.fed V.is_said (x.0.now, x.1.now) c };
+    ghost item_is_said = { λ x c. EntryIsSaid K.stable_key K.KeyType.fed K.KeyType.is_said V.is_said (x.0.now, x.1.now) c };
 
     fn hash_item(
         &self,

@@ -7,4 +7,4 @@ abbrev pub invariant-loop-item : goal.invariant-loop-item
 invariant-loop-item g l =
     EachIsSaid g.T.HashStable.fed g.T.HashStable.is_said l.item-items l.fn.hcx
     → Remaining g.T.HashStable.fed g.T.HashStable.is_said (fed_slice g.T.HashStable.fed l.item-items l.fn.hcx) l.fn.hasher
-        (drop l.item-index l.item-items) l.hcx l.hasher
+    (drop l.item-index l.item-items) l.hcx l.hasher
