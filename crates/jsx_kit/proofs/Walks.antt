@@ -32,7 +32,7 @@ All-shown P shows xs all k d lt = subst P (get_or-map shows xs k d (shows d) lt)
 pub in_any_order : {C A X : Type 0} (fed : X → C → Fed C) (said : X → C → Type 0) (shows : A → X) (s all order : List X) (c m : C) (a b : StableHasher)
     → s ≡ all
     → ((xs : List A) × Drains (TakesFirst shows) s xs
-      × (AreSteady (λ x. fed (shows x)) (λ x. said (shows x)) xs c → Hashed (fed_items (λ x. fed (shows x)) xs c) a b m))
+    × (AreSteady (λ x. fed (shows x)) (λ x. said (shows x)) xs c → Hashed (fed_items (λ x. fed (shows x)) xs c) a b m))
     → IsPermutation all order → AreSteady fed said order c → Hashed (fed_items fed order c) a b m
 in_any_order {C} {A} {X} fed said shows s all order c m a b start p moved steady =
     let e : all ≡ map shows p.0 = sym start ∙ shown shows s p.0 p.1 in
@@ -40,15 +40,15 @@ in_any_order {C} {A} {X} fed said shows s all order c m a b start p moved steady
     let here : AreSteady fed said (map shows p.0) c = subst All_steady e (AreSteady-IsPermutation fed said all order c moved steady) in
     let walked = p.2 (All-shown (IsSteady fed said c) shows p.0 here) in
     let same : fed_items (λ x. fed (shows x)) p.0 c ≡ fed_items fed order c =
-        ap (λ bs. just (reduced bs) c) (sym (bytes_of_each-map fed shows p.0 c))
-        ∙ ap (λ ys. fed_items fed ys c) (sym e)
-        ∙ fed_items-IsPermutation fed all order c moved in
+    ap (λ bs. just (reduced bs) c) (sym (bytes_of_each-map fed shows p.0 c))
+    ∙ ap (λ ys. fed_items fed ys c) (sym e)
+    ∙ fed_items-IsPermutation fed all order c moved in
     let P : Fed C → Type 0 = λ f. Hashed f a b m in
     subst P same walked
 
 pub in_order : {C A X : Type 0} (fed : X → C → Fed C) (said : X → C → Type 0) (shows : A → X) (s all : List X) (c m : C) (a b : StableHasher)
     → s ≡ all
     → ((xs : List A) × Drains (TakesFirst shows) s xs
-      × (AreSteady (λ x. fed (shows x)) (λ x. said (shows x)) xs c → Hashed (fed_items (λ x. fed (shows x)) xs c) a b m))
+    × (AreSteady (λ x. fed (shows x)) (λ x. said (shows x)) xs c → Hashed (fed_items (λ x. fed (shows x)) xs c) a b m))
     → AreSteady fed said all c → Hashed (fed_items fed all c) a b m
 in_order fed said shows s all c m a b start p steady = in_any_order fed said shows s all all c m a b start p (IsPermutation-refl all) steady
