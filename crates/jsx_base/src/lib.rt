@@ -7,4 +7,4 @@ mod rule;
 
 pub use node::AstNode;
 pub use place::{BytePos, DUMMY_SP, Span, Spanned};
-pub use rule::Rule;
+pub use rule::{Answers, Rule};

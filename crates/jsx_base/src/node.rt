@@ -1,8 +1,7 @@
 //! Nodes of a tree, as tools see them.
 
-use std::fmt::Debug;
-
 use crate::place::Spanned;
+use std::fmt::Debug;
 
 /// A node of a tree: it can be shown and compared, has a span, and its type has a name.
 pub trait AstNode: Debug + PartialEq + Spanned {

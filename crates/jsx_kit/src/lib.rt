@@ -12,11 +12,13 @@ mod reduce;
 mod sip;
 pub mod sync;
 mod take;
+#[cfg(test)]
+mod tests;
 
 pub use collections::{AHashMap, AHashSet, ARandomState};
 pub use hash_stable::{HashStable, ToStableHashKey};
 pub use hasher::{Hash128, StableHasher, StableHasherResult};
-pub use jsx_base::{AstNode, Rule};
+pub use jsx_base::{Answers, AstNode, Rule};
 pub use pass::{AndThen, CompilerPass, Repeat};
 pub use plugin::{
     PLUGIN_TRANSFORM_AST_SCHEMA_VERSION, PluginCorePkgDiagnostics, PluginError,
