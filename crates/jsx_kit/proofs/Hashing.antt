@@ -1,7 +1,7 @@
 -- What is fed in parts.
-use Rattle.std.proofs.Common.{◌≡◌, ℕ, List, [], ◌∷◌, ◌++◌, refl, sym, ap, ◌∙◌, subst}
+use Rattle.std.proofs.Common.{◌≡◌, ℕ, List, [], ◌∷◌, ◌++◌, refl, sym, subst}
 use Rattle.std.proofs.lemmas.List.{append_assoc, append-nil}
-use Rattle.jsx_kit.specs.SipHash.{Holds, Feeds}
+use Rattle.jsx_kit.specs.SipHash.{Feeds}
 use Rattle.jsx_kit.specs.Fed.{Fed, just, joined, Hashed, fed_each, EachIsSaid}
 use Rattle.jsx_kit.specs.declared.hasher.StableHasher.{StableHasher}
 

@@ -1,7 +1,7 @@
 -- What the items of a map or a set are reduced to, item by item and in any order.
-use Rattle.std.proofs.Common.{◌≡◌, ℕ, ◌+◌, ◌%◌, ◌^◌, List, [], ◌∷◌, ◌++◌, length, map, Option, None, Some, refl, sym, ap, ◌∙◌, subst, arith, sum_by, nat_eq, true, false, ◌≢◌, ◌<◌, inl, inr}
-use Rattle.std.specs.Option.{unwrap_or, option_to_list}
-use Rattle.std.specs.List.{All, flat_map, swap}
+use Rattle.std.proofs.Common.{◌≡◌, ℕ, ◌+◌, ◌%◌, ◌^◌, List, [], ◌∷◌, ◌++◌, length, Option, None, Some, refl, sym, ap, ◌∙◌, subst, arith, sum_by, nat_eq, true, false, ◌≢◌, ◌<◌}
+use Rattle.std.specs.Option.{unwrap_or}
+use Rattle.std.specs.List.{flat_map, swap}
 use Rattle.std.specs.List.Sorted.{IsPermutation}
 use Rattle.std.specs.Int.{w128, to_le_bytes}
 use Rattle.std.proofs.lemmas.Bool.Decides.{nat_tests}
@@ -11,7 +11,7 @@ use Rattle.std.proofs.lemmas.List.Concat.{flat_map-append}
 use Rattle.std.proofs.lemmas.List.Elements.{All-pop}
 use Rattle.std.proofs.lemmas.List.Sums.{sum_by-append}
 use Rattle.jsx_kit.specs.SipHash.{Holds, Feeds}
-use Rattle.jsx_kit.specs.Fed.{Fed, just, joined, Hashed, fed_option, OptionIsSaid, length_bytes, sum_bytes, own_hash, sum_of_hashes, reduced, bytes_of_each, fed_items, IsSteady, AreSteady}
+use Rattle.jsx_kit.specs.Fed.{Fed, just, Hashed, fed_option, OptionIsSaid, length_bytes, sum_bytes, own_hash, sum_of_hashes, reduced, bytes_of_each, fed_items, IsSteady, AreSteady}
 use Rattle.jsx_kit.proofs.Hashing.{Feeds_none, Feeds_append}
 use Rattle.jsx_kit.specs.declared.hasher.StableHasher.{StableHasher}
 

@@ -1,7 +1,7 @@
 -- What hashing a value feeds, as bytes, and the context that it leaves.
-use Rattle.std.specs.Prelude.{◌≡◌, ℕ, ◌+◌, ◌%◌, ◌^◌, ◌==◌, nat_lt, ℤ, List, [], ◌∷◌, ◌++◌, length, map, sum_by, Bool, true, false, if◌then◌else◌, Option, None, Some, Result, Ok, Err}
+use Rattle.std.specs.Prelude.{◌≡◌, ℕ, ◌%◌, ◌^◌, ◌==◌, nat_lt, ℤ, List, [], ◌∷◌, ◌++◌, length, map, sum_by, Bool, true, false, if◌then◌else◌, Option, None, Some, Result, Ok, Err}
 use Rattle.std.specs.List.{flat_map, All}
-use Rattle.std.specs.Int.{w8, w64, w128, to_le_bytes, cast_unsigned}
+use Rattle.std.specs.Int.{w64, w128, to_le_bytes, cast_unsigned}
 use Rattle.std.specs.declared.cmp.Ordering.{Ordering}
 use Rattle.std.specs.declared.cmp.Ordering.TheVariants.{Less, Equal, Greater}
 use Rattle.jsx_kit.specs.SipHash.{Feeds, sip128, as_number}

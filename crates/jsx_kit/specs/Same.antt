@@ -1,9 +1,8 @@
 -- Inserting a value that has to be the one that the key holds.
-use Rattle.std.specs.Prelude.{◌≡◌, ◌↔◌, Bool, false, true, Option, None, Some, Result, Ok, Err, OnOk, OnErr, MatchOption}
-use Rattle.std.specs.Result.{IsErrAnd}
+use Rattle.std.specs.Prelude.{◌≡◌, ◌↔◌, Bool, false, true, Some, Result, Err, OnOk, OnErr, MatchOption}
 use Rattle.std.specs.HashMap.{HashMap, get, Updates, IsUnchanged}
 use Rattle.jsx_kit.specs.declared.sync.InsertError.{InsertError}
-use Rattle.jsx_kit.specs.declared.sync.InsertError.TheVariants.{Different, Memory}
+use Rattle.jsx_kit.specs.declared.sync.InsertError.TheVariants.{Different}
 
 module _ {K V S : Type 0} (key_eq : K → K → Bool) (value_eq : V → V → Bool) where
   -- the key holds a value that isn't equal to this one

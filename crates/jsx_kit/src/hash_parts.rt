@@ -7,6 +7,16 @@ ghost use Rattle.jsx_kit.specs.Fed.{Fed, Hashed, just, joined, fed_option, fed_r
 
 use crate::hash_stable::HashStable;
 use crate::hasher::StableHasher;
+
+// The first byte of each variant.
+const NONE: u8 = 0;
+
+const SOME: u8 = 1;
+
+const OK: u8 = 0;
+
+const ERR: u8 = 1;
+
 use std::alloc::{AllocError, Global};
 use std::rc::Rc;
 use std::sync::Arc;
@@ -194,11 +204,11 @@ impl<T: HashStable<CTX>, CTX> HashStable<CTX> for Option<T> {
     ) -> Result<(), AllocError> {
         match self {
             None => {
-                hasher.write_u8(0);
+                hasher.write_u8(NONE);
                 Ok(())
             }
             Some(value) => {
-                hasher.write_u8(1);
+                hasher.write_u8(SOME);
                 value.hash_stable(alloc, hcx, hasher)
             }
         }
@@ -219,11 +229,11 @@ impl<T: HashStable<CTX>, E: HashStable<CTX>, CTX> HashStable<CTX> for Result<T, 
     ) -> Result<(), AllocError> {
         match self {
             Ok(value) => {
-                hasher.write_u8(0);
+                hasher.write_u8(OK);
                 value.hash_stable(alloc, hcx, hasher)
             }
             Err(error) => {
-                hasher.write_u8(1);
+                hasher.write_u8(ERR);
                 error.hash_stable(alloc, hcx, hasher)
             }
         }

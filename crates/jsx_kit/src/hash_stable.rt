@@ -331,7 +331,9 @@ impl<'a, CTX> HashStable<CTX> for &'a str {
         _hcx: &mut CTX,
         hasher: &mut StableHasher,
     ) -> Result<(), AllocError> {
-        hasher.write_usize(self.len());
+        let length = self.len();
+        hasher.write_usize(length);
+        // The bytes are a slice of their own, which has its length before it.
         hasher.write_usize(self.len());
         hasher.write(self.as_bytes());
         Ok(())

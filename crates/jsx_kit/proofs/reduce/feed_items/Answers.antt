@@ -1,4 +1,4 @@
-use Rattle.jsx_kit.proofs.Reducing.{InTurn, InTurn-more, InTurn-none}
+use Rattle.jsx_kit.proofs.Reducing.{InTurn-more, InTurn-none}
 use Rattle.jsx_kit.proofs.reduce.feed_items.Goals as goal
 
 pub loop-item-init : goal.loop-item-init

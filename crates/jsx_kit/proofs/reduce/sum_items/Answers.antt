@@ -1,5 +1,4 @@
-use Rattle.std.proofs.Common.{rules, ◌+◌, ◌%◌, ◌^◌, Some, ap}
-use Rattle.jsx_kit.proofs.Reducing.{Summed, Summed-more}
+use Rattle.jsx_kit.proofs.Reducing.{Summed-more}
 use Rattle.jsx_kit.proofs.reduce.sum_items.Goals as goal
 
 pub loop-item-preserved : goal.loop-item-preserved

@@ -1,4 +1,4 @@
-use Rattle.std.proofs.Common.{◌≡◌, ℕ, ◌%◌, ◌-◌, arith, refl, ap, sym, ◌∙◌, length}
+use Rattle.std.proofs.Common.{◌≡◌, ◌%◌, ◌-◌, arith, refl, ap, length}
 use Rattle.std.proofs.lemmas.List.{take-replicate}
 use Rattle.jsx_kit.specs.SipHash.{sip128, halves}
 use Rattle.jsx_kit.proofs.Absorbing.{Holds_padded, Holds_count}
