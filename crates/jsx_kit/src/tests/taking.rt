@@ -18,8 +18,10 @@ fn taking_leaves_a_dummy(rt: HostRuntime) -> Result<(), Fail> {
     let mut boxed = Box::new(alloc, span)?;
     assert_eq!(rt; *boxed.take(alloc)?, span);
     assert_eq!(rt; *boxed, DUMMY_SP);
+    let dummy: Box<Span> = Take::dummy(alloc)?;
+    assert_eq!(rt; *dummy, DUMMY_SP);
     let mut three = Some(3);
-    assert_eq!(rt; three.take(), Some(3));
+    assert_eq!(rt; Take::take(&mut three, alloc)?, Some(3));
     assert_eq!(rt; three, None);
     let mut items = vec![in alloc; 1u8, 2]?;
     assert_eq!(rt;
