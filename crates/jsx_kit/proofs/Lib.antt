@@ -1,0 +1,4 @@
+pub mod Absorbing
+pub mod Hashing
+pub mod Reducing
+pub mod Walks

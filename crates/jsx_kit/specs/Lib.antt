@@ -1,0 +1,5 @@
+pub mod Fed
+pub mod Lending
+pub mod Plugin
+pub mod Same
+pub mod SipHash
