@@ -1,11 +1,10 @@
 -- The characters of a text that grows.
-use Rattle.std.proofs.Common.{◌≡◌, ℕ, zero, suc, ◌<◌, ◌-◌, List, [], ◌∷◌, ◌++◌, Bool, true, false, cond, ◌&&◌, nat_lt, refl, sym, ap, ◌∙◌, string_bytes, get_or, codes, String}
+use Rattle.std.proofs.Common.{◌≡◌, ℕ, ◌-◌, List, [], ◌∷◌, ◌++◌, true, cond, nat_lt, refl, ap, ◌∙◌, string_bytes, String}
 use Rattle.std.specs.Bool.{IsTrue}
-use Rattle.std.specs.Str.{chars, chars_after, IsUtf8, IsAscii, encode_utf8_all}
+use Rattle.std.specs.Str.{chars, chars_after}
 use Rattle.std.proofs.lemmas.Bool.{ltb-true}
 use Rattle.std.proofs.lemmas.Str.{chars-append, chars-nil, encode_ascii, IsUtf8-string_bytes}
-use Rattle.std.proofs.Math.Utf8.{encodes, encode}
-use Rattle.jsx_base.specs.Token.{same}
+use Rattle.std.proofs.Math.Utf8.{encodes}
 use Rattle.react_compile.specs.Printed.{is_ascii}
 use Rattle.react_compile.proofs.Tests.{here, there}
 

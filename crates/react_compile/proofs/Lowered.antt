@@ -1,18 +1,14 @@
 -- The lowered tree has the form of the grammar, keeps its rules, has no JSX, and stands for the source's tree.
-use Rattle.std.proofs.Common.{◌≡◌, ℕ, List, [], ◌∷◌, ◌++◌, Bool, true, false, cond, not, ◌&&◌, ◌||◌, Some, refl, sym, ap, ◌∙◌, subst, codes, append-nil}
-use Rattle.std.proofs.lemmas.Bool.{false≢true}
-use Rattle.jsx_base.specs.Token.{Text, Operator, TokenKind, IdentifierName, StringLiteral, JsxName, Lexeme, is_kind, is_token, token, same, first_is}
-use Rattle.jsx_tree.specs.Kinds.{ConstWord, Module, Var, Declarator, Binds, Element, program, statement, jsx, Tree, Forest, leaf, node, list, none, part}
-use Rattle.jsx_tree.specs.Nonterminals.{Expr, Argument, Pat, Item, Declarators, WholeProgram, is_bound, is_value_word, has_dash}
+use Rattle.std.proofs.Common.{◌≡◌, [], ◌∷◌, ◌++◌, true, false, not, ◌&&◌, refl, sym, ap, ◌∙◌, subst, append-nil}
+use Rattle.jsx_base.specs.Token.{Text, Operator, TokenKind, IdentifierName, StringLiteral, Lexeme, is_kind, is_token, token, same}
+use Rattle.jsx_tree.specs.Kinds.{Tree, Forest, leaf}
+use Rattle.jsx_tree.specs.Nonterminals.{Expr, Item, Declarators, WholeProgram, is_value_word}
 use Rattle.jsx_tree.specs.Form.{admits, fits_below, fit_each, last_only, is, is_leaf}
-use Rattle.jsx_tree.specs.StaticRules.{Surroundings, outside, legal, each_legal, rule, first_of_list, is_string_stmt}
-use Rattle.jsx_tree.specs.Normal.{nf, without_empty, each_made, plain_node}
+use Rattle.jsx_tree.specs.StaticRules.{Surroundings, outside, legal, each_legal, first_of_list, is_string_stmt}
 use Rattle.react_compile.specs.Made.{quoted}
-use Rattle.react_compile.specs.Element as element
-use Rattle.react_compile.specs.Element.{is_lower, default_settings, written, called}
-use Rattle.react_compile.specs.StandsFor.{has_jsx, have_jsx, StandsFor, same_leaf, same_list, same_node, lowered as by_call, InOrder, no_more, one_more, MakesElem, makes, MakesPiece, expression_for, literal_for, MakesEntries, no_entries, MakesChildren, no_children}
-use Rattle.react_compile.specs.Printed.{is_string_tag, tag_type, element_call, name, lowered, each_lowered}
-use Rattle.react_compile.proofs.Tests.{here, there, same_is, same_self, cond_true, cond_false}
+use Rattle.react_compile.specs.StandsFor.{has_jsx, have_jsx}
+use Rattle.react_compile.specs.Printed.{is_string_tag, tag_type, name, lowered, each_lowered}
+use Rattle.react_compile.proofs.Tests.{here, there, same_self, cond_true, cond_false}
 use Rattle.react_compile.proofs.Words.{Word, word_token}
 use Rattle.react_compile.proofs.Tags.{TagName, word_of_tag, reference}
 use Rattle.react_compile.proofs.Quoted.{AllPlain, plain_tag, quoted_plain, string_token}

@@ -1,15 +1,14 @@
 -- The code of a module reads as the lowered module.
-use Rattle.std.proofs.Common.{◌≡◌, ℕ, List, [], ◌∷◌, ◌++◌, Bool, true, false, cond, not, ◌&&◌, ◌||◌, refl, sym, ap, ◌∙◌, subst, codes, append_assoc, append-nil}
-use Rattle.jsx_base.specs.Token.{Text, Operator, TokenKind, IdentifierName, StringLiteral, Punctuator, Lexeme, token, same}
+use Rattle.std.proofs.Common.{◌≡◌, List, [], ◌∷◌, ◌++◌, Bool, true, false, cond, refl, ap, ◌∙◌, codes, append_assoc, append-nil}
+use Rattle.jsx_base.specs.Token.{Text, Operator, IdentifierName, Punctuator, token, same}
 use Rattle.jsx_tree.specs.Signs.{Ending, AfterExpr, AfterBinding, Sign, Tok, Semicolon, Ends, Space, Line, Begin, Count, One, End}
-use Rattle.jsx_tree.specs.Kinds.{ConstWord, Module, Var, Declarator, program, statement, Tree, Forest, leaf, node, list, none, part}
+use Rattle.jsx_tree.specs.Kinds.{Tree, Forest}
 use Rattle.jsx_tree.specs.Grammar.{TopLines, pun}
-use Rattle.jsx_tree.specs.Spelling.{spelled, said, joined, each_said, gathered}
-use Rattle.jsx_tree.specs.Reading.{Place, At, forth, scan, token_at, ended_at}
+use Rattle.jsx_tree.specs.Spelling.{spelled, each_said, gathered}
+use Rattle.jsx_tree.specs.Reading.{At, scan, token_at, ended_at}
 use Rattle.jsx_tree.proofs.Laws.{scan_append}
 use Rattle.react_compile.specs.Printed.{code_of, lines, lowered, each_lowered}
-use Rattle.react_compile.proofs.Words.{Word}
-use Rattle.react_compile.proofs.Shapes.{IsExpr, element, IsDeclarator, initialized, IsItem, constant, AreItems, no_items, next_item}
+use Rattle.react_compile.proofs.Shapes.{IsExpr, element, initialized, IsItem, constant, AreItems, no_items, next_item}
 use Rattle.react_compile.proofs.ReadBack.{name_at, element_scan}
 
 -- ---- an expression

@@ -2,7 +2,7 @@
 use Rattle.std.proofs.Common.{◌≡◌, ℕ, zero, suc, ◌+◌, ◌<◌, ◌≤◌, List, [], ◌∷◌, ◌++◌, map, codes, length, drop, get_or, refl, sym, ap, ◌∙◌, arith, add-one, drop-cons, append_assoc, append-nil}
 use Rattle.std.proofs.lemmas.Str.{chars-nil}
 use Rattle.jsx_base.specs.Token.{Text}
-use Rattle.jsx_tree.specs.Kinds.{Tree, Forest, none, part}
+use Rattle.jsx_tree.specs.Kinds.{Tree, Forest, part}
 use Rattle.jsx_tree.specs.View.{forest, view_jsx, view}
 use Rattle.jsx_tree.specs.declared.tree.Tag.TheVariants as tag
 use Rattle.jsx_tree.specs.declared.tree.Jsx.{Jsx}

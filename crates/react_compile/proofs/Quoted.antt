@@ -1,12 +1,12 @@
 -- A tag's name between quotes is the string literal that it is quoted as.
-use Rattle.std.proofs.Common.{◌≡◌, ℕ, zero, suc, ◌≤◌, ◌<◌, List, [], ◌∷◌, ◌++◌, Bool, true, false, cond, not, ◌&&◌, ◌||◌, nat_eq, nat_lt, ◌≢◌, refl, sym, ap, ◌∙◌, subst, codes, arith, append_assoc}
+use Rattle.std.proofs.Common.{◌≡◌, ℕ, zero, suc, ◌<◌, [], ◌∷◌, ◌++◌, Bool, true, false, cond, not, ◌&&◌, ◌||◌, nat_eq, nat_lt, ◌≢◌, refl, sym, ap, ◌∙◌, subst, arith}
 use Rattle.unicode_ident.proofs.Computing.{unicode_ident}
 use Rattle.std.proofs.lemmas.Bool.{ltb-true, false≢true}
-use Rattle.jsx_base.specs.Token.{Text, Operator, TokenKind, StringLiteral, is_start, is_part, State, Dead, Done, InString, InJsxName, step, is_dead, accepts, taken, left, last_state, ended, token}
+use Rattle.jsx_base.specs.Token.{Text, Operator, TokenKind, StringLiteral, is_start, is_part, Dead, Done, InString, InJsxName, step, is_dead, accepts, taken, left, last_state, ended, token}
 use Rattle.jsx_base.proofs.Automata.{runs, stops, Read, read_on}
-use Rattle.react_compile.specs.Made.{hex_digit, escaped, escaped_all, quoted}
+use Rattle.react_compile.specs.Made.{escaped, escaped_all, quoted}
 use Rattle.react_compile.proofs.Tests.{here, there, number_is, number_self, unlike'}
-use Rattle.react_compile.proofs.Words.{Front, token_here}
+use Rattle.react_compile.proofs.Words.{token_here}
 use Rattle.react_compile.proofs.Tags.{TagName}
 
 -- a character of a tag's name

@@ -1,12 +1,12 @@
 -- The code that is printed reads as the lowered tree.
-use Rattle.std.proofs.Common.{◌≡◌, ℕ, List, [], ◌∷◌, ◌++◌, Bool, true, false, cond, not, ◌&&◌, ◌||◌, refl, sym, ap, ◌∙◌, subst, codes, append_assoc, append-nil}
-use Rattle.jsx_base.specs.Token.{Text, Operator, TokenKind, IdentifierName, StringLiteral, Punctuator, Lexeme, token, same}
+use Rattle.std.proofs.Common.{◌≡◌, List, [], ◌∷◌, ◌++◌, Bool, true, false, cond, refl, ap, ◌∙◌, codes, append_assoc}
+use Rattle.jsx_base.specs.Token.{Text, Operator, IdentifierName, StringLiteral, token, same}
 use Rattle.jsx_base.proofs.Automata.{stops}
-use Rattle.jsx_tree.specs.Signs.{Ending, AfterExpr, AfterBinding, Sign, Tok, Semicolon, TrailingComma, Ends, Space, Line, Begin, Count, One, End}
-use Rattle.jsx_tree.specs.Kinds.{Call, expression, Tree, Forest, leaf, node, list, none, part}
+use Rattle.jsx_tree.specs.Signs.{Ending, AfterExpr, Sign, Tok, TrailingComma, Space, Begin, Count, One, End}
+use Rattle.jsx_tree.specs.Kinds.{Call, expression, Tree, leaf, node, list, none, part}
 use Rattle.jsx_tree.specs.Spelling.{spelled}
-use Rattle.jsx_tree.specs.Reading.{Place, Lost, At, forth, scan, token_at}
-use Rattle.jsx_tree.specs.Grammar.{pun, key}
+use Rattle.jsx_tree.specs.Reading.{Lost, At, forth, scan, token_at}
+use Rattle.jsx_tree.specs.Grammar.{pun}
 use Rattle.jsx_tree.proofs.Laws.{scan_append}
 use Rattle.jsx_base.specs.Token.{InName}
 use Rattle.react_compile.specs.Made.{quoted}

@@ -1,13 +1,12 @@
 -- The shape of a module that reads, in the stage so far.
-use Rattle.std.proofs.Common.{◌≡◌, List, [], ◌∷◌, Bool, true, false, cond, not, ◌&&◌, ◌||◌, refl, sym, ap, ◌∙◌, subst}
-use Rattle.std.specs.Bool.{IsTrue}
-use Rattle.jsx_base.specs.Token.{Text, TokenKind, IdentifierName, JsxName}
+use Rattle.std.proofs.Common.{◌≡◌, List, [], ◌∷◌, Bool, true, false, ◌&&◌, refl, sym, ◌∙◌}
+use Rattle.jsx_base.specs.Token.{Text, IdentifierName, JsxName}
 use Rattle.jsx_tree.specs.declared.text.Goal.TheVariants as goals
 use Rattle.jsx_tree.specs.Kinds.{ConstWord, Module, Var, Declarator, Binds, Element, Kind, program, statement, jsx, Tree, leaf, node, list, Forest, none, part}
 use Rattle.jsx_tree.specs.Nonterminals.{Nonterminal, Expr, Pat, Item, DirectiveOnly, Declarators, TagName as TagPlace, Attributes, WholeProgram, homes, in_homes, is_bound}
-use Rattle.jsx_tree.specs.Form.{Form, Single, Maybe, Several, Position, position, positions, shaped, admits, fits_below, fit_slots, fit_each, is, is_leaf}
+use Rattle.jsx_tree.specs.Form.{Form, Single, Maybe, Several, position, positions, shaped, admits, fits_below, fit_slots, fit_each, is}
 use Rattle.jsx_tree.specs.StaticRules.{Surroundings, outside, rule, has_init, all_of, list_rule, legal, legals, each_legal, stands, enters}
-use Rattle.jsx_tree.specs.Program.{Reads, is_goal}
+use Rattle.jsx_tree.specs.Program.{is_goal}
 use Rattle.jsx_tree.specs.Stage.{has_kind, has_one, limits, in_stage, in_stages, each_in_stage, ReadsSoFar}
 use Rattle.std.proofs.lemmas.Bool.{false≢true}
 use Rattle.jsx_tree.specs.Grammar.{ListShape, Spaced, NoTrailing, TopLines, Context, InModuleCode}

@@ -1,26 +1,24 @@
 -- The lowered tree stands for the source's tree, and the code that is printed is code for it.
-use Rattle.std.proofs.Common.{◌≡◌, List, [], ◌∷◌, ◌++◌, Bool, true, false, cond, not, ◌&&◌, ◌||◌, Some, refl, sym, ap, ◌∙◌, subst, codes, string_bytes, String}
+use Rattle.std.proofs.Common.{◌≡◌, [], Bool, true, false, cond, not, ◌&&◌, ◌||◌, Some, refl, sym, ap, ◌∙◌, subst, codes, string_bytes, String}
 use Rattle.std.specs.Str.{chars}
 use Rattle.std.proofs.lemmas.Str.{IsUtf8-string_bytes}
 use Rattle.jsx_base.specs.Token.{Text, IdentifierName, StringLiteral, JsxName, same, first_is}
 use Rattle.jsx_tree.specs.declared.text.Goal.TheVariants as goals
-use Rattle.jsx_tree.specs.Signs.{AfterExpr, End}
+use Rattle.jsx_tree.specs.Signs.{AfterExpr}
 use Rattle.jsx_tree.specs.Kinds.{ConstWord, Module, Var, Declarator, Element, program, statement, jsx, Tree, Forest, leaf, node, list, none, part}
-use Rattle.jsx_tree.specs.Nonterminals.{WholeProgram, has_dash}
-use Rattle.jsx_tree.specs.Form.{Several, is, positions}
+use Rattle.jsx_tree.specs.Nonterminals.{has_dash}
 use Rattle.jsx_tree.specs.Spelling.{spelled}
-use Rattle.jsx_tree.specs.Reading.{At, scan, ended_at, reads}
-use Rattle.jsx_tree.specs.Normal.{nf, made, each_made, plain_node, without_empty}
+use Rattle.jsx_tree.specs.Reading.{At, scan, ended_at}
+use Rattle.jsx_tree.specs.Normal.{nf, each_made, plain_node, without_empty}
 use Rattle.jsx_tree.specs.Program.{Reads}
 use Rattle.jsx_tree.specs.Stage.{ReadsSoFar}
 use Rattle.react_compile.specs.Made.{quoted}
 use Rattle.react_compile.specs.Element as element
 use Rattle.react_compile.specs.Element.{is_lower, default_settings, expr, text}
-use Rattle.react_compile.specs.StandsFor.{StandsFor, same_leaf, same_list, same_node, lowered as by_call, InOrder, no_more, one_more, makes, MakesPiece, expression_for, literal_for, no_entries, no_children}
+use Rattle.react_compile.specs.StandsFor.{StandsFor, same_leaf, same_list, same_node, lowered as by_call, InOrder, no_more, one_more, makes, expression_for, literal_for, no_entries, no_children}
 use Rattle.react_compile.specs.Compiles.{IsCodeFor}
-use Rattle.react_compile.specs.Printed.{is_string_tag, tag_type, element_call, name, code_of, lowered, each_lowered}
+use Rattle.react_compile.specs.Printed.{is_string_tag, element_call, name, code_of, lowered, each_lowered}
 use Rattle.react_compile.proofs.Tests.{cond_true, cond_false}
-use Rattle.react_compile.proofs.Tags.{TagName}
 use Rattle.react_compile.proofs.Shapes.{IsExpr, element as an_element, IsDeclarator, initialized, IsItem, constant, AreItems, no_items, next_item, IsModule, of_items, module_of}
 use Rattle.react_compile.proofs.ReadBack.{with_type, TagCase, as_string, as_name, tag_case}
 use Rattle.react_compile.proofs.Modules.{items_scan}

@@ -1,16 +1,14 @@
 -- A tag's name is read as a reference, or between quotes as a string.
-use Rattle.std.proofs.Common.{◌≡◌, ℕ, zero, suc, ◌≤◌, ◌<◌, List, [], ◌∷◌, ◌++◌, Bool, true, false, cond, not, ◌&&◌, ◌||◌, nat_eq, nat_lt, refl, sym, ap, ◌∙◌, subst, codes, arith, append_assoc}
-use Rattle.std.proofs.lemmas.Bool.{ltb-true, lt-ltb}
-use Rattle.jsx_base.specs.Token.{Text, Operator, Tag, TokenKind, IdentifierName, StringLiteral, JsxName, Punctuator, NoToken, is_kind, same, among, begins, is_start, is_part, first_is, skip, breaks, State, Dead, Done, InString, InName, InJsxName, InJsxString, step, is_dead, accepts, taken, left, last_state, state, Lexeme, no_token, ended, lexed, at_front, token}
-use Rattle.jsx_base.proofs.Automata.{runs, stops, Read, read_on}
+use Rattle.std.proofs.Common.{◌≡◌, ℕ, List, [], ◌∷◌, Bool, true, false, cond, not, ◌&&◌, ◌||◌, nat_eq, refl, sym, ap, ◌∙◌, subst, codes}
+use Rattle.jsx_base.specs.Token.{Text, Tag, JsxName, Punctuator, is_kind, same, among, is_start, is_part, first_is, skip, breaks, State, Dead, Done, InName, InJsxName, InJsxString, is_dead, accepts, taken, left, last_state, state, ended, lexed, at_front, token}
+use Rattle.jsx_base.proofs.Automata.{runs}
 use Rattle.jsx_tree.specs.Nonterminals.{has_dash, reserved, is_ident, is_value_word}
 use Rattle.jsx_tree.specs.Form.{is_leaf}
-use Rattle.react_compile.specs.Made.{escaped, escaped_all, quoted}
 use Rattle.react_compile.specs.Element.{is_lower}
-use Rattle.react_compile.specs.Printed.{is_string_tag, tag_code}
-use Rattle.react_compile.proofs.Tests.{here, there, same_is, same_self, unlike', cond_true, cond_false}
+use Rattle.react_compile.specs.Printed.{is_string_tag}
+use Rattle.react_compile.proofs.Tests.{here, there, same_is, cond_true}
 use Rattle.react_compile.proofs.Becomes.{Never, either, to, dead, last_never, accepts_never}
-use Rattle.react_compile.proofs.Words.{Front, front_of, Word, Begun, Is, token_here, taken_all, runs_all, ended_kind, first_only, over, not_blank}
+use Rattle.react_compile.proofs.Words.{Front, front_of, Word, Is, taken_all, runs_all, ended_kind, first_only, over, not_blank}
 
 -- ---- a leaf that is one name of a tag
 

@@ -1,9 +1,9 @@
 -- A name that is one token alone is read as that token wherever it stands before what doesn't go on with it.
-use Rattle.std.proofs.Common.{◌≡◌, ℕ, suc, ◌≤◌, ◌+◌, List, [], ◌∷◌, ◌++◌, Bool, true, false, cond, not, ◌&&◌, ◌||◌, nat_eq, nat_le, length, refl, sym, ap, ◌∙◌, subst, codes, arith}
-use Rattle.jsx_base.specs.Token.{Text, Operator, TokenKind, IdentifierName, Punctuator, NumericLiteral, BigIntLiteral, NoSubstitution, TemplateHead, NoToken, is_kind, same, begins, is_start, is_part, is_one_of, is_blank, is_line_end, first_is, is_digit, Gap, Blank, InLineComment, Opening, BehindGap, gap_next, is_over, behind_gap, skip, breaks, State, Dead, InName, BehindZero, InDigits, InFraction, InString, InPiece, step, is_dead, accepts, taken, left, last_state, code_state, Lexeme, is_token, no_token, ended, punct, punctuator, lexed, at_front, token}
+use Rattle.std.proofs.Common.{◌≡◌, ℕ, suc, ◌≤◌, [], ◌∷◌, ◌++◌, Bool, true, false, cond, ◌&&◌, ◌||◌, nat_eq, length, refl, sym, ap, ◌∙◌, subst, codes, arith}
+use Rattle.jsx_base.specs.Token.{Text, Operator, TokenKind, IdentifierName, Punctuator, NumericLiteral, BigIntLiteral, NoSubstitution, TemplateHead, NoToken, is_kind, begins, is_start, is_part, is_blank, is_line_end, first_is, is_digit, Gap, Blank, InLineComment, Opening, BehindGap, gap_next, is_over, behind_gap, skip, breaks, State, Dead, InName, BehindZero, InDigits, InFraction, InString, InPiece, step, is_dead, accepts, taken, left, last_state, code_state, Lexeme, no_token, ended, punct, punctuator, lexed, at_front, token}
 use Rattle.jsx_base.proofs.Automata.{runs, stops, Read, read_on}
 use Rattle.jsx_tree.specs.Form.{is_leaf}
-use Rattle.react_compile.proofs.Tests.{here, there, same_is, number_is, unlike, cond_true}
+use Rattle.react_compile.proofs.Tests.{here, there, same_is, unlike, cond_true}
 use Rattle.react_compile.proofs.Becomes.{Never, either, to, dead, last_never, accepts_never}
 
 -- ---- where a token of code begins

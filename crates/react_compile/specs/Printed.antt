@@ -1,5 +1,5 @@
 -- What is printed of a source's tree: its code, as a text and as the tree that the text reads as.
-use Rattle.std.specs.Prelude.{ℕ, List, [], ◌∷◌, ◌++◌, map, codes, Bool, true, false, cond, not, nat_lt, ◌&&◌, ◌||◌}
+use Rattle.std.specs.Prelude.{ℕ, List, [], ◌∷◌, ◌++◌, map, codes, Bool, true, cond, not, nat_lt, ◌&&◌, ◌||◌}
 use Rattle.jsx_base.specs.Token.{Text, IdentifierName, StringLiteral, JsxName, same, first_is}
 use Rattle.jsx_tree.specs.Kinds.{Module, Directive, Var, Declarator, ExprStmt, Call, Member, Element, program, statement, expression, jsx, Tree, leaf, node, list, Forest, none, part}
 use Rattle.jsx_tree.specs.Nonterminals.{has_dash}

@@ -1,4 +1,4 @@
-use Rattle.std.proofs.Common.{◌≡◌, ℕ, nat_eq, Bool, false, ◌||◌, ◌∷◌, [], List, rules, refl, ◌∙◌, tests}
+use Rattle.std.proofs.Common.{ℕ, nat_eq, Bool, ◌||◌, rules, refl, ◌∙◌, tests}
 use Rattle.std.specs.List.{list_any}
 use Rattle.std.specs.Str.{chars}
 use Rattle.std.proofs.lemmas.Iterator.{YieldsList-from_chars}

@@ -1,11 +1,11 @@
-use Rattle.std.proofs.Common.{◌≡◌, ℕ, List, [], ◌∷◌, Bool, true, codes, refl, sym, ap, ◌∙◌, Decides}
+use Rattle.std.proofs.Common.{◌≡◌, ℕ, List, codes, refl, sym, ap, ◌∙◌, Decides}
 use Rattle.std.specs.Str.{chars, IsUtf8}
 use Rattle.std.proofs.lemmas.Str.{encodes-chars}
 use Rattle.std.proofs.Math.Utf8.{encodes}
 use Rattle.std.proofs.lemmas.Slice.Eq.{slice_eq-Decides}
 use Rattle.std.proofs.lemmas.Bool.Decides.{same_from_decides, Decides-eqb}
 use Rattle.jsx_base.specs.Token.{same}
-use Rattle.react_compile.proofs.Tests.{same_is, same_self}
+use Rattle.react_compile.proofs.Tests.{same_is}
 use Rattle.react_compile.proofs.Characters.{chars_ascii, encodes_ascii}
 use Rattle.react_compile.proofs.print.is_this.Goals as goal
 
