@@ -20,10 +20,11 @@ pub record Read (s : State) (raw rest : Text) : Type 0 where
 
 stopped : (s : State) (rest : Text) → stops s rest ≡ true → Read s [] rest
 stopped s [] h = record { takes_it = refl; leaves = refl; state_is = refl }
-stopped s (c ∷ rest) h = record
-    { takes_it = ap (λ b. cond b [] (c ∷ taken (step s c) rest)) h
-    ; leaves = ap (λ b. cond b (c ∷ rest) (left (step s c) rest)) h
-    ; state_is = ap (λ b. cond b s (last_state (step s c) rest)) h }
+stopped s (c ∷ rest) h = record {
+  takes_it = ap (λ b. cond b [] (c ∷ taken (step s c) rest)) h;
+  leaves = ap (λ b. cond b (c ∷ rest) (left (step s c) rest)) h;
+  state_is = ap (λ b. cond b s (last_state (step s c) rest)) h;
+}
 
 -- what `runs` says at a character
 alive : (b : Bool) (r : Bool) → cond b false r ≡ true → b ≡ false
@@ -40,7 +41,8 @@ read_on s (c ∷ raw) rest h e =
     let a : is_dead (step s c) ≡ false = alive _ _ h in
     let f : last_state s (c ∷ raw) ≡ last_state (step s c) raw = ap (λ b. cond b s (last_state (step s c) raw)) a in
     let r : Read (step s c) raw rest = read_on (step s c) raw rest (goes _ _ h) (subst (λ x. stops x rest ≡ true) f e) in
-    record
-    { takes_it = ap (λ b. cond b [] (c ∷ taken (step s c) (raw ++ rest))) a ∙ ap (λ x. c ∷ x) r.takes_it
-    ; leaves = ap (λ b. cond b (c ∷ (raw ++ rest)) (left (step s c) (raw ++ rest))) a ∙ r.leaves
-    ; state_is = ap (λ b. cond b s (last_state (step s c) (raw ++ rest))) a ∙ (r.state_is ∙ sym f) }
+    record {
+      takes_it = ap (λ b. cond b [] (c ∷ taken (step s c) (raw ++ rest))) a ∙ ap (λ x. c ∷ x) r.takes_it;
+      leaves = ap (λ b. cond b (c ∷ (raw ++ rest)) (left (step s c) (raw ++ rest))) a ∙ r.leaves;
+      state_is = ap (λ b. cond b s (last_state (step s c) (raw ++ rest))) a ∙ (r.state_is ∙ sym f);
+    }

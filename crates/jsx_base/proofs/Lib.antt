@@ -1,2 +1,4 @@
 mod Lexing
+mod Literals
 pub mod Automata
+pub mod Gains

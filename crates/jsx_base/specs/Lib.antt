@@ -1,1 +1,7 @@
 pub mod Token
+pub mod Calls
+pub mod Faults
+pub mod Sink
+pub mod Source
+pub mod StdSink
+pub mod StdSource

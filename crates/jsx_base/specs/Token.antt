@@ -1,4 +1,4 @@
--- The tokens of a text, in each mode (ECMA-262 section 12; JSX specification). Each kind of token is an automaton that takes as many characters as it can.
+-- The tokens of a text, in each mode (ECMA-262 section 12, lexical grammar; JSX specification, names, strings and text). Each kind of token is an automaton that takes as many characters as it can.
 use Rattle.std.specs.Prelude.{ℕ, zero, suc, ◌+◌, ◌*◌, ◌-◌, List, [], ◌∷◌, codes, Bool, true, false, cond, not, nat_eq, nat_le, ◌&&◌, ◌||◌}
 use Rattle.std.specs.Char.{is_ascii_digit, is_ascii_alphabetic}
 use Rattle.unicode_ident.specs.Ident.{is_xid_start, is_xid_continue}
@@ -7,7 +7,7 @@ use Rattle.unicode_ident.specs.Ident.{is_xid_start, is_xid_continue}
 abbrev pub Text : Type 0
 Text = List ℕ
 
--- What is read: code where an expression may begin, code elsewhere, a template behind the `}` of a substitution, a JSX tag, and what stands between JSX tags.
+-- What is read: code where an expression may begin (`/` begins a regular expression, `<` an element), code elsewhere (`/` divides, `<` compares), a template behind the `}` of a substitution, a JSX tag, and what stands between JSX tags.
 pub data Mode : Type 0 where
   Operand : Mode
   Operator : Mode
@@ -63,7 +63,7 @@ abbrev pub among : Text → List Text → Bool
 among t [] = false
 among t (u ∷ us) = same t u || among t us
 
--- characters
+-- characters; line ends are ECMA-262 section 12.3
 
 abbrev pub is_line_end : ℕ → Bool
 is_line_end c = nat_eq c 10 || nat_eq c 13 || nat_eq c 8232 || nat_eq c 8233
@@ -72,10 +72,11 @@ abbrev pub is_one_of : ℕ → List ℕ → Bool
 is_one_of c [] = false
 is_one_of c (d ∷ ds) = nat_eq c d || is_one_of c ds
 
--- TAB, VT, FF, U+FEFF and the category Zs
+-- white space (ECMA-262 section 12.2): TAB, VT, FF, U+FEFF and the category Zs
 abbrev pub is_blank : ℕ → Bool
 is_blank c = is_one_of c (32 ∷ 9 ∷ 11 ∷ 12 ∷ 160 ∷ 5760 ∷ 8239 ∷ 8287 ∷ 12288 ∷ 65279 ∷ []) || (nat_le 8192 c && nat_le c 8202)
 
+-- the first character of a name and a later one (ECMA-262 section 12.7), where ASCII is decided without the tables of Unicode
 abbrev pub is_start : ℕ → Bool
 is_start c = is_ascii_alphabetic c || is_one_of c (36 ∷ 95 ∷ []) || (nat_le 128 c && is_xid_start c)
 
@@ -101,7 +102,7 @@ abbrev pub first_is : (ℕ → Bool) → Text → Bool
 first_is q [] = false
 first_is q (c ∷ text) = q c
 
--- the gap before a token
+-- the gap before a token: blanks, line ends and comments (ECMA-262 sections 12.2 to 12.4)
 
 pub data Gap : Type 0 where
   Blank : Gap
@@ -132,7 +133,7 @@ abbrev pub is_over : Gap → Bool
 is_over BehindGap = true
 is_over g = false
 
--- the text behind the gap, and whether a line ends in it
+-- the text behind the gap, and whether a line ends in it: a block comment that holds a line end counts as one
 abbrev pub behind_gap : Gap → Text → Text
 behind_gap g [] = []
 behind_gap g (c ∷ text) = cond (is_over (gap_next g c text)) (c ∷ text) (behind_gap (gap_next g c text) text)
@@ -163,11 +164,11 @@ pub data Base : Type 0 where
   BinaryDigits : Base
 
 pub data State : Type 0 where
-  -- it can't be a token, and it is one but takes nothing more
+  -- `Dead`: it can't be a token. `Done`: it is one of this kind and takes nothing more
   Dead : State
   Done : TokenKind → State
   InName : State
-  -- numbers: a leading 0, an integer, the fraction, the exponent, digits of a base; `False` where a digit must follow
+  -- numbers (ECMA-262 section 12.9.3): a leading 0, an integer, the fraction, the exponent, digits of a base; `false` where a digit must follow, as behind `1_`
   BehindZero : State
   InDigits : Bool → State
   BehindPoint : State
@@ -177,7 +178,7 @@ pub data State : Type 0 where
   InExponent : Bool → State
   InBase : Base → Bool → State
   BehindN : State
-  -- a string between quotes of this kind: its body, behind a backslash, n hex digits to come, behind `\u`, the braces' digits, behind `\0`, behind `\` CR
+  -- a string between quotes of this kind (ECMA-262 section 12.9.4): its body, behind a backslash, n hex digits to come, behind `\u`, the braces' digits with their value so far, behind `\0`, behind `\` CR
   InString : ℕ → State
   InEscape : ℕ → State
   InHex : ℕ → ℕ → State
@@ -185,12 +186,12 @@ pub data State : Type 0 where
   InBraces : ℕ → Bool → ℕ → State
   BehindNul : ℕ → State
   BehindCr : ℕ → State
-  -- a regular expression: at its first character, its body, in a class, behind a backslash in or outside a class, its flags
+  -- a regular expression (ECMA-262 section 12.9.5): at its first character, its body, in a class, behind a backslash in or outside a class, its flags
   AtRegExp : State
   InRegExp : Bool → State
   InRegExpEscape : Bool → State
   InFlags : State
-  -- a template's piece, with the kind that it has if it ends the template and if it goes on
+  -- a template's piece (ECMA-262 section 12.9.6), with the kind that it has if it ends with a backquote and if it ends with `${`
   InPiece : TokenKind → TokenKind → State
   InPieceEscape : TokenKind → TokenKind → State
   BehindDollar : TokenKind → TokenKind → State
@@ -198,7 +199,7 @@ pub data State : Type 0 where
   InJsxString : ℕ → State
   InJsxText : State
 
--- the state behind a `_`, or a digit
+-- the state behind a digit, or behind a `_` where one may stand
 abbrev pub digit_step : (Bool → State) → Bool → ℕ → State → State
 digit_step s more c other = cond (is_digit c) (s true) (cond (more && nat_eq c 95) (s false) other)
 
@@ -207,6 +208,7 @@ is_base_digit Hexadecimal c = is_hex c
 is_base_digit Octal c = nat_le 48 c && nat_le c 55
 is_base_digit BinaryDigits c = nat_le 48 c && nat_le c 49
 
+-- behind a backslash: `\0` is an escape, `\1` to `\9` are none
 abbrev pub escape : ℕ → ℕ → State
 escape q c =
     cond (nat_eq c 120) (InHex q 2) (cond (nat_eq c 117) (InUnicode q) (cond (nat_eq c 48) (BehindNul q) (cond (is_digit c) Dead (cond (nat_eq c 13) (BehindCr q) (InString q)))))
@@ -220,7 +222,7 @@ in_piece a b c = cond (nat_eq c 96) (Done a) (cond (nat_eq c 92) (InPieceEscape 
 abbrev pub is_letter : ℕ → ℕ → Bool
 is_letter lower c = nat_eq c lower || nat_eq (c + 32) lower
 
--- behind a leading 0
+-- behind a leading 0: neither a digit nor `_` follows
 abbrev pub behind_zero : ℕ → State
 behind_zero c =
     cond (nat_eq c 46) BehindPoint (cond (is_letter 101 c) BehindE (cond (nat_eq c 110) BehindN
@@ -231,7 +233,7 @@ regex_step b c =
     cond (is_line_end c) Dead (cond (nat_eq c 92) (InRegExpEscape b) (cond (nat_eq c 91) (InRegExp true) (cond (nat_eq c 93) (InRegExp false)
     (cond (nat_eq c 47 && not b) InFlags (InRegExp b)))))
 
--- `No` where the token doesn't take the character
+-- `Dead` where the token doesn't take the character
 abbrev pub step : State → ℕ → State
 step Dead c = Dead
 step (Done s) c = Dead
@@ -298,7 +300,7 @@ abbrev pub last_state : State → Text → State
 last_state s [] = s
 last_state s (c ∷ text) = cond (is_dead (step s c)) s (last_state (step s c) text)
 
--- punctuators
+-- punctuators (ECMA-262 section 12.8)
 
 abbrev pub punctuators : List Text
 punctuators =
@@ -326,7 +328,7 @@ drop_as (b ∷ bs) (c ∷ text) = drop_as bs text
 abbrev pub punctuator : Text → Text
 punctuator text = cond (begins (codes "?.") text && first_is is_digit (drop_as (codes "?.") text)) (codes "?") (longest punctuators text)
 
--- the state behind a token's first character, `No` for a punctuator of code
+-- the state behind a token's first character, `Dead` for a punctuator of code
 abbrev pub code_state : Bool → ℕ → Text → State
 code_state operand c text =
     cond (is_start c) InName (cond (nat_eq c 48) BehindZero (cond (is_digit c) (InDigits true) (cond (nat_eq c 46 && first_is is_digit text) (InFraction false)
@@ -356,7 +358,7 @@ is_token x k t = is_kind x.kind k && same x.raw t
 abbrev pub no_token : Text → Lexeme
 no_token text = record { kind = NoToken; raw = []; rest = text }
 
--- a token but for what may not follow it
+-- a token but for what may not follow it: no name and no digit stands directly behind a number, `3in x`
 abbrev pub ended : TokenKind → Text → Text → Lexeme
 ended NoToken raw rest = no_token rest
 ended NumericLiteral raw rest = cond (first_is is_start rest || first_is is_digit rest) (no_token rest) (record { kind = NumericLiteral; raw = raw; rest = rest })
@@ -371,7 +373,7 @@ abbrev pub lexed : Mode → State → ℕ → Text → Lexeme
 lexed m Dead c text = cond (is_code m) (punct (punctuator (c ∷ text)) (c ∷ text)) (no_token (c ∷ text))
 lexed m s c text = ended (accepts (last_state s text)) (c ∷ taken s text) (left s text)
 
--- the token at the front of a text, and the text behind it; `fresh` where only blanks and comments stand before it on its line
+-- the token at the front of a text, and the text behind it; `fresh` where only blanks and comments stand before it on its line. HTML-like comments (ECMA-262 section B.1.1) are no tokens.
 abbrev pub at_front : Mode → Bool → Text → Lexeme
 at_front m fresh [] = no_token []
 at_front m fresh (c ∷ text) =

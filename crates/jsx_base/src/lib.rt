@@ -1,6 +1,11 @@
 //! What every other crate stands on: places in a text, bytes that come in and go out.
 #![tactic(auto)]
 
+mod calls;
 mod place;
+mod sink;
+mod source;
 
 pub use place::{BytePos, DUMMY_SP, Span, Spanned};
+pub use sink::{MemSink, Sink, StdSink};
+pub use source::{Failed, MemSource, Source, StdSource};

@@ -4,3 +4,15 @@ mod Rules
 mod Legality
 pub mod Laws
 pub mod Views
+mod Patterns
+mod Classes
+mod Expressions
+mod Statements
+mod Semicolons
+mod Modules
+mod JsxForms
+mod Depths
+mod Layouts
+mod SoFar
+mod Programs
+mod Corners

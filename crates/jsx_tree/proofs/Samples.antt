@@ -1,11 +1,15 @@
 -- Trees written out.
-use Rattle.std.specs.Prelude.{◌≡◌, [], codes, true, false, refl}
+use Rattle.std.specs.Prelude.{◌≡◌, [], codes, Bool, true, false, refl, ◌&&◌}
 use Prim.Native.String.{String}
-use Rattle.jsx_base.specs.Token.{IdentifierName, NumericLiteral, StringLiteral, TemplateHead, TemplateMiddle, TemplateTail, JsxName, JsxString, JsxText, Elision}
-use Rattle.jsx_tree.specs.Kinds.{LetWord, ConstWord, Imported, Module, Script, FunctionBody, Import, ImportList, ImportBoth, Specifier, SpecifierAs, ExportDefaultExpr, Block, Var, Declarator, Empty, ExprStmt, If, For, ForDeclaration, Break, Return, Switch, Case, Default, Try, Catch, ClassDecl, InClass, Static, Binds, Getter, Field, ArrayPat, ObjectPat, PropertyPat, ShorthandPat, WithInit, RestPat, Nullish, Or, Less, Add, Multiply, Positive, Negative, Increment, ArrowBlock, Binary, Unary, PrefixUpdate, PostfixUpdate, Tagged, ImportMeta, Chain, NameLink, Array, Object, Spread, Parenthesized, SubstitutedTemplate, TemplateSpan, Element, ElementWithChildren, Fragment, MemberName, Attribute, Container, JsxSpread, Kind, program, statement, function, expression, jsx, Tree, leaf, node, list, none, part}
+use Rattle.jsx_base.specs.Token.{IdentifierName, NumericLiteral, StringLiteral, TemplateHead, TemplateMiddle, TemplateTail, JsxName, JsxString, JsxText, Elision, same}
+use Rattle.jsx_tree.specs.Kinds.{LetWord, ConstWord, Imported, Module, Script, FunctionBody, Import, ImportList, ImportBoth, Specifier, SpecifierAs, ExportDefaultExpr, Block, Var, Declarator, Empty, ExprStmt, If, For, ForDeclaration, Break, Return, Switch, Case, Default, Try, Catch, ClassDecl, InClass, Static, Binds, Getter, Field, ArrayPat, ObjectPat, PropertyPat, ShorthandPat, WithInit, RestPat, Nullish, Or, Less, Add, Multiply, InOp, Positive, Negative, Increment, Assign, Arrow, ArrowBlock, Call, Member, Binary, Unary, PrefixUpdate, PostfixUpdate, Tagged, ImportMeta, Chain, NameLink, Array, Object, Spread, Parenthesized, SubstitutedTemplate, TemplateSpan, Element, ElementWithChildren, Fragment, MemberName, Attribute, Container, JsxSpread, Kind, program, statement, function, expression, jsx, Tree, leaf, node, list, none, part}
 use Rattle.jsx_tree.specs.Nonterminals.{Expr, Stmt, SubStmt, Item, WholeProgram}
 use Rattle.jsx_tree.specs.Form.{is}
-use Rattle.jsx_tree.specs.Layout.{layout}
+use Rattle.jsx_tree.specs.Layout.{layout, printed}
+use Rattle.jsx_tree.specs.Reading.{reads}
+use Rattle.jsx_tree.specs.Normal.{laid_tree}
+use Rattle.jsx_tree.specs.Parentheses.{parenthesise}
+use Rattle.jsx_tree.specs.StaticRules.{outside, legal}
 
 abbrev pub n : String → Tree
 n s = leaf IdentifierName (codes s)
@@ -146,3 +150,65 @@ for_text = refl
 
 template_text : layout (n2 (expression Tagged) (n "a") (n4 (expression (SubstitutedTemplate true)) (leaf TemplateHead (codes "`x${")) (l1 (n2 (expression (TemplateSpan true)) (n "b") (leaf TemplateMiddle (codes "${")))) (n "c") (leaf TemplateTail (codes "`")))) ≡ codes "a`x${b}${c}`"
 template_text = refl
+
+-- short names for what the facts are written with
+
+abbrev pub module_of : Tree → Tree
+module_of items = n2 (program Module) l0 items
+
+abbrev pub body_of : Tree → Tree
+body_of items = n2 (program FunctionBody) l0 items
+
+abbrev pub add : Tree → Tree → Tree
+add a b = n2 (expression (Binary Add)) a b
+
+abbrev pub in_op : Tree → Tree → Tree
+in_op a b = n2 (expression (Binary InOp)) a b
+
+abbrev pub call : Tree → Tree → Tree
+call f as' = n2 (expression Call) f as'
+
+abbrev pub dot : Tree → String → Tree
+dot o x = n2 (expression Member) o (n x)
+
+abbrev pub paren : Tree → Tree
+paren e = n1 (expression Parenthesized) e
+
+abbrev pub set_to : Tree → Tree → Tree
+set_to a b = n2 (expression Assign) a b
+
+abbrev pub object_of : Tree → Tree
+object_of ps = n1 (expression Object) ps
+
+abbrev pub array_of : Tree → Tree
+array_of es = n1 (expression Array) es
+
+abbrev pub arrow : Tree → Tree → Tree
+arrow ps e = n2 (expression Arrow) ps e
+
+abbrev pub block : Tree → Tree
+block items = n1 (statement Block) items
+
+abbrev pub empty : Tree
+empty = n0 (statement Empty)
+
+abbrev pub hole : Tree
+hole = leaf Elision []
+
+-- the text reads as this expression, as a statement of a script
+abbrev pub reads_expr : String → Tree → Bool
+reads_expr s e = reads (codes s) (script (l1 (stmt e)))
+
+abbrev pub reads_script : String → Tree → Bool
+reads_script s items = reads (codes s) (script items)
+
+abbrev pub reads_module : String → Tree → Bool
+reads_module s items = reads (codes s) (module_of items)
+
+-- the tree keeps the static rules
+abbrev pub keeps : Tree → Bool
+keeps t = legal outside t
+
+-- the tree is printed so, after parentheses are put, and reads from that text as what is laid
+abbrev pub prints : Tree → String → Bool
+prints t s = same (printed (parenthesise t)) (codes s) && reads (codes s) (laid_tree (parenthesise t))

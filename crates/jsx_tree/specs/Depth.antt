@@ -1,4 +1,4 @@
--- How deep a front of marks is.
+-- How deep a front of a tree's signs is. A limit on depth keeps the reading of ECMA-262's nested productions (sections 13 to 16) within a stack.
 use Rattle.std.specs.Prelude.{ℕ, zero, suc, List, [], ◌∷◌, Bool, true, false, cond, nat_le}
 use Rattle.jsx_tree.specs.Signs.{Sign, Tok, Begin, Count, One, End}
 use Rattle.jsx_tree.specs.Kinds.{Tree}
@@ -42,14 +42,14 @@ abbrev pub deep_from : List Frame → List Sign → ℕ
 deep_from fs [] = height 0 fs
 deep_from fs (m ∷ ms) = deep_from (depth_step m fs) ms
 
--- the depth of a front
+-- the depth of a front: `a` has 1, `a +` has 2, for the sum counts from its operator on
 abbrev pub deep : List Sign → ℕ
 deep ms = deep_from (frame false 0 ∷ []) ms
 
 abbrev pub depth : Tree → ℕ
 depth t = deep (spelled t)
 
--- the marks up to and with the n-th token
+-- the signs up to and with the n-th token. Semicolons and trailing commas aren't counted, nothing is deeper at one than before it.
 abbrev pub front : ℕ → List Sign → List Sign
 front n [] = []
 front zero (m ∷ ms) = []

@@ -1,8 +1,8 @@
--- Which trees have the form that the templates ask.
+-- Which trees have the form that the productions ask (ECMA-262 sections 13 to 16; JSX specification): a part at each place, of a kind that is at home there.
 use Rattle.std.specs.Prelude.{List, [], ◌∷◌, codes, Bool, true, false, cond, ◌&&◌, ◌||◌, not}
 use Rattle.jsx_base.specs.Token.{Text, TokenKind, Punctuator, Elision, same, among}
 use Rattle.jsx_tree.specs.Signs.{Tok, Unless}
-use Rattle.jsx_tree.specs.Kinds.{RestPat, RestProperty, Call, ImportCall, Chain, Kind, function, expression, Tree, leaf, node, list, Forest, none, part}
+use Rattle.jsx_tree.specs.Kinds.{RestPat, RestProperty, Call, SuperCall, ImportCall, Chain, Kind, function, expression, Tree, leaf, node, list, Forest, none, part}
 use Rattle.jsx_tree.specs.Nonterminals.{Nonterminal, TemplatePart, NewCallee, in_homes, homes, leaf_in}
 use Rattle.jsx_base.specs.Token.{is_token, token}
 use Rattle.jsx_tree.specs.Spelling.{mode_of}
@@ -13,7 +13,7 @@ pub data Form : Type 0 where
   Maybe : Form
   Several : ListShape → Form
 
--- a place of a template: what stands there, the tokens that may not be first there, whether brackets of the node enclose it, and what it stands in
+-- a place of a production: what stands there, the tokens that may not be first there, whether brackets of the node enclose it, and what it stands in
 pub data Position : Type 0 where
   position : Form → Nonterminal → List Text → Bool → List Context → Position
 
@@ -30,6 +30,7 @@ is_piece c = false
 abbrev pub inside : Text → Bool → Bool
 inside t b = cond (is_open t) true (cond (is_close t) false b)
 
+-- `g` are the tokens that may not come first, `b` whether brackets are open, `a` what the parts stand in
 abbrev pub slots : List Text → Bool → List Context → Production → List Position
 slots g b a [] = []
 slots g b a (Part c ∷ ps) = position Single c g b a ∷ slots [] (b || is_piece c) a ps
@@ -78,8 +79,10 @@ abbrev pub leads : Production → Bool
 leads (Part c ∷ ps) = true
 leads ps = false
 
+-- `new a().b()` has the callee `a`: `new (a().b)()` needs its parentheses (ECMA-262 section 13.3)
 abbrev pub calls : Kind → Bool
 calls (expression Call) = true
+calls (expression SuperCall) = true
 calls (expression ImportCall) = true
 calls (expression Chain) = true
 calls k = false
@@ -116,7 +119,7 @@ is_leaf Elision t = same t []
 is_leaf s t = is_token (token (mode_of s) false t) s t && same (token (mode_of s) false t).rest []
 
 abbrev mutual
-  -- the trees below a tree have the form that their templates ask
+  -- the trees below a tree have the form that their productions ask
   pub fits_below : Nonterminal → Tree → Bool
   fits_below c (leaf s t) = is_leaf s t
   fits_below c (node k cs) = fit_slots (positions k) cs

@@ -1,31 +1,33 @@
--- The grammar: one row a production, as it is read and as it is written.
+-- The grammar (ECMA-262 sections 13 to 16; JSX specification): one row a production, as it is read and as it is written.
 use Rattle.std.specs.Prelude.{ℕ, List, [], ◌∷◌, ◌++◌, codes, Bool, true, false}
 use Prim.Native.String.{String}
 use Rattle.jsx_base.specs.Token.{Text, Operand, Operator, Tag, Children, IdentifierName, Punctuator, NoSubstitution, TemplateHead, TemplateMiddle, TemplateTail}
 use Rattle.jsx_tree.specs.Signs.{Ending, AfterBlock, AfterWord, AfterList, AfterBinding, AfterKey, AfterDo, Sign, Tok, Semicolon, Unless, SameLine, Ends, Space, Pad, Indent, Outdent, Unindent, Apart, Begin, Count, One, End}
 use Rattle.jsx_tree.specs.Kinds.{DeclareWord, VarWord, LetWord, ConstWord, Side, Imported, Exported, From, ProgramKind, Module, Script, FunctionBody, Directive, ImportBare, Import, ImportAll, ImportList, ImportBoth, Specifier, SpecifierAs, ExportNames, ExportFrom, ExportAll, ExportAllAs, ExportDecl, ExportDefaultFn, ExportDefaultClass, ExportDefaultExpr, StatementKind, Block, Var, Declarator, Empty, ExprStmt, If, Do, While, For, ForDeclaration, ForIn, ForOf, ForBinding, Continue, Break, Return, Throw, Debugger, Label, Switch, Case, Default, Try, Catch, FunctionDecl, ClassDecl, Holder, Static, Binds, Assigns, FunctionKind, FunctionExpr, ClassExpr, Method, Getter, Setter, Field, ComputedKey, ArrayPat, ObjectPat, PropertyPat, ShorthandPat, ShorthandInit, WithInit, RestPat, RestProperty, ParenTarget, BinaryOp, Nullish, Or, And, BitOr, BitXor, BitAnd, Equal, Unequal, StrictEqual, StrictUnequal, InOp, InstanceOf, ShiftLeft, ShiftRight, ShiftOut, Add, Subtract, Multiply, Divide, Remainder, Exponentiate, UnaryOp, Positive, Negative, Complement, Not, ExpressionKind, Seq, Assign, OpAssign, Arrow, ArrowBlock, BareArrow, BareArrowBlock, Cond, Binary, Unary, PrefixUpdate, PostfixUpdate, Call, Member, Index, Tagged, New, NewWithoutArguments, SuperCall, SuperMember, SuperIndex, ImportCall, ImportMeta, NewTarget, Chain, NameLink, IndexLink, CallLink, Array, Object, Property, Shorthand, Spread, Parenthesized, PlainTemplate, SubstitutedTemplate, TemplateSpan, JsxKind, Element, ElementWithChildren, Fragment, NamespacedName, MemberName, Attribute, Container, EmptyContainer, JsxSpread, Kind, program, statement, function, expression, jsx}
-use Rattle.jsx_tree.specs.Nonterminals.{Nonterminal, Expr, MemberObject, SimpleTarget, Ident, BindingIdent, Name, StringOnly, Pat, Slot, PatProp, Param, Declarators, Key, ClassMember, ObjectMember, Argument, ArrayItem, ChainLink, TemplateOf, TemplatePart, TemplateSpans, Stmt, SubStmt, Item, DirectiveOnly, Body, BlockOnly, CaseClause, CatchClause, Declaration, ClassOnly, ForInit, ForHead, ImportClause, ImportBindings, Specifiers, TagName, Attributes, AttributeName, AttributeValue, Child, MemberRoot, MemberPart, JsxWord, NullishLeft, NewCallee, DotObject, ForOfHead, SetterParam, level_of, binary, unary, update}
+use Rattle.jsx_tree.specs.Nonterminals.{Nonterminal, Expr, MemberObject, SimpleTarget, Ident, BindingIdent, Name, StringOnly, Pat, Slot, PatProp, PatElement, Param, Declarators, Key, ClassMember, ObjectMember, Argument, ArrayItem, ChainLink, TemplateOf, TemplatePart, TemplateSpans, Stmt, SubStmt, Item, DirectiveOnly, Body, BlockOnly, CaseClause, CatchClause, Declaration, ClassOnly, ForInit, ForHead, ImportClause, ImportBindings, Specifiers, TagName, Attributes, AttributeName, AttributeValue, Child, MemberRoot, MemberPart, JsxWord, NullishLeft, NewCallee, DotObject, ForOfHead, SetterParam, level_of, binary, unary, update}
 
 -- how the trees of one place stand together
 pub data ListShape : Type 0 where
-  -- joined by `, `, a trailing comma allowed, or not; at least two
+  -- joined by `, `, and a trailing comma may be read: `f(a, b,)`
   Commas : ListShape
+  -- the same with holes, where a last hole has a comma behind it: `[a, ,]`
   Elisions : ListShape
+  -- joined by `, `, with no trailing comma: at least one, as `var a, b`; at least two, as `a, b`
   NoTrailing : ListShape
   TwoOrMore : ListShape
   -- each on a line of its own, inside of braces and at the top
   Lines : ListShape
   TopLines : ListShape
-  -- with nothing between; at least one
+  -- with nothing between: the spans of a template; at least one: the links of a chain
   Adjacent : ListShape
   OneOrMore : ListShape
-  -- a blank before each
+  -- a blank before each: JSX attributes; a dot between: the parts of a JSX member name
   Spaced : ListShape
   Dotted : ListShape
   -- where JSX text is read
   JsxChildren : ListShape
 
--- what the parts behind this stand in
+-- what the parts behind this stand in, for the static rules
 pub data Context : Type 0 where
   InFunction : Context
   InArrow : Context
@@ -40,7 +42,9 @@ pub data Context : Type 0 where
   InCode : Context
   InModuleCode : Context
 
+-- one symbol of a production's right side
 pub data Symbol : Type 0 where
+  -- a token, or what only reading, layout or depth looks at
   Fixed : Sign → Symbol
   -- one part
   Part : Nonterminal → Symbol
@@ -61,7 +65,7 @@ key s = Tok Operator IdentifierName (codes s)
 abbrev pub tag : String → Sign
 tag s = Tok Tag Punctuator (codes s)
 
--- a punctuator, a word, and a word with a blank behind it
+-- a punctuator of code, a word, and a punctuator of a tag
 abbrev pub p : String → Symbol
 p s = Fixed (pun s)
 
@@ -87,6 +91,7 @@ abbrev pub fixed : List Sign → Production
 fixed [] = []
 fixed (m ∷ ms) = Fixed m ∷ fixed ms
 
+-- a word that may end its statement at a line's end
 abbrev pub after : String → Ending → Production
 after s e = w s ∷ Fixed (Ends e) ∷ []
 
@@ -115,10 +120,11 @@ vars ConstWord = codes "const"
 abbrev pub word : Text → Symbol
 word s = Fixed (Tok Operator IdentifierName s)
 
+-- what an expression statement doesn't begin with (ECMA-262 section 14.5)
 abbrev pub heads : List Text
 heads = codes "{" ∷ codes "function" ∷ codes "class" ∷ []
 
--- the two sides of a specifier
+-- a specifier `outer as inner`, and one that is a single name
 abbrev pub outer : Side → Nonterminal
 outer Imported = Name
 outer Exported = Ident
@@ -134,6 +140,7 @@ only Imported = BindingIdent
 only Exported = Ident
 only From = Name
 
+-- scripts and modules (ECMA-262 section 16), directives (section 11.2.1)
 abbrev pub program_production : ProgramKind → Production
 program_production Module = Within InModuleCode ∷ Many TopLines DirectiveOnly ∷ Many TopLines Item ∷ []
 program_production Script = Within InCode ∷ Many TopLines DirectiveOnly ∷ Many TopLines Stmt ∷ []
@@ -155,6 +162,7 @@ program_production ExportDefaultFn = count ∷ w "export" ∷ sp ∷ w "default"
 program_production ExportDefaultClass = count ∷ w "export" ∷ sp ∷ w "default" ∷ sp ∷ Part ClassOnly ∷ []
 program_production ExportDefaultExpr = count ∷ w "export" ∷ sp ∷ w "default" ∷ sp ∷ unless (codes "function" ∷ codes "class" ∷ []) ∷ Part (Expr 1) ∷ semi ∷ []
 
+-- statements (ECMA-262 section 14), function and class declarations (sections 15.2 and 15.7). `count` stands where the construct begins to count for depth.
 abbrev pub statement_production : StatementKind → Production
 statement_production Block = count ∷ braced_lines Stmt
 statement_production (Var v) = count ∷ word (vars v) ∷ sp ∷ Many NoTrailing Declarators ∷ semi ∷ []
@@ -184,10 +192,12 @@ statement_production Catch = Optional (pun "(" ∷ []) (Pat Binds) (pun ")" ∷ 
 statement_production FunctionDecl = count ∷ w "function" ∷ sp ∷ Part BindingIdent ∷ Within InFunction ∷ parens Param ++ sp ∷ body
 statement_production ClassDecl = count ∷ w "class" ∷ sp ∷ Within InClassCode ∷ Part BindingIdent ∷ Optional (Space ∷ key "extends" ∷ Space ∷ []) (Expr 17) [] [] ∷ sp ∷ Within InMembers ∷ braced_lines ClassMember
 
+-- a member, with `static` before it or not
 abbrev pub prefixed : Holder → Production → Production
 prefixed Static r = count ∷ Fixed One ∷ w "static" ∷ sp ∷ r
 prefixed h r = count ∷ r
 
+-- functions, classes and members (ECMA-262 section 15), patterns (sections 13.15.5 and 14.3.3). No comma follows a rest: `[...a,]` is a literal alone.
 abbrev pub function_production : FunctionKind → Production
 function_production FunctionExpr = count ∷ w "function" ∷ sp ∷ Optional [] BindingIdent [] [] ∷ Within InFunction ∷ parens Param ++ sp ∷ body
 function_production ClassExpr = count ∷ w "class" ∷ Within InClassCode ∷ Optional (Space ∷ []) BindingIdent [] [] ∷ Optional (Space ∷ key "extends" ∷ Space ∷ []) (Expr 17) [] [] ∷ sp ∷ Within InMembers ∷ braced_lines ClassMember
@@ -198,7 +208,7 @@ function_production (Field h) = prefixed h (Part Key ∷ Within InField ∷ Fixe
 function_production ComputedKey = p "[" ∷ Part (Expr 1) ∷ p "]" ∷ []
 function_production (ArrayPat r) = count ∷ p "[" ∷ Many Elisions (Slot r) ∷ p "]" ∷ []
 function_production (ObjectPat r) = count ∷ braces (PatProp r)
-function_production (PropertyPat r) = count ∷ Part Key ∷ p ":" ∷ sp ∷ Part (Slot r) ∷ []
+function_production (PropertyPat r) = count ∷ Part Key ∷ p ":" ∷ sp ∷ Part (PatElement r) ∷ []
 function_production (ShorthandPat r) = count ∷ Part BindingIdent ∷ []
 function_production (ShorthandInit r) = count ∷ Fixed Begin ∷ Part BindingIdent ∷ sp ∷ count ∷ p "=" ∷ sp ∷ Part (Expr 1) ∷ Fixed End ∷ []
 function_production (WithInit r) = Part (Pat r) ∷ sp ∷ count ∷ p "=" ∷ sp ∷ Part (Expr 1) ∷ []
@@ -248,6 +258,7 @@ operator InOp = w "in"
 operator InstanceOf = w "instanceof"
 operator o = Fixed (Tok Operator Punctuator (binary o))
 
+-- `typeof a`, `!a`, `- -a`
 abbrev pub prefix : UnaryOp → Production
 prefix Positive = p "+" ∷ Fixed Apart ∷ []
 prefix Negative = p "-" ∷ Fixed Apart ∷ []
@@ -255,6 +266,7 @@ prefix Complement = p "~" ∷ []
 prefix Not = p "!" ∷ []
 prefix o = word (unary o) ∷ sp ∷ []
 
+-- expressions (ECMA-262 section 13). `unless` keeps two productions apart by the token behind: `(a)` before `=>` is no expression in parentheses.
 abbrev pub expression_production : ExpressionKind → Production
 expression_production Seq = Many TwoOrMore (Expr 1) ∷ []
 expression_production Assign = Part (Pat Assigns) ∷ sp ∷ count ∷ p "=" ∷ sp ∷ Part (Expr 1) ∷ []
@@ -294,6 +306,7 @@ expression_production (PlainTemplate b) = count ∷ Part (TemplatePart NoSubstit
 expression_production (SubstitutedTemplate b) = count ∷ Part (TemplatePart TemplateHead) ∷ Many Adjacent (TemplateSpans b) ∷ Part (Expr 0) ∷ p "}" ∷ Part (TemplatePart TemplateTail) ∷ []
 expression_production (TemplateSpan b) = Part (Expr 0) ∷ p "}" ∷ Part (TemplatePart TemplateMiddle) ∷ []
 
+-- elements (JSX specification). The `<` is read where an expression may begin, or among the children of another element; the tag behind it in the mode of tags.
 abbrev pub jsx_production : JsxKind → Production
 jsx_production Element = Fixed (Tok Operand Punctuator (codes "<")) ∷ count ∷ Part TagName ∷ Many Spaced Attributes ∷ j "/" ∷ j ">" ∷ []
 jsx_production ElementWithChildren =

@@ -1,4 +1,4 @@
--- The kinds of node, in groups.
+-- The kinds of node, in groups: one for each production of ECMA-262 sections 13 (expressions), 14 (statements), 15 (functions and classes) and 16 (scripts and modules), and of the JSX specification.
 use Rattle.std.specs.Prelude.{Bool}
 use Rattle.jsx_base.specs.Token.{Text, TokenKind}
 
@@ -7,11 +7,13 @@ pub data DeclareWord : Type 0 where
   LetWord : DeclareWord
   ConstWord : DeclareWord
 
+-- the lists of specifiers: `import { a }`, `export { a }`, `export { a } from "m"`
 pub data Side : Type 0 where
   Imported : Side
   Exported : Side
   From : Side
 
+-- scripts and modules (ECMA-262 section 16), and the body of a function
 pub data ProgramKind : Type 0 where
   Module : ProgramKind
   Script : ProgramKind
@@ -33,6 +35,7 @@ pub data ProgramKind : Type 0 where
   ExportDefaultClass : ProgramKind
   ExportDefaultExpr : ProgramKind
 
+-- statements and declarations (ECMA-262 section 14; functions and classes 15.2 and 15.7)
 pub data StatementKind : Type 0 where
   Block : StatementKind
   Var : DeclareWord → StatementKind
@@ -72,6 +75,7 @@ pub data Role : Type 0 where
   Binds : Role
   Assigns : Role
 
+-- functions, classes and their members (ECMA-262 section 15), and patterns (sections 13.15.5 and 14.3.3)
 pub data FunctionKind : Type 0 where
   FunctionExpr : FunctionKind
   ClassExpr : FunctionKind
@@ -91,6 +95,7 @@ pub data FunctionKind : Type 0 where
   -- parentheses round a target
   ParenTarget : FunctionKind
 
+-- binary operators (ECMA-262 sections 13.6 to 13.13)
 pub data BinaryOp : Type 0 where
   Nullish : BinaryOp
   Or : BinaryOp
@@ -131,7 +136,7 @@ pub data UpdateOp : Type 0 where
   Increment : UpdateOp
   Decrement : UpdateOp
 
--- the operator of an assignment without its `=`: a binary one
+-- expressions (ECMA-262 section 13). An assignment with an operator has it without its `=`: `a += b` is `OpAssign Add`.
 pub data ExpressionKind : Type 0 where
   Seq : ExpressionKind
   Assign : ExpressionKind
@@ -173,6 +178,7 @@ pub data ExpressionKind : Type 0 where
   SubstitutedTemplate : Bool → ExpressionKind
   TemplateSpan : Bool → ExpressionKind
 
+-- JSX (JSX specification, sections on elements, attributes and children)
 pub data JsxKind : Type 0 where
   Element : JsxKind
   ElementWithChildren : JsxKind
@@ -192,7 +198,9 @@ pub data Kind : Type 0 where
   jsx : JsxKind → Kind
 
 mutual
+  -- `a` is a leaf, `a + b` a node with two parts, and the arguments of `f(a, b)` are one part, a list
   pub data Tree : Type 0 where
+    -- one token whose text matters: a name, a literal, a template's piece, JSX text
     leaf : TokenKind → Text → Tree
     node : Kind → Forest → Tree
     -- the trees of one place that may hold none, or many

@@ -1,9 +1,10 @@
--- The text of a tree: its tokens with blanks, line ends and comments between them.
+-- The text of a tree: its tokens (ECMA-262 section 12) with blanks, line ends and comments between them.
 use Rattle.std.specs.Prelude.{ℕ, suc, List, [], ◌∷◌, ◌++◌, codes, Bool, true, false, cond, nat_eq, ◌||◌}
 use Rattle.jsx_tree.specs.Kinds.{Tree}
 use Rattle.jsx_base.specs.Token.{Text}
 use Rattle.jsx_tree.specs.Signs.{Sign, Tok, Semicolon, Space, Pad, Line, Indent, Outdent, Unindent, Apart, Begin, End}
 use Rattle.jsx_tree.specs.Spelling.{spelled}
+use Rattle.jsx_tree.specs.Normal.{laid_tree}
 
 -- a comment before a token: on a line of its own, or on the token's
 pub data Note : Type 0 where
@@ -74,3 +75,7 @@ no_notes i = []
 
 abbrev pub layout : Tree → Text
 layout t = laid no_notes 0 [] [] false (spelled t)
+
+-- the text that is printed: no empty statements in lists, an arrow's parameters in parentheses, `new` with its arguments
+abbrev pub printed : Tree → Text
+printed t = layout (laid_tree t)

@@ -1,10 +1,10 @@
--- What may stand at a place.
+-- What may stand at a place: the nonterminals of ECMA-262 sections 13 to 16 and of the JSX specification. Each kind of node has the list of its homes, the nonterminals that it is one of.
 use Rattle.std.specs.Prelude.{ℕ, List, [], ◌∷◌, codes, Bool, true, false, nat_eq, nat_le, cond, not, ◌&&◌, ◌||◌}
 use Rattle.jsx_base.specs.Token.{Text, TokenKind, IdentifierName, NumericLiteral, BigIntLiteral, StringLiteral, RegExpLiteral, NoSubstitution, TemplateHead, TemplateMiddle, TemplateTail, JsxName, JsxString, JsxText, Elision, same, among}
 use Rattle.jsx_tree.specs.Kinds.{VarWord, Side, Imported, Exported, From, ProgramKind, Module, Script, FunctionBody, Directive, ImportAll, ImportList, ImportBoth, Specifier, SpecifierAs, StatementKind, Block, Var, Declarator, ForDeclaration, ForBinding, Case, Default, Catch, FunctionDecl, ClassDecl, Holder, InObject, InClass, Static, Role, Binds, Assigns, FunctionKind, FunctionExpr, ClassExpr, Method, Getter, Setter, Field, ComputedKey, ArrayPat, ObjectPat, PropertyPat, ShorthandPat, ShorthandInit, WithInit, RestPat, RestProperty, ParenTarget, BinaryOp, Nullish, Or, And, BitOr, BitXor, BitAnd, Equal, Unequal, StrictEqual, StrictUnequal, Less, Greater, AtMost, AtLeast, InOp, InstanceOf, ShiftLeft, ShiftRight, ShiftOut, Add, Subtract, Multiply, Divide, Remainder, Exponentiate, UnaryOp, Delete, Void, TypeOf, Positive, Negative, Complement, Not, UpdateOp, Increment, Decrement, ExpressionKind, Seq, Assign, OpAssign, Arrow, ArrowBlock, BareArrow, BareArrowBlock, Cond, Binary, Unary, PrefixUpdate, PostfixUpdate, Call, Member, Index, Tagged, New, NewWithoutArguments, SuperCall, SuperMember, SuperIndex, ImportCall, ImportMeta, NewTarget, Chain, NameLink, IndexLink, CallLink, Array, Object, Property, Shorthand, Spread, Parenthesized, PlainTemplate, SubstitutedTemplate, TemplateSpan, JsxKind, Element, ElementWithChildren, Fragment, NamespacedName, MemberName, Attribute, Container, EmptyContainer, JsxSpread, Kind, program, statement, function, expression, jsx}
 
 pub data Nonterminal : Type 0 where
-  -- an expression of this level or more
+  -- an expression of this level or more: 0 a sequence, 1 an assignment or an arrow, 2 a conditional, 3 `??`, 4 `||` .. 14 `**`, 15 unary, 16 update, 17 calls and members, 18 primary
   Expr : ℕ → Nonterminal
   -- what a member, a call or a tagged template may be of
   MemberObject : Nonterminal
@@ -16,6 +16,8 @@ pub data Nonterminal : Type 0 where
   Pat : Role → Nonterminal
   Slot : Role → Nonterminal
   PatProp : Role → Nonterminal
+  -- the value of a pattern's property: a pattern with an initialiser or without, as a slot but never a hole or a rest
+  PatElement : Role → Nonterminal
   Param : Nonterminal
   Declarators : Nonterminal
   Key : Nonterminal
@@ -52,10 +54,10 @@ pub data Nonterminal : Type 0 where
   MemberPart : Nonterminal
   JsxWord : Nonterminal
   WholeProgram : Nonterminal
-  -- the left side of `??`, and a `??` as one
+  -- the left side of `??`, which is a `??` or has level 6, and a `??` as one: `a ?? b ?? c`, not `a || b ?? c`
   NullishLeft : Nonterminal
   NullishOnly : Nonterminal
-  -- what `new`, a `.` and a `for`-`of` stand with
+  -- what `new` stands before, what a `.` stands behind, and the head of a `for`-`of`: as an expression of level 17, a `MemberObject` and a `ForHead`, with less
   NewCallee : Nonterminal
   DotObject : Nonterminal
   ForOfHead : Nonterminal
@@ -75,7 +77,7 @@ abbrev pub truth : Bool → ℕ
 truth false = 0
 truth true = 1
 
--- a number for each class but for its level
+-- a number for each nonterminal but for its level
 abbrev pub number : Nonterminal → ℕ
 number (Expr n) = 0
 number MemberObject = 1
@@ -139,12 +141,14 @@ number NewCallee = 58
 number DotObject = 59
 number ForOfHead = 60
 number SetterParam = 61
+number (PatElement Binds) = 62
+number (PatElement Assigns) = 63
 
 abbrev pub floor : Nonterminal → ℕ
 floor (Expr n) = n
 floor _ = 0
 
--- whether a place of the first class takes a home of the second
+-- whether a place of the first takes a home of the second: `Expr 12` takes what is at home in `Expr 17`
 abbrev pub takes : Nonterminal → Nonterminal → Bool
 takes c d = nat_eq (number c) (number d) && nat_le (floor c) (floor d)
 
@@ -159,6 +163,7 @@ in_homes DotObject ds = in_list MemberObject ds
 in_homes ForOfHead ds = in_list ForHead ds
 in_homes c ds = in_list c ds
 
+-- binary operators: their levels and texts (ECMA-262 sections 13.6 to 13.13)
 abbrev pub level_of : BinaryOp → ℕ
 level_of Nullish = 3
 level_of Or = 4
@@ -244,11 +249,13 @@ update Decrement = codes "--"
 abbrev pub expr : ℕ → List Nonterminal
 expr n = Expr n ∷ Argument ∷ ArrayItem ∷ ForInit ∷ []
 
+-- what may be called or have members: not a chain, whose own links do that, and not `new F`, which would take the arguments
 abbrev pub object : List Nonterminal
 object = Expr 17 ∷ MemberObject ∷ Argument ∷ ArrayItem ∷ ForInit ∷ []
 
+-- what may be assigned to besides
 abbrev pub target : List Nonterminal
-target = SimpleTarget ∷ Pat Assigns ∷ Slot Assigns ∷ ForHead ∷ object
+target = SimpleTarget ∷ Pat Assigns ∷ PatElement Assigns ∷ Slot Assigns ∷ ForHead ∷ object
 
 abbrev pub primary : List Nonterminal
 primary = Expr 18 ∷ MemberObject ∷ Argument ∷ ArrayItem ∷ ForInit ∷ []
@@ -296,19 +303,19 @@ homes_of_function (Setter h) = holder h
 homes_of_function (Field InObject) = []
 homes_of_function (Field h) = ClassMember ∷ []
 homes_of_function ComputedKey = Key ∷ []
-homes_of_function (ArrayPat Binds) = SetterParam ∷ Pat Binds ∷ Slot Binds ∷ Param ∷ []
-homes_of_function (ObjectPat Binds) = SetterParam ∷ Pat Binds ∷ Slot Binds ∷ Param ∷ []
-homes_of_function (ArrayPat Assigns) = Pat Assigns ∷ Slot Assigns ∷ ForHead ∷ []
-homes_of_function (ObjectPat Assigns) = Pat Assigns ∷ Slot Assigns ∷ ForHead ∷ []
+homes_of_function (ArrayPat Binds) = SetterParam ∷ Pat Binds ∷ PatElement Binds ∷ Slot Binds ∷ Param ∷ []
+homes_of_function (ObjectPat Binds) = SetterParam ∷ Pat Binds ∷ PatElement Binds ∷ Slot Binds ∷ Param ∷ []
+homes_of_function (ArrayPat Assigns) = Pat Assigns ∷ PatElement Assigns ∷ Slot Assigns ∷ ForHead ∷ []
+homes_of_function (ObjectPat Assigns) = Pat Assigns ∷ PatElement Assigns ∷ Slot Assigns ∷ ForHead ∷ []
 homes_of_function (PropertyPat r) = PatProp r ∷ []
 homes_of_function (ShorthandPat r) = PatProp r ∷ []
 homes_of_function (ShorthandInit r) = PatProp r ∷ []
-homes_of_function (WithInit Binds) = SetterParam ∷ Slot Binds ∷ Param ∷ []
-homes_of_function (WithInit Assigns) = Slot Assigns ∷ []
+homes_of_function (WithInit Binds) = SetterParam ∷ PatElement Binds ∷ Slot Binds ∷ Param ∷ []
+homes_of_function (WithInit Assigns) = PatElement Assigns ∷ Slot Assigns ∷ []
 homes_of_function (RestPat Binds) = Slot Binds ∷ Param ∷ []
 homes_of_function (RestPat Assigns) = Slot Assigns ∷ []
 homes_of_function (RestProperty r) = PatProp r ∷ []
-homes_of_function ParenTarget = SimpleTarget ∷ Pat Assigns ∷ Slot Assigns ∷ ForHead ∷ []
+homes_of_function ParenTarget = SimpleTarget ∷ Pat Assigns ∷ PatElement Assigns ∷ Slot Assigns ∷ ForHead ∷ []
 
 abbrev pub homes_of_expression : ExpressionKind → List Nonterminal
 homes_of_expression Seq = Expr 0 ∷ ForInit ∷ []
@@ -370,6 +377,7 @@ homes (function k) = homes_of_function k
 homes (expression k) = homes_of_expression k
 homes (jsx k) = homes_of_jsx k
 
+-- reserved words (ECMA-262 section 12.7.2), with those of strict code and modules, for scripts too
 abbrev pub reserved : List Text
 reserved =
     codes "break" ∷ codes "case" ∷ codes "catch" ∷ codes "class" ∷ codes "const" ∷ codes "continue" ∷ codes "debugger" ∷ codes "default" ∷ codes "delete" ∷ codes "do" ∷ codes "else" ∷ codes "enum" ∷ codes "export" ∷ codes "extends" ∷ codes "false" ∷ codes "finally" ∷ codes "for" ∷ codes "function" ∷ codes "if" ∷ codes "import" ∷ codes "in" ∷ codes "instanceof" ∷ codes "new" ∷ codes "null" ∷ codes "return" ∷ codes "super" ∷ codes "switch" ∷ codes "this" ∷ codes "throw" ∷ codes "true" ∷ codes "try" ∷ codes "typeof" ∷ codes "var" ∷ codes "void" ∷ codes "while" ∷ codes "with" ∷ codes "implements" ∷ codes "interface" ∷ codes "let" ∷ codes "package" ∷ codes "private" ∷ codes "protected" ∷ codes "public" ∷ codes "static" ∷ codes "yield" ∷ codes "await" ∷ []
@@ -377,9 +385,11 @@ reserved =
 abbrev pub is_ident : Text → Bool
 is_ident t = not (among t reserved)
 
+-- `eval` and `arguments` can be referred to, never bound or assigned (ECMA-262 section 13.1.1)
 abbrev pub is_bound : Text → Bool
 is_bound t = is_ident t && not (among t (codes "eval" ∷ codes "arguments" ∷ []))
 
+-- the words that are expressions
 abbrev pub is_value_word : Text → Bool
 is_value_word t = is_ident t || among t (codes "this" ∷ codes "null" ∷ codes "true" ∷ codes "false" ∷ [])
 
@@ -402,6 +412,7 @@ word_in Ident t = is_ident t
 word_in BindingIdent t = is_bound t
 word_in SimpleTarget t = is_bound t
 word_in (Pat r) t = is_bound t
+word_in (PatElement r) t = is_bound t
 word_in (Slot r) t = is_bound t
 word_in Param t = is_bound t
 word_in SetterParam t = is_bound t
@@ -427,6 +438,7 @@ literal_homes JsxText = Child ∷ []
 literal_homes Elision = ArrayItem ∷ Slot Binds ∷ Slot Assigns ∷ []
 literal_homes _ = []
 
+-- a member name has no dashes, and its root is `this` or not reserved: `<this.a/>`, not `<a.b-c/>` and not `<if.a/>`
 abbrev pub jsx_name_in : Nonterminal → Text → Bool
 jsx_name_in MemberRoot t = not (has_dash t) && (is_ident t || same t (codes "this"))
 jsx_name_in MemberPart t = not (has_dash t)

@@ -1,4 +1,4 @@
--- The normal form of a tree, and the tree that its layout reads as.
+-- The normal form of a tree, and the tree that its layout reads as (ECMA-262 section 13.2.5 for shorthands, 16.2 for specifiers).
 use Rattle.std.specs.Prelude.{List, [], ◌∷◌, codes, Bool, true, false, cond}
 use Rattle.jsx_base.specs.Token.{IdentifierName, StringLiteral, same}
 use Rattle.jsx_tree.specs.Kinds.{Specifier, SpecifierAs, Empty, Role, ComputedKey, ObjectPat, PropertyPat, ShorthandPat, ShorthandInit, WithInit, ParenTarget, Arrow, ArrowBlock, BareArrow, BareArrowBlock, New, NewWithoutArguments, Object, Property, Shorthand, Parenthesized, Kind, program, statement, function, expression, Tree, leaf, node, list, Forest, none, part}
@@ -7,7 +7,7 @@ use Rattle.jsx_tree.specs.Form.{Form, Several, Position, position, positions}
 abbrev pub pair : Tree → Tree → Forest
 pair a b = part a (part b none)
 
--- a shorthand written out, in a literal and in a pattern
+-- a shorthand written out, in a literal and in a pattern: `{ a }` as `{ a: a }`. `{ __proto__ }` makes a property of its own, which `{ __proto__: __proto__ }` wouldn't, so the key is computed.
 abbrev pub long_prop : Tree → Tree
 long_prop (node (expression Shorthand) (part (leaf IdentifierName t) none)) =
     node (expression Property) (pair (cond (same t (codes "__proto__")) (node (function ComputedKey) (part (leaf StringLiteral (codes "\"__proto__\"")) none)) (leaf IdentifierName t)) (leaf IdentifierName t))
@@ -34,7 +34,7 @@ abbrev pub without_empty : Forest → Forest
 without_empty none = none
 without_empty (part t ts) = unless_empty (is_empty t) t (without_empty ts)
 
--- the rules that the layout keeps: an arrow's parentheses, `new` with arguments
+-- the rules that the layout keeps: `a => b` is written `(a) => b`, `new F` is written `new F()`
 abbrev pub laid_node : Kind → Forest → Tree
 laid_node (expression BareArrow) (part a b) = node (expression Arrow) (part (list (part a none)) b)
 laid_node (expression BareArrowBlock) (part a b) = node (expression ArrowBlock) (part (list (part a none)) b)

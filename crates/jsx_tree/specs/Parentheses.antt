@@ -1,9 +1,9 @@
--- Where parentheses are put.
+-- Where parentheses are put (ECMA-262 sections 13.2, parenthesized expressions, and 14.5).
 use Rattle.std.specs.Prelude.{List, [], ◌∷◌, codes, Bool, true, false, cond, not, ◌&&◌, ◌||◌}
 use Rattle.jsx_base.specs.Token.{Text, IdentifierName, NumericLiteral, StringLiteral, same, among}
 use Rattle.jsx_tree.specs.Kinds.{Module, Script, FunctionBody, ExprStmt, ForOf, ParenTarget, InOp, Binary, Parenthesized, Kind, program, statement, function, expression, Tree, leaf, node, list, Forest, none, part}
 use Rattle.jsx_tree.specs.Nonterminals.{Nonterminal, Expr, MemberObject, Argument, ArrayItem, ForInit, WholeProgram, NullishLeft, NewCallee, DotObject, in_homes, homes, leaf_in}
-use Rattle.jsx_tree.specs.Normal.{remade}
+use Rattle.jsx_tree.specs.Normal.{is_empty, laid_node, remade}
 use Rattle.jsx_tree.specs.Form.{Position, position, positions, admits}
 use Rattle.jsx_tree.specs.Spelling.{spelled}
 use Rattle.jsx_tree.specs.Layout.{first_token}
@@ -28,7 +28,7 @@ is_expression (list ts) = false
 abbrev pub parens_of : Tree → Tree
 parens_of e = node (expression Parenthesized) (part e none)
 
--- where a number would take the dot that follows
+-- where a number would take the dot that follows: `(1).a`
 abbrev pub is_dotted_number : Nonterminal → Tree → Bool
 is_dotted_number DotObject (leaf NumericLiteral t) = true
 is_dotted_number c t = false
@@ -37,15 +37,21 @@ abbrev pub is_in : Tree → Bool
 is_in (node (expression (Binary InOp)) cs) = true
 is_in t = false
 
--- whether an expression stands at a place only in parentheses
+-- an expression as it is written: `new F` is written `new F()`, so `new F().x` needs no parentheses
+abbrev pub as_laid : Tree → Tree
+as_laid (leaf s t) = leaf s t
+as_laid (node k cs) = laid_node k cs
+as_laid (list ts) = list ts
+
+-- whether an expression stands at a place only in parentheses: it isn't at home there, or it would begin with a token that may not come first
 abbrev pub wants : Nonterminal → List Text → Tree → Bool
-wants c g t = asks c && (is_expression t && (not (admits c t) || (among (first_token (spelled t)) g || is_dotted_number c t)))
+wants c g t = asks c && (is_expression t && (not (admits c (as_laid t)) || (among (first_token (spelled t)) g || is_dotted_number c t)))
 
 abbrev pub wrapped : Nonterminal → List Text → Tree → Tree
 wrapped c g t = cond (wants c g t) (parens_of t) t
 
 abbrev mutual
-  -- what the table asks by itself
+  -- what the productions ask by themselves
   pub dress : Nonterminal → List Text → Tree → Tree
   dress c g (leaf s t) = wrapped c g (leaf s t)
   dress c g (node k cs) = wrapped c g (node k (dresses (positions k) cs))
@@ -65,9 +71,10 @@ abbrev pub no_directive : Tree → Tree
 no_directive (node (statement ExprStmt) (part (leaf StringLiteral t) none)) = node (statement ExprStmt) (part (parens_of (leaf StringLiteral t)) none)
 no_directive t = t
 
+-- the first statement that is written: empty statements aren't
 abbrev pub first_no_directive : Forest → Forest
 first_no_directive none = none
-first_no_directive (part t ts) = part (no_directive t) ts
+first_no_directive (part t ts) = cond (is_empty t) (part t (first_no_directive ts)) (part (no_directive t) ts)
 
 abbrev pub behind_directives : Forest → Forest
 behind_directives (part ds (part (list ts) none)) = part ds (part (list (first_no_directive ts)) none)

@@ -1,4 +1,4 @@
--- What a list of marks reads of a text.
+-- What a list of signs reads of a text (ECMA-262 section 12.10 for semicolons that are missing).
 use Rattle.std.specs.Prelude.{List, [], ◌∷◌, codes, Bool, true, false, cond, nat_eq, ◌&&◌, ◌||◌, not}
 use Rattle.jsx_tree.specs.Kinds.{Tree}
 use Rattle.jsx_base.specs.Token.{Text, Operator, TokenKind, Punctuator, same, among}
@@ -11,7 +11,7 @@ use Rattle.jsx_base.specs.Token.{first_is, breaks, Lexeme, token, is_token, is_e
 abbrev pub is_backquote : Text → Bool
 is_backquote t = first_is (nat_eq 96) t
 
--- the tokens that go on with an expression from a new line
+-- the tokens that go on with an expression from a new line, beside a template: `a` LF `(b)` is a call. `++` and `--` don't: `a` LF `++b` is two statements
 abbrev pub going_on : List Text
 going_on =
     codes "(" ∷ codes "[" ∷ codes "." ∷ codes "?." ∷ codes "," ∷ codes "?" ∷ codes ":" ∷ codes "=>" ∷ codes "in" ∷ codes "instanceof"
@@ -36,7 +36,7 @@ abbrev pub is_do : Ending → Bool
 is_do AfterDo = true
 is_do e = false
 
--- whether a semicolon may be missing here
+-- whether a semicolon may be missing here: never before a `;`, always behind a `do` and before a `}` or the end, else where a line ends and the next token doesn't go on
 abbrev pub may_lack : Ending → Text → Text → Bool
 may_lack e q text =
     not (same (token Operator false text).raw (codes ";"))
@@ -59,7 +59,7 @@ comma_at x q e text = cond (is_token x Punctuator (codes ",")) (At (codes ",") A
 abbrev pub token_at : Lexeme → TokenKind → Text → Place
 token_at x s t = go_if (is_token x s t) (At t AfterExpr x.rest)
 
--- what a mark makes of a place; those of layout and depth leave it as it is
+-- what a sign makes of a place; those of layout and depth leave it as it is
 abbrev pub forth : Sign → Place → Place
 forth (Tok m s t) (At q e text) = token_at (token m (same q []) text) s t
 forth Semicolon (At q e text) = semi_at (token Operator false text) q e text
@@ -77,6 +77,6 @@ abbrev pub ended_at : Place → Bool
 ended_at Lost = false
 ended_at (At q e rest) = is_end rest
 
--- the tree reads the text
+-- the tree has the form of the grammar, and its signs read the whole text
 abbrev pub reads : Text → Tree → Bool
 reads text t = is WholeProgram t && ended_at (scan (At [] AfterExpr text) (spelled t))

@@ -1,4 +1,4 @@
--- A tree's marks: the walk over its template.
+-- A tree's signs: the walk over its production (ECMA-262 sections 13 to 16; JSX specification).
 use Rattle.std.specs.Prelude.{List, [], ◌∷◌, ◌++◌}
 use Rattle.jsx_base.specs.Token.{Text, Mode, Operand, Operator, Piece, Tag, Children, TokenKind, RegExpLiteral, TemplateMiddle, TemplateTail, JsxName, JsxString, JsxText, Elision}
 use Rattle.jsx_tree.specs.Signs.{Sign, Tok, TrailingComma, Unless, Space, Line, Begin, One, End}
@@ -19,7 +19,7 @@ abbrev pub leaf_signs : TokenKind → Text → List Sign
 leaf_signs Elision t = []
 leaf_signs s t = One ∷ Tok (mode_of s) s t ∷ []
 
--- the first token where JSX text may stand
+-- the first token among JSX children: no blank is skipped before it
 abbrev pub among_text : List Sign → List Sign
 among_text [] = []
 among_text (Tok m s t ∷ ms) = Tok Children s t ∷ ms
@@ -40,7 +40,7 @@ between TopLines = Line ∷ []
 between Dotted = tag "." ∷ []
 between s = []
 
--- behind the last one
+-- behind the last one: a trailing comma may be read, and one must follow a last hole
 abbrev pub behind : ListShape → List Sign → List Sign
 behind Commas x = TrailingComma ∷ []
 behind Elisions [] = pun "," ∷ []
@@ -58,11 +58,13 @@ joined [] = []
 joined (x ∷ []) = x
 joined (x ∷ y ∷ ys) = x ++ joined (y ∷ ys)
 
+-- an optional part, between the signs before and behind it; where it is absent, none of these tokens may come next
 abbrev pub maybe : List Sign → List Sign → List Text → List (List Sign) → List Sign
 maybe a b [] [] = []
 maybe a b (r ∷ rs) [] = Unless (r ∷ rs) ∷ []
 maybe a b rs (x ∷ xs) = a ++ (x ++ b)
 
+-- the symbols in order, each part's signs in its place
 abbrev pub walk : Production → List (List (List Sign)) → List Sign
 walk [] xs = End ∷ []
 walk (Fixed m ∷ ps) xs = m ∷ walk ps xs
@@ -73,7 +75,7 @@ walk (Many s c ∷ ps) (x ∷ xs) = gathered s x ++ walk ps xs
 walk (_ ∷ ps) [] = End ∷ []
 
 abbrev mutual
-  -- the marks of a tree, or of each tree of a list
+  -- the signs of a tree, or of each tree of a list
   pub said : Tree → List (List Sign)
   said (leaf s t) = leaf_signs s t ∷ []
   said (node k cs) = (Begin ∷ walk (production k) (saids cs)) ∷ []

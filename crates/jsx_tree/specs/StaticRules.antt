@@ -1,4 +1,4 @@
--- The static rules: those of one node, and those on what a node stands in.
+-- The static rules (early errors of ECMA-262 sections 13 to 16): those of one node, and those on what a node stands in.
 use Rattle.std.specs.Prelude.{ℕ, suc, List, [], ◌∷◌, ◌++◌, codes, Bool, true, false, cond, not, ◌&&◌, ◌||◌, nat_eq, nat_le}
 use Rattle.jsx_base.specs.Token.{Text, IdentifierName, StringLiteral, NoSubstitution, TemplateHead, TemplateMiddle, TemplateTail, JsxText, same, among}
 use Rattle.jsx_tree.specs.Signs.{Sign, Tok}
@@ -45,6 +45,7 @@ is_key t (leaf IdentifierName u) = same t u
 is_key t (leaf StringLiteral u) = same (34 ∷ (t ++ 34 ∷ [])) u || same (39 ∷ (t ++ 39 ∷ [])) u
 is_key t k = false
 
+-- `__proto__: v` (ECMA-262 section 13.2.5.1); a shorthand, a method and a computed key aren't it
 abbrev pub is_proto : Tree → Bool
 is_proto (node (expression Property) (part k cs)) = is_key (codes "__proto__") k
 is_proto t = false
@@ -53,10 +54,12 @@ abbrev pub is_constructor : Tree → Bool
 is_constructor (node (function (Method InClass)) (part k cs)) = is_key (codes "constructor") k
 is_constructor t = false
 
+-- names that members may not have (ECMA-262 section 15.7.1): `get constructor`, a field `constructor`, `static prototype`
 abbrev pub is_good_member : Tree → Bool
 is_good_member (node (function (Getter InClass)) (part k cs)) = not (is_key (codes "constructor") k)
 is_good_member (node (function (Setter InClass)) (part k cs)) = not (is_key (codes "constructor") k)
-is_good_member (node (function (Field h)) (part k cs)) = not (is_key (codes "constructor") k) && not (is_key (codes "prototype") k)
+is_good_member (node (function (Field InClass)) (part k cs)) = not (is_key (codes "constructor") k)
+is_good_member (node (function (Field Static)) (part k cs)) = not (is_key (codes "constructor") k) && not (is_key (codes "prototype") k)
 is_good_member (node (function (Method Static)) (part k cs)) = not (is_key (codes "prototype") k)
 is_good_member (node (function (Getter Static)) (part k cs)) = not (is_key (codes "prototype") k)
 is_good_member (node (function (Setter Static)) (part k cs)) = not (is_key (codes "prototype") k)
@@ -74,6 +77,7 @@ abbrev pub first_of_list : (Tree → Bool) → Forest → Bool
 first_of_list f none = false
 first_of_list f (part t ts) = f t
 
+-- a Use Strict Directive, by its raw text (ECMA-262 section 11.2.1)
 abbrev pub is_strict_directive : Tree → Bool
 is_strict_directive (node (program Directive) (part (leaf StringLiteral t) none)) = among t (codes "\"use strict\"" ∷ codes "'use strict'" ∷ [])
 is_strict_directive t = false
@@ -95,6 +99,7 @@ is_plain_list t = true
 abbrev pub has_plain_params : Forest → Bool
 has_plain_params cs = nat_eq (count_of is_strict_body cs) 0 || all_of is_plain_list cs
 
+-- `const a;` and `let [a];` are refused (ECMA-262 section 14.3)
 abbrev pub has_init : DeclareWord → Tree → Bool
 has_init ConstWord (node (statement Declarator) (part q (part i none))) = is_here i
 has_init v (node (statement Declarator) (part (leaf IdentifierName t) cs)) = true
@@ -119,7 +124,7 @@ is_in_op (expression (Binary InOp)) = true
 is_in_op k = false
 
 abbrev mutual
-  -- an `in` that no bracket encloses
+  -- an `in` that no bracket encloses: refused in `for (a in b;;)`, read in `for ((a in b);;)`
   pub open_in : Tree → Bool
   open_in (leaf s t) = false
   open_in (node k cs) = is_in_op k || open_ins (positions k) cs
@@ -146,7 +151,7 @@ is_if (statement If) = true
 is_if k = false
 
 abbrev mutual
-  -- an `if` without `else` at the end
+  -- an `if` without `else` at the end, which an `else` behind would belong to: `if (a) while (b) if (c) d; else e`
   pub open_if : Tree → Bool
   open_if (leaf s t) = false
   open_if (node k cs) = trails (production k) && last_open (is_if k) cs
@@ -157,10 +162,10 @@ abbrev mutual
   last_open b (part t none) = (b && not (is_here t)) || open_if t
   last_open b (part t (part u us)) = last_open b (part u us)
 
--- whether all escapes of a template's piece are those of strings
+-- whether all escapes of a template's piece are those of strings, also one that the piece's end cuts off: `\x4` (ECMA-262 section 12.9.6)
 abbrev pub escapes : State → Text → Bool
+escapes Dead t = false
 escapes s [] = true
-escapes Dead (c ∷ t) = false
 escapes (Done k) (c ∷ t) = escapes (step (InString 96) (cond (is_line_end c) 32 c)) t
 escapes s (c ∷ t) = escapes (step s (cond (is_line_end c) 32 c)) t
 
@@ -222,9 +227,11 @@ rule (program FunctionBody) (part ds (part (list ts) none)) = not (first_of_list
 rule (function (Setter h)) (part k (part q (part b none))) = not (is_strict_body b) || is_word q
 rule k cs = has_plain_params cs
 
+-- a label that encloses, and whether it stands on a loop
 pub data Jump : Type 0 where
   jump : Text → Bool → Jump
 
+-- what a node stands in: a module, strict code, something that may return, that has `new.target`, `super` members, `super()`, a class with `extends`, a loop, something to break from, labels
 pub record Surroundings : Type 0 where
   pub module' : Bool
   pub strict : Bool

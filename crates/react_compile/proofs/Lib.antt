@@ -10,3 +10,7 @@ pub mod ReadBack
 pub mod Modules
 pub mod Lowered
 pub mod Stands
+pub mod Sources
+pub mod Sinks
+pub mod Completeness
+mod Examples

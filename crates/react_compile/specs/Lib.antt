@@ -3,3 +3,6 @@ pub mod Element
 pub mod StandsFor
 pub mod Compiles
 pub mod Printed
+pub mod Run
+pub mod Status
+pub mod Input

@@ -1,7 +1,10 @@
 //! From the bytes of a source to the bytes of its code.
 #![tactic(auto)]
 
+mod compiler;
+mod input;
 mod print;
+mod program;
 
-/// Nothing yet.
-pub fn nothing() {}
+pub use compiler::{CompileError, Output, compile};
+pub use program::{Status, run};

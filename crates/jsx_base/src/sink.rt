@@ -1,0 +1,121 @@
+//! Bytes that go out.
+
+ghost use Rattle.std.specs.Prelude.{◌≡◌, ◌+◌, ◌≤◌, List, ℕ, Option, length, OnOk, OnErr};
+ghost use Rattle.jsx_base.specs.Faults.{Rose};
+ghost use Rattle.jsx_base.specs.Sink.{Gains, GainsPrefix};
+
+mod mem_sink;
+mod std_sink;
+
+use crate::Failed;
+pub use mem_sink::MemSink;
+use std::alloc::AllocError;
+pub use std_sink::StdSink;
+
+/// Where bytes go.
+pub trait Sink {
+    /// The bytes that the sink holds, where it tells them.
+    ghost holds: { Self → Option (List ℕ) };
+
+    /// How often a write has failed.
+    ghost faults: { Self → ℕ };
+
+    /// How many bytes may be written before the next `reserve`.
+    ghost room: { Self → ℕ };
+
+    /// Makes room for `n` bytes, if there isn't as much already. Nothing else changes.
+    ///
+    /// # Errors
+    ///
+    /// `AllocError` for want of memory. Then nothing has changed.
+    fn reserve(&mut self, n: usize) -> Result<(), AllocError>
+        ensures enough { OnOk result (n ≤ room self.new) }
+        ensures never_less { room self.old ≤ room self.new }
+        ensures no_room_gained { OnErr result (room self.new ≡ room self.old) }
+        ensures same_bytes { holds self.new ≡ holds self.old }
+        ensures no_fault { faults self.new ≡ faults self.old };
+
+    /// Writes all of these bytes, of which there are at most `room`. It takes no memory.
+    ///
+    /// # Errors
+    ///
+    /// `Failed` where the outside failed. Then some prefix of the bytes was written.
+    fn write(&mut self, bytes: &[u8]) -> Result<(), Failed>
+        requires { length bytes.now ≤ room self.old }
+        ensures all { OnOk result (Gains (holds self.old) (holds self.new) bytes.now) }
+        ensures prefix { OnErr result (GainsPrefix (holds self.old) (holds self.new) bytes.now) }
+        ensures cause { OnErr result (Rose (faults self.old) (faults self.new)) }
+        ensures never_falls { faults self.old ≤ faults self.new }
+        ensures room { room self.old ≤ room self.new + length bytes.now };
+}
+
+#[cfg(test)]
+mod tests {
+    use super::*;
+    use std::io;
+    use std::io::Write;
+    use std::test::Fail;
+
+    /// Takes two bytes in each call, and none when it is full.
+    #[derive(Drop)]
+    struct Narrow {
+        taken: Vec<u8>,
+        most: usize,
+    }
+
+    impl Write for Narrow {
+        fn write(&mut self, buf: &[u8]) -> io::Result<usize> {
+            if self.taken.len() >= self.most {
+                return Ok(0);
+            }
+            let n = buf.len().min(2);
+            self.taken.extend_from_slice(&buf[..n])?;
+            Ok(n)
+        }
+
+        fn flush(&mut self) -> io::Result<()> {
+            Ok(())
+        }
+    }
+
+    #[test]
+    fn listed_writes_fail_and_add_nothing(rt: HostRuntime) -> Result<(), Fail> {
+        let mut sink = MemSink::new(rt.alloc(), &[1])?;
+        let steps = [
+            (b"ab", Ok(()), 2),
+            (b"cd", Err(Failed), 2),
+            (b"ef", Ok(()), 4),
+        ];
+        for (bytes, want, held) in steps {
+            sink.reserve(2)?;
+            assert_eq!(rt; sink.write(bytes), want);
+            assert_eq!(rt; sink.bytes().len(), held);
+        }
+        assert_eq!(rt; sink.bytes(), b"abef".as_slice());
+        Ok(())
+    }
+
+    #[test]
+    fn std_writers_take_all(rt: HostRuntime) -> Result<(), Fail> {
+        let mut taken = Vec::new(rt.alloc());
+        let mut sink = StdSink::new(&mut taken);
+        sink.reserve(6)?;
+        assert_eq!(rt; sink.write(b"abc"), Ok(()));
+        assert_eq!(rt; sink.write(b""), Ok(()));
+        assert_eq!(rt; sink.write(b"def"), Ok(()));
+        assert_eq!(rt; taken.as_slice(), b"abcdef".as_slice());
+        Ok(())
+    }
+
+    #[test]
+    fn a_std_write_that_takes_nothing_is_a_fault(rt: HostRuntime) -> Result<(), Fail> {
+        let mut writer = Narrow {
+            taken: Vec::new(rt.alloc()),
+            most: 4,
+        };
+        assert_eq!(rt; StdSink::new(&mut writer).write(b"abc"), Ok(()));
+        assert_eq!(rt; StdSink::new(&mut writer).write(b"defg"), Err(Failed));
+        assert_eq!(rt; writer.taken.as_slice(), b"abcde".as_slice());
+        Ok(())
+    }
+}

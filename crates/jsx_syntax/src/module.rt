@@ -1,0 +1,60 @@
+//! A whole text.
+
+ghost use Rattle.std.specs.Prelude.{◌≡◌, ◌<◌, ◌≤◌, IfOk, IfErr, length, map, ℕ};
+ghost use Rattle.std.specs.Str.{chars};
+ghost use Rattle.jsx_tree.specs.Kinds.{Tree};
+ghost use Rattle.jsx_tree.specs.Stage.{ReadsSoFar};
+ghost use Rattle.jsx_tree.specs.View.{view, view_item};
+ghost use Rattle.jsx_base.specs.Token.{Text};
+ghost use Rattle.jsx_syntax.specs.Here.{place_of};
+ghost use Rattle.jsx_syntax.specs.Answers.{Refused, ToEnd, NoRun, NoTree, IsWithin};
+
+use crate::error::ParseError;
+use crate::lexer::Lexer;
+use crate::parser::declaration;
+use jsx_base::{BytePos, Span};
+use jsx_tree::{Item, Module, Program};
+use std::alloc::Global;
+
+/// The statements up to the end of the text.
+fn items<'s>(alloc: Global, lexer: &mut Lexer<'s>) -> Result<Vec<Item<'s>>, ParseError>
+    ensures read { IfOk result (λ v. ToEnd (map view_item v.items) (place_of lexer.old)) }
+    ensures refused { Refused result (NoRun (place_of lexer.old)) }
+{
+    let mut items = Vec::new(alloc);
+    'statements: while !lexer.is_at_end() {
+        let statement = declaration(alloc, lexer)?;
+        items.push(Item::Stmt(Box::new(alloc, statement)?))?;
+    }
+    Ok(items)
+}
+
+/// The module that a text is.
+pub fn parse<'s>(alloc: Global, text: &'s str) -> Result<Program<'s>, ParseError>
+    requires { length text.now < 4294901760 }
+    // What was read is what the text says.
+    ensures read { IfOk result (λ program. ReadsSoFar (chars text.now) (view program)) }
+    // A syntax error comes only where no tree reads the text.
+    ensures refused { Refused result (NoTree (chars text.now)) }
+    ensures place { IfErr result (IsWithin (length text.now)) }
+{
+    let end = BytePos(text.len() as u32);
+    let mut lexer = Lexer::new(text);
+    match items(alloc, &mut lexer) {
+        Ok(body) => Ok(Program::Module(Module {
+            span: Span {
+                lo: BytePos(0),
+                hi: end,
+            },
+            directives: Vec::new(alloc),
+            body,
+        })),
+        Err(ParseError::Syntax(at)) => Err(ParseError::Syntax(at.min(end))),
+        Err(ParseError::Memory) => Err(ParseError::Memory),
+    }
+}
+
+/// A text has one tree at most.
+pub fn one_tree()
+    ensures { (text : Text) (t u : Tree) → ReadsSoFar text t → ReadsSoFar text u → t ≡ u }
+{}

@@ -1,0 +1,91 @@
+-- What a run leaves: what it took of its source, and what its sinks gained.
+use Rattle.std.specs.Prelude.{◌≡◌, ◌⊎◌, ℕ, ◌<◌, ◌≤◌, List, [], codes, Option, Some, IfSome, length}
+use Rattle.jsx_base.specs.Faults.{Rose}
+use Rattle.jsx_base.specs.Source.{Gives}
+use Rattle.jsx_base.specs.Sink.{Gains, GainsPrefix}
+use Rattle.jsx_tree.specs.Kinds.{Tree}
+use Rattle.react_compile.specs.Compiles.{IsSource, Compiles}
+
+-- the greatest number of bytes that a source may have
+abbrev pub max_source : ℕ
+max_source = 16777216
+
+-- the lines that a run writes to its second sink
+abbrev pub bad_words : List ℕ
+bad_words = codes "error: bad words\n"
+
+abbrev pub read_fault : List ℕ
+read_fault = codes "error: read fault\n"
+
+abbrev pub out_of_memory : List ℕ
+out_of_memory = codes "error: out of memory\n"
+
+abbrev pub syntax_error : List ℕ
+syntax_error = codes "input.js: syntax error\n"
+
+abbrev pub input_too_big : List ℕ
+input_too_big = codes "input.js: input too big\n"
+
+-- nothing is left of what a source tells
+abbrev pub IsAtEnd : Option (List ℕ) → Type 0
+IsAtEnd left = IfSome left (λ bytes. bytes ≡ [])
+
+-- the source was taken to its end
+pub record TakesAll (left rest : Option (List ℕ)) (bytes : List ℕ) : Type 0 where
+  pub gives : Gives left rest bytes
+  pub to_end : IsAtEnd rest
+
+-- the sink gained the code of these bytes and nothing else
+pub record GainsCode (source : List ℕ) (held holds : Option (List ℕ)) : Type 0 where
+  pub code : List ℕ
+  pub compiles : Compiles source code
+  pub gains : Gains held holds code
+
+-- the same of a prefix of the code
+pub record GainsCodePrefix (source : List ℕ) (held holds : Option (List ℕ)) : Type 0 where
+  pub code : List ℕ
+  pub compiles : Compiles source code
+  pub gains : GainsPrefix held holds code
+
+-- the whole source was taken, and the sink gained its code and nothing else
+pub record WritesCode (left rest held holds : Option (List ℕ)) : Type 0 where
+  pub source : List ℕ
+  pub taken : TakesAll left rest source
+  pub code : GainsCode source held holds
+
+-- the same of a prefix of the code
+pub record WritesPrefix (left rest held holds : Option (List ℕ)) : Type 0 where
+  pub source : List ℕ
+  pub taken : TakesAll left rest source
+  pub code : GainsCodePrefix source held holds
+
+-- the whole source was taken and no tree reads it, which the second sink is told
+pub record TellsSyntaxError (left rest held holds : Option (List ℕ)) : Type 0 where
+  pub source : List ℕ
+  pub taken : TakesAll left rest source
+  pub no_tree : (tree : Tree) → IsSource source tree → ⊥
+  pub says : Gains held holds syntax_error
+
+-- more bytes than a source may have were taken, which the second sink is told
+pub record TellsTooBig (left rest held holds : Option (List ℕ)) : Type 0 where
+  pub bytes : List ℕ
+  pub gives : Gives left rest bytes
+  pub too_many : max_source < length bytes
+  pub says : Gains held holds input_too_big
+
+-- a prefix of one of the lines, or nothing
+pub record TellsPrefix (held holds : Option (List ℕ)) : Type 0 where
+  pub line : List ℕ
+  pub is_line : (line ≡ bad_words) ⊎ ((line ≡ read_fault) ⊎ ((line ≡ out_of_memory) ⊎ ((line ≡ syntax_error) ⊎ (line ≡ input_too_big))))
+  pub gains : GainsPrefix held holds line
+
+-- what a run without words is given so that it has to give code: a source that tells its bytes, few enough, which read, and no fault in this call
+pub record IsValid (left : Option (List ℕ)) (reads_old reads_new out_old out_new err_old err_new : ℕ) : Type 0 where
+  pub bytes : List ℕ
+  pub told : left ≡ Some bytes
+  pub few : length bytes ≤ max_source
+  pub tree : Tree
+  pub is_source : IsSource bytes tree
+  pub read : Rose reads_old reads_new → ⊥
+  pub out : Rose out_old out_new → ⊥
+  pub err : Rose err_old err_new → ⊥

@@ -1,0 +1,192 @@
+//! The program: its words, a source and two sinks.
+
+ghost use Rattle.std.specs.Prelude.{◌≡◌, ◌⊎◌, ◌≢◌, ◌≤◌, ℕ, List, [], Option, Some, length};
+ghost use Rattle.jsx_base.specs.Faults.{Rose};
+ghost use Rattle.jsx_base.specs.Sink.{Gains, GainsPrefix};
+ghost use Rattle.jsx_tree.specs.Kinds.{Tree};
+ghost use Rattle.react_compile.specs.Status.{code_of, IsTold};
+ghost use Rattle.react_compile.specs.Compiles.{IsSource};
+ghost use Rattle.react_compile.specs.Run.{WritesCode, WritesPrefix, TellsSyntaxError, TellsTooBig, TellsPrefix, GainsCode, GainsCodePrefix, IsValid, bad_words, read_fault, out_of_memory, syntax_error, max_source};
+
+use crate::compiler::{CompileError, compile};
+use crate::input::{InputError, read_all};
+#[cfg(test)]
+use crate::input::MAX_SOURCE;
+use jsx_base::{Sink, Source};
+use std::alloc::Global;
+
+/// How a run ended.
+#[derive(Clone, Copy, Debug, PartialEq, Eq)]
+pub enum Status {
+    Done,
+    /// The source isn't compiled.
+    Fault,
+    /// The words are wrong.
+    Usage,
+    /// A read failed.
+    Read,
+    /// A write failed.
+    Write,
+    Memory,
+}
+
+impl Status {
+    /// The exit status.
+    pub fn code(self) -> u8
+        ensures { result ≡ code_of self }
+    {
+        match self {
+            Status::Done => 0,
+            Status::Fault => 1,
+            Status::Usage => 2,
+            Status::Read => 3,
+            Status::Write => 4,
+            Status::Memory => 5,
+        }
+    }
+}
+
+const BAD_WORDS: &str = "error: bad words\n";
+
+const READ_FAULT: &str = "error: read fault\n";
+
+const OUT_OF_MEMORY: &str = "error: out of memory\n";
+
+const SYNTAX_ERROR: &str = "input.js: syntax error\n";
+
+const TOO_BIG: &str = "input.js: input too big\n";
+
+/// Says that memory is wanting, within the room that there is.
+fn short_of_memory<E: Sink>(err: &mut E) -> Status
+    requires { 64 ≤ E.room err.old }
+    ensures ends { (result ≡ Status.Memory) ⊎ (result ≡ Status.Write) }
+    ensures said { result ≡ Status.Memory → Gains (E.holds err.old) (E.holds err.new) out_of_memory }
+    ensures prefix { result ≡ Status.Write → GainsPrefix (E.holds err.old) (E.holds err.new) out_of_memory }
+    ensures write { result ≡ Status.Write → Rose (E.faults err.old) (E.faults err.new) }
+{
+    match err.write(OUT_OF_MEMORY.as_bytes()) {
+        Ok(()) => Status::Memory,
+        Err(_) => Status::Write,
+    }
+}
+
+/// Says a line, and answers the status that goes with it where the line could be said.
+fn tell<E: Sink>(err: &mut E, line: &str, status: Status) -> Status
+    requires room { 64 ≤ E.room err.old }
+    requires told { IsTold status }
+    ensures ends { (result ≡ status) ⊎ ((result ≡ Status.Memory) ⊎ (result ≡ Status.Write)) }
+    ensures said { result ≡ status → Gains (E.holds err.old) (E.holds err.new) line.now }
+    ensures memory { result ≡ Status.Memory → Gains (E.holds err.old) (E.holds err.new) out_of_memory }
+    ensures prefix { result ≡ Status.Write → GainsPrefix (E.holds err.old) (E.holds err.new) line.now ⊎ GainsPrefix (E.holds err.old) (E.holds err.new) out_of_memory }
+    ensures write { result ≡ Status.Write → Rose (E.faults err.old) (E.faults err.new) }
+{
+    if err.reserve(line.len()).is_err() {
+        return short_of_memory(err);
+    }
+    match err.write(line.as_bytes()) {
+        Ok(()) => status,
+        Err(_) => Status::Write,
+    }
+}
+
+/// Writes the code. An empty one isn't written.
+#[tactic(auto, using(crate::proofs::Sinks::telling))]
+fn emit<O: Sink, E: Sink>(code: &[u8], out: &mut O, err: &mut E) -> Status
+    requires { 64 ≤ E.room err.old }
+    ensures ends { (result ≡ Status.Done) ⊎ ((result ≡ Status.Memory) ⊎ (result ≡ Status.Write)) }
+    ensures done { result ≡ Status.Done → Gains (O.holds out.old) (O.holds out.new) code.now }
+    ensures done_says { result ≡ Status.Done → E.holds err.new ≡ E.holds err.old }
+    ensures memory { result ≡ Status.Memory → O.holds out.new ≡ O.holds out.old }
+    ensures memory_says { result ≡ Status.Memory → Gains (E.holds err.old) (E.holds err.new) out_of_memory }
+    ensures write { result ≡ Status.Write → Rose (O.faults out.old) (O.faults out.new) ⊎ Rose (E.faults err.old) (E.faults err.new) }
+    ensures prefix { result ≡ Status.Write → GainsPrefix (O.holds out.old) (O.holds out.new) code.now }
+    ensures prefix_says { result ≡ Status.Write → TellsPrefix (E.holds err.old) (E.holds err.new) }
+{
+    if code.is_empty() {
+        return Status::Done;
+    }
+    if out.reserve(code.len()).is_err() {
+        return short_of_memory(err);
+    }
+    match out.write(code) {
+        Ok(()) => Status::Done,
+        Err(_) => Status::Write,
+    }
+}
+
+/// Compiles a source, and writes its code or says why there is none.
+#[tactic(auto, using(crate::proofs::Sinks::telling))]
+fn compile_to<O: Sink, E: Sink>(alloc: Global, source: &[u8], out: &mut O, err: &mut E) -> Status
+    requires short { length source.now ≤ max_source }
+    requires room { 64 ≤ E.room err.old }
+
+    ensures ends { (result ≡ Status.Done) ⊎ ((result ≡ Status.Fault) ⊎ ((result ≡ Status.Memory) ⊎ (result ≡ Status.Write))) }
+
+    ensures done { result ≡ Status.Done → GainsCode source.now (O.holds out.old) (O.holds out.new) }
+    ensures done_says { result ≡ Status.Done → E.holds err.new ≡ E.holds err.old }
+
+    ensures fault { result ≡ Status.Fault → (tree : Tree) → IsSource source.now tree → ⊥ }
+    ensures fault_out { result ≡ Status.Fault → O.holds out.new ≡ O.holds out.old }
+    ensures fault_says { result ≡ Status.Fault → Gains (E.holds err.old) (E.holds err.new) syntax_error }
+
+    ensures memory { result ≡ Status.Memory → O.holds out.new ≡ O.holds out.old }
+    ensures memory_says { result ≡ Status.Memory → Gains (E.holds err.old) (E.holds err.new) out_of_memory }
+
+    ensures write { result ≡ Status.Write → Rose (O.faults out.old) (O.faults out.new) ⊎ Rose (E.faults err.old) (E.faults err.new) }
+    ensures prefix { result ≡ Status.Write → (O.holds out.new ≡ O.holds out.old) ⊎ GainsCodePrefix source.now (O.holds out.old) (O.holds out.new) }
+    ensures prefix_says { result ≡ Status.Write → TellsPrefix (E.holds err.old) (E.holds err.new) }
+{
+    match compile(alloc, source) {
+        Ok(output) => emit(output.code.as_bytes(), out, err),
+        Err(CompileError::Syntax(_)) => tell(err, SYNTAX_ERROR, Status::Fault),
+        Err(CompileError::Memory) => short_of_memory(err),
+    }
+}
+
+/// Runs the compiler: reads a source to its end, and writes its code to `out` or says on `err` why there is none.
+///
+/// No words are taken so far. The code goes out in one write, for which room is reserved before; an empty code isn't
+/// written. A line on `err` ends with LF. A source has at most 16,777,216 bytes.
+#[tactic(auto, using(crate::proofs::Sinks::telling))]
+pub fn run<S: Source, O: Sink, E: Sink>(
+    alloc: Global,
+    words: &[String],
+    input: &mut S,
+    out: &mut O,
+    err: &mut E,
+) -> Status
+    requires { 64 ≤ E.room err.old }
+
+    // Code is written only for a source that reads, and stands for it.
+    ensures done { result ≡ Status.Done → WritesCode (S.left input.old) (S.left input.new) (O.holds out.old) (O.holds out.new) }
+    ensures done_says { result ≡ Status.Done → E.holds err.new ≡ E.holds err.old }
+    ensures prefix { result ≡ Status.Write → (O.holds out.new ≡ O.holds out.old) ⊎ WritesPrefix (S.left input.old) (S.left input.new) (O.holds out.old) (O.holds out.new) }
+    ensures nothing { result ≢ Status.Done → result ≢ Status.Write → O.holds out.new ≡ O.holds out.old }
+
+    // Each other status has its cause, and its line.
+    ensures fault { result ≡ Status.Fault → TellsSyntaxError (S.left input.old) (S.left input.new) (E.holds err.old) (E.holds err.new) ⊎ TellsTooBig (S.left input.old) (S.left input.new) (E.holds err.old) (E.holds err.new) }
+    ensures usage { result ≡ Status.Usage → words.now ≢ [] }
+    ensures usage_says { result ≡ Status.Usage → Gains (E.holds err.old) (E.holds err.new) bad_words }
+    ensures words { words.now ≢ [] → (result ≡ Status.Usage) ⊎ ((result ≡ Status.Memory) ⊎ (result ≡ Status.Write)) }
+    ensures read { result ≡ Status.Read → Rose (S.faults input.old) (S.faults input.new) }
+    ensures read_says { result ≡ Status.Read → Gains (E.holds err.old) (E.holds err.new) read_fault }
+    ensures write { result ≡ Status.Write → Rose (O.faults out.old) (O.faults out.new) ⊎ Rose (E.faults err.old) (E.faults err.new) }
+    ensures write_says { result ≡ Status.Write → TellsPrefix (E.holds err.old) (E.holds err.new) }
+    ensures memory_says { result ≡ Status.Memory → Gains (E.holds err.old) (E.holds err.new) out_of_memory }
+
+    // Valid input gives code, or want of memory.
+    ensures complete { words.now ≡ [] → IsValid (S.left input.old) (S.faults input.old) (S.faults input.new) (O.faults out.old) (O.faults out.new) (E.faults err.old) (E.faults err.new) → (result ≡ Status.Done) ⊎ (result ≡ Status.Memory) }
+{
+    if !words.is_empty() {
+        return tell(err, BAD_WORDS, Status::Usage);
+    }
+    match read_all(alloc, input) {
+        Ok(source) => compile_to(alloc, &source, out, err),
+        Err(InputError::TooBig) => tell(err, TOO_BIG, Status::Fault),
+        Err(InputError::Failed) => tell(err, READ_FAULT, Status::Read),
+        Err(InputError::Memory) => short_of_memory(err),
+    }
+}
+
+#[cfg(test)]
+mod tests;

@@ -1,0 +1,149 @@
+//! Whole runs, with their exact bytes.
+
+use super::*;
+use jsx_base::{MemSink, MemSource};
+use std::process::Abort;
+use std::test::Fail;
+
+/// What a run is given: a word or none, a source, and the numbers of the reads and writes that fail.
+struct Given<'a> {
+    word: Option<&'a str>,
+    source: &'a [u8],
+    bad_reads: &'a [u32],
+    bad_writes: &'a [u32],
+    bad_lines: &'a [u32],
+}
+
+fn plain(source: &[u8]) -> Given<'_> {
+    Given {
+        word: None,
+        source,
+        bad_reads: &[],
+        bad_writes: &[],
+        bad_lines: &[],
+    }
+}
+
+fn assert_runs(rt: &(impl Abort + AllocGlobal), given: &Given<'_>, want: (Status, &str, &str)) -> Result<(), Fail> {
+    let alloc = rt.alloc();
+    let mut words = Vec::new(alloc);
+    if let Some(word) = given.word {
+        words.push(String::from_str(alloc, word)?)?;
+    }
+    let mut input = MemSource::new(alloc, given.source, given.bad_reads)?;
+    let mut out = MemSink::new(alloc, given.bad_writes)?;
+    let mut err = MemSink::new(alloc, given.bad_lines)?;
+    err.reserve(64)?;
+    let status = run(alloc, &words, &mut input, &mut out, &mut err);
+    assert_eq!(rt; status, want.0);
+    assert_eq!(rt; out.bytes(), want.1.as_bytes());
+    assert_eq!(rt; err.bytes(), want.2.as_bytes());
+    Ok(())
+}
+
+#[test]
+fn code_of_sources(rt: HostRuntime) -> Result<(), Fail> {
+    let rows = [
+        ("", ""),
+        (" \t\r\n// only a comment\u{2028}/* and\nanother */", ""),
+        (
+            "const x = <div />;\n",
+            "const x = /*#__PURE__*/ React.createElement(\"div\", null);\n",
+        ),
+        (
+            "const/* a */Foo=<Foo/>;const b\n=\n<b\n/\n>\n;",
+            "const Foo = /*#__PURE__*/ React.createElement(Foo, null);\nconst b = /*#__PURE__*/ React.createElement(\"b\", null);\n",
+        ),
+        (
+            "const \u{e9}$_1 = <a1_$\u{e9}/>;",
+            "const \u{e9}$_1 = /*#__PURE__*/ React.createElement(\"a1_$\u{e9}\", null);\n",
+        ),
+    ];
+    for (source, code) in rows {
+        assert_runs(&rt, &plain(source.as_bytes()), (Status::Done, code, ""))?;
+    }
+    Ok(())
+}
+
+#[test]
+fn sources_that_do_not_read(rt: HostRuntime) -> Result<(), Fail> {
+    let rows: [&[u8]; 22] = [
+        b"c",
+        b"const",
+        b"const x",
+        b"const x =",
+        b"const x = <",
+        b"const x = <a",
+        b"const x = <a/",
+        b"const x = <a/>",
+        b"const x = <a/>\nconst y = <b/>;",
+        b"const x == <a/>;",
+        b"const const = <a/>;",
+        b"const eval = <a/>;",
+        b"const x = <this/>;",
+        b"const x = <a-b/>;",
+        b"const x = <$/>;",
+        b"const x = <a/>; /* open",
+        b"const x = <a/>; \"",
+        b"const x = <a/>; \0",
+        b"constx = <a/>;",
+        b"\xff",
+        b"const x = <\xc3/>;",
+        b"const x = <a/>;\xe2\x82",
+    ];
+    for source in rows {
+        assert_runs(&rt, &plain(source), (Status::Fault, "", SYNTAX_ERROR))?;
+    }
+    Ok(())
+}
+
+#[test]
+fn faults_from_outside(rt: HostRuntime) -> Result<(), Fail> {
+    let source = b"const x = <a/>;";
+    let code = "const x = /*#__PURE__*/ React.createElement(\"a\", null);\n";
+    let word = Given {
+        word: Some("--map"),
+        ..plain(source)
+    };
+    assert_runs(&rt, &word, (Status::Usage, "", BAD_WORDS))?;
+    let first_read = Given {
+        bad_reads: &[0],
+        ..plain(source)
+    };
+    assert_runs(&rt, &first_read, (Status::Read, "", READ_FAULT))?;
+    let second_read = Given {
+        bad_reads: &[1],
+        ..plain(source)
+    };
+    assert_runs(&rt, &second_read, (Status::Read, "", READ_FAULT))?;
+    let code_write = Given {
+        bad_writes: &[0],
+        ..plain(source)
+    };
+    assert_runs(&rt, &code_write, (Status::Write, "", ""))?;
+    let later_write = Given {
+        bad_writes: &[1],
+        bad_lines: &[0],
+        ..plain(source)
+    };
+    assert_runs(&rt, &later_write, (Status::Done, code, ""))?;
+    let line_write = Given {
+        bad_lines: &[0],
+        ..plain(b"c")
+    };
+    assert_runs(&rt, &line_write, (Status::Write, "", ""))?;
+    // Nothing is written of an empty code, so no write can fail.
+    let no_write = Given {
+        bad_writes: &[0],
+        ..plain(b"")
+    };
+    assert_runs(&rt, &no_write, (Status::Done, "", ""))
+}
+
+#[test]
+fn a_source_as_great_as_may_be(rt: HostRuntime) -> Result<(), Fail> {
+    let mut blanks = vec![in rt.alloc(); b' '; MAX_SOURCE]?;
+    assert_runs(&rt, &plain(&blanks), (Status::Done, "", ""))?;
+    blanks.push(b' ')?;
+    assert_runs(&rt, &plain(&blanks), (Status::Fault, "", TOO_BIG))
+}
