@@ -3,6 +3,7 @@ pub mod Characters
 pub mod Printing
 pub mod Becomes
 pub mod Words
+pub mod Literals
 pub mod Tags
 pub mod Quoted
 pub mod Shapes

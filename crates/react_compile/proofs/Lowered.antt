@@ -9,7 +9,7 @@ use Rattle.react_compile.specs.Made.{quoted}
 use Rattle.react_compile.specs.StandsFor.{has_jsx, have_jsx}
 use Rattle.react_compile.specs.Printed.{is_string_tag, tag_type, name, lowered, each_lowered}
 use Rattle.react_compile.proofs.Tests.{here, there, same_self, cond_true, cond_false}
-use Rattle.react_compile.proofs.Words.{Word, word_token}
+use Rattle.react_compile.proofs.Words.{at_once, Word, word_token}
 use Rattle.react_compile.proofs.Tags.{TagName, word_of_tag, reference}
 use Rattle.react_compile.proofs.Quoted.{AllPlain, plain_tag, quoted_plain, string_token}
 use Rattle.react_compile.proofs.Shapes.{IsExpr, element as an_element, IsDeclarator, initialized, IsItem, constant, AreItems, no_items, next_item, IsModule, of_items}
@@ -21,10 +21,10 @@ is_again : (k : TokenKind) (x : Text) (l : Lexeme) → l ≡ record { kind = k; 
 is_again k x l h s = subst (λ m. (is_token m k x && same m.rest []) ≡ true) (sym h) (rw (s, same_self x) refl)
 
 pub leaf_of_word : (x : Text) → Word x → is_leaf IdentifierName x ≡ true
-leaf_of_word x w = is_again IdentifierName x _ (ap (token Operator false) (sym (append-nil x)) ∙ word_token false x [] w refl) refl
+leaf_of_word x w = is_again IdentifierName x _ (ap (token Operator false) (sym (append-nil x)) ∙ word_token false at_once x [] w refl) refl
 
 pub leaf_of_string : (t : Text) → AllPlain t → is_leaf StringLiteral (34 ∷ (t ++ 34 ∷ [])) ≡ true
-leaf_of_string t p = is_again StringLiteral (34 ∷ (t ++ 34 ∷ [])) _ (ap (λ x. token Operator false (34 ∷ x)) (sym (append-nil (t ++ 34 ∷ []))) ∙ string_token false t [] p) refl
+leaf_of_string t p = is_again StringLiteral (34 ∷ (t ++ 34 ∷ [])) _ (ap (λ x. token Operator false (34 ∷ x)) (sym (append-nil (t ++ 34 ∷ []))) ∙ string_token false at_once t [] p) refl
 
 -- ---- a tag's type
 

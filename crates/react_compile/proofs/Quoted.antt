@@ -6,7 +6,7 @@ use Rattle.jsx_base.specs.Token.{Text, Operator, TokenKind, StringLiteral, is_st
 use Rattle.jsx_base.proofs.Automata.{runs, stops, Read, read_on}
 use Rattle.react_compile.specs.Made.{escaped, escaped_all, quoted}
 use Rattle.react_compile.proofs.Tests.{here, there, number_is, number_self, unlike'}
-use Rattle.react_compile.proofs.Words.{token_here}
+use Rattle.react_compile.proofs.Words.{Lead, lead, token_here}
 use Rattle.react_compile.proofs.Tags.{TagName}
 
 -- a character of a tag's name
@@ -109,12 +109,12 @@ stops_done : (k : TokenKind) (rest : Text) → stops (Done k) rest ≡ true
 stops_done k [] = refl
 stops_done k (c ∷ rest) = refl
 
-pub string_token : (first : Bool) (t rest : Text) → AllPlain t → token Operator first (34 ∷ ((t ++ 34 ∷ []) ++ rest)) ≡ record { kind = StringLiteral; raw = 34 ∷ (t ++ 34 ∷ []); rest = rest }
-string_token first t rest p =
+pub string_token : (first : Bool) (l : Lead) (t rest : Text) → AllPlain t → token Operator first (lead l (34 ∷ ((t ++ 34 ∷ []) ++ rest))) ≡ record { kind = StringLiteral; raw = 34 ∷ (t ++ 34 ∷ []); rest = rest }
+string_token first l t rest p =
     let body = t ++ 34 ∷ [] in
     let e : last_state (InString 34) body ≡ Done StringLiteral = last_plain t p in
     let r : Read (InString 34) body rest = read_on (InString 34) body rest (runs_plain t p) (subst (λ s. stops s rest ≡ true) (sym e) (stops_done StringLiteral rest)) in
-    token_here first 34 (body ++ rest) (record { unskipped = refl; no_slash = refl; no_less = refl; no_minus = refl })
+    token_here first l 34 (body ++ rest) (record { unskipped = refl; no_slash = refl; no_less = refl; no_minus = refl })
     ∙ ap (λ x. ended (accepts x) (34 ∷ taken (InString 34) (body ++ rest)) (left (InString 34) (body ++ rest))) (r.state_is ∙ e)
     ∙ ap (λ x. ended StringLiteral (34 ∷ x) (left (InString 34) (body ++ rest))) r.takes_it
     ∙ ap (λ x. ended StringLiteral (34 ∷ body) x) r.leaves

@@ -12,7 +12,7 @@ use Rattle.jsx_base.specs.Token.{InName}
 use Rattle.react_compile.specs.Made.{quoted}
 use Rattle.react_compile.specs.Printed.{is_string_tag, tag_code, element_code, tag_type, pragma, element_call, name}
 use Rattle.react_compile.proofs.Tests.{same_self, cond_true, cond_false}
-use Rattle.react_compile.proofs.Words.{Word, word_token}
+use Rattle.react_compile.proofs.Words.{at_once, Word, word_token}
 use Rattle.react_compile.proofs.Tags.{TagName, word_of_tag, reference}
 use Rattle.react_compile.proofs.Quoted.{AllPlain, plain_tag, quoted_plain, string_token}
 
@@ -20,12 +20,12 @@ use Rattle.react_compile.proofs.Quoted.{AllPlain, plain_tag, quoted_plain, strin
 
 pub name_at : (q : Text) (e : Ending) (x rest : Text) → Word x → stops InName rest ≡ true → forth (Tok Operator IdentifierName x) (At q e (x ++ rest)) ≡ At x AfterExpr rest
 name_at q e x rest w s =
-    ap (λ l. token_at l IdentifierName x) (word_token (same q []) x rest w s)
+    ap (λ l. token_at l IdentifierName x) (word_token (same q []) at_once x rest w s)
     ∙ ap (λ b. cond b (At x AfterExpr rest) Lost) (same_self x)
 
 string_at : (q : Text) (e : Ending) (t rest : Text) → AllPlain t → forth (Tok Operator StringLiteral (34 ∷ (t ++ 34 ∷ []))) (At q e (34 ∷ ((t ++ 34 ∷ []) ++ rest))) ≡ At (34 ∷ (t ++ 34 ∷ [])) AfterExpr rest
 string_at q e t rest p =
-    ap (λ l. token_at l StringLiteral (34 ∷ (t ++ 34 ∷ []))) (string_token (same q []) t rest p)
+    ap (λ l. token_at l StringLiteral (34 ∷ (t ++ 34 ∷ []))) (string_token (same q []) at_once t rest p)
     ∙ ap (λ b. cond b (At (34 ∷ (t ++ 34 ∷ [])) AfterExpr rest) Lost) (same_self (34 ∷ (t ++ 34 ∷ [])))
 
 -- ---- the call that makes an element
