@@ -6,8 +6,10 @@ pub mod Words
 pub mod Literals
 pub mod Tags
 pub mod Quoted
+pub mod Printable
 pub mod Shapes
 pub mod ReadBack
+pub mod Expressions
 pub mod Modules
 pub mod Lowered
 pub mod Stands

@@ -4,12 +4,9 @@ use Rattle.std.proofs.lemmas.Bool.{false≢true}
 use Rattle.jsx_base.specs.Token.{Text, Operator, TokenKind, IdentifierName, NumericLiteral, StringLiteral, NoSubstitution, TemplateHead, NoToken, is_kind, begins, is_start, is_blank, is_line_end, first_is, is_digit, skip, breaks, Hexadecimal, Octal, BinaryDigits, State, Dead, Done, InName, BehindZero, InDigits, BehindPoint, InFraction, InExponent, InBase, InString, InPiece, step, is_dead, accepts, taken, left, last_state, code_state, Lexeme, no_token, ended, lexed, at_front, token}
 use Rattle.jsx_base.proofs.Automata.{runs, stops, Read, read_on}
 use Rattle.jsx_tree.specs.Form.{is_leaf}
-use Rattle.react_compile.proofs.Tests.{here, there, same_is, number_is, unlike, unlike'}
+use Rattle.react_compile.proofs.Tests.{no, here, there, or_left, or_right, same_is, number_is, unlike, unlike'}
 use Rattle.react_compile.proofs.Becomes.{Never, never, to, dead}
 use Rattle.react_compile.proofs.Words.{Front, Lead, lead, token_here, over, not_blank, taken_all, runs_all, ended_kind, lexed_kind, Is}
-
-no : {A : Type 0} → false ≡ true → A
-no h = absurd (false≢true h)
 
 -- ---- what a literal begins with
 
@@ -253,3 +250,16 @@ string_again first l x rest t = read_again StringLiteral first l x rest t (strin
 
 pub number_again : (first : Bool) (l : Lead) (x : Text) {rest : Text} → Literal NumericLiteral x → Behind true rest → token Operator first (lead l (x ++ rest)) ≡ record { kind = NumericLiteral; raw = x; rest = rest }
 number_again first l x {rest} t b = read_again NumericLiteral first l x rest t (number_stops (last_state t.state t.others) b (ap (λ k. is_kind k NumericLiteral) t.ends)) ∙ number_ended x b
+
+-- a character that a literal begins with
+abbrev pub begins_literal : ℕ → Bool
+begins_literal c = is_quote c || (is_digit c || nat_eq c 46)
+
+pub literal_first : {k : TokenKind} (x : Text) → Literal k x → first_is begins_literal x ≡ true
+literal_first x t = ap (first_is begins_literal) t.is ∙ go t.first t.others t.starts
+  where
+    go : (c : ℕ) (u : Text) {s : State} → Starts c u s → begins_literal c ≡ true
+    go c u (zero_starts e) = rw e refl
+    go c u (digit_starts e z d) = or_right (is_quote c) (is_digit c || nat_eq c 46) (or_left (is_digit c) (nat_eq c 46) d)
+    go c u (point_starts e d) = rw e refl
+    go c u (quote_starts e) = or_left (is_quote c) (is_digit c || nat_eq c 46) e

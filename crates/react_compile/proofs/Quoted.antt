@@ -5,7 +5,7 @@ use Rattle.std.proofs.lemmas.Bool.{ltb-true, false≢true}
 use Rattle.jsx_base.specs.Token.{Text, Operator, TokenKind, StringLiteral, is_start, is_part, Dead, Done, InString, InJsxName, step, is_dead, accepts, taken, left, last_state, ended, token}
 use Rattle.jsx_base.proofs.Automata.{runs, stops, Read, read_on}
 use Rattle.react_compile.specs.Made.{escaped, escaped_all, quoted}
-use Rattle.react_compile.proofs.Tests.{here, there, number_is, number_self, unlike'}
+use Rattle.react_compile.proofs.Tests.{or_left, or_right, here, there, number_is, number_self, unlike'}
 use Rattle.react_compile.proofs.Words.{Lead, lead, token_here}
 use Rattle.react_compile.proofs.Tags.{TagName}
 
@@ -21,12 +21,12 @@ paragraph_separator : tag_char 8233 ≡ false
 unfolding unicode_ident
 paragraph_separator = refl
 
-abbrev fails_below : (ℕ → Bool) → ℕ → Bool
+abbrev pub fails_below : (ℕ → Bool) → ℕ → Bool
 fails_below p zero = true
 fails_below p (suc n) = not (p n) && fails_below p n
 
 -- a character that passes isn't below n, where none there passes
-none_below : (p : ℕ → Bool) (c m : ℕ) → p c ≡ true → fails_below p m ≡ true → c < m → ⊥
+pub none_below : (p : ℕ → Bool) (c m : ℕ) → p c ≡ true → fails_below p m ≡ true → c < m → ⊥
 none_below p c zero h g l = omega arith
 none_below p c (suc m) h g l = go (nat_eq c m) refl (none_below p c m h (there _ _ g))
   where
@@ -73,14 +73,6 @@ goes_jsx c t h = go (is_part c || nat_eq c 45) h
     go : (b : Bool) → cond (is_dead (cond b InJsxName Dead)) false (runs (cond b InJsxName Dead) t) ≡ true → (b ≡ true) × (runs InJsxName t ≡ true)
     go true e = (refl, e)
     go false e = cc
-
-or_right : (a b : Bool) → b ≡ true → (a || b) ≡ true
-or_right true b h = refl
-or_right false b h = h
-
-or_left : (a b : Bool) → a ≡ true → (a || b) ≡ true
-or_left true b h = refl
-or_left false b h = cc
 
 all_plain : (t : Text) → runs InJsxName t ≡ true → AllPlain t
 all_plain [] h = no_more

@@ -10,7 +10,7 @@ use Rattle.jsx_tree.specs.Program.{is_goal}
 use Rattle.jsx_tree.specs.Stage.{has_kind, has_one, limits, in_stage, in_stages, each_in_stage, ReadsSoFar}
 use Rattle.std.proofs.lemmas.Bool.{false≢true}
 use Rattle.jsx_tree.specs.Grammar.{ListShape, Spaced, NoTrailing, TopLines, Context, InModuleCode}
-use Rattle.react_compile.proofs.Tests.{here, there}
+use Rattle.react_compile.proofs.Tests.{no, here, there}
 use Rattle.react_compile.proofs.Words.{Word, word_of_leaf}
 use Rattle.react_compile.proofs.Tags.{TagName, tag_of_leaf}
 
@@ -60,9 +60,6 @@ data Lone (f : Form) (c : Nonterminal) : Forest → Type 0 where
 
 data Pair (f : Form) (c : Nonterminal) (g : Form) (d : Nonterminal) : Forest → Type 0 where
   pair : (a b : Tree) → shaped f c a ≡ true → fits_below c a ≡ true → shaped g d b ≡ true → fits_below d b ≡ true → Pair f c g d (part a (part b none))
-
-no : {A : Type 0} → false ≡ true → A
-no h = absurd (false≢true h)
 
 lone_slot : (f : Form) (c : Nonterminal) (g : List Text) (b : Bool) (a : List Context) (cs : Forest) → fit_slots (position f c g b a ∷ []) cs ≡ true → Lone f c cs
 lone_slot f c g b a none h = no h
