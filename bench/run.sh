@@ -43,7 +43,7 @@ measure() {
 "$top/bin/jsxc" </dev/null || exit 1
 for size in 1024 1048576 16777216; do
     make_input "$size" "$work/input.jsx"
-    measure jsxc "$work/input.jsx" "$top/bin/jsxc"
+    measure jsxc "$work/input.jsx" "$top/crates/jsxc/out/jsxc"
     command -v esbuild >/dev/null 2>&1 && measure esbuild "$work/input.jsx" esbuild --loader=jsx
     command -v babeljs >/dev/null 2>&1 && measure babeljs "$work/input.jsx" babeljs --presets @babel/preset-react --filename input.jsx
 done

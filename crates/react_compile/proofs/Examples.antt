@@ -1,12 +1,12 @@
 -- Made texts, written and called elements, and what stands for what, computed.
-use Rattle.std.specs.Prelude.{◌≡◌, List, [], ◌∷◌, codes, Bool, true, false, refl, Some, None}
+use Rattle.std.specs.Prelude.{◌≡◌, [], ◌∷◌, codes, true, false, refl, Some, None}
 use Prim.Native.String.{String}
 use Rattle.jsx_base.specs.Token.{IdentifierName, StringLiteral, JsxName}
 use Rattle.jsx_tree.specs.Kinds.{ConstWord, Module, Var, Declarator, Call, Member, Spread, Element, program, statement, expression, jsx, Tree, leaf, node, list, none, part}
 use Rattle.jsx_tree.specs.Normal.{nf}
 use Rattle.react_compile.specs.Made.{quoted}
 use Rattle.react_compile.specs.Element.{expr, text, spread, plain, spread_child, default_settings, bare_element, written, called}
-use Rattle.react_compile.specs.StandsFor.{has_jsx, StandsFor, same_leaf, same_list, same_node, lowered, InOrder, no_more, one_more, makes, literal_for, no_entries, no_children}
+use Rattle.react_compile.specs.StandsFor.{has_jsx, StandsFor, same_leaf, same_list, same_node, lowered, no_more, one_more, makes, literal_for, no_entries, no_children}
 
 -- ---- made texts
 

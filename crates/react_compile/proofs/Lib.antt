@@ -1,3 +1,7 @@
+pub mod Sources
+pub mod Sinks
+pub mod Completeness
+mod Examples
 pub mod Tests
 pub mod Characters
 pub mod Printing
@@ -13,7 +17,4 @@ pub mod Expressions
 pub mod Modules
 pub mod Lowered
 pub mod Stands
-pub mod Sources
-pub mod Sinks
-pub mod Completeness
-mod Examples
+pub mod Refusals

@@ -2,7 +2,8 @@ pub mod Made
 pub mod Element
 pub mod StandsFor
 pub mod Compiles
-pub mod Printed
 pub mod Run
 pub mod Status
 pub mod Input
+pub mod Printed
+pub mod ParseErrors

@@ -1,10 +1,15 @@
 //! A source's bytes to its code.
 
-ghost use Rattle.std.specs.Prelude.{◌≡◌, ◌<◌, ◌≤◌, ℕ, IfOk, IsOkUnless, length, string_bytes};
+ghost use Rattle.std.specs.Prelude.{◌≡◌, ◌<◌, ◌≤◌, ℕ, IfOk, IfErr, OnErr, IsOkUnless, length, string_bytes};
+ghost use Rattle.std.specs.Str.{IsUtf8};
+ghost use Rattle.react_compile.specs.ParseErrors.{SyntaxWithin};
 ghost use Rattle.jsx_tree.specs.Kinds.{Tree};
 ghost use Rattle.react_compile.specs.Compiles.{Compiles, IsSource};
 
+use crate::print::print;
+use jsx_syntax::{ParseError, parse};
 use std::alloc::{AllocError, Global};
+use std::str;
 
 /// What the compiler makes of a source.
 #[derive(Debug, Drop)]
@@ -21,17 +26,58 @@ pub enum CompileError {
     Memory,
 }
 
+impl From<AllocError> for CompileError {
+    ghost use Rattle.std.specs.Prelude.{◌≡◌};
+    ghost use Rattle.react_compile.specs.declared.compiler.CompileError.TheVariants.{Memory};
+
+    ghost from_gives = { λ _ e. e ≡ Memory };
+
+    fn from(_: AllocError) -> CompileError {
+        CompileError::Memory
+    }
+}
+
+impl From<ParseError> for CompileError {
+    ghost use Rattle.std.specs.Prelude.{◌≡◌};
+    ghost use Rattle.react_compile.specs.ParseErrors.{compile_error};
+
+    ghost from_gives = { λ e f. f ≡ compile_error e };
+
+    fn from(e: ParseError) -> CompileError {
+        match e {
+            ParseError::Syntax(at) => CompileError::Syntax(at.0),
+            ParseError::Memory => CompileError::Memory,
+        }
+    }
+}
+
+/// The text that the bytes are.
+fn text_of(source: &[u8]) -> Result<&str, CompileError>
+    requires { length source.now < 4294901760 }
+    ensures same { IfOk result (λ text. text.now ≡ source.now) }
+    ensures refused { OnErr result (IsUtf8 source.now → ⊥) }
+    ensures place { IfErr result (λ e. SyntaxWithin e (length source.now)) }
+{
+    match str::from_utf8(source) {
+        Ok(text) => Ok(text),
+        Err(e) => Err(CompileError::Syntax(e.valid_up_to() as u32)),
+    }
+}
+
 /// Compiles a module.
 ///
 /// # Errors
 ///
 /// `Syntax` exactly where the bytes aren't UTF-8 or no tree reads them, and `Memory` for want of memory.
 pub fn compile(alloc: Global, source: &[u8]) -> Result<Output, CompileError>
-    requires { length source.now < 0xFFFF_0000 }
+    requires { length source.now < 4294901760 }
     ensures compiled { IfOk result (λ output. Compiles source.now (string_bytes output.code)) }
     ensures refused { (at : ℕ) → result ≡ Err (CompileError.Syntax at) → (tree : Tree) → IsSource source.now tree → ⊥ }
     ensures place { (at : ℕ) → result ≡ Err (CompileError.Syntax at) → at ≤ length source.now }
     ensures complete { (tree : Tree) → IsSource source.now tree → IsOkUnless result CompileError.Memory }
 {
-    Err(CompileError::Memory)
+    let text = text_of(source)?;
+    let program = parse(alloc, text)?;
+    let code = print(alloc, &program)?;
+    Ok(Output { code })
 }

@@ -9,9 +9,9 @@ ghost use Rattle.react_compile.specs.Compiles.{IsSource};
 ghost use Rattle.react_compile.specs.Run.{WritesCode, WritesPrefix, TellsSyntaxError, TellsTooBig, TellsPrefix, GainsCode, GainsCodePrefix, IsValid, bad_words, read_fault, out_of_memory, syntax_error, max_source};
 
 use crate::compiler::{CompileError, compile};
-use crate::input::{InputError, read_all};
 #[cfg(test)]
 use crate::input::MAX_SOURCE;
+use crate::input::{InputError, read_all};
 use jsx_base::{Sink, Source};
 use std::alloc::Global;
 

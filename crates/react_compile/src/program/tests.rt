@@ -6,6 +6,7 @@ use std::process::Abort;
 use std::test::Fail;
 
 /// What a run is given: a word or none, a source, and the numbers of the reads and writes that fail.
+#[derive(Clone, Copy)]
 struct Given<'a> {
     word: Option<&'a str>,
     source: &'a [u8],
@@ -24,7 +25,11 @@ fn plain(source: &[u8]) -> Given<'_> {
     }
 }
 
-fn assert_runs(rt: &(impl Abort + AllocGlobal), given: &Given<'_>, want: (Status, &str, &str)) -> Result<(), Fail> {
+fn assert_runs(
+    rt: &(impl Abort + AllocGlobal),
+    given: &Given<'_>,
+    want: (Status, &str, &str),
+) -> Result<(), Fail> {
     let alloc = rt.alloc();
     let mut words = Vec::new(alloc);
     if let Some(word) = given.word {
