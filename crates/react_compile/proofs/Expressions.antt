@@ -1,16 +1,16 @@
 -- The code of an expression reads as the lowered expression.
-use Rattle.std.proofs.Common.{◌≡◌, ℕ, ◌≤◌, ◌<◌, List, [], ◌∷◌, ◌++◌, Bool, true, false, cond, not, ◌&&◌, ◌||◌, nat_eq, nat_le, refl, sym, ap, ◌∙◌, subst, codes, append_assoc, arith}
+use Rattle.std.proofs.Common.{◌≡◌, ℕ, ◌≤◌, List, [], ◌∷◌, ◌++◌, Bool, true, false, ◌&&◌, ◌||◌, nat_eq, nat_le, refl, sym, ap, ◌∙◌, subst, codes, append_assoc, arith}
 use Rattle.std.proofs.lemmas.Bool.{leb-true}
-use Rattle.jsx_base.specs.Token.{Text, Operator, Lexeme, IdentifierName, NumericLiteral, StringLiteral, Punctuator, is_start, is_digit, first_is, same, among, token}
+use Rattle.jsx_base.specs.Token.{Text, Operator, IdentifierName, Punctuator, is_start, is_digit, first_is, same, among, token}
 use Rattle.jsx_tree.specs.Signs.{Ending, AfterExpr, Sign, Tok, TrailingComma, Space, Begin, Count, One, End}
-use Rattle.jsx_tree.specs.Kinds.{Tree, leaf, node, list, Forest, none, part}
+use Rattle.jsx_tree.specs.Kinds.{Tree, Forest, none, part}
 use Rattle.jsx_tree.specs.Nonterminals.{is_value_word}
 use Rattle.jsx_tree.specs.Spelling.{spelled, each_said, gathered}
-use Rattle.jsx_tree.specs.Reading.{Place, Lost, At, forth, scan, token_at}
+use Rattle.jsx_tree.specs.Reading.{Place, At, scan, token_at}
 use Rattle.jsx_tree.specs.Grammar.{Commas, pun, heads}
 use Rattle.jsx_tree.proofs.Laws.{scan_append}
 use Rattle.react_compile.specs.Printed.{tag_code, code_of, listed, further, lowered, each_lowered}
-use Rattle.react_compile.proofs.Tests.{here, there, same_is, no, unlike, unlike'}
+use Rattle.react_compile.proofs.Tests.{there, same_is, no, unlike, unlike'}
 use Rattle.react_compile.proofs.Words.{Lead, at_once, behind_blank, lead, Word, word_token, word_of_leaf}
 use Rattle.react_compile.proofs.Literals.{a_string, a_number, literal_of_leaf, literal_first, begins_literal, string_again, number_again, Behind, comma, closing, semicolon, opening, dot, name_stops}
 use Rattle.react_compile.proofs.Quoted.{none_below}
@@ -95,24 +95,26 @@ mutual
       let place = At q e (lead l (code_of f ++ (40 ∷ (listed ts ++ (41 ∷ rest))))) in
       let tail = Count ∷ pun "(" ∷ (gathered Commas (each_said (each_lowered ts)) ++ (pun ")" ∷ End ∷ [])) in
       let r : Reaches place (spelled (lowered f)) (40 ∷ (listed ts ++ (41 ∷ rest))) = expr_scan l q e h (opening (listed ts ++ (41 ∷ rest))) in
-      record
-      { last = codes ")"
-      ; is = ap (λ y. scan (At q e (lead l y)) (Begin ∷ (spelled (lowered f) ++ tail))) (call_text (code_of f) (listed ts) rest)
-          ∙ scan_append place (spelled (lowered f)) tail
-          ∙ ap (λ x. scan x tail) r.is
-          ∙ ap (λ y. scan (token_at y Punctuator (codes "(")) (gathered Commas (each_said (each_lowered ts)) ++ (pun ")" ∷ End ∷ []))) (open_token (same r.last []) (listed ts ++ (41 ∷ rest)))
-          ∙ args_scan hs rest }
+      record {
+        last = codes ")";
+        is = ap (λ y. scan (At q e (lead l y)) (Begin ∷ (spelled (lowered f) ++ tail))) (call_text (code_of f) (listed ts) rest)
+            ∙ scan_append place (spelled (lowered f)) tail
+            ∙ ap (λ x. scan x tail) r.is
+            ∙ ap (λ y. scan (token_at y Punctuator (codes "(")) (gathered Commas (each_said (each_lowered ts)) ++ (pun ")" ∷ End ∷ []))) (open_token (same r.last []) (listed ts ++ (41 ∷ rest)))
+            ∙ args_scan hs rest;
+      }
   expr_scan l q e (member {o = o} {x = x} h n w) {rest} b =
       let place = At q e (lead l (code_of o ++ (46 ∷ (x ++ rest)))) in
       let tail = Count ∷ pun "." ∷ One ∷ Tok Operator IdentifierName x ∷ End ∷ [] in
       let r : Reaches place (spelled (lowered o)) (46 ∷ (x ++ rest)) = expr_scan l q e h (subst (λ c. Behind c (46 ∷ (x ++ rest))) (sym n) (dot (x ++ rest))) in
-      record
-      { last = x
-      ; is = ap (λ y. scan (At q e (lead l y)) (Begin ∷ (spelled (lowered o) ++ tail))) (append_assoc (code_of o) (46 ∷ x) rest)
-          ∙ scan_append place (spelled (lowered o)) tail
-          ∙ ap (λ y. scan y tail) r.is
-          ∙ ap (λ y. scan (token_at y Punctuator (codes ".")) (One ∷ Tok Operator IdentifierName x ∷ End ∷ [])) (dot_token (same r.last []) x rest (word_of_leaf x w))
-          ∙ ap (λ y. scan y (End ∷ [])) (name_at at_once (codes ".") AfterExpr x rest (word_of_leaf x w) (name_stops b)) }
+      record {
+        last = x;
+        is = ap (λ y. scan (At q e (lead l y)) (Begin ∷ (spelled (lowered o) ++ tail))) (append_assoc (code_of o) (46 ∷ x) rest)
+            ∙ scan_append place (spelled (lowered o)) tail
+            ∙ ap (λ y. scan y tail) r.is
+            ∙ ap (λ y. scan (token_at y Punctuator (codes ".")) (One ∷ Tok Operator IdentifierName x ∷ End ∷ [])) (dot_token (same r.last []) x rest (word_of_leaf x w))
+            ∙ ap (λ y. scan y (End ∷ [])) (name_at at_once (codes ".") AfterExpr x rest (word_of_leaf x w) (name_stops b));
+      }
 
   args_scan : {ts : Forest} → AreExprs ts → (rest : Text) → scan (At (codes "(") AfterExpr (listed ts ++ (41 ∷ rest))) (gathered Commas (each_said (each_lowered ts)) ++ (pun ")" ∷ End ∷ [])) ≡ At (codes ")") AfterExpr rest
   args_scan no_exprs rest = refl

@@ -1,11 +1,10 @@
 -- A string or a number that is one token alone is read as that token wherever it stands before what doesn't go on with it.
 use Rattle.std.proofs.Common.{◌≡◌, ℕ, [], ◌∷◌, ◌++◌, Bool, true, false, cond, ◌&&◌, ◌||◌, nat_eq, refl, sym, ap, ◌∙◌, subst, codes}
-use Rattle.std.proofs.lemmas.Bool.{false≢true}
-use Rattle.jsx_base.specs.Token.{Text, Operator, TokenKind, IdentifierName, NumericLiteral, StringLiteral, NoSubstitution, TemplateHead, NoToken, is_kind, begins, is_start, is_blank, is_line_end, first_is, is_digit, skip, breaks, Hexadecimal, Octal, BinaryDigits, State, Dead, Done, InName, BehindZero, InDigits, BehindPoint, InFraction, InExponent, InBase, InString, InPiece, step, is_dead, accepts, taken, left, last_state, code_state, Lexeme, no_token, ended, lexed, at_front, token}
+use Rattle.jsx_base.specs.Token.{Text, Operator, TokenKind, NumericLiteral, StringLiteral, NoSubstitution, TemplateHead, is_kind, begins, is_start, is_blank, is_line_end, first_is, is_digit, skip, breaks, Hexadecimal, Octal, BinaryDigits, State, Dead, Done, InName, BehindZero, InDigits, BehindPoint, InFraction, InExponent, InBase, InString, InPiece, step, is_dead, accepts, taken, left, last_state, code_state, no_token, ended, lexed, at_front, token}
 use Rattle.jsx_base.proofs.Automata.{runs, stops, Read, read_on}
 use Rattle.jsx_tree.specs.Form.{is_leaf}
-use Rattle.react_compile.proofs.Tests.{no, here, there, or_left, or_right, same_is, number_is, unlike, unlike'}
-use Rattle.react_compile.proofs.Becomes.{Never, never, to, dead}
+use Rattle.react_compile.proofs.Tests.{no, here, there, or_left, or_right, same_is, number_is, unlike}
+use Rattle.react_compile.proofs.Becomes.{to, dead}
 use Rattle.react_compile.proofs.Words.{Front, Lead, lead, token_here, over, not_blank, taken_all, runs_all, ended_kind, lexed_kind, Is}
 
 -- ---- what a literal begins with

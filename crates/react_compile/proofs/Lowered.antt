@@ -1,5 +1,5 @@
 -- The lowered tree has the form of the grammar, keeps its rules and has no JSX.
-use Rattle.std.proofs.Common.{◌≡◌, [], ◌∷◌, ◌++◌, Bool, true, false, not, ◌&&◌, ◌||◌, refl, sym, ap, ◌∙◌, subst, append-nil}
+use Rattle.std.proofs.Common.{◌≡◌, [], ◌∷◌, ◌++◌, true, false, not, ◌&&◌, refl, sym, ap, ◌∙◌, subst, append-nil}
 use Rattle.jsx_base.specs.Token.{Text, Operator, TokenKind, IdentifierName, StringLiteral, Lexeme, is_kind, is_token, token, same}
 use Rattle.jsx_tree.specs.Kinds.{Tree, leaf, node, Forest, none, part}
 use Rattle.jsx_tree.specs.Nonterminals.{Nonterminal, Expr, MemberObject, DotObject, Argument, Declarators, Item, WholeProgram, is_value_word}
@@ -14,7 +14,7 @@ use Rattle.react_compile.proofs.Words.{at_once, Word, word_token}
 use Rattle.react_compile.proofs.Tags.{TagName, word_of_tag, reference}
 use Rattle.react_compile.proofs.Quoted.{AllPlain, plain_tag, quoted_plain, string_token}
 use Rattle.react_compile.proofs.ReadBack.{with_type, TagCase, as_string, as_name, tag_case}
-use Rattle.react_compile.proofs.Printable.{is_string, IsExpr, name, string, number, call, member, element, AreExprs, no_exprs, next_expr, IsDeclarator, initialized, AreDeclarators, no_declarators, next_declarator, IsItem, constant, run, AreItems, no_items, next_item, IsModule, of_items}
+use Rattle.react_compile.proofs.Printable.{is_string, IsExpr, name, string, number, call, member, element, AreExprs, no_exprs, next_expr, initialized, AreDeclarators, no_declarators, next_declarator, IsItem, constant, run, AreItems, no_items, next_item, IsModule, of_items}
 
 -- ---- leaves
 

@@ -1,18 +1,18 @@
 -- The code of a module reads as the lowered module.
-use Rattle.std.proofs.Common.{◌≡◌, List, [], ◌∷◌, ◌++◌, Bool, true, false, not, refl, sym, ap, ◌∙◌, codes, append_assoc, append-nil}
+use Rattle.std.proofs.Common.{◌≡◌, List, [], ◌∷◌, ◌++◌, Bool, true, false, not, refl, ap, ◌∙◌, codes, append_assoc, append-nil}
 use Rattle.jsx_base.specs.Token.{Text, Operator, IdentifierName, Punctuator, token, same}
 use Rattle.jsx_tree.specs.Signs.{Ending, AfterExpr, AfterBinding, Sign, Tok, Semicolon, Unless, Ends, Space, Line, Begin, Count, One, End}
-use Rattle.jsx_tree.specs.Kinds.{Tree, leaf, Forest, none, part}
+use Rattle.jsx_tree.specs.Kinds.{Tree, Forest, none, part}
 use Rattle.jsx_tree.specs.Grammar.{NoTrailing, TopLines, pun, heads}
 use Rattle.jsx_tree.specs.Spelling.{spelled, each_said, gathered}
-use Rattle.jsx_tree.specs.Reading.{Place, At, scan, token_at, go_if, ended_at}
+use Rattle.jsx_tree.specs.Reading.{At, scan, token_at, go_if, ended_at}
 use Rattle.jsx_tree.proofs.Laws.{scan_append}
-use Rattle.react_compile.specs.Printed.{code_of, listed, further, lines, lowered, each_lowered}
+use Rattle.react_compile.specs.Printed.{code_of, further, lines, lowered, each_lowered}
 use Rattle.react_compile.proofs.Words.{Lead, at_once, behind_blank, behind_line, lead, word_of_leaf}
 use Rattle.react_compile.proofs.Literals.{Behind, comma, semicolon}
-use Rattle.react_compile.proofs.Printable.{IsExpr, IsDeclarator, initialized, AreDeclarators, no_declarators, next_declarator, IsItem, constant, run, AreItems, no_items, next_item}
+use Rattle.react_compile.proofs.Printable.{IsDeclarator, initialized, AreDeclarators, no_declarators, next_declarator, IsItem, constant, run, AreItems, no_items, next_item}
 use Rattle.react_compile.proofs.ReadBack.{name_at}
-use Rattle.react_compile.proofs.Expressions.{comma_token, Reaches, weaker, expr_scan, is_head, head_free}
+use Rattle.react_compile.proofs.Expressions.{comma_token, Reaches, weaker, expr_scan, head_free}
 
 -- ---- a declarator
 
@@ -30,14 +30,15 @@ declarator_scan l q e (initialized {x = x} {e = t} w k h) {rest} b more =
     let text = code_of t ++ rest in
     let place = At (codes "=") AfterExpr (32 ∷ text) in
     let from_value = ((s ++ []) ++ End ∷ []) ++ more in
-    let v : Reaches place s rest = expr_scan behind_blank (codes "=") AfterExpr h (weaker b) in
-    ( v.last
-    , ap (λ y. scan (At q e (lead l y)) (Begin ∷ One ∷ Tok Operator IdentifierName x ∷ Ends AfterBinding ∷ Count ∷ Space ∷ pun "=" ∷ Space ∷ from_value)) (append_assoc x (codes " = " ++ code_of t) rest)
-        ∙ ap (λ p. scan p (Ends AfterBinding ∷ Count ∷ Space ∷ pun "=" ∷ Space ∷ from_value)) (name_at l q e x (codes " = " ++ text) (word_of_leaf x w) refl)
-        ∙ ap (λ y. scan (token_at y Punctuator (codes "=")) (Space ∷ from_value)) (equals_token (same x []) text)
-        ∙ ap (scan place) (tidy s more)
-        ∙ scan_append place s (End ∷ more)
-        ∙ ap (λ p. scan p (End ∷ more)) v.is )
+    let v : Reaches place s rest = expr_scan behind_blank (codes "=") AfterExpr h (weaker b) in (
+      v.last,
+      ap (λ y. scan (At q e (lead l y)) (Begin ∷ One ∷ Tok Operator IdentifierName x ∷ Ends AfterBinding ∷ Count ∷ Space ∷ pun "=" ∷ Space ∷ from_value)) (append_assoc x (codes " = " ++ code_of t) rest)
+          ∙ ap (λ p. scan p (Ends AfterBinding ∷ Count ∷ Space ∷ pun "=" ∷ Space ∷ from_value)) (name_at l q e x (codes " = " ++ text) (word_of_leaf x w) refl)
+          ∙ ap (λ y. scan (token_at y Punctuator (codes "=")) (Space ∷ from_value)) (equals_token (same x []) text)
+          ∙ ap (scan place) (tidy s more)
+          ∙ scan_append place s (End ∷ more)
+          ∙ ap (λ p. scan p (End ∷ more)) v.is,
+    )
 
 -- ---- a declaration
 

@@ -1,6 +1,6 @@
 -- The code that is printed reads as the lowered tree.
 use Rattle.std.proofs.Common.{◌≡◌, List, [], ◌∷◌, ◌++◌, Bool, true, false, cond, refl, ap, ◌∙◌, codes, append_assoc}
-use Rattle.jsx_base.specs.Token.{Text, Operator, TokenKind, IdentifierName, NumericLiteral, StringLiteral, token, same}
+use Rattle.jsx_base.specs.Token.{Text, Operator, IdentifierName, NumericLiteral, StringLiteral, token, same}
 use Rattle.jsx_base.proofs.Automata.{stops}
 use Rattle.jsx_tree.specs.Signs.{Ending, AfterExpr, Sign, Tok, TrailingComma, Space, Begin, Count, One, End}
 use Rattle.jsx_tree.specs.Kinds.{Call, expression, Tree, leaf, node, list, none, part}

@@ -17,7 +17,7 @@ use Rattle.react_compile.specs.Element as element
 use Rattle.react_compile.specs.Element.{is_lower, default_settings, expr, text}
 use Rattle.react_compile.specs.StandsFor.{StandsFor, same_leaf, same_list, same_node, lowered as by_call, InOrder, no_more, one_more, makes, expression_for, literal_for, no_entries, no_children}
 use Rattle.react_compile.specs.Compiles.{IsCodeFor}
-use Rattle.react_compile.specs.Printed.{is_string_tag, tag_type, element_call, name as name_leaf, code_of, lowered, each_lowered}
+use Rattle.react_compile.specs.Printed.{is_string_tag, element_call, name as name_leaf, code_of, lowered, each_lowered}
 use Rattle.react_compile.proofs.Tests.{cond_true, cond_false}
 use Rattle.react_compile.proofs.Words.{at_once}
 use Rattle.react_compile.proofs.Printable.{IsExpr, name, string, number, call, member, element as an_element, AreExprs, no_exprs, next_expr, initialized, AreDeclarators, no_declarators, next_declarator, constant, run, AreItems, no_items, next_item, IsModule, of_items}
