@@ -7,10 +7,13 @@ pub mod Characters
 pub mod Printing
 pub mod Becomes
 pub mod Words
+pub mod Literals
 pub mod Tags
 pub mod Quoted
+pub mod Printable
 pub mod Shapes
 pub mod ReadBack
+pub mod Expressions
 pub mod Modules
 pub mod Lowered
 pub mod Stands

@@ -5,8 +5,8 @@ use Rattle.std.proofs.lemmas.Bool.{ltb-true, false≢true}
 use Rattle.jsx_base.specs.Token.{Text, Operator, TokenKind, StringLiteral, is_start, is_part, Dead, Done, InString, InJsxName, step, is_dead, accepts, taken, left, last_state, ended, token}
 use Rattle.jsx_base.proofs.Automata.{runs, stops, Read, read_on}
 use Rattle.react_compile.specs.Made.{escaped, escaped_all, quoted}
-use Rattle.react_compile.proofs.Tests.{here, there, number_is, number_self, unlike'}
-use Rattle.react_compile.proofs.Words.{token_here}
+use Rattle.react_compile.proofs.Tests.{or_left, or_right, here, there, number_is, number_self, unlike'}
+use Rattle.react_compile.proofs.Words.{Lead, lead, token_here}
 use Rattle.react_compile.proofs.Tags.{TagName}
 
 -- a character of a tag's name
@@ -21,12 +21,12 @@ paragraph_separator : tag_char 8233 ≡ false
 unfolding unicode_ident
 paragraph_separator = refl
 
-abbrev fails_below : (ℕ → Bool) → ℕ → Bool
+abbrev pub fails_below : (ℕ → Bool) → ℕ → Bool
 fails_below p zero = true
 fails_below p (suc n) = not (p n) && fails_below p n
 
 -- a character that passes isn't below n, where none there passes
-none_below : (p : ℕ → Bool) (c m : ℕ) → p c ≡ true → fails_below p m ≡ true → c < m → ⊥
+pub none_below : (p : ℕ → Bool) (c m : ℕ) → p c ≡ true → fails_below p m ≡ true → c < m → ⊥
 none_below p c zero h g l = omega arith
 none_below p c (suc m) h g l = go (nat_eq c m) refl (none_below p c m h (there _ _ g))
   where
@@ -74,14 +74,6 @@ goes_jsx c t h = go (is_part c || nat_eq c 45) h
     go true e = (refl, e)
     go false e = cc
 
-or_right : (a b : Bool) → b ≡ true → (a || b) ≡ true
-or_right true b h = refl
-or_right false b h = h
-
-or_left : (a b : Bool) → a ≡ true → (a || b) ≡ true
-or_left true b h = refl
-or_left false b h = cc
-
 all_plain : (t : Text) → runs InJsxName t ≡ true → AllPlain t
 all_plain [] h = no_more
 all_plain (c ∷ t) h = let g = goes_jsx c t h in one_more (plain c (or_right (is_start c) _ g.0)) (all_plain t g.1)
@@ -109,12 +101,12 @@ stops_done : (k : TokenKind) (rest : Text) → stops (Done k) rest ≡ true
 stops_done k [] = refl
 stops_done k (c ∷ rest) = refl
 
-pub string_token : (first : Bool) (t rest : Text) → AllPlain t → token Operator first (34 ∷ ((t ++ 34 ∷ []) ++ rest)) ≡ record { kind = StringLiteral; raw = 34 ∷ (t ++ 34 ∷ []); rest = rest }
-string_token first t rest p =
+pub string_token : (first : Bool) (l : Lead) (t rest : Text) → AllPlain t → token Operator first (lead l (34 ∷ ((t ++ 34 ∷ []) ++ rest))) ≡ record { kind = StringLiteral; raw = 34 ∷ (t ++ 34 ∷ []); rest = rest }
+string_token first l t rest p =
     let body = t ++ 34 ∷ [] in
     let e : last_state (InString 34) body ≡ Done StringLiteral = last_plain t p in
     let r : Read (InString 34) body rest = read_on (InString 34) body rest (runs_plain t p) (subst (λ s. stops s rest ≡ true) (sym e) (stops_done StringLiteral rest)) in
-    token_here first 34 (body ++ rest) (record { unskipped = refl; no_slash = refl; no_less = refl; no_minus = refl })
+    token_here first l 34 (body ++ rest) (record { unskipped = refl; no_slash = refl; no_less = refl; no_minus = refl })
     ∙ ap (λ x. ended (accepts x) (34 ∷ taken (InString 34) (body ++ rest)) (left (InString 34) (body ++ rest))) (r.state_is ∙ e)
     ∙ ap (λ x. ended StringLiteral (34 ∷ x) (left (InString 34) (body ++ rest))) r.takes_it
     ∙ ap (λ x. ended StringLiteral (34 ∷ body) x) r.leaves

@@ -4,32 +4,15 @@ use Rattle.jsx_base.specs.Token.{Text, IdentifierName, JsxName}
 use Rattle.jsx_tree.specs.declared.text.Goal.TheVariants as goals
 use Rattle.jsx_tree.specs.Kinds.{ConstWord, Module, Var, Declarator, Binds, Element, Kind, program, statement, jsx, Tree, leaf, node, list, Forest, none, part}
 use Rattle.jsx_tree.specs.Nonterminals.{Nonterminal, Expr, Pat, Item, DirectiveOnly, Declarators, TagName as TagPlace, Attributes, WholeProgram, homes, in_homes, is_bound}
-use Rattle.jsx_tree.specs.Form.{Form, Single, Maybe, Several, position, positions, shaped, admits, fits_below, fit_slots, fit_each, is}
+use Rattle.jsx_tree.specs.Form.{Form, Single, Maybe, Several, position, positions, shaped, admits, fits_below, fit_slots, fit_each, is, is_leaf}
 use Rattle.jsx_tree.specs.StaticRules.{Surroundings, outside, rule, has_init, all_of, list_rule, legal, legals, each_legal, stands, enters}
 use Rattle.jsx_tree.specs.Program.{is_goal}
 use Rattle.jsx_tree.specs.Stage.{has_kind, has_one, limits, in_stage, in_stages, each_in_stage, ReadsSoFar}
 use Rattle.std.proofs.lemmas.Bool.{false≢true}
 use Rattle.jsx_tree.specs.Grammar.{ListShape, Spaced, NoTrailing, TopLines, Context, InModuleCode}
-use Rattle.react_compile.proofs.Tests.{here, there}
-use Rattle.react_compile.proofs.Words.{Word, word_of_leaf}
+use Rattle.react_compile.proofs.Tests.{no, here, there}
+use Rattle.react_compile.proofs.Printable.{IsExpr, element, IsDeclarator, initialized, no_declarators, IsItem, constant, AreItems, no_items, next_item, IsModule, of_items}
 use Rattle.react_compile.proofs.Tags.{TagName, tag_of_leaf}
-
-pub data IsExpr : Tree → Type 0 where
-  element : {t : Text} → TagName t → IsExpr (node (jsx Element) (part (leaf JsxName t) (part (list none) none)))
-
--- x = e
-pub data IsDeclarator : Tree → Type 0 where
-  initialized : {x : Text} {e : Tree} → Word x → is_bound x ≡ true → IsExpr e → IsDeclarator (node (statement Declarator) (part (leaf IdentifierName x) (part (list (part e none)) none)))
-
-pub data IsItem : Tree → Type 0 where
-  constant : {d : Tree} → IsDeclarator d → IsItem (node (statement (Var ConstWord)) (part (list (part d none)) none))
-
-pub data AreItems : Forest → Type 0 where
-  no_items : AreItems none
-  next_item : {t : Tree} {ts : Forest} → IsItem t → AreItems ts → AreItems (part t ts)
-
-pub data IsModule : Tree → Type 0 where
-  of_items : {ts : Forest} → AreItems ts → IsModule (node (program Module) (part (list none) (part (list ts) none)))
 
 -- ---- the kinds of the stage
 
@@ -60,9 +43,6 @@ data Lone (f : Form) (c : Nonterminal) : Forest → Type 0 where
 
 data Pair (f : Form) (c : Nonterminal) (g : Form) (d : Nonterminal) : Forest → Type 0 where
   pair : (a b : Tree) → shaped f c a ≡ true → fits_below c a ≡ true → shaped g d b ≡ true → fits_below d b ≡ true → Pair f c g d (part a (part b none))
-
-no : {A : Type 0} → false ≡ true → A
-no h = absurd (false≢true h)
 
 lone_slot : (f : Form) (c : Nonterminal) (g : List Text) (b : Bool) (a : List Context) (cs : Forest) → fit_slots (position f c g b a ∷ []) cs ≡ true → Lone f c cs
 lone_slot f c g b a none h = no h
@@ -144,10 +124,10 @@ expr_at (node k cs) s a f = go (stage_kind k (here (has_kind k) _ s)) (there (li
 -- ---- a declarator
 
 data IsName : Tree → Type 0 where
-  a_name : {x : Text} → Word x → is_bound x ≡ true → IsName (leaf IdentifierName x)
+  a_name : {x : Text} → is_leaf IdentifierName x ≡ true → is_bound x ≡ true → IsName (leaf IdentifierName x)
 
 name_at : (t : Tree) → in_stage (Pat Binds) t ≡ true → admits (Pat Binds) t ≡ true → fits_below (Pat Binds) t ≡ true → IsName t
-name_at (leaf IdentifierName x) s a f = a_name (word_of_leaf x f) a
+name_at (leaf IdentifierName x) s a f = a_name f a
 name_at (leaf _ x) s a f = no s
 name_at (list ts) s a f = no a
 name_at (node k cs) s a f = absurd (no_home (Pat Binds) refl refl refl refl (stage_kind k (here (has_kind k) _ s)) a)
@@ -178,7 +158,7 @@ declaration_at o s r (lone ds l f) = go (list_of NoTrailing Declarators ds l) o 
   where
     one : (ts : Forest) → has_one (part (list ts) none) ≡ true → each_in_stage Declarators ts ≡ true → all_of (has_init ConstWord) ts ≡ true → fit_each Declarators ts ≡ true → IsItem (node (statement (Var ConstWord)) (part (list ts) none))
     one none h i j k = no h
-    one (part d none) h i j k = constant (any_declarator d (here (in_stage Declarators d) true i) (here (admits Declarators d) _ k) (here (fits_below Declarators d) true (there (admits Declarators d) _ k)) (here (has_init ConstWord d) true j))
+    one (part d none) h i j k = constant (any_declarator d (here (in_stage Declarators d) true i) (here (admits Declarators d) _ k) (here (fits_below Declarators d) true (there (admits Declarators d) _ k)) (here (has_init ConstWord d) true j)) no_declarators
     one (part d (part e es)) h i j k = no h
 
     go : {us : Tree} → IsList us → has_one (part us none) ≡ true → in_stage Declarators us ≡ true → list_rule (all_of (has_init ConstWord)) us ≡ true → fits_below Declarators us ≡ true → IsItem (node (statement (Var ConstWord)) (part us none))

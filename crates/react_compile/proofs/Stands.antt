@@ -2,14 +2,14 @@
 use Rattle.std.proofs.Common.{◌≡◌, [], Bool, true, false, cond, not, ◌&&◌, ◌||◌, Some, refl, sym, ap, ◌∙◌, subst, codes, string_bytes, String}
 use Rattle.std.specs.Str.{chars}
 use Rattle.std.proofs.lemmas.Str.{IsUtf8-string_bytes}
-use Rattle.jsx_base.specs.Token.{Text, IdentifierName, StringLiteral, JsxName, same, first_is}
+use Rattle.jsx_base.specs.Token.{Text, IdentifierName, NumericLiteral, StringLiteral, JsxName, same, first_is}
 use Rattle.jsx_tree.specs.declared.text.Goal.TheVariants as goals
 use Rattle.jsx_tree.specs.Signs.{AfterExpr}
-use Rattle.jsx_tree.specs.Kinds.{ConstWord, Module, Var, Declarator, Element, program, statement, jsx, Tree, Forest, leaf, node, list, none, part}
+use Rattle.jsx_tree.specs.Kinds.{ConstWord, Module, Var, Declarator, ExprStmt, Call, Member, Element, program, statement, expression, jsx, Tree, leaf, node, list, Forest, none, part}
 use Rattle.jsx_tree.specs.Nonterminals.{has_dash}
 use Rattle.jsx_tree.specs.Spelling.{spelled}
 use Rattle.jsx_tree.specs.Reading.{At, scan, ended_at}
-use Rattle.jsx_tree.specs.Normal.{nf, each_made, plain_node, without_empty}
+use Rattle.jsx_tree.specs.Normal.{nf, is_empty, without_empty, each_made, plain_node}
 use Rattle.jsx_tree.specs.Program.{Reads}
 use Rattle.jsx_tree.specs.Stage.{ReadsSoFar}
 use Rattle.react_compile.specs.Made.{quoted}
@@ -17,9 +17,11 @@ use Rattle.react_compile.specs.Element as element
 use Rattle.react_compile.specs.Element.{is_lower, default_settings, expr, text}
 use Rattle.react_compile.specs.StandsFor.{StandsFor, same_leaf, same_list, same_node, lowered as by_call, InOrder, no_more, one_more, makes, expression_for, literal_for, no_entries, no_children}
 use Rattle.react_compile.specs.Compiles.{IsCodeFor}
-use Rattle.react_compile.specs.Printed.{is_string_tag, element_call, name, code_of, lowered, each_lowered}
+use Rattle.react_compile.specs.Printed.{is_string_tag, element_call, name as name_leaf, code_of, lowered, each_lowered}
 use Rattle.react_compile.proofs.Tests.{cond_true, cond_false}
-use Rattle.react_compile.proofs.Shapes.{IsExpr, element as an_element, IsDeclarator, initialized, IsItem, constant, AreItems, no_items, next_item, IsModule, of_items, module_of}
+use Rattle.react_compile.proofs.Words.{at_once}
+use Rattle.react_compile.proofs.Printable.{IsExpr, name, string, number, call, member, element as an_element, AreExprs, no_exprs, next_expr, initialized, AreDeclarators, no_declarators, next_declarator, constant, run, AreItems, no_items, next_item, IsModule, of_items}
+use Rattle.react_compile.proofs.Shapes.{module_of}
 use Rattle.react_compile.proofs.ReadBack.{with_type, TagCase, as_string, as_name, tag_case}
 use Rattle.react_compile.proofs.Modules.{items_scan}
 use Rattle.react_compile.proofs.Lowered.{fits_module, legal_module, free_module}
@@ -50,29 +52,52 @@ stands_element t = go (tag_case t)
   where
     go : TagCase t → StandsFor default_settings (element_of t) (nf (element_call t)) []
     go (as_string h) =
-        subst (λ y. StandsFor default_settings (element_of t) (nf (with_type y)) []) (sym (cond_true (is_string_tag t) (leaf StringLiteral (quoted t)) (name t) h))
+        subst (λ y. StandsFor default_settings (element_of t) (nf (with_type y)) []) (sym (cond_true (is_string_tag t) (leaf StringLiteral (quoted t)) (name_leaf t) h))
         (by_call (ap (λ p. Some (element.bare_element p)) (string_type t h)) refl (makes (literal_for t) no_entries no_children refl refl refl refl refl refl refl))
     go (as_name h) =
-        subst (λ y. StandsFor default_settings (element_of t) (nf (with_type y)) []) (sym (cond_false (is_string_tag t) (leaf StringLiteral (quoted t)) (name t) h))
+        subst (λ y. StandsFor default_settings (element_of t) (nf (with_type y)) []) (sym (cond_false (is_string_tag t) (leaf StringLiteral (quoted t)) (name_leaf t) h))
         (by_call (ap (λ p. Some (element.bare_element p)) (reference_type t h)) refl (makes (expression_for (same_leaf IdentifierName t)) no_entries no_children refl refl refl refl refl refl refl))
 
 -- ---- the rest for itself
 
-stands_expr : {t : Tree} → IsExpr t → StandsFor default_settings (nf t) (nf (lowered t)) []
-stands_expr (an_element {t} g) = stands_element t
+not_empty : {t : Tree} → IsExpr t → is_empty (nf t) ≡ false
+not_empty (name w k) = refl
+not_empty _ = refl
 
-stands_declarator : {t : Tree} → IsDeclarator t → StandsFor default_settings (nf t) (nf (lowered t)) []
-stands_declarator (initialized {x = x} w b h) = same_node (statement Declarator) refl (one_more (same_leaf IdentifierName x) (one_more (same_list (one_more (stands_expr h) no_more)) no_more))
+-- and of the lowered one
+not_empty_lowered : {t : Tree} → IsExpr t → is_empty (nf (lowered t)) ≡ false
+not_empty_lowered (name w k) = refl
+not_empty_lowered _ = refl
 
-stands_item : {t : Tree} → IsItem t → StandsFor default_settings (nf t) (nf (lowered t)) []
-stands_item (constant (initialized w b h)) = same_node (statement (Var ConstWord)) refl (one_more (same_list (one_more (stands_declarator (initialized w b h)) no_more)) no_more)
+in_order : {t u : Tree} (ts us : Forest) → is_empty t ≡ false → is_empty u ≡ false → StandsFor default_settings t u [] → InOrder default_settings (without_empty ts) (without_empty us) []
+    → InOrder default_settings (without_empty (part t ts)) (without_empty (part u us)) []
+in_order ts us e f s h = rw (e, f) (one_more s h)
 
-stands_items : {ts : Forest} → AreItems ts → InOrder default_settings (without_empty (each_made plain_node ts)) (without_empty (each_made plain_node (each_lowered ts))) []
-stands_items no_items = no_more
-stands_items (next_item (constant (initialized w b h)) hs) = one_more (stands_item (constant (initialized w b h))) (stands_items hs)
+mutual
+  stands_expr : {t : Tree} → IsExpr t → StandsFor default_settings (nf t) (nf (lowered t)) []
+  stands_expr (name {x = x} w k) = same_leaf IdentifierName x
+  stands_expr (string {x = x} w) = same_leaf StringLiteral x
+  stands_expr (number {x = x} w) = same_leaf NumericLiteral x
+  stands_expr (an_element {t = t} g) = stands_element t
+  stands_expr (call h hs) = same_node (expression Call) refl (one_more (stands_expr h) (one_more (same_list (stand_exprs hs)) no_more))
+  stands_expr (member {x = x} h n w) = same_node (expression Member) refl (one_more (stands_expr h) (one_more (same_leaf IdentifierName x) no_more))
+
+  stand_exprs : {ts : Forest} → AreExprs ts → InOrder default_settings (without_empty (each_made plain_node ts)) (without_empty (each_made plain_node (each_lowered ts))) []
+  stand_exprs no_exprs = no_more
+  stand_exprs (next_expr {ts = ts} h hs) = in_order (each_made plain_node ts) (each_made plain_node (each_lowered ts)) (not_empty h) (not_empty_lowered h) (stands_expr h) (stand_exprs hs)
+
+stand_declarators : {ds : Forest} → AreDeclarators ds → InOrder default_settings (without_empty (each_made plain_node ds)) (without_empty (each_made plain_node (each_lowered ds))) []
+stand_declarators no_declarators = no_more
+stand_declarators (next_declarator (initialized {x = x} w b h) hs) =
+    one_more (same_node (statement Declarator) refl (one_more (same_leaf IdentifierName x) (one_more (same_list (one_more (stands_expr h) no_more)) no_more))) (stand_declarators hs)
+
+stand_items : {ts : Forest} → AreItems ts → InOrder default_settings (without_empty (each_made plain_node ts)) (without_empty (each_made plain_node (each_lowered ts))) []
+stand_items no_items = no_more
+stand_items (next_item (constant h hs) is') = one_more (same_node (statement (Var ConstWord)) refl (one_more (same_list (stand_declarators (next_declarator h hs))) no_more)) (stand_items is')
+stand_items (next_item (run h n) is') = one_more (same_node (statement ExprStmt) refl (one_more (stands_expr h) no_more)) (stand_items is')
 
 stands_module : {t : Tree} → IsModule t → StandsFor default_settings (nf t) (nf (lowered t)) []
-stands_module (of_items hs) = same_node (program Module) refl (one_more (same_list no_more) (one_more (same_list (stands_items hs)) no_more))
+stands_module (of_items hs) = same_node (program Module) refl (one_more (same_list no_more) (one_more (same_list (stand_items hs)) no_more))
 
 -- ---- the code
 
@@ -80,7 +105,7 @@ reads_module : {t : Tree} → IsModule t → Reads goals.Module (code_of t) (low
 reads_module (of_items {ts} hs) = record {
   of_goal = refl;
   read = ap (λ b. b && ended_at (scan (At [] AfterExpr (code_of (node (program Module) (part (list none) (part (list ts) none))))) (spelled (lowered (node (program Module) (part (list none) (part (list ts) none))))))) (fits_module (of_items hs))
-      ∙ items_scan false [] AfterExpr hs;
+      ∙ items_scan at_once [] AfterExpr hs;
   is_legal = legal_module (of_items hs);
 }
 

@@ -35,8 +35,21 @@ front_here fresh c text f = go (nat_eq 60 c) (nat_eq 45 c) fresh (begins (codes 
     go true b d x y p q = cc
     go false true d x y p q = cc
 
-pub token_here : (first : Bool) (c : ℕ) (text : Text) → Front c → token Operator first (c ∷ text) ≡ lexed Operator (code_state false c text) c text
-token_here first c text f = ap (at_front Operator (first || breaks (c ∷ text))) (skip_here c text f) ∙ front_here (first || breaks (c ∷ text)) c text f
+-- what stands before a token
+pub data Lead : Type 0 where
+  at_once : Lead
+  behind_blank : Lead
+  behind_line : Lead
+
+abbrev pub lead : Lead → Text → Text
+lead at_once text = text
+lead behind_blank text = 32 ∷ text
+lead behind_line text = 10 ∷ text
+
+pub token_here : (first : Bool) (l : Lead) (c : ℕ) (text : Text) → Front c → token Operator first (lead l (c ∷ text)) ≡ lexed Operator (code_state false c text) c text
+token_here first at_once c text f = ap (at_front Operator (first || breaks (c ∷ text))) (skip_here c text f) ∙ front_here (first || breaks (c ∷ text)) c text f
+token_here first behind_blank c text f = ap (at_front Operator (first || breaks (c ∷ text))) (skip_here c text f) ∙ front_here (first || breaks (c ∷ text)) c text f
+token_here first behind_line c text f = ap (at_front Operator (first || breaks (10 ∷ c ∷ text))) (skip_here c text f) ∙ front_here (first || breaks (10 ∷ c ∷ text)) c text f
 
 -- ---- names
 
@@ -48,11 +61,11 @@ in_name (c ∷ t) = go (is_part c) (in_name t)
     go true h = h
     go false h = refl
 
-pub name_token : (first : Bool) (c : ℕ) (t rest : Text) → Front c → is_start c ≡ true → runs InName t ≡ true → stops InName rest ≡ true
-    → token Operator first (c ∷ (t ++ rest)) ≡ record { kind = IdentifierName; raw = c ∷ t; rest = rest }
-name_token first c t rest f s h e =
+pub name_token : (first : Bool) (l : Lead) (c : ℕ) (t rest : Text) → Front c → is_start c ≡ true → runs InName t ≡ true → stops InName rest ≡ true
+    → token Operator first (lead l (c ∷ (t ++ rest))) ≡ record { kind = IdentifierName; raw = c ∷ t; rest = rest }
+name_token first l c t rest f s h e =
     let r : Read InName t rest = read_on InName t rest h (subst (λ x. stops x rest ≡ true) (sym (in_name t)) e) in
-    token_here first c (t ++ rest) f
+    token_here first l c (t ++ rest) f
     ∙ ap (λ x. lexed Operator x c (t ++ rest)) (cond_true (is_start c) InName _ s)
     ∙ ap (λ x. ended (accepts x) (c ∷ taken InName (t ++ rest)) (left InName (t ++ rest))) (r.state_is ∙ in_name t)
     ∙ ap (λ x. ended IdentifierName (c ∷ x) (left InName (t ++ rest))) r.takes_it
@@ -67,8 +80,8 @@ pub record Word (x : Text) : Type 0 where
   pub starts : is_start first ≡ true
   pub runs_on : runs InName others ≡ true
 
-pub word_token : (first : Bool) (x rest : Text) → Word x → stops InName rest ≡ true → token Operator first (x ++ rest) ≡ record { kind = IdentifierName; raw = x; rest = rest }
-word_token first x rest w e = subst (λ y. token Operator first (y ++ rest) ≡ record { kind = IdentifierName; raw = y; rest = rest }) (sym w.is) (name_token first w.first w.others rest w.front w.starts w.runs_on e)
+pub word_token : (first : Bool) (l : Lead) (x rest : Text) → Word x → stops InName rest ≡ true → token Operator first (lead l (x ++ rest)) ≡ record { kind = IdentifierName; raw = x; rest = rest }
+word_token first l x rest w e = subst (λ y. token Operator first (lead l (y ++ rest)) ≡ record { kind = IdentifierName; raw = y; rest = rest }) (sym w.is) (name_token first l w.first w.others rest w.front w.starts w.runs_on e)
 
 -- ---- what a leaf that is one token says
 
@@ -127,7 +140,7 @@ punct_kind : (k : TokenKind) (q t : Text) → is_kind NoToken k ≡ false → is
 punct_kind k [] t n p = n
 punct_kind k (c ∷ q) t n p = p
 
-lexed_kind : (k : TokenKind) (s : State) (c : ℕ) (t : Text) → is_kind NoToken k ≡ false → is_kind Punctuator k ≡ false → Never k s → is_kind (lexed Operator s c t).kind k ≡ false
+pub lexed_kind : (k : TokenKind) (s : State) (c : ℕ) (t : Text) → is_kind NoToken k ≡ false → is_kind Punctuator k ≡ false → Never k s → is_kind (lexed Operator s c t).kind k ≡ false
 lexed_kind k Dead c t n p h = punct_kind k (punctuator (c ∷ t)) (c ∷ t) n p
 lexed_kind k s c t n p h = ended_kind k (accepts (last_state s t)) (c ∷ taken s t) (left s t) n (accepts_never k (last_state s t) n (last_never k s t h).says)
 
