@@ -1,11 +1,11 @@
 -- What of the language the compiler takes so far: a table over kinds, leaves and a few further limits. Widening the language widens this table.
 use Rattle.std.specs.Prelude.{List, [], ◌∷◌, codes, Bool, true, false, IsTrue, not, ◌&&◌}
 use Rattle.std.specs.Char.{is_ascii_alphabetic}
-use Rattle.jsx_base.specs.Token.{Text, Operator, TokenKind, IdentifierName, Punctuator, JsxName, same, first_is}
+use Rattle.jsx_base.specs.Token.{Text, Operator, TokenKind, IdentifierName, Punctuator, NumericLiteral, StringLiteral, JsxName, same, is_digit, first_is}
 use Rattle.jsx_tree.specs.declared.text.Goal.TheVariants as goals
 use Rattle.jsx_tree.specs.Signs.{Sign, Tok, Semicolon, AfterExpr}
-use Rattle.jsx_tree.specs.Kinds.{ConstWord, Module, Var, Declarator, Binds, Element, Kind, program, statement, jsx, Tree, leaf, node, list, Forest, none, part}
-use Rattle.jsx_tree.specs.Nonterminals.{Nonterminal, Pat, TagName, WholeProgram, has_dash}
+use Rattle.jsx_tree.specs.Kinds.{ConstWord, Module, Var, Declarator, ExprStmt, Binds, Call, Member, Element, Kind, program, statement, expression, jsx, Tree, leaf, node, list, Forest, none, part}
+use Rattle.jsx_tree.specs.Nonterminals.{Nonterminal, Expr, MemberObject, Name, Pat, Argument, TagName, WholeProgram, DotObject, is_ident, has_dash}
 use Rattle.jsx_tree.specs.Form.{Position, position, positions}
 use Rattle.jsx_tree.specs.Spelling.{spelled}
 use Rattle.jsx_tree.specs.Reading.{At, scan, ended_at}
@@ -15,6 +15,9 @@ abbrev pub has_kind : Kind → Bool
 has_kind (program Module) = true
 has_kind (statement (Var ConstWord)) = true
 has_kind (statement Declarator) = true
+has_kind (statement ExprStmt) = true
+has_kind (expression Call) = true
+has_kind (expression Member) = true
 has_kind (jsx Element) = true
 has_kind k = false
 
@@ -22,19 +25,35 @@ has_kind k = false
 abbrev pub is_plain_tag : Text → Bool
 is_plain_tag t = first_is is_ascii_alphabetic t && (not (has_dash t) && not (same t (codes "this")))
 
--- which leaves may stand at a place
+abbrev pub is_all_digits : Text → Bool
+is_all_digits [] = true
+is_all_digits (c ∷ t) = is_digit c && is_all_digits t
+
+-- an expression that is one token: a name that is no reserved word, a number of decimal digits where a number may stand, or a string
+abbrev pub value_leaf : Bool → TokenKind → Text → Bool
+value_leaf n IdentifierName t = is_ident t
+value_leaf n NumericLiteral t = n && is_all_digits t
+value_leaf n StringLiteral t = true
+value_leaf n k t = false
+
+-- which leaves may stand at a place; no number stands before a `.`
 abbrev pub leaf_at : Nonterminal → TokenKind → Text → Bool
 leaf_at (Pat Binds) IdentifierName t = true
+leaf_at Name IdentifierName t = true
 leaf_at TagName JsxName t = is_plain_tag t
+leaf_at (Expr n) k t = value_leaf true k t
+leaf_at MemberObject k t = value_leaf true k t
+leaf_at DotObject k t = value_leaf false k t
+leaf_at Argument k t = value_leaf true k t
 leaf_at c k t = false
 
--- a declaration has one declarator
-abbrev pub has_one : Forest → Bool
-has_one (part (list (part d none)) none) = true
-has_one cs = false
+-- no statement is a string alone
+abbrev pub is_string : Tree → Bool
+is_string (leaf StringLiteral t) = true
+is_string t = false
 
 abbrev pub limits : Kind → Forest → Bool
-limits (statement (Var w)) cs = has_one cs
+limits (statement ExprStmt) (part e cs) = not (is_string e)
 limits k cs = true
 
 abbrev mutual
