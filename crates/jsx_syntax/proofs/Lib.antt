@@ -8,3 +8,14 @@ pub mod Meaning
 pub mod Whole
 pub mod Runs
 pub mod Modules
+pub mod Gaps
+pub mod Endings
+pub mod Families
+pub mod Fronts
+pub mod Pieces
+pub mod NameLaws
+pub mod MarkLaws
+pub mod Words
+pub mod Takes
+pub mod States
+pub mod LiteralLaws

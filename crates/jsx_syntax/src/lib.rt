@@ -1,11 +1,19 @@
 //! Reads a text as the one tree that the grammar gives it.
 #![tactic(auto)]
 
+mod automaton;
+mod characters;
 mod error;
+mod gap;
 mod identifiers;
 mod lexer;
+mod literal;
+mod marks;
 mod module;
+mod names;
+mod number;
 mod parser;
+mod quoted;
 
 pub use error::ParseError;
 pub use module::{one_tree, parse};

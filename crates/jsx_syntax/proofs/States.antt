@@ -1,0 +1,65 @@
+-- The code's states and the automata's.
+use Rattle.std.proofs.Common.{◌≡◌, ℕ, ◌∷◌, true, false, cond, refl, sym, ap, subst}
+use Rattle.jsx_base.specs.Token.{Text, State as Taken, step, is_dead, left, last_state}
+use Rattle.jsx_syntax.specs.declared.automaton.Number.{Number}
+use Rattle.jsx_syntax.specs.declared.automaton.Number.TheVariants as number
+use Rattle.jsx_syntax.specs.declared.automaton.Quoted.{Quoted}
+use Rattle.jsx_syntax.specs.declared.automaton.Quoted.TheVariants as quoted
+use Rattle.jsx_syntax.specs.declared.automaton.State.{State}
+use Rattle.jsx_syntax.specs.declared.automaton.State.TheVariants as state
+use Rattle.jsx_syntax.specs.Automaton.{state_of, number_state, quoted_state}
+
+number_lives : (n : Number) → is_dead (number_state n) ≡ false
+number_lives number.BehindZero = refl
+number_lives (number.InDigits b) = refl
+number_lives number.BehindPoint = refl
+number_lives (number.InFraction b) = refl
+number_lives number.BehindE = refl
+number_lives number.BehindSign = refl
+number_lives (number.InExponent b) = refl
+number_lives (number.InBase d b) = refl
+number_lives number.BehindN = refl
+
+quoted_lives : (q : ℕ) (s : Quoted) → is_dead (quoted_state q s) ≡ false
+quoted_lives q quoted.InBody = refl
+quoted_lives q quoted.InEscape = refl
+quoted_lives q (quoted.InHex n) = refl
+quoted_lives q quoted.InUnicode = refl
+quoted_lives q (quoted.InBraces b v) = refl
+quoted_lives q quoted.BehindNul = refl
+quoted_lives q quoted.BehindCr = refl
+quoted_lives q quoted.Closed = refl
+
+pub lives : (s : State) → (s ≡ state.Dead → ⊥) → is_dead (state_of s) ≡ false
+lives state.Dead n = absurd (n refl)
+lives (state.Number x) n = number_lives x
+lives (state.Quoted q s) n = quoted_lives q s
+
+pub record Runs (s t : Taken) (whole text : Text) : Type 0 where
+  pub rest_is : left t text ≡ left s whole
+  pub last_is : last_state t text ≡ last_state s whole
+
+-- a character further
+pub further : (s t : Taken) (c : ℕ) (whole text : Text) → whole ≡ c ∷ text → t ≡ step s c → is_dead t ≡ false → Runs s t whole text
+further s t c whole text w e n =
+    let m : is_dead (step s c) ≡ false = subst (λ x. is_dead x ≡ false) e n in
+    subst (λ x. Runs s t x text) (sym w)
+    (subst (λ x. Runs s x (c ∷ text) text) (sym e)
+    (record {
+      rest_is = sym (ap (λ b. cond b (c ∷ text) (left (step s c) text)) m);
+      last_is = sym (ap (λ b. cond b s (last_state (step s c) text)) m);
+    }))
+
+pub record Stops (s : Taken) (whole : Text) : Type 0 where
+  pub rest_is : whole ≡ left s whole
+  pub last_is : s ≡ last_state s whole
+
+-- at a character that the automaton doesn't take
+pub stops : (s t : Taken) (c : ℕ) (whole text : Text) → whole ≡ c ∷ text → t ≡ step s c → is_dead t ≡ true → Stops s whole
+stops s t c whole text w e d =
+    let m : is_dead (step s c) ≡ true = subst (λ x. is_dead x ≡ true) e d in
+    subst (Stops s) (sym w)
+    (record {
+      rest_is = sym (ap (λ b. cond b (c ∷ text) (left (step s c) text)) m);
+      last_is = sym (ap (λ b. cond b s (last_state (step s c) text)) m);
+    })

@@ -1,0 +1,33 @@
+-- The tokens with one spelling.
+use Rattle.std.specs.Prelude.{codes}
+use Rattle.jsx_base.specs.Token.{Text, Mode, Operand, Operator, Tag, TokenKind, IdentifierName, Punctuator}
+use Rattle.jsx_syntax.specs.declared.lexer.Fixed.{Fixed}
+use Rattle.jsx_syntax.specs.declared.lexer.Fixed.TheVariants as fixed
+
+abbrev pub fixed_mode : Fixed → Mode
+fixed_mode fixed.Const = Operator
+fixed_mode fixed.Equals = Operator
+fixed_mode fixed.Semicolon = Operator
+fixed_mode fixed.Open = Operator
+fixed_mode fixed.Close = Operator
+fixed_mode fixed.Comma = Operator
+fixed_mode fixed.Dot = Operator
+fixed_mode fixed.Less = Operand
+fixed_mode fixed.TagSlash = Tag
+fixed_mode fixed.TagGreater = Tag
+
+abbrev pub fixed_kind : Fixed → TokenKind
+fixed_kind fixed.Const = IdentifierName
+fixed_kind _ = Punctuator
+
+abbrev pub fixed_text : Fixed → Text
+fixed_text fixed.Const = codes "const"
+fixed_text fixed.Equals = codes "="
+fixed_text fixed.Semicolon = codes ";"
+fixed_text fixed.Open = codes "("
+fixed_text fixed.Close = codes ")"
+fixed_text fixed.Comma = codes ","
+fixed_text fixed.Dot = codes "."
+fixed_text fixed.Less = codes "<"
+fixed_text fixed.TagSlash = codes "/"
+fixed_text fixed.TagGreater = codes ">"
