@@ -1,13 +1,5 @@
 pub mod Tokens
-pub mod Unique
-pub mod Steps
-pub mod Leaves
 pub mod Spellings
-pub mod Trees
-pub mod Meaning
-pub mod Whole
-pub mod Runs
-pub mod Modules
 pub mod Gaps
 pub mod Endings
 pub mod Families
@@ -19,3 +11,5 @@ pub mod Words
 pub mod Takes
 pub mod States
 pub mod LiteralLaws
+pub mod Apart
+pub mod Unique

@@ -128,8 +128,8 @@ mutual
 
   -- what makes a longer expression of one that stands before the place
   pub data Step : Place → Tree → Place → Tree → Type 0 where
-    dot : {x y z : Place} {t u : Tree} → Past (Fixed (pun_sign ".")) x nothing y → Dotted y t z u → Step x t z u
-    open : {x y z : Place} {t u : Tree} → Past (Fixed (pun_sign "(")) x nothing y → Called y t z u → Step x t z u
+    by_dot : {x y z : Place} {t u : Tree} → Past (Fixed (pun_sign ".")) x nothing y → Dotted y t z u → Step x t z u
+    by_call : {x y z : Place} {t u : Tree} → Past (Fixed (pun_sign "(")) x nothing y → Called y t z u → Step x t z u
 
   -- the same behind the `.` and behind the `(`
   pub data Dotted : Place → Tree → Place → Tree → Type 0 where
