@@ -13,3 +13,6 @@ pub mod States
 pub mod LiteralLaws
 pub mod Apart
 pub mod Unique
+pub mod Steps
+pub mod Leaves
+pub mod Trees

@@ -116,7 +116,7 @@ onward {y = y} {z} {u = u} {v} s only (further {y = p} {u = w} s' th) st =
     let o = only w p s' in
     subst (λ q. Through q v z u) (sym o.1) (subst (λ a. Through p a z u) (sym o.0) th)
 
-fixed_found : {s : _} {x y : Place} {g : Given} → Past (Fixed s) x g y → IsTrue (is_found (forth s x))
+pub fixed_found : {s : _} {x y : Place} {g : Given} → Past (Fixed s) x g y → IsTrue (is_found (forth s x))
 fixed_found (fixed e f) = found_at e f
 
 whole_reads : (d : _) (t : Text) {x y : Place} {g : Given} → nat_eq d 60 ≡ false → IsTrue (is_found (forth (Tok Operator Punctuator (d ∷ t)) x)) → Past Whole x g y → ⊥
@@ -127,7 +127,7 @@ whole_reads d t n f (whole r s) = no_reads d t n f r
 same_spelled : (k : TokenKind) (t u : Text) (x y z : Place) → forth (Tok (mode_of k) k t) x ≡ y → IsTrue (is_found y) → forth (Tok (mode_of k) k u) x ≡ z → IsTrue (is_found z) → t ≡ u
 same_spelled k t u x y z e f e' f' = one_text (mode_of k) k t u x (found_at e f) (found_at e' f')
 
-same_literal : (l m : Literal) (t u : Text) (x : Place) → IsTrue (is_found (forth (Tok Operator (token_kind l) t) x)) → IsTrue (is_found (forth (Tok Operator (token_kind m) u) x)) → l ≡ m
+pub same_literal : (l m : Literal) (t u : Text) (x : Place) → IsTrue (is_found (forth (Tok Operator (token_kind l) t) x)) → IsTrue (is_found (forth (Tok Operator (token_kind m) u) x)) → l ≡ m
 same_literal IsName IsName t u x f g = refl
 same_literal IsNumber IsNumber t u x f g = refl
 same_literal IsString IsString t u x f g = refl
@@ -138,7 +138,7 @@ same_literal IsNumber IsString t u x f g = absurd (never_both (token_kind IsNumb
 same_literal IsString IsName t u x f g = absurd (never_both (token_kind IsString) (token_kind IsName) t u x refl f g)
 same_literal IsString IsNumber t u x f g = absurd (never_both (token_kind IsString) (token_kind IsNumber) t u x refl f g)
 
-markup_literal : (l : Literal) (t : Text) {x z : Place} {u : Tree} → IsTrue (is_found (forth (Tok Operator (token_kind l) t) x)) → Past (Part Markup) x (one u) z → ⊥
+pub markup_literal : (l : Literal) (t : Text) {x z : Place} {u : Tree} → IsTrue (is_found (forth (Tok Operator (token_kind l) t) x)) → Past (Part Markup) x (one u) z → ⊥
 markup_literal l t {x} f (form Empty c (next (fixed e g) w)) = less_literal l t x (found_at e g) f
 markup_literal l t f (form Constant c w) = cc
 markup_literal l t f (form Evaluation c w) = cc

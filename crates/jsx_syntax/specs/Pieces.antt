@@ -61,8 +61,15 @@ pun s = Fixed (pun_sign s)
 abbrev pub tag : String → Piece
 tag s = Fixed (Tok Tag Punctuator (codes s))
 
+abbrev pub const_sign : Sign
+const_sign = Tok Operator IdentifierName (codes "const")
+
+-- behind the word `const`
+abbrev pub behind_const : List Piece
+behind_const = Declarators ∷ pun ";" ∷ []
+
 abbrev pub template : Form → List Piece
-template Constant = Fixed (Tok Operator IdentifierName (codes "const")) ∷ Declarators ∷ pun ";" ∷ []
+template Constant = Fixed const_sign ∷ behind_const
 template Evaluation = NoString ∷ pun ";" ∷ []
 template Bound = Leaf (Pat Binds) IdentifierName ∷ pun "=" ∷ Listed Whole ∷ []
 template Empty = Fixed (Tok Operand Punctuator (codes "<")) ∷ Leaf TagName JsxName ∷ Nothing ∷ tag "/" ∷ tag ">" ∷ []

@@ -2,7 +2,7 @@ use Rattle.std.proofs.Common.{refl}
 use Rattle.jsx_syntax.specs.Pieces.{Empty, Value}
 use Rattle.jsx_syntax.proofs.Steps.{fails_2, fails_3, built_3, listed_form, refused_listed}
 use Rattle.jsx_syntax.proofs.Trees.{declarator_is}
-use Rattle.jsx_syntax.proofs.parser.declarator.Goals as goal
+use Rattle.jsx_syntax.proofs.statement.declarator.Goals as goal
 
 pub returns-in_err-expect-clause-refused : goal.returns-in_err-expect-clause-refused
 returns-in_err-expect-clause-refused c = fails_2 _ _ c.in_err-expect.ensures.refused c.in_ok-name.ensures.read c.from_residual-in_err-expect.ensures.1
