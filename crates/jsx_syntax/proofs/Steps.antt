@@ -1,5 +1,5 @@
 -- The steps of a parser along a row, over plain places.
-use Rattle.std.proofs.Common.{◌≡◌, Bool, true, false, List, [], ◌∷◌, ◌++◌, append-nil, append_assoc, refl, sym, ◌∙◌, ap, subst}
+use Rattle.std.proofs.Common.{◌≡◌, Bool, true, false, List, [], ◌∷◌, ◌++◌, append-nil, append_assoc, map, refl, sym, ◌∙◌, ap, subst}
 use Rattle.std.specs.Prelude.{Result, Ok, Err, IfOk, IsTrue, IsFalse, codes, not, ◌&&◌}
 use Rattle.jsx_base.specs.Token.{Punctuator}
 use Rattle.std.specs.Result.{IsErrAnd}
@@ -40,6 +40,13 @@ refuse answer f r = record { bars = λ at syntax. f (r.bars at syntax) }
 -- the same from an equal place
 pub from_place : {p : Piece} {x y z : Place} {g : Given} → x ≡ y → Past p x g z → Past p y g z
 from_place {p} {z = z} {g} e q = subst (λ v. Past p v g z) e q
+
+pub map_push : {A B : Type 0} (f : A → B) (xs ys : List A) (x : A) → ys ≡ xs ++ x ∷ [] → map f ys ≡ map f xs ++ f x ∷ []
+map_push {A} {B} f xs ys x e = ap (map f) e ∙ pushed xs
+  where
+    pushed : (zs : List A) → map f (zs ++ x ∷ []) ≡ map f zs ++ f x ∷ []
+    pushed [] = refl
+    pushed (z ∷ zs) = ap (λ ws. f z ∷ ws) (pushed zs)
 
 -- ---- the forms of a class
 
