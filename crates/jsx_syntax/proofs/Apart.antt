@@ -50,10 +50,10 @@ never_both k l t u x e a b = clash _ (one_token k l t u x a b) e
 abbrev is_less : Lexeme → Bool
 is_less x = is_token x Punctuator (codes "<")
 
-less_first : (f : Bool) (s : Text) → is_less (at_front Operand f s) ≡ true → first_is (nat_eq 60) s ≡ true
+pub less_first : (f : Bool) (s : Text) → is_less (at_front Operand f s) ≡ true → first_is (nat_eq 60) s ≡ true
 less_first f s h = elim (first_is (nat_eq 60) s) as (λ b. first_is (nat_eq 60) s ≡ b → b ≡ true) [ true ↦ λ e. refl | false ↦ λ e. absurd (clash _ h ((other_ahead Punctuator 60 [] Operand s e).not_it f)) ] refl
 
-less_or_other : (d : ℕ) (s : Text) → nat_eq d 60 ≡ false → first_is (nat_eq 60) s ≡ true → first_is (nat_eq d) s ≡ false
+pub less_or_other : (d : ℕ) (s : Text) → nat_eq d 60 ≡ false → first_is (nat_eq 60) s ≡ true → first_is (nat_eq d) s ≡ false
 less_or_other d [] n e = cc
 less_or_other d (c ∷ s) n e = subst (λ v. nat_eq d v ≡ false) (eqb-true 60 c e) n
 

@@ -16,3 +16,5 @@ pub mod Unique
 pub mod Steps
 pub mod Leaves
 pub mod Trees
+pub mod Signs
+pub mod Meaning

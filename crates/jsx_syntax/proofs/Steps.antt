@@ -7,10 +7,11 @@ use Rattle.std.proofs.lemmas.Result.{err_from_is_err_and}
 use Rattle.jsx_base.specs.declared.place.BytePos.{BytePos}
 use Rattle.jsx_tree.specs.Kinds.{Call, expression, Kind, Tree, Forest, node, list, none, part}
 use Rattle.jsx_tree.specs.Reading.{Place, Lost, forth}
+use Rattle.jsx_tree.specs.Stage.{is_string}
 use Rattle.jsx_tree.specs.View.{forest}
 use Rattle.jsx_syntax.specs.declared.error.ParseError.{ParseError}
 use Rattle.jsx_syntax.specs.declared.error.ParseError.TheVariants.{Syntax}
-use Rattle.jsx_syntax.specs.Pieces.{is_found, stops, pun_sign, const_sign, behind_const, Class, Statement, Binding, Markup, Form, Constant, Evaluation, Bound, Empty, class_of, kind_of, template, Piece, Fixed, Part, Whole, Listed, Declarators, Given, nothing, one, with, single, Past, fixed, form, whole, no_string, listed, declarators, Walk, done, next, Bindings, last_one, one_more, Primary, Step, by_dot, by_call, Dotted, Called, called, Arguments, closed, last, then', Reads, primary, grown}
+use Rattle.jsx_syntax.specs.Pieces.{is_found, stops, pun_sign, const_sign, behind_const, Class, Statement, Binding, Markup, Form, Constant, Evaluation, Bound, Empty, class_of, kind_of, template, Piece, Fixed, Part, Whole, NoString, Listed, Declarators, Given, nothing, one, with, single, Past, fixed, form, whole, no_string, listed, declarators, Walk, done, next, Bindings, last_one, one_more, Primary, Step, by_dot, by_call, Dotted, Called, called, Arguments, closed, last, then', Reads, primary, grown}
 use Rattle.jsx_syntax.specs.Answers.{Barred, NoWalk, Refused, Built, NoPrimary, NoDotted, NoArguments}
 use Rattle.jsx_syntax.proofs.Apart.{clash, never_both}
 use Rattle.jsx_syntax.proofs.Unique.{found_at, one_past, one_inj, const_reads, split, Through, here, further, passes, fixed_found, no_step, stops_dot, stops_call}
@@ -97,6 +98,31 @@ barred_listed {p} {x} b = record { no = at }
     at : (g : Given) (y : Place) → Past (Listed p) x g y → ⊥
     at g y (listed q) = b.no _ _ q
 
+-- ---- statements
+
+pub whole_not_string : {x y : Place} {t : Tree} → Past Whole x (one t) y → is_string t ≡ false → Past NoString x (one t) y
+whole_not_string (whole r s) n = no_string r s n
+
+pub barred_value : {x : Place} → Barred Whole x → Barred NoString x
+barred_value {x} b = record { no = at }
+  where
+    at : (g : Given) (y : Place) → Past NoString x g y → ⊥
+    at g y (no_string r s n) = b.no _ _ (whole r s)
+
+pub barred_string : {x y : Place} {t : Tree} → Past Whole x (one t) y → is_string t ≡ true → Barred NoString x
+barred_string {x} {y} {t} p i = record { no = at }
+  where
+    at : (g : Given) (z : Place) → Past NoString x g z → ⊥
+    at g z (no_string r s n) = clash _ i (subst (λ u. is_string u ≡ false) (sym (one_inj (one_past p (whole r s)).0)) n)
+
+pub constant_read : {T : Type 0} (answer : Result T ParseError) (view : T → Tree) {x y : Place} (z : Place) → Past (Fixed const_sign) x nothing y → IfOk answer (λ s. Built behind_const (kind_of Constant) (view s) y z) → IfOk answer (λ s. Past (Part Statement) x (one (view s)) z)
+constant_read (Ok s) view {x} z p b = formed Constant refl (record { parts = b.parts; is = b.is; walk = next p b.walk })
+constant_read (Err e) view z p b = tt
+
+pub evaluation_read : {T : Type 0} (answer : Result T ParseError) (view : T → Tree) {x y : Place} (z : Place) → y ≡ x → IfOk answer (λ s. Built (template Evaluation) (kind_of Evaluation) (view s) y z) → IfOk answer (λ s. Past (Part Statement) x (one (view s)) z)
+evaluation_read (Ok s) view z same b = from_place same (formed Evaluation refl b)
+evaluation_read (Err e) view z same b = tt
+
 -- ---- declarators
 
 pub record MoreBindings (x : Place) (ts : List Tree) (y : Place) : Type 0 where
@@ -132,6 +158,9 @@ no_binding {x} b = record { no = at }
 
 pub bad_binding : {x y : Place} {ts : List Tree} → MoreBindings x ts y → Barred (Part Binding) y → Barred Declarators x
 bad_binding m b = m.bars (no_binding b)
+
+pub to_place : {x y z : Place} {ts : List Tree} → z ≡ y → Bindings x ts y → Bindings x ts z
+to_place {x} {ts = ts} e b = subst (λ v. Bindings x ts v) (sym e) b
 
 -- ---- arguments
 

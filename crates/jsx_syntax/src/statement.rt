@@ -2,7 +2,7 @@
 
 ghost use Rattle.std.specs.Prelude.{◌≡◌, ◌<◌, IfOk, OnOk, map};
 ghost use Rattle.jsx_tree.specs.Stage.{is_string};
-ghost use Rattle.jsx_tree.specs.View.{view_pat, view_stmt};
+ghost use Rattle.jsx_tree.specs.View.{view_expr, view_pat, view_stmt};
 ghost use Rattle.jsx_syntax.specs.Here.{place_of, left};
 ghost use Rattle.jsx_syntax.specs.Pieces.{Past, Bindings, one, template, kind_of, behind_const};
 ghost use Rattle.jsx_syntax.specs.Pieces as piece;
