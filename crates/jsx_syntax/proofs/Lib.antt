@@ -18,3 +18,6 @@ pub mod Leaves
 pub mod Trees
 pub mod Signs
 pub mod Meaning
+pub mod Whole
+pub mod Runs
+pub mod Modules

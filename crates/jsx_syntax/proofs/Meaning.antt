@@ -190,7 +190,7 @@ no_arguments : {x y : Place} → forth (pun_sign ")") x ≡ y → Values [] x y
 no_arguments e = record { fit = refl; staged = refl; lawful = λ v. refl; early = refl; scanned = e }
 
 -- the last argument, with a trailing comma or without
-last_scan : (x : Place) (t : Tree) → scan x (with_semicolons (gathered Commas (each_said (part t none)) ++ (pun ")" ∷ End ∷ []))) ≡ forth (pun_sign ")") (forth TrailingComma (scan x (with_semicolons (spelled t))))
+pub last_scan : (x : Place) (t : Tree) → scan x (with_semicolons (gathered Commas (each_said (part t none)) ++ (pun ")" ∷ End ∷ []))) ≡ forth (pun_sign ")") (forth TrailingComma (scan x (with_semicolons (spelled t))))
 last_scan x t = scan_both x (spelled t ++ TrailingComma ∷ []) (pun ")" ∷ End ∷ []) ∙ ap (forth (pun_sign ")")) (scan_both x (spelled t) (TrailingComma ∷ []))
 
 last_value : {x y z : Place} {t : Tree} → Value t x y → forth (pun_sign ")") (forth TrailingComma y) ≡ z → Values (t ∷ []) x z
@@ -201,7 +201,7 @@ last_value {x} {y} {z} {t} v e = record
     ; early = refl
     ; scanned = last_scan x t ∙ (ap (λ p. forth (pun_sign ")") (forth TrailingComma p)) v.scanned ∙ e) }
 
-more_scan : (x : Place) (t u : Tree) (us : Forest) → scan x (with_semicolons (gathered Commas (each_said (part t (part u us))) ++ (pun ")" ∷ End ∷ [])))
+pub more_scan : (x : Place) (t u : Tree) (us : Forest) → scan x (with_semicolons (gathered Commas (each_said (part t (part u us))) ++ (pun ")" ∷ End ∷ [])))
     ≡ scan (forth (pun_sign ",") (scan x (with_semicolons (spelled t)))) (with_semicolons (gathered Commas (each_said (part u us)) ++ (pun ")" ∷ End ∷ [])))
 more_scan x t u us =
     let rest = gathered Commas (each_said (part u us)) in
