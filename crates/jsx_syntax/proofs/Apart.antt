@@ -1,14 +1,12 @@
 -- Which tokens don't stand at one place, and what the first token of a text is behind another.
-use Rattle.std.proofs.Common.{◌≡◌, ℕ, nat_eq, Bool, true, false, not, cond, List, [], ◌∷◌, refl, sym, ◌∙◌, ap, subst}
+use Rattle.std.proofs.Common.{◌≡◌, ℕ, nat_eq, Bool, true, false, cond, [], ◌∷◌, refl, sym, ◌∙◌, ap, subst}
 use Rattle.std.specs.Prelude.{◌&&◌, ◌||◌, IsTrue, codes}
 use Rattle.std.proofs.lemmas.Bool.{eqb-true, eq-eqb}
-use Rattle.jsx_base.specs.Token.{Text, Operand, Operator, TokenKind, IdentifierName, Punctuator, NumericLiteral, StringLiteral, NoToken, Lexeme, kind_number, is_kind, is_token, no_token, lexed, state, begins, breaks, skip, first_is, at_front, token, same, among}
-use Rattle.jsx_tree.specs.Signs.{AfterExpr, Sign, Tok, Semicolon, TrailingComma, Unless}
-use Rattle.jsx_tree.specs.Grammar.{heads}
-use Rattle.jsx_tree.specs.Form.{is_leaf}
-use Rattle.jsx_tree.specs.Reading.{Place, Lost, At, forth, comma_at}
-use Rattle.jsx_syntax.specs.Pieces.{is_found, pun_sign, Literal, IsName, IsNumber, IsString, token_kind}
-use Rattle.jsx_syntax.proofs.Tokens.{and_left, and_right, and_both, same_is, same_self, one_text}
+use Rattle.jsx_base.specs.Token.{Text, Operand, Operator, TokenKind, IdentifierName, Punctuator, NumericLiteral, StringLiteral, Lexeme, kind_number, is_token, breaks, skip, first_is, at_front, token, same}
+use Rattle.jsx_tree.specs.Signs.{AfterExpr, Tok}
+use Rattle.jsx_tree.specs.Reading.{Place, Lost, At, forth}
+use Rattle.jsx_syntax.specs.Pieces.{is_found, Literal, IsName, IsNumber, IsString, token_kind}
+use Rattle.jsx_syntax.proofs.Tokens.{and_left, and_right, and_both, same_is, same_self}
 use Rattle.jsx_syntax.proofs.Fronts.{none_ahead, other_ahead}
 
 pub by_not : (b : Bool) → (b ≡ true → ⊥) → b ≡ false

@@ -1,6 +1,6 @@
 -- What the lexer answers, as pieces.
-use Rattle.std.proofs.Common.{◌≡◌, Bool, true, false, refl, sym, ◌∙◌, ap, subst}
-use Rattle.std.specs.Prelude.{Result, IsTrue, IsFalse}
+use Rattle.std.proofs.Common.{◌≡◌, true, false, sym, ◌∙◌, subst}
+use Rattle.std.specs.Prelude.{Result, IsTrue}
 use Rattle.jsx_base.specs.Token.{Text, Operator, TokenKind}
 use Rattle.jsx_tree.specs.Signs.{Sign, Tok}
 use Rattle.jsx_tree.specs.Kinds.{Tree, leaf}
@@ -10,7 +10,7 @@ use Rattle.jsx_tree.specs.Spelling.{mode_of}
 use Rattle.jsx_tree.specs.Reading.{Place, Lost, forth}
 use Rattle.jsx_tree.specs.Stage.{leaf_at, value_leaf}
 use Rattle.jsx_syntax.specs.declared.error.ParseError.{ParseError}
-use Rattle.jsx_syntax.specs.Pieces.{is_found, Empty, template, Piece, Fixed, Leaf, Given, nothing, one, Literal, IsName, IsNumber, IsString, token_kind, Past, fixed, spelled, form, Constant, Evaluation, Bound, Part, Markup, Primary, literal, markup}
+use Rattle.jsx_syntax.specs.Pieces.{is_found, Empty, template, Fixed, Leaf, Given, nothing, Literal, IsName, IsNumber, IsString, token_kind, Past, fixed, spelled, Primary, literal, markup}
 use Rattle.jsx_syntax.specs.Answers.{Barred, NoWalk, Refused, NoPrimary}
 use Rattle.jsx_syntax.proofs.Tokens.{one_text}
 use Rattle.jsx_syntax.proofs.Apart.{clash}
@@ -52,6 +52,7 @@ unfit_literal l t {x} {y} e f unfit = record { no = at }
   where
     there : IsTrue (is_found (forth (Tok Operator (token_kind l) t) x))
     there = subst (λ p. IsTrue (is_found p)) e f
+
     at : (u : Tree) (z : Place) → Primary x u z → ⊥
     at u z (literal m {t = v} a b e' f') =
         let kinds = same_literal l m t v x there (found_at e' f') in

@@ -1,22 +1,21 @@
 -- What was read has the form that the grammar asks, is in the stage, keeps the static rules, and its signs scan.
-use Rattle.std.proofs.Common.{◌≡◌, nat_eq, Bool, true, false, not, cond, List, [], ◌∷◌, ◌++◌, refl, sym, ◌∙◌, ap, subst}
-use Rattle.std.specs.Prelude.{ℕ, suc, IsTrue, codes, ◌&&◌, ◌||◌}
-use Rattle.jsx_base.specs.Token.{Text, Operand, Operator, Tag, TokenKind, IdentifierName, Punctuator, JsxName, same, among}
-use Rattle.jsx_tree.specs.Signs.{AfterBinding, Sign, Tok, Semicolon, TrailingComma, Unless, Ends, Space, Count, One, End}
-use Rattle.jsx_tree.specs.Kinds.{ConstWord, Var, Declarator, ExprStmt, Binds, Call, Member, Element, Kind, statement, expression, jsx, Tree, leaf, node, list, Forest, none, part}
-use Rattle.jsx_tree.specs.Nonterminals.{Nonterminal, Expr, MemberObject, DotObject, Name, Pat, Item, Declarators, Argument, TagName, is_ident, is_value_word}
+use Rattle.std.proofs.Common.{◌≡◌, nat_eq, Bool, true, false, not, cond, List, [], ◌∷◌, ◌++◌, refl, sym, ◌∙◌, ap}
+use Rattle.std.specs.Prelude.{suc, IsTrue, codes, ◌&&◌, ◌||◌}
+use Rattle.jsx_base.specs.Token.{Text, Operator, Tag, IdentifierName, Punctuator, JsxName, same, among}
+use Rattle.jsx_tree.specs.Signs.{AfterBinding, Tok, Semicolon, TrailingComma, Unless, Ends, Space, Count, One, End}
+use Rattle.jsx_tree.specs.Kinds.{ConstWord, Var, Declarator, ExprStmt, Call, Member, Element, statement, expression, jsx, Tree, leaf, node, list, Forest, none, part}
+use Rattle.jsx_tree.specs.Nonterminals.{Nonterminal, Expr, MemberObject, DotObject, Item, Declarators, Argument, is_ident, is_value_word}
 use Rattle.jsx_tree.specs.Grammar.{Commas, NoTrailing, heads, pun}
-use Rattle.jsx_tree.specs.Form.{is, is_leaf, is_last, last_only, enough, admits, fits_below, fit_slots, fit_each, positions}
+use Rattle.jsx_tree.specs.Form.{is, is_leaf, is_last, last_only, enough, admits, fits_below, fit_each}
 use Rattle.jsx_tree.specs.Spelling.{spelled, each_said, gathered}
-use Rattle.jsx_tree.specs.Reading.{Place, Lost, At, forth, scan}
+use Rattle.jsx_tree.specs.Reading.{Place, forth, scan}
 use Rattle.jsx_tree.specs.StaticRules.{Surroundings, all_of, is_plain_list, has_init, is_strict_body, has_plain_params, legal, each_legal}
-use Rattle.jsx_tree.specs.Stage.{is_string, value_leaf, in_stage, in_stages, each_in_stage, with_semicolons}
+use Rattle.jsx_tree.specs.Stage.{value_leaf, in_stage, each_in_stage, with_semicolons}
 use Rattle.jsx_tree.specs.View.{forest}
-use Rattle.jsx_syntax.specs.Pieces as piece
-use Rattle.jsx_syntax.specs.Pieces.{is_found, stops, pun_sign, const_sign, is_number, Statement, Binding, Form, Constant, Evaluation, Bound, Empty, class_of, kind_of, template, Fixed, Part, one, single, Literal, IsName, IsNumber, IsString, token_kind, Past, fixed, spelled as leaf', form, whole, no_string, listed, absent, declarators, Walk, done, next, Bindings, last_one, one_more, Primary, literal, markup, Step, by_dot, by_call, Dotted, dotted, Called, called, Arguments, closed, last, then', Reads, primary, grown}
+use Rattle.jsx_syntax.specs.Pieces.{is_found, pun_sign, const_sign, is_number, Statement, Binding, Constant, Evaluation, Bound, Empty, template, Part, one, Literal, IsName, IsNumber, IsString, token_kind, Past, fixed, spelled as leaf', form, whole, no_string, listed, absent, declarators, Walk, done, next, Bindings, last_one, one_more, literal, markup, by_dot, by_call, dotted, called, Arguments, closed, last, then', Reads, primary, grown}
 use Rattle.jsx_syntax.proofs.Tokens.{and_left, and_right, and_both}
-use Rattle.jsx_syntax.proofs.Apart.{clash, apart}
-use Rattle.jsx_syntax.proofs.Unique.{found_at, fixed_found, split}
+use Rattle.jsx_syntax.proofs.Apart.{apart}
+use Rattle.jsx_syntax.proofs.Unique.{found_at, split}
 use Rattle.jsx_syntax.proofs.Signs.{scan_both, scan_alone, past_ends, comma_too, comma_else, begun, begun_after, not_same, unless_heads}
 
 -- ---- the token before the place behind an expression
@@ -71,14 +70,15 @@ pub record Value (t : Tree) (x y : Place) : Type 0 where
   pub scanned : scan x (with_semicolons (spelled t)) ≡ y
 
 element_value : {x y : Place} {ts : Forest} → Walk (template Empty) x ts y → Value (node (jsx Element) ts) x y
-element_value (next (fixed e1 f1) (next (leaf' {t = t} a b l e2 f2) (next absent (next (fixed e3 f3) (next (fixed e4 f4) done))))) = record
-    { admitted = at_home
-    ; below = λ w. and_both _ _ l refl
-    ; staged = λ w n. and_both _ _ b refl
-    ; lawful = λ v. refl
-    ; early = refl
-    ; plain = refl
-    ; scanned = cc }
+element_value (next (fixed e1 f1) (next (leaf' {t = t} a b l e2 f2) (next absent (next (fixed e3 f3) (next (fixed e4 f4) done))))) = record {
+  admitted = at_home;
+  below = λ w. and_both _ _ l refl;
+  staged = λ w n. and_both _ _ b refl;
+  lawful = λ v. refl;
+  early = refl;
+  plain = refl;
+  scanned = cc;
+}
   where
     at_home : (w : Where) → admits (nonterminal_at w) (node (jsx Element) (part (leaf JsxName t) (part (list none) none))) ≡ true
     at_home AtStatement = refl
@@ -122,14 +122,15 @@ literal_scanned IsNumber t x = refl
 literal_scanned IsString t x = refl
 
 literal_value : (l : Literal) (t : Text) {x y : Place} → value_leaf true (token_kind l) t ≡ true → is_leaf (token_kind l) t ≡ true → forth (Tok Operator (token_kind l) t) x ≡ y → Value (leaf (token_kind l) t) x y
-literal_value l t {x} a b e = record
-    { admitted = literal_admitted l t a
-    ; below = λ w. b
-    ; staged = literal_staged l t a
-    ; lawful = λ v. refl
-    ; early = refl
-    ; plain = refl
-    ; scanned = literal_scanned l t x ∙ e }
+literal_value l t {x} a b e = record {
+  admitted = literal_admitted l t a;
+  below = λ w. b;
+  staged = literal_staged l t a;
+  lawful = λ v. refl;
+  early = refl;
+  plain = refl;
+  scanned = literal_scanned l t x ∙ e;
+}
 
 -- a node's parameters, where neither part is a body
 plain_pair : (a b : Tree) → is_strict_body a ≡ false → is_strict_body b ≡ false → has_plain_params (part a (part b none)) ≡ true
@@ -140,15 +141,16 @@ plain_pair a b e f = (λ i. nat_eq (cond (e i) (suc (cond (f i) 1 0)) (cond (f i
 
 member_value : {t : Tree} {x y z w : Place} {b : Text} → Value t x y → is_number t ≡ false → forth (pun_sign ".") y ≡ z → is_leaf IdentifierName b ≡ true → forth (Tok Operator IdentifierName b) z ≡ w
     → Value (node (expression Member) (part t (part (leaf IdentifierName b) none))) x w
-member_value {t} {x} {y} {z} {w} {b} v n e l f = record
-    { admitted = at_home
-    ; below = λ w. and_both _ _ (v.admitted AtObject) (and_both _ _ (v.below AtObject) (and_both _ _ l refl))
-    ; staged = λ w m. and_both _ _ (v.staged AtObject n) refl
-    ; lawful = λ s. and_both _ _ (plain_pair t (leaf IdentifierName b) v.plain refl) (and_both _ _ (v.lawful s) refl)
-    ; early = refl
-    ; plain = refl
-    ; scanned = scan_both x (spelled t) (Count ∷ pun "." ∷ One ∷ Tok Operator IdentifierName b ∷ End ∷ [])
-        ∙ (ap (λ p. forth (Tok Operator IdentifierName b) (forth (pun_sign ".") p)) v.scanned ∙ (ap (forth (Tok Operator IdentifierName b)) e ∙ f)) }
+member_value {t} {x} {y} {z} {w} {b} v n e l f = record {
+  admitted = at_home;
+  below = λ w. and_both _ _ (v.admitted AtObject) (and_both _ _ (v.below AtObject) (and_both _ _ l refl));
+  staged = λ w m. and_both _ _ (v.staged AtObject n) refl;
+  lawful = λ s. and_both _ _ (plain_pair t (leaf IdentifierName b) v.plain refl) (and_both _ _ (v.lawful s) refl);
+  early = refl;
+  plain = refl;
+  scanned = scan_both x (spelled t) (Count ∷ pun "." ∷ One ∷ Tok Operator IdentifierName b ∷ End ∷ [])
+      ∙ (ap (λ p. forth (Tok Operator IdentifierName b) (forth (pun_sign ".") p)) v.scanned ∙ (ap (forth (Tok Operator IdentifierName b)) e ∙ f));
+}
   where
     at_home : (w : Where) → admits (nonterminal_at w) (node (expression Member) (part t (part (leaf IdentifierName b) none))) ≡ true
     at_home AtStatement = refl
@@ -165,16 +167,17 @@ pub record Values (ts : List Tree) (x y : Place) : Type 0 where
   pub scanned : scan x (with_semicolons (gathered Commas (each_said (forest ts)) ++ (pun ")" ∷ End ∷ []))) ≡ y
 
 call_value : {f : Tree} {ts : List Tree} {x y z w : Place} → Value f x y → forth (pun_sign "(") y ≡ z → Values ts z w → Value (node (expression Call) (part f (part (list (forest ts)) none))) x w
-call_value {f} {ts} {x} {y} v e vs = record
-    { admitted = at_home
-    ; below = λ w. and_both _ _ (v.admitted AtCallee) (and_both _ _ (v.below AtCallee) (and_both _ _ vs.early (and_both _ _ vs.fit refl)))
-    ; staged = λ w m. and_both _ _ (v.staged AtCallee refl) (and_both _ _ vs.staged refl)
-    ; lawful = λ s. and_both _ _ (plain_pair f (list (forest ts)) v.plain refl) (and_both _ _ (v.lawful s) (and_both _ _ (vs.lawful s) refl))
-    ; early = refl
-    ; plain = refl
-    ; scanned = scan_both x (spelled f) (Count ∷ pun "(" ∷ (gathered Commas (each_said (forest ts)) ++ (pun ")" ∷ End ∷ [])))
-        ∙ (ap (λ p. scan (forth (pun_sign "(") p) (with_semicolons (gathered Commas (each_said (forest ts)) ++ (pun ")" ∷ End ∷ [])))) v.scanned
-        ∙ (ap (λ p. scan p (with_semicolons (gathered Commas (each_said (forest ts)) ++ (pun ")" ∷ End ∷ [])))) e ∙ vs.scanned)) }
+call_value {f} {ts} {x} {y} v e vs = record {
+  admitted = at_home;
+  below = λ w. and_both _ _ (v.admitted AtCallee) (and_both _ _ (v.below AtCallee) (and_both _ _ vs.early (and_both _ _ vs.fit refl)));
+  staged = λ w m. and_both _ _ (v.staged AtCallee refl) (and_both _ _ vs.staged refl);
+  lawful = λ s. and_both _ _ (plain_pair f (list (forest ts)) v.plain refl) (and_both _ _ (v.lawful s) (and_both _ _ (vs.lawful s) refl));
+  early = refl;
+  plain = refl;
+  scanned = scan_both x (spelled f) (Count ∷ pun "(" ∷ (gathered Commas (each_said (forest ts)) ++ (pun ")" ∷ End ∷ [])))
+      ∙ (ap (λ p. scan (forth (pun_sign "(") p) (with_semicolons (gathered Commas (each_said (forest ts)) ++ (pun ")" ∷ End ∷ [])))) v.scanned
+      ∙ (ap (λ p. scan p (with_semicolons (gathered Commas (each_said (forest ts)) ++ (pun ")" ∷ End ∷ [])))) e ∙ vs.scanned));
+}
   where
     at_home : (w : Where) → admits (nonterminal_at w) (node (expression Call) (part f (part (list (forest ts)) none))) ≡ true
     at_home AtStatement = refl
@@ -185,7 +188,6 @@ call_value {f} {ts} {x} {y} v e vs = record
 
 -- ---- arguments
 
-
 no_arguments : {x y : Place} → forth (pun_sign ")") x ≡ y → Values [] x y
 no_arguments e = record { fit = refl; staged = refl; lawful = λ v. refl; early = refl; scanned = e }
 
@@ -194,12 +196,13 @@ pub last_scan : (x : Place) (t : Tree) → scan x (with_semicolons (gathered Com
 last_scan x t = scan_both x (spelled t ++ TrailingComma ∷ []) (pun ")" ∷ End ∷ []) ∙ ap (forth (pun_sign ")")) (scan_both x (spelled t) (TrailingComma ∷ []))
 
 last_value : {x y z : Place} {t : Tree} → Value t x y → forth (pun_sign ")") (forth TrailingComma y) ≡ z → Values (t ∷ []) x z
-last_value {x} {y} {z} {t} v e = record
-    { fit = and_both _ _ (v.admitted AtArgument) (and_both _ _ (v.below AtArgument) refl)
-    ; staged = and_both _ _ (v.staged AtArgument refl) refl
-    ; lawful = λ s. and_both _ _ (v.lawful s) refl
-    ; early = refl
-    ; scanned = last_scan x t ∙ (ap (λ p. forth (pun_sign ")") (forth TrailingComma p)) v.scanned ∙ e) }
+last_value {x} {y} {z} {t} v e = record {
+  fit = and_both _ _ (v.admitted AtArgument) (and_both _ _ (v.below AtArgument) refl);
+  staged = and_both _ _ (v.staged AtArgument refl) refl;
+  lawful = λ s. and_both _ _ (v.lawful s) refl;
+  early = refl;
+  scanned = last_scan x t ∙ (ap (λ p. forth (pun_sign ")") (forth TrailingComma p)) v.scanned ∙ e);
+}
 
 pub more_scan : (x : Place) (t u : Tree) (us : Forest) → scan x (with_semicolons (gathered Commas (each_said (part t (part u us))) ++ (pun ")" ∷ End ∷ [])))
     ≡ scan (forth (pun_sign ",") (scan x (with_semicolons (spelled t)))) (with_semicolons (gathered Commas (each_said (part u us)) ++ (pun ")" ∷ End ∷ [])))
@@ -209,14 +212,15 @@ more_scan x t u us =
     ∙ (ap (λ p. scan p (pun ")" ∷ End ∷ [])) (scan_both x (spelled t) (pun "," ∷ Space ∷ rest)) ∙ sym (scan_both (forth (pun_sign ",") (scan x (with_semicolons (spelled t)))) rest (pun ")" ∷ End ∷ [])))
 
 more_value : {x y z w : Place} {t u : Tree} {us : List Tree} → Value t x y → forth (pun_sign ",") y ≡ z → Values (u ∷ us) z w → Values (t ∷ u ∷ us) x w
-more_value {x} {y} {t = t} {u} {us} v e vs = record
-    { fit = and_both _ _ (v.admitted AtArgument) (and_both _ _ (v.below AtArgument) vs.fit)
-    ; staged = and_both _ _ (v.staged AtArgument refl) vs.staged
-    ; lawful = λ s. and_both _ _ (v.lawful s) (vs.lawful s)
-    ; early = and_both _ _ (ap not v.early) vs.early
-    ; scanned = more_scan x t u (forest us)
-        ∙ (ap (λ p. scan (forth (pun_sign ",") p) (with_semicolons (gathered Commas (each_said (part u (forest us))) ++ (pun ")" ∷ End ∷ [])))) v.scanned
-        ∙ (ap (λ p. scan p (with_semicolons (gathered Commas (each_said (part u (forest us))) ++ (pun ")" ∷ End ∷ [])))) e ∙ vs.scanned)) }
+more_value {x} {y} {t = t} {u} {us} v e vs = record {
+  fit = and_both _ _ (v.admitted AtArgument) (and_both _ _ (v.below AtArgument) vs.fit);
+  staged = and_both _ _ (v.staged AtArgument refl) vs.staged;
+  lawful = λ s. and_both _ _ (v.lawful s) (vs.lawful s);
+  early = and_both _ _ (ap not v.early) vs.early;
+  scanned = more_scan x t u (forest us)
+      ∙ (ap (λ p. scan (forth (pun_sign ",") p) (with_semicolons (gathered Commas (each_said (part u (forest us))) ++ (pun ")" ∷ End ∷ [])))) v.scanned
+      ∙ (ap (λ p. scan p (with_semicolons (gathered Commas (each_said (part u (forest us))) ++ (pun ")" ∷ End ∷ [])))) e ∙ vs.scanned));
+}
 
 past_comma : (x : Place) {y : Place} → begun x ≡ true → IsTrue (is_found (forth (pun_sign ")") x)) → forth (pun_sign ")") x ≡ y → forth (pun_sign ")") (forth TrailingComma x) ≡ y
 past_comma x b f e = ap (forth (pun_sign ")")) (comma_else x b (apart Punctuator Punctuator (codes ")") (codes ",") x refl f)) ∙ e
@@ -250,14 +254,15 @@ pub record Fits (c : Nonterminal) (t : Tree) (x y : Place) : Type 0 where
 fits_binding : {x y : Place} {ts : Forest} → Walk (template Bound) x ts y → Fits Declarators (node (statement Declarator) ts) x y
 fits_binding {x} {y} (next {y = x1} (leaf' {t = t} a b l e1 f1) (next {y = x2} (fixed e2 f2) (next (listed (whole {t = u} r s)) done))) =
     let v = value_reads r in
-    record
-    { formed = and_both _ _ a (and_both _ _ l (and_both _ _ (and_both _ _ (v.admitted AtValue) (and_both _ _ (v.below AtValue) refl)) refl))
-    ; staged = and_both _ _ b (and_both _ _ (and_both _ _ (v.staged AtValue refl) refl) refl)
-    ; lawful = λ s. and_both _ _ (and_both _ _ (v.lawful s) refl) refl
-    ; scanned =
-        let n = Tok Operator IdentifierName t in
-        let same : forth (pun_sign "=") (forth (Ends AfterBinding) (forth n x)) ≡ x2 = past_ends Operator Punctuator (codes "=") AfterBinding (forth n x) ∙ (ap (forth (pun_sign "=")) e1 ∙ e2) in
-        scan_alone (forth (pun_sign "=") (forth (Ends AfterBinding) (forth n x))) (spelled u) (End ∷ []) ∙ (ap (λ p. scan p (with_semicolons (spelled u))) same ∙ v.scanned) }
+    record {
+      formed = and_both _ _ a (and_both _ _ l (and_both _ _ (and_both _ _ (v.admitted AtValue) (and_both _ _ (v.below AtValue) refl)) refl));
+      staged = and_both _ _ b (and_both _ _ (and_both _ _ (v.staged AtValue refl) refl) refl);
+      lawful = λ s. and_both _ _ (and_both _ _ (v.lawful s) refl) refl;
+      scanned =
+          let n = Tok Operator IdentifierName t in
+          let same : forth (pun_sign "=") (forth (Ends AfterBinding) (forth n x)) ≡ x2 = past_ends Operator Punctuator (codes "=") AfterBinding (forth n x) ∙ (ap (forth (pun_sign "=")) e1 ∙ e2) in
+          scan_alone (forth (pun_sign "=") (forth (Ends AfterBinding) (forth n x))) (spelled u) (End ∷ []) ∙ (ap (λ p. scan p (with_semicolons (spelled u))) same ∙ v.scanned);
+    }
 
 pub record Bounds (ts : List Tree) (x y : Place) : Type 0 where
   pub fit : fit_each Declarators (forest ts) ≡ true
@@ -285,30 +290,33 @@ is_bound (form Empty c w) = cc
 pub bounds : {x y : Place} {ts : List Tree} → Bindings x ts y → Bounds ts x y
 bounds {x} (last_one {t = t} p n) =
     let b = is_bound p in
-    record
-    { fit = and_both _ _ (and_left (admits Declarators t) (fits_below Declarators t) b.fits.formed) (and_both _ _ (and_right (admits Declarators t) (fits_below Declarators t) b.fits.formed) refl)
-    ; staged = and_both _ _ b.fits.staged refl
-    ; lawful = λ v. and_both _ _ (b.fits.lawful v) refl
-    ; some = refl
-    ; early = refl
-    ; values = and_both _ _ b.value refl
-    ; scanned = scan_both x (spelled t) [] ∙ b.fits.scanned }
+    record {
+      fit = and_both _ _ (and_left (admits Declarators t) (fits_below Declarators t) b.fits.formed) (and_both _ _ (and_right (admits Declarators t) (fits_below Declarators t) b.fits.formed) refl);
+      staged = and_both _ _ b.fits.staged refl;
+      lawful = λ v. and_both _ _ (b.fits.lawful v) refl;
+      some = refl;
+      early = refl;
+      values = and_both _ _ b.value refl;
+      scanned = scan_both x (spelled t) [] ∙ b.fits.scanned;
+    }
 bounds {x} (one_more {t = t} {ts = ts} p (fixed e f) bs) =
     let b = is_bound p in
     let m = bounds bs in
-    record
-    { fit = and_both _ _ (and_left (admits Declarators t) (fits_below Declarators t) b.fits.formed) (and_both _ _ (and_right (admits Declarators t) (fits_below Declarators t) b.fits.formed) m.fit)
-    ; staged = and_both _ _ b.fits.staged m.staged
-    ; lawful = λ v. and_both _ _ (b.fits.lawful v) (m.lawful v)
-    ; some = refl
-    ; early = early_more t ts b.early m.early m.some
-    ; values = and_both _ _ b.value m.values
-    ; scanned = bounds_scan x t ts m.some ∙ (ap (λ p. scan (forth (pun_sign ",") p) (with_semicolons (gathered NoTrailing (each_said (forest ts))))) b.fits.scanned
-        ∙ (ap (λ p. scan p (with_semicolons (gathered NoTrailing (each_said (forest ts))))) e ∙ m.scanned)) }
+    record {
+      fit = and_both _ _ (and_left (admits Declarators t) (fits_below Declarators t) b.fits.formed) (and_both _ _ (and_right (admits Declarators t) (fits_below Declarators t) b.fits.formed) m.fit);
+      staged = and_both _ _ b.fits.staged m.staged;
+      lawful = λ v. and_both _ _ (b.fits.lawful v) (m.lawful v);
+      some = refl;
+      early = early_more t ts b.early m.early m.some;
+      values = and_both _ _ b.value m.values;
+      scanned = bounds_scan x t ts m.some ∙ (ap (λ p. scan (forth (pun_sign ",") p) (with_semicolons (gathered NoTrailing (each_said (forest ts))))) b.fits.scanned
+          ∙ (ap (λ p. scan p (with_semicolons (gathered NoTrailing (each_said (forest ts))))) e ∙ m.scanned));
+    }
   where
     early_more : (t : Tree) (ts : List Tree) → is_last t ≡ false → last_only (forest ts) ≡ true → enough NoTrailing (forest ts) ≡ true → last_only (part t (forest ts)) ≡ true
     early_more t [] e f g = refl
     early_more t (u ∷ us) e f g = and_both _ _ (ap not e) f
+
     bounds_scan : (x : Place) (t : Tree) (ts : List Tree) → enough NoTrailing (forest ts) ≡ true → scan x (with_semicolons (gathered NoTrailing (each_said (part t (forest ts))))) ≡ scan (forth (pun_sign ",") (scan x (with_semicolons (spelled t)))) (with_semicolons (gathered NoTrailing (each_said (forest ts))))
     bounds_scan x t [] g = cc
     bounds_scan x t (u ∷ us) g = scan_both x (spelled t) (pun "," ∷ Space ∷ gathered NoTrailing (each_said (part u (forest us))))
@@ -316,22 +324,24 @@ bounds {x} (one_more {t = t} {ts = ts} p (fixed e f) bs) =
 fits_constant : {x y : Place} {ts : Forest} → Walk (template Constant) x ts y → Fits Item (node (statement (Var ConstWord)) ts) x y
 fits_constant {x} {y} (next (fixed e1 f1) (next (declarators {ts = ts} b) (next (fixed e2 f2) done))) =
     let m = bounds b in
-    record
-    { formed = and_both _ _ (and_both _ _ m.some m.early) (and_both _ _ m.fit refl)
-    ; staged = and_both _ _ m.staged refl
-    ; lawful = λ s. and_both _ _ (and_both _ _ m.values refl) (and_both _ _ (m.lawful s) refl)
-    ; scanned = scan_both (forth const_sign x) (gathered NoTrailing (each_said (forest ts))) (Semicolon ∷ End ∷ [])
-        ∙ (ap (λ p. forth (pun_sign ";") (scan p (with_semicolons (gathered NoTrailing (each_said (forest ts)))))) e1 ∙ (ap (forth (pun_sign ";")) m.scanned ∙ e2)) }
+    record {
+      formed = and_both _ _ (and_both _ _ m.some m.early) (and_both _ _ m.fit refl);
+      staged = and_both _ _ m.staged refl;
+      lawful = λ s. and_both _ _ (and_both _ _ m.values refl) (and_both _ _ (m.lawful s) refl);
+      scanned = scan_both (forth const_sign x) (gathered NoTrailing (each_said (forest ts))) (Semicolon ∷ End ∷ [])
+          ∙ (ap (λ p. forth (pun_sign ";") (scan p (with_semicolons (gathered NoTrailing (each_said (forest ts)))))) e1 ∙ (ap (forth (pun_sign ";")) m.scanned ∙ e2));
+    }
 
 fits_evaluation : {x y : Place} {ts : Forest} → Walk (template Evaluation) x ts y → Fits Item (node (statement ExprStmt) ts) x y
 fits_evaluation {x} {y} (next (no_string {t = t} r s n) (next (fixed e f) done)) =
     let v = value_reads r in
-    record
-    { formed = and_both _ _ (v.admitted AtStatement) (and_both _ _ (v.below AtStatement) refl)
-    ; staged = and_both _ _ (ap not n) (and_both _ _ (v.staged AtStatement refl) refl)
-    ; lawful = λ s. and_both _ _ (plain_one t v.plain) (and_both _ _ (v.lawful s) refl)
-    ; scanned = scan_both (forth (Unless heads) x) (spelled t) (Semicolon ∷ End ∷ [])
-        ∙ (ap (λ p. forth (pun_sign ";") (scan p (with_semicolons (spelled t)))) (unless_heads (split r).first) ∙ (ap (forth (pun_sign ";")) v.scanned ∙ e)) }
+    record {
+      formed = and_both _ _ (v.admitted AtStatement) (and_both _ _ (v.below AtStatement) refl);
+      staged = and_both _ _ (ap not n) (and_both _ _ (v.staged AtStatement refl) refl);
+      lawful = λ s. and_both _ _ (plain_one t v.plain) (and_both _ _ (v.lawful s) refl);
+      scanned = scan_both (forth (Unless heads) x) (spelled t) (Semicolon ∷ End ∷ [])
+          ∙ (ap (λ p. forth (pun_sign ";") (scan p (with_semicolons (spelled t)))) (unless_heads (split r).first) ∙ (ap (forth (pun_sign ";")) v.scanned ∙ e));
+    }
   where
     plain_one : (t : Tree) → is_strict_body t ≡ false → has_plain_params (part t none) ≡ true
     plain_one t e = ap (λ b. nat_eq (cond b 1 0) 0 || all_of is_plain_list (part t none)) e

@@ -1,17 +1,15 @@
 -- A module is the run of its statements.
-use Rattle.std.proofs.Common.{◌≡◌, Bool, true, false, not, List, [], ◌∷◌, ◌++◌, refl, sym, ◌∙◌, ap, subst}
+use Rattle.std.proofs.Common.{◌≡◌, true, false, not, List, [], ◌∷◌, refl, sym, ◌∙◌, ap, subst}
 use Rattle.std.specs.Prelude.{IsTrue, ◌&&◌}
 use Rattle.jsx_base.specs.Token.{Text}
-use Rattle.jsx_tree.specs.declared.text.Goal.TheVariants as goals
-use Rattle.jsx_tree.specs.Signs.{AfterExpr, Sign, End}
+use Rattle.jsx_tree.specs.Signs.{AfterExpr, End}
 use Rattle.jsx_tree.specs.Kinds.{Module, Kind, program, Tree, leaf, node, list, Forest, none, part}
 use Rattle.jsx_tree.specs.Nonterminals.{Item, DirectiveOnly, WholeProgram, in_homes, homes}
 use Rattle.jsx_tree.specs.Grammar.{InModuleCode, TopLines}
 use Rattle.jsx_tree.specs.Form.{Several, is, last_only, admits, shaped, fits_below, fit_slots, fit_each, positions}
 use Rattle.jsx_tree.specs.Spelling.{spelled, each_said, gathered}
-use Rattle.jsx_tree.specs.Reading.{Place, At, scan, ended_at, reads}
+use Rattle.jsx_tree.specs.Reading.{Place, At, scan, ended_at}
 use Rattle.jsx_tree.specs.StaticRules.{Surroundings, outside, enter, legal, each_legal, first_of_list, is_string_stmt}
-use Rattle.jsx_tree.specs.Program.{Reads}
 use Rattle.jsx_tree.specs.Stage.{ReadsSoFar, has_kind, in_stage, in_stages, each_in_stage, with_semicolons}
 use Rattle.jsx_tree.specs.View.{forest}
 use Rattle.jsx_syntax.specs.Pieces.{is_found, Run, stop, more}

@@ -1,27 +1,27 @@
 -- Statements one behind the other.
-use Rattle.std.proofs.Common.{◌≡◌, Bool, true, false, not, cond, List, [], ◌∷◌, ◌++◌, map, Box, Global, refl, sym, ◌∙◌, ap, subst}
-use Rattle.std.specs.Prelude.{IsTrue, codes, ◌&&◌, ◌||◌}
-use Rattle.jsx_base.specs.Token.{Text, Operand, Operator, TokenKind, IdentifierName, Punctuator, StringLiteral, NoToken, Lexeme, breaks, skip, same, is_end, is_kind, is_token, at_front, token}
+use Rattle.std.proofs.Common.{◌≡◌, Bool, true, false, not, List, [], ◌∷◌, ◌++◌, map, Box, Global, refl, sym, ◌∙◌, ap, subst}
+use Rattle.std.specs.Prelude.{IsTrue, codes, ◌||◌}
+use Rattle.jsx_base.specs.Token.{Text, Operand, Operator, TokenKind, IdentifierName, Punctuator, StringLiteral, NoToken, breaks, skip, same, is_kind, is_token, at_front, token}
 use Rattle.jsx_tree.specs.Signs.{AfterExpr, Sign, Tok, Line}
-use Rattle.jsx_tree.specs.Kinds.{ExprStmt, statement, Tree, leaf, node, list, Forest, none, part}
+use Rattle.jsx_tree.specs.Kinds.{ExprStmt, statement, Tree, leaf, node, list, none, part}
 use Rattle.jsx_tree.specs.Nonterminals as places
 use Rattle.jsx_tree.specs.Grammar.{TopLines}
 use Rattle.jsx_tree.specs.Form.{is, is_last, last_only, admits, fits_below, fit_each}
 use Rattle.jsx_tree.specs.Spelling.{spelled, each_said, gathered}
 use Rattle.jsx_tree.specs.Reading.{Place, Lost, At, forth, scan, ended_at}
-use Rattle.jsx_tree.specs.StaticRules.{Surroundings, legal, each_legal, first_of_list, is_string_stmt}
-use Rattle.jsx_tree.specs.Stage.{is_string, in_stage, each_in_stage, with_semicolons}
+use Rattle.jsx_tree.specs.StaticRules.{Surroundings, each_legal, first_of_list, is_string_stmt}
+use Rattle.jsx_tree.specs.Stage.{is_string, each_in_stage, with_semicolons}
 use Rattle.jsx_tree.specs.declared.tree.Stmt.{Stmt}
 use Rattle.jsx_tree.specs.declared.tree.Item.{Item}
 use Rattle.jsx_tree.specs.declared.tree.Item.TheVariants as item
 use Rattle.jsx_tree.specs.View.{forest, view_stmt, view_item}
-use Rattle.jsx_syntax.specs.Pieces.{is_found, const_sign, Statement, Constant, Evaluation, Bound, Empty, Part, one, Literal, IsName, IsNumber, IsString, token_kind, Past, fixed, form, no_string, Walk, done, next, Primary, literal, markup, Run, stop, more}
+use Rattle.jsx_syntax.specs.Pieces.{is_found, Statement, Constant, Evaluation, Bound, Empty, Part, one, IsName, IsNumber, IsString, token_kind, Past, fixed, form, no_string, done, next, Primary, literal, markup, Run, stop, more}
 use Rattle.jsx_syntax.specs.Answers.{Barred}
 use Rattle.jsx_syntax.proofs.Tokens.{and_left, and_right, and_both, same_is}
 use Rattle.jsx_syntax.proofs.Apart.{clash, found_token}
 use Rattle.jsx_syntax.proofs.Unique.{found_at, one_past, one_inj, split}
 use Rattle.jsx_syntax.proofs.Signs.{scan_both}
-use Rattle.jsx_syntax.proofs.Meaning.{Fits, fits_past}
+use Rattle.jsx_syntax.proofs.Meaning.{fits_past}
 
 pub run_on : {x y z : Place} {ts : List Tree} {t : Tree} → Run x ts y → Past (Part Statement) y (one t) z → Run x (ts ++ t ∷ []) z
 run_on stop p = more p stop
@@ -140,4 +140,3 @@ pub all_scan : {x y : Place} {ts : List Tree} → Run x ts y → scan x (with_se
 all_scan stop = refl
 all_scan {x} (more {t = t} {ts = ts} p r) =
     gathered_more x (spelled t) (each_said (forest ts)) ∙ (ap (λ q. scan q (with_semicolons (gathered TopLines (each_said (forest ts))))) (fits_past p).scanned ∙ all_scan r)
-

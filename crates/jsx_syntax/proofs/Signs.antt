@@ -2,15 +2,15 @@
 use Rattle.std.proofs.Common.{◌≡◌, nat_eq, Bool, true, false, not, cond, List, [], ◌∷◌, ◌++◌, append-nil, refl, sym, ◌∙◌, ap, subst}
 use Rattle.std.specs.Prelude.{IsTrue, codes, ◌&&◌, ◌||◌}
 use Rattle.std.proofs.lemmas.Bool.{eq-eqb}
-use Rattle.jsx_base.specs.Token.{Text, Mode, Operand, Operator, TokenKind, IdentifierName, Punctuator, NumericLiteral, StringLiteral, JsxName, Lexeme, kind_number, is_kind, is_token, no_token, lexed, state, begins, breaks, skip, at_front, token, same, among, first_is}
-use Rattle.jsx_tree.specs.Signs.{Ending, AfterExpr, Sign, Tok, Semicolon, TrailingComma, Unless, Ends, End}
-use Rattle.jsx_tree.specs.Grammar.{heads, pun}
+use Rattle.jsx_base.specs.Token.{Text, Mode, Operand, Operator, TokenKind, Punctuator, Lexeme, kind_number, is_kind, is_token, no_token, lexed, state, begins, breaks, skip, at_front, token, same, among, first_is}
+use Rattle.jsx_tree.specs.Signs.{Ending, AfterExpr, Sign, Tok, Semicolon, TrailingComma, Unless, Ends}
+use Rattle.jsx_tree.specs.Grammar.{heads}
 use Rattle.jsx_tree.specs.Form.{is_leaf}
 use Rattle.jsx_tree.specs.Reading.{Place, Lost, At, forth, scan, ended_at}
 use Rattle.jsx_tree.specs.Stage.{value_leaf, with_semicolons}
 use Rattle.jsx_tree.proofs.Laws.{scan_append}
 use Rattle.jsx_syntax.specs.Pieces.{is_found, pun_sign, Literal, IsName, IsNumber, IsString, token_kind, Primary, literal, markup, form, Empty, Constant, Evaluation, Bound, next, fixed}
-use Rattle.jsx_syntax.proofs.Tokens.{and_left, and_right, and_both, same_is, same_self, found_first}
+use Rattle.jsx_syntax.proofs.Tokens.{and_right, and_both, same_is, found_first}
 use Rattle.jsx_syntax.proofs.Fronts.{other_ahead}
 use Rattle.jsx_syntax.proofs.Apart.{by_not, clash, found_token, less_first, less_or_other}
 use Rattle.jsx_syntax.proofs.Unique.{found_at}
@@ -91,7 +91,7 @@ comma_else (At q e text) b f =
     let l = token Operator false text in
     not_mark (codes ",") l (At q e text) _
     (by_not (is_mark (codes ",") l) (λ h. clash (is_found (forth (pun_sign ",") (At q e text)))
-        (subst (λ m. is_found (cond (is_mark (codes ",") m) (At (codes ",") AfterExpr m.rest) Lost) ≡ true) (sym same') (ap (λ v. is_found (cond v (At (codes ",") AfterExpr l.rest) Lost)) h)) f))
+    (subst (λ m. is_found (cond (is_mark (codes ",") m) (At (codes ",") AfterExpr m.rest) Lost) ≡ true) (sym same') (ap (λ v. is_found (cond v (At (codes ",") AfterExpr l.rest) Lost)) h)) f))
 
 begun_at : (b : Bool) (t rest : Text) (y : Place) → cond b (At t AfterExpr rest) Lost ≡ y → same t [] ≡ false → begun y ≡ true
 begun_at true t rest y e n = subst (λ p. begun p ≡ true) e (ap not n)

@@ -1,20 +1,19 @@
 -- The steps of a parser along a row, over plain places.
-use Rattle.std.proofs.Common.{◌≡◌, Bool, true, false, List, [], ◌∷◌, ◌++◌, append-nil, append_assoc, map, refl, sym, ◌∙◌, ap, subst}
-use Rattle.std.specs.Prelude.{Result, Ok, Err, IfOk, IsTrue, IsFalse, codes, not, ◌&&◌}
+use Rattle.std.proofs.Common.{◌≡◌, true, false, List, [], ◌∷◌, ◌++◌, append-nil, append_assoc, map, refl, sym, ◌∙◌, ap, subst}
+use Rattle.std.specs.Prelude.{Result, Ok, Err, IfOk, IsTrue, codes, not, ◌&&◌}
 use Rattle.jsx_base.specs.Token.{Punctuator}
 use Rattle.std.specs.Result.{IsErrAnd}
 use Rattle.std.proofs.lemmas.Result.{err_from_is_err_and}
-use Rattle.jsx_base.specs.declared.place.BytePos.{BytePos}
-use Rattle.jsx_tree.specs.Kinds.{Call, expression, Kind, Tree, Forest, node, list, none, part}
+use Rattle.jsx_tree.specs.Kinds.{Kind, Tree, Forest, node, list, none}
 use Rattle.jsx_tree.specs.Reading.{Place, Lost, forth}
 use Rattle.jsx_tree.specs.Stage.{is_string}
 use Rattle.jsx_tree.specs.View.{forest}
 use Rattle.jsx_syntax.specs.declared.error.ParseError.{ParseError}
 use Rattle.jsx_syntax.specs.declared.error.ParseError.TheVariants.{Syntax}
-use Rattle.jsx_syntax.specs.Pieces.{is_found, stops, pun_sign, const_sign, behind_const, Class, Statement, Binding, Markup, Form, Constant, Evaluation, Bound, Empty, class_of, kind_of, template, Piece, Fixed, Part, Whole, NoString, Listed, Declarators, Given, nothing, one, with, single, Past, fixed, form, whole, no_string, listed, declarators, Walk, done, next, Bindings, last_one, one_more, Primary, Step, by_dot, by_call, Dotted, Called, called, Arguments, closed, last, then', Reads, primary, grown}
+use Rattle.jsx_syntax.specs.Pieces.{is_found, stops, pun_sign, const_sign, behind_const, Class, Statement, Binding, Markup, Form, Constant, Evaluation, Bound, Empty, class_of, kind_of, template, Piece, Fixed, Part, Whole, NoString, Listed, Declarators, Given, nothing, one, with, Past, fixed, form, whole, no_string, listed, declarators, Walk, done, next, Bindings, last_one, one_more, Step, by_dot, by_call, Dotted, Called, called, Arguments, closed, last, then', Reads}
 use Rattle.jsx_syntax.specs.Answers.{Barred, NoWalk, Refused, Built, NoPrimary, NoDotted, NoArguments}
 use Rattle.jsx_syntax.proofs.Apart.{clash, never_both}
-use Rattle.jsx_syntax.proofs.Unique.{found_at, one_past, one_inj, const_reads, split, Through, here, further, passes, fixed_found, no_step, stops_dot, stops_call}
+use Rattle.jsx_syntax.proofs.Unique.{found_at, one_past, one_inj, const_reads, split, Through, here, further, passes, fixed_found, stops_dot, stops_call}
 
 pub bar : {p : Piece} {ps : List Piece} {x : Place} → Barred p x → NoWalk (p ∷ ps) x
 bar {p} {ps} {x} b = record { no = at }
@@ -77,6 +76,7 @@ barred_constant {x} {y} p n = record { no = at }
   where
     word : IsTrue (is_found (forth const_sign x))
     word = fixed_found p
+
     at : (g : Given) (z : Place) → Past (Part Statement) x g z → ⊥
     at g z (form Constant {ts = ts} e w) = (on p n).no ts z w
     at g z (form Evaluation e (next (no_string r s i) w)) = const_reads word r
@@ -142,9 +142,10 @@ no_more_bindings {x} {y} {z} {t} p q b = record { no = at }
         b.no (one (list (forest us))) w (declarators (subst (λ v. Bindings v us w) (sym same.1) bs))
 
 pub next_binding : {x y z w : Place} {t : Tree} {ts us : List Tree} → MoreBindings x ts y → Past (Part Binding) y (one t) z → Past (Fixed (pun_sign ",")) z nothing w → us ≡ ts ++ t ∷ [] → MoreBindings x us w
-next_binding {x} {y} {z} {w} {t} {ts} {us} m p q e = record
-    { reads = λ vs v b. subst (λ ws. Bindings x ws v) (sym (ap (λ ws. ws ++ vs) e ∙ append_assoc ts (t ∷ []) vs)) (m.reads (t ∷ vs) v (one_more p q b))
-    ; bars = λ b. m.bars (no_more_bindings p q b) }
+next_binding {x} {y} {z} {w} {t} {ts} {us} m p q e = record {
+  reads = λ vs v b. subst (λ ws. Bindings x ws v) (sym (ap (λ ws. ws ++ vs) e ∙ append_assoc ts (t ∷ []) vs)) (m.reads (t ∷ vs) v (one_more p q b));
+  bars = λ b. m.bars (no_more_bindings p q b);
+}
 
 pub last_binding : {x y z : Place} {t : Tree} {ts us : List Tree} → MoreBindings x ts y → Past (Part Binding) y (one t) z → forth (pun_sign ",") z ≡ Lost → us ≡ ts ++ t ∷ [] → Bindings x us z
 last_binding {x} {z = z} {t} {ts} m p lost e = subst (λ v. Bindings x v z) (sym e) (m.reads (t ∷ []) z (last_one p (ap is_found lost)))
@@ -208,9 +209,10 @@ no_more_arguments {x} {y} {z} lost p q n = record { no = at }
         n.no us w (subst (λ u. Arguments u us w) (sym same.1) a)
 
 pub next_argument : {x y z w : Place} {t : Tree} {ts us : List Tree} → MoreArguments x ts y → forth (pun_sign ")") y ≡ Lost → Past Whole y (one t) z → Past (Fixed (pun_sign ",")) z nothing w → us ≡ ts ++ t ∷ [] → MoreArguments x us w
-next_argument {x} {y} {z} {w} {t} {ts} {us} m lost p q e = record
-    { reads = λ vs v b. subst (λ ws. Arguments x ws v) (sym (ap (λ ws. ws ++ vs) e ∙ append_assoc ts (t ∷ []) vs)) (m.reads (t ∷ vs) v (then' p q b))
-    ; bars = λ n. m.bars (no_more_arguments lost p q n) }
+next_argument {x} {y} {z} {w} {t} {ts} {us} m lost p q e = record {
+  reads = λ vs v b. subst (λ ws. Arguments x ws v) (sym (ap (λ ws. ws ++ vs) e ∙ append_assoc ts (t ∷ []) vs)) (m.reads (t ∷ vs) v (then' p q b));
+  bars = λ n. m.bars (no_more_arguments lost p q n);
+}
 
 -- ---- expressions
 
@@ -223,9 +225,11 @@ bad_dot {x} {y} {z} {t} r p n = record { no = at }
     step : {w : Place} {v : Tree} → Step y t w v → ⊥
     step {w} {v} (by_dot q d) = n.no v w (subst (λ a. Dotted a t w v) (sym (one_past p q).1) d)
     step (by_call q d) = never_both Punctuator Punctuator (codes ".") (codes "(") y refl (fixed_found p) (fixed_found q)
+
     goes : {w : Place} {v : Tree} → Through y t w v → stops w ≡ true → ⊥
     goes here s = stops_dot y s (fixed_found p)
     goes (further st th) s = step st
+
     at : (g : Given) (w : Place) → Past Whole x g w → ⊥
     at g w (whole r' s) = goes (passes r r' s) s
 
@@ -234,12 +238,15 @@ bad_call {x} {y} {z} {t} r p n = record { no = at }
   where
     behind : {a w : Place} {v : Tree} → z ≡ a → Called a t w v → ⊥
     behind {w = w} same (called {ts = ts} b) = n.no ts w (subst (λ u. Arguments u ts w) (sym same) b)
+
     step : {w : Place} {v : Tree} → Step y t w v → ⊥
     step (by_dot q d) = never_both Punctuator Punctuator (codes "(") (codes ".") y refl (fixed_found p) (fixed_found q)
     step (by_call q d) = behind (one_past p q).1 d
+
     goes : {w : Place} {v : Tree} → Through y t w v → stops w ≡ true → ⊥
     goes here s = stops_call y s (fixed_found p)
     goes (further st th) s = step st
+
     at : (g : Given) (w : Place) → Past Whole x g w → ⊥
     at g w (whole r' s) = goes (passes r r' s) s
 

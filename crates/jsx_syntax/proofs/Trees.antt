@@ -1,5 +1,5 @@
 -- The views of what the parser builds.
-use Rattle.std.proofs.Common.{◌≡◌, List, [], ◌∷◌, ◌++◌, map, refl, sym, ◌∙◌, ap, subst, Option, Some, Box, Vec, Global}
+use Rattle.std.proofs.Common.{◌≡◌, map, sym, ◌∙◌, ap, subst, Option, Some, Box, Vec, Global}
 use Rattle.jsx_base.specs.declared.place.Span.{Span}
 use Rattle.jsx_tree.specs.Kinds.{Declarator, Call, Member, statement, expression, Tree, leaf, node, list, none, part}
 use Rattle.jsx_tree.specs.declared.tree.Expr.{Expr}

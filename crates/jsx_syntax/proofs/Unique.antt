@@ -1,18 +1,16 @@
 -- Each piece of a text is read in one way.
 use Rattle.std.proofs.Common.{◌≡◌, nat_eq, Bool, true, false, not, List, [], ◌∷◌, refl, sym, ◌∙◌, ap, subst}
-use Rattle.std.specs.Prelude.{IsTrue, IsFalse, codes, ◌&&◌}
-use Rattle.jsx_base.specs.Token.{Text, Operand, Operator, TokenKind, IdentifierName, Punctuator, kind_number, is_kind, same, among}
+use Rattle.std.specs.Prelude.{IsTrue, codes}
+use Rattle.jsx_base.specs.Token.{Text, Operator, TokenKind, IdentifierName, Punctuator}
 use Rattle.jsx_tree.specs.Signs.{Tok}
 use Rattle.jsx_tree.specs.Kinds.{Call, Member, expression, Tree, Forest, leaf, node, list, none, part}
-use Rattle.jsx_tree.specs.Nonterminals.{is_ident, reserved}
-use Rattle.jsx_tree.specs.Form.{is_leaf}
+use Rattle.jsx_tree.specs.Nonterminals.{is_ident}
 use Rattle.jsx_tree.specs.Spelling.{mode_of}
 use Rattle.jsx_tree.specs.Reading.{Place, forth}
-use Rattle.jsx_tree.specs.Stage.{value_leaf}
 use Rattle.jsx_tree.specs.View.{forest}
-use Rattle.jsx_syntax.specs.Pieces.{is_found, stops, pun_sign, Class, Statement, Markup, Form, Constant, Evaluation, Bound, Empty, class_of, kind_of, template, Piece, Fixed, Part, Binding, Whole, NoString, Given, nothing, one, with, single, Literal, IsName, IsNumber, IsString, token_kind, Past, fixed, spelled, form, whole, no_string, listed, absent, declarators, Walk, done, next, Bindings, last_one, one_more, Primary, literal, markup, Step, by_dot, by_call, Dotted, dotted, Called, called, Arguments, closed, last, then', Reads, primary, grown}
+use Rattle.jsx_syntax.specs.Pieces.{is_found, stops, pun_sign, Markup, Form, Constant, Evaluation, Bound, Empty, class_of, kind_of, template, Piece, Fixed, Part, Whole, NoString, Given, nothing, one, with, single, Literal, IsName, IsNumber, IsString, token_kind, Past, fixed, spelled, form, whole, no_string, listed, absent, declarators, Walk, done, next, Bindings, last_one, one_more, Primary, literal, markup, Step, by_dot, by_call, Dotted, dotted, Called, called, Arguments, closed, last, then', Reads, primary, grown}
 use Rattle.jsx_syntax.proofs.Tokens.{and_left, and_right, one_text}
-use Rattle.jsx_syntax.proofs.Apart.{clash, never_both, one_token, less_other, less_literal}
+use Rattle.jsx_syntax.proofs.Apart.{clash, never_both, less_other, less_literal}
 
 pub one_inj : {t u : Tree} → one t ≡ one u → t ≡ u
 one_inj e = cc

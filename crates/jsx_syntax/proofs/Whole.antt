@@ -2,18 +2,17 @@
 use Rattle.std.proofs.Common.{◌≡◌, nat_eq, Bool, true, false, not, cond, List, [], ◌∷◌, ◌++◌, refl, sym, ◌∙◌, ap, subst}
 use Rattle.std.specs.Prelude.{IsTrue, codes, ◌&&◌}
 use Rattle.jsx_base.specs.Token.{Text, Operand, Operator, Tag, TokenKind, IdentifierName, Punctuator, NumericLiteral, StringLiteral, JsxName, kind_number, same, among, token}
-use Rattle.jsx_tree.specs.Signs.{Sign, Tok, Semicolon, AfterBinding, TrailingComma, Unless, Ends, Space, Count, One, End}
+use Rattle.jsx_tree.specs.Signs.{Tok, Semicolon, AfterBinding, TrailingComma, Unless, Ends, Space, Count, One, End}
 use Rattle.jsx_tree.specs.Kinds.{ConstWord, Module, Var, Declarator, ExprStmt, Binds, Call, Member, Element, Kind, program, statement, expression, jsx, Tree, leaf, node, list, Forest, none, part}
-use Rattle.jsx_tree.specs.Nonterminals.{Nonterminal, Expr, MemberObject, DotObject, Name, Pat, Item, Declarators, Argument, TagName, Attributes, in_homes, homes, is_bound}
+use Rattle.jsx_tree.specs.Nonterminals.{Expr, MemberObject, DotObject, Name, Pat, Item, Declarators, Argument, TagName, Attributes, in_homes, homes, is_bound}
 use Rattle.jsx_tree.specs.Grammar.{Commas, NoTrailing, Spaced, heads, pun}
-use Rattle.jsx_tree.specs.Form.{Single, Maybe, Several, enough, last_only, is, is_leaf, admits, shaped, fits_below, fit_slots, fit_each, positions}
+use Rattle.jsx_tree.specs.Form.{Maybe, Several, enough, last_only, is_leaf, admits, shaped, fits_below, fit_slots, fit_each, positions}
 use Rattle.jsx_tree.specs.Spelling.{spelled, each_said, gathered}
 use Rattle.jsx_tree.specs.Reading.{Place, Lost, At, forth, scan}
 use Rattle.jsx_tree.specs.StaticRules.{Surroundings, is_here, all_of, has_init, legal}
 use Rattle.jsx_tree.specs.Stage.{has_kind, limits, is_plain_tag, is_string, value_leaf, in_stage, in_stages, each_in_stage, leaf_at, with_semicolons}
 use Rattle.jsx_tree.specs.View.{forest}
-use Rattle.jsx_syntax.specs.Pieces as piece
-use Rattle.jsx_syntax.specs.Pieces.{is_found, stops, pun_sign, const_sign, is_number, Statement, Binding, Markup, Constant, Evaluation, Bound, Empty, template, Part, one, single, IsName, IsNumber, IsString, Past, fixed, spelled as leaf', form, whole, no_string, listed, absent, declarators, Walk, done, next, Bindings, last_one, one_more, literal, markup, by_dot, by_call, dotted, called, Arguments, closed, last, then', Reads, primary, grown}
+use Rattle.jsx_syntax.specs.Pieces.{is_found, stops, pun_sign, const_sign, is_number, Statement, Binding, Constant, Evaluation, Bound, Empty, template, Part, one, single, IsName, IsNumber, IsString, Past, fixed, spelled as leaf', form, whole, no_string, listed, absent, declarators, Walk, done, next, Bindings, last_one, one_more, literal, markup, by_dot, by_call, dotted, called, Arguments, closed, last, then', Reads, primary, grown}
 use Rattle.jsx_syntax.proofs.Tokens.{and_left, and_right, and_both, found_before, found_first}
 use Rattle.jsx_syntax.proofs.Apart.{apart}
 use Rattle.jsx_syntax.proofs.Unique.{found_at}
@@ -258,7 +257,7 @@ last_argument_of t x z r e f =
     by_case (is_found (forth (pun_sign ",") y))
     (λ c. then' (whole r (mark_stops (codes ",") y refl refl c)) (fixed refl c) (closed (fixed (ap (forth (pun_sign ")")) (sym (comma_too y c)) ∙ e) f)))
     (λ c. let e' : forth (pun_sign ")") y ≡ z = ap (forth (pun_sign ")")) (sym (comma_else y (reads_begun r) c)) ∙ e in
-        last (whole r (mark_stops (codes ")") y refl refl (found_at e' f))) (fixed e' f))
+    last (whole r (mark_stops (codes ")") y refl refl (found_at e' f))) (fixed e' f))
 
 arguments_of : (ts : Forest) → Each ts → (x z : Place) → fit_each Argument ts ≡ true → each_in_stage Argument ts ≡ true → scan x (with_semicolons (gathered Commas (each_said ts) ++ (pun ")" ∷ End ∷ []))) ≡ z → IsTrue (is_found z) → Arguments x (trees_of ts) z
 unfolding trees_of
@@ -277,7 +276,7 @@ arguments_of (part t (part u us)) (one_by_one r c) x z m s e f =
     let f1 = found_before (pun_sign ",") y f2 in
     let m1 = three (admits Argument t) (fits_below Argument t) (fit_each Argument (part u us)) m in
     then' (whole ((claim_of r).reads AtArgument x y m1.0 m1.1 (and_left (in_stage Argument t) _ s) refl f1) (mark_stops (codes ",") y refl refl f2)) (fixed refl f2)
-        (arguments_of (part u us) c w z m1.2 (and_right (in_stage Argument t) (each_in_stage Argument (part u us)) s) e' f)
+    (arguments_of (part u us) c w z m1.2 (and_right (in_stage Argument t) (each_in_stage Argument (part u us)) s) e' f)
 
 call_reads : (a : Tree) (ts : Forest) (x y : Place) → Claim a → Each ts → admits MemberObject a ≡ true → fits_below MemberObject a ≡ true → in_stage MemberObject a ≡ true → fit_each Argument ts ≡ true → each_in_stage Argument ts ≡ true
     → scan x (with_semicolons (spelled (node (expression Call) (part a (part (list ts) none))))) ≡ y → IsTrue (is_found y) → Reads x (node (expression Call) (part a (part (list ts) none))) y
@@ -413,7 +412,7 @@ walks_binding n u {x} {y} fine all h m s e f st =
     let x2 = forth (pun_sign "=") x1 in
     let same' : forth (pun_sign "=") (forth (Ends AfterBinding) x1) ≡ x2 = past_ends Operator Punctuator (codes "=") AfterBinding x1 in
     let e' : scan x2 (with_semicolons (spelled u)) ≡ y =
-        ap (λ p. scan p (with_semicolons (spelled u))) (sym same') ∙ (sym (scan_alone (forth (pun_sign "=") (forth (Ends AfterBinding) x1)) (spelled u) (End ∷ [])) ∙ e) in
+    ap (λ p. scan p (with_semicolons (spelled u))) (sym same') ∙ (sym (scan_alone (forth (pun_sign "=") (forth (Ends AfterBinding) x1)) (spelled u) (End ∷ [])) ∙ e) in
     let f2 = found_first (with_semicolons (spelled u)) x2 (found_at e' f) in
     let f1 = found_before (pun_sign "=") x1 f2 in
     next (leaf' fine refl all refl f1) (next (fixed refl f2) (next (listed (whole ((claim u).reads AtValue x2 y h m s e' f) st)) done))
@@ -483,7 +482,7 @@ bindings_of (part t none) {x} {y} m s i n e f =
     let m1 = three (admits Declarators t) (fits_below Declarators t) true m in
     let e' = sym (scan_both x (spelled t) []) ∙ e in
     last_one (binding_past t m1.0 m1.1 (and_left (in_stage Declarators t) true s) (and_left (has_init ConstWord t) true i) e' (found_before (pun_sign ";") y f) (mark_stops (codes ";") y refl refl f))
-        (apart Punctuator Punctuator (codes ";") (codes ",") y refl f)
+    (apart Punctuator Punctuator (codes ";") (codes ",") y refl f)
 bindings_of (part t (part u us)) {x} {y} m s i n e f =
     let m1 = three (admits Declarators t) (fits_below Declarators t) (fit_each Declarators (part u us)) m in
     let z = scan x (with_semicolons (spelled t)) in
@@ -492,7 +491,7 @@ bindings_of (part t (part u us)) {x} {y} m s i n e f =
     let f2 = found_first (with_semicolons (gathered NoTrailing (each_said (part u us)))) w (found_at e' (found_before (pun_sign ";") y f)) in
     let f1 = found_before (pun_sign ",") z f2 in
     one_more (binding_past t m1.0 m1.1 (and_left (in_stage Declarators t) _ s) (and_left (has_init ConstWord t) _ i) refl f1 (mark_stops (codes ",") z refl refl f2)) (fixed refl f2)
-        (bindings_of (part u us) m1.2 (and_right (in_stage Declarators t) (each_in_stage Declarators (part u us)) s) (and_right (has_init ConstWord t) (all_of (has_init ConstWord) (part u us)) i) refl e' f)
+    (bindings_of (part u us) m1.2 (and_right (in_stage Declarators t) (each_in_stage Declarators (part u us)) s) (and_right (has_init ConstWord t) (all_of (has_init ConstWord) (part u us)) i) refl e' f)
 
 -- ---- `const a = b, c = d;`
 

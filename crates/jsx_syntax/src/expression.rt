@@ -46,14 +46,22 @@ fn primary<'s>(lexer: &mut Lexer<'s>) -> Result<Expr<'s>, ParseError>
     }
     if let Some(raw) = lexer.leaf(Leaf::Str) {
         let lo = lexer.last_place();
-        return Ok(Expr::Literal(span_to(lo, lexer, raw), LiteralKind::Str, Text::Read(raw, lo)));
+        return Ok(Expr::Literal(
+            span_to(lo, lexer, raw),
+            LiteralKind::Str,
+            Text::Read(raw, lo),
+        ));
     }
     if let Some(raw) = lexer.leaf(Leaf::Num) {
         if !is_all_digits(raw) {
             return Err(give_up(lexer));
         }
         let lo = lexer.last_place();
-        return Ok(Expr::Literal(span_to(lo, lexer, raw), LiteralKind::Num, Text::Read(raw, lo)));
+        return Ok(Expr::Literal(
+            span_to(lo, lexer, raw),
+            LiteralKind::Num,
+            Text::Read(raw, lo),
+        ));
     }
     Ok(Expr::Jsx(element(lexer)?))
 }
@@ -80,7 +88,11 @@ pub fn span_of(expr: &Expr) -> Span {
 }
 
 /// A member behind its `.`: `a.b`.
-fn member<'s>(alloc: Global, lexer: &mut Lexer<'s>, object: Expr<'s>) -> Result<Expr<'s>, ParseError>
+fn member<'s>(
+    alloc: Global,
+    lexer: &mut Lexer<'s>,
+    object: Expr<'s>,
+) -> Result<Expr<'s>, ParseError>
     ensures read { IfOk result (λ e. Dotted (place_of lexer.old) (view_expr object.entry) (place_of lexer.new) (view_expr e)) }
     ensures shorter { OnOk result (left lexer.new < left lexer.old) }
     ensures refused { Refused result (NoDotted (place_of lexer.old) (view_expr object.entry)) }

@@ -27,7 +27,11 @@ fn declarator<'s>(alloc: Global, lexer: &mut Lexer<'s>) -> Result<Pat<'s>, Parse
     expect(lexer, Fixed::Equals)?;
     let value = expression(alloc, lexer)?;
     let span = Span::new(lo, span_of(&value).hi);
-    Ok(Pat::Binding(Some(span), Box::new(alloc, name)?, Some(Box::new(alloc, value)?)))
+    Ok(Pat::Binding(
+        Some(span),
+        Box::new(alloc, name)?,
+        Some(Box::new(alloc, value)?),
+    ))
 }
 
 /// One declarator or more, with commas between: `a = b, c = d`.

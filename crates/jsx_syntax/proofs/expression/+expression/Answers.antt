@@ -1,11 +1,11 @@
-use Rattle.std.proofs.Common.{◌≡◌, arith, map, refl, sym, ◌∙◌, ap, subst}
+use Rattle.std.proofs.Common.{◌≡◌, arith, refl, sym, ◌∙◌, ap, subst}
 use Rattle.jsx_tree.specs.View.{view_expr}
 use Rattle.jsx_tree.specs.Reading.{Lost, forth}
 use Rattle.jsx_syntax.specs.Here.{place_of, left}
 use Rattle.jsx_syntax.specs.Pieces.{Fixed, Whole, pun_sign, one, Past, whole, primary, grown, by_dot, by_call}
 use Rattle.jsx_syntax.specs.Answers.{Barred}
 use Rattle.jsx_syntax.proofs.Leaves.{read_fixed}
-use Rattle.jsx_syntax.proofs.Steps.{passed, from_place, map_push, first_argument, all_arguments, last_argument, no_argument, no_close, next_argument, stopped, bad_dot, bad_call, bad_primary}
+use Rattle.jsx_syntax.proofs.Steps.{passed, from_place, map_push, all_arguments, last_argument, no_argument, no_close, next_argument, stopped, bad_dot, bad_call, bad_primary}
 use Rattle.jsx_syntax.proofs.Trees.{call_called}
 use Rattle.jsx_syntax.proofs.expression.+expression.Goals as goal
 
@@ -16,7 +16,7 @@ arguments-returns-in_err-argument-clause-refused t c = passed _ _ _ _ c.in_err-a
 pub arguments-returns-in_err-expect-clause-refused : goal.arguments-returns-in_err-expect-clause-refused
 arguments-returns-in_err-expect-clause-refused t c = passed _ _ _ _ c.in_err-expect.ensures.refused c.from_residual-in_err-expect.ensures.1
     (λ b. c.arguments.invariant.so_far.bars (no_close (c.take.ensures.missing c.arguments-test.true) (from_place (ap place_of (c.take.ensures.stays c.arguments-test.true)) c.in_ok-argument.ensures.read)
-        (c.take-in-arguments.ensures.missing c.if-not-take.true) (subst (Barred (Fixed (pun_sign ")"))) (ap place_of (c.take-in-arguments.ensures.stays c.if-not-take.true)) b)))
+    (c.take-in-arguments.ensures.missing c.if-not-take.true) (subst (Barred (Fixed (pun_sign ")"))) (ap place_of (c.take-in-arguments.ensures.stays c.if-not-take.true)) b)))
 
 pub arguments-returns-then-not-take-clause-read : goal.arguments-returns-then-not-take-clause-read
 arguments-returns-then-not-take-clause-read t c = last_argument c.arguments.invariant.so_far (from_place (ap place_of (c.take.ensures.stays c.arguments-test.true)) c.in_ok-argument.ensures.read)

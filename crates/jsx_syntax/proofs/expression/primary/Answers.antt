@@ -1,6 +1,6 @@
 use Rattle.std.proofs.Common.{◌≡◌, true, false, not, refl, sym, ◌∙◌, ap, subst}
 use Rattle.std.specs.Str.{chars}
-use Rattle.jsx_base.specs.Token.{Operator, IdentifierName, NumericLiteral, StringLiteral}
+use Rattle.jsx_base.specs.Token.{Operator, NumericLiteral, StringLiteral}
 use Rattle.jsx_tree.specs.Nonterminals.{is_ident}
 use Rattle.jsx_tree.specs.Signs.{Tok}
 use Rattle.jsx_tree.specs.Reading.{forth}
@@ -56,6 +56,6 @@ returns-in_err-element-clause-refused c =
     let stays'' : place_of c.leaf-3.new.self ≡ place_of c.args.lexer.now = ap place_of c.in_default-leaf-2.ensures.stays ∙ stays' in
     passed _ _ _ _ c.in_err-element.ensures.refused c.from_residual.ensures.1
     (λ n. no_operand c.in_default.ensures.missing
-        (λ t. ap (forth (Tok Operator NumericLiteral t)) (sym stays') ∙ c.in_default-leaf-2.ensures.missing t)
-        (λ t. ap (forth (Tok Operator StringLiteral t)) (sym stays) ∙ c.in_default-leaf.ensures.missing t)
-        (subst (NoWalk (template Empty)) stays'' n))
+    (λ t. ap (forth (Tok Operator NumericLiteral t)) (sym stays') ∙ c.in_default-leaf-2.ensures.missing t)
+    (λ t. ap (forth (Tok Operator StringLiteral t)) (sym stays) ∙ c.in_default-leaf.ensures.missing t)
+    (subst (NoWalk (template Empty)) stays'' n))

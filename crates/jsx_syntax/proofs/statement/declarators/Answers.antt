@@ -1,7 +1,7 @@
-use Rattle.std.proofs.Common.{◌≡◌, arith, refl, ap, subst}
+use Rattle.std.proofs.Common.{arith, refl, ap}
 use Rattle.jsx_tree.specs.View.{view_pat}
-use Rattle.jsx_syntax.specs.Here.{place_of, left}
-use Rattle.jsx_syntax.specs.Pieces.{Bound, Bindings}
+use Rattle.jsx_syntax.specs.Here.{place_of}
+use Rattle.jsx_syntax.specs.Pieces.{Bound}
 use Rattle.jsx_syntax.proofs.Leaves.{read_fixed}
 use Rattle.jsx_syntax.proofs.Steps.{passed, formed, to_place, map_push, barred_binding, bad_binding, next_binding, last_binding}
 use Rattle.jsx_syntax.proofs.statement.declarators.Goals as goal
