@@ -1,3 +1,5 @@
+pub mod Tokens
+pub mod Spellings
 pub mod Gaps
 pub mod Endings
 pub mod Families
@@ -9,12 +11,12 @@ pub mod Words
 pub mod Takes
 pub mod States
 pub mod LiteralLaws
-pub mod Tokens
+pub mod Apart
 pub mod Unique
 pub mod Steps
 pub mod Leaves
-pub mod Spellings
 pub mod Trees
+pub mod Signs
 pub mod Meaning
 pub mod Whole
 pub mod Runs

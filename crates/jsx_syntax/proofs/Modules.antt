@@ -1,25 +1,23 @@
 -- A module is the run of its statements.
-use Rattle.std.proofs.Common.{◌≡◌, Bool, true, false, not, List, [], ◌∷◌, ◌++◌, refl, sym, ◌∙◌, ap, subst}
+use Rattle.std.proofs.Common.{◌≡◌, true, false, not, List, [], ◌∷◌, refl, sym, ◌∙◌, ap, subst}
 use Rattle.std.specs.Prelude.{IsTrue, ◌&&◌}
 use Rattle.jsx_base.specs.Token.{Text}
-use Rattle.jsx_tree.specs.declared.text.Goal.TheVariants as goals
-use Rattle.jsx_tree.specs.Signs.{AfterExpr, Sign, End}
+use Rattle.jsx_tree.specs.Signs.{AfterExpr, End}
 use Rattle.jsx_tree.specs.Kinds.{Module, Kind, program, Tree, leaf, node, list, Forest, none, part}
 use Rattle.jsx_tree.specs.Nonterminals.{Item, DirectiveOnly, WholeProgram, in_homes, homes}
 use Rattle.jsx_tree.specs.Grammar.{InModuleCode, TopLines}
 use Rattle.jsx_tree.specs.Form.{Several, is, last_only, admits, shaped, fits_below, fit_slots, fit_each, positions}
 use Rattle.jsx_tree.specs.Spelling.{spelled, each_said, gathered}
-use Rattle.jsx_tree.specs.Reading.{Place, At, scan, ended_at, reads}
+use Rattle.jsx_tree.specs.Reading.{Place, At, scan, ended_at}
 use Rattle.jsx_tree.specs.StaticRules.{Surroundings, outside, enter, legal, each_legal, first_of_list, is_string_stmt}
-use Rattle.jsx_tree.specs.Program.{Reads}
 use Rattle.jsx_tree.specs.Stage.{ReadsSoFar, has_kind, in_stage, in_stages, each_in_stage, with_semicolons}
 use Rattle.jsx_tree.specs.View.{forest}
 use Rattle.jsx_syntax.specs.Pieces.{is_found, Run, stop, more}
 use Rattle.jsx_syntax.specs.Answers.{ToEnd, NoRun, NoTree}
 use Rattle.jsx_syntax.proofs.Tokens.{and_left, and_right, and_both, found_first}
-use Rattle.jsx_syntax.proofs.Meaning.{scan_both}
-use Rattle.jsx_syntax.proofs.Whole.{Staged, module', constant, bound, element, staged, statement_past}
-use Rattle.jsx_syntax.proofs.Runs.{one_run, all_fit, all_staged, all_legal, all_before, first_is_none, gathered_more, all_scan, plain_too, found_end}
+use Rattle.jsx_syntax.proofs.Signs.{scan_both, plain_too, found_end}
+use Rattle.jsx_syntax.proofs.Whole.{Staged, module', constant, bound, evaluation, call, member, element, staged, trees_of, forest_back, statement_past}
+use Rattle.jsx_syntax.proofs.Runs.{one_run, all_fit, all_staged, all_legal, all_before, first_is_none, gathered_more, all_scan}
 
 abbrev pub begin : Text → Place
 begin text = At [] AfterExpr text
@@ -47,15 +45,6 @@ reads_module {text} {ts} {y} r e =
 
 -- ---- and back
 
-pub trees_of : Forest → List Tree
-trees_of none = []
-trees_of (part t ts) = t ∷ trees_of ts
-
-forest_back : (ts : Forest) → forest (trees_of ts) ≡ ts
-unfolding trees_of
-forest_back none = refl
-forest_back (part t ts) = ap (part t) (forest_back ts)
-
 run_forest : (v : Surroundings) (ts : Forest) {x y : Place} → fit_each Item ts ≡ true → each_in_stage Item ts ≡ true → each_legal v ts ≡ true → scan x (with_semicolons (gathered TopLines (each_said ts))) ≡ y → IsTrue (is_found y) → Run x (trees_of ts) y
 unfolding trees_of
 run_forest v none {x} {y} m s l e f = subst (λ p. Run x [] p) e stop
@@ -71,6 +60,9 @@ no_directive : {k : Kind} → Staged k → in_homes DirectiveOnly (homes k) ≡ 
 no_directive module' h = cc
 no_directive constant h = cc
 no_directive bound h = cc
+no_directive evaluation h = cc
+no_directive call h = cc
+no_directive member h = cc
 no_directive element h = cc
 
 no_directives : (b : Tree) → shaped (Several TopLines) DirectiveOnly b ≡ true → fits_below DirectiveOnly b ≡ true → in_stage DirectiveOnly b ≡ true → b ≡ list none
@@ -111,6 +103,9 @@ module_kind : {k : Kind} → Staged k → (cs : Forest) → in_homes WholeProgra
 module_kind module' cs h m s = module_parts cs m s
 module_kind constant cs h m s = cc
 module_kind bound cs h m s = cc
+module_kind evaluation cs h m s = cc
+module_kind call cs h m s = cc
+module_kind member cs h m s = cc
 module_kind element cs h m s = cc
 
 is_module : (t : Tree) → is WholeProgram t ≡ true → in_stage WholeProgram t ≡ true → IsModule t

@@ -1,28 +1,27 @@
--- Statements one behind the other, and a module.
-use Rattle.std.proofs.Common.{◌≡◌, Bool, true, false, not, cond, List, [], ◌∷◌, ◌++◌, map, Box, Global, refl, sym, ◌∙◌, ap, subst}
-use Rattle.std.specs.Prelude.{IsTrue, codes, ◌&&◌, ◌||◌}
-use Rattle.jsx_base.specs.Token.{Text, Operator, IdentifierName, Punctuator, Lexeme, begins, breaks, skip, same, is_end, is_cut, Blank, is_token, no_token, lexed, state, at_front, token}
-use Rattle.jsx_tree.specs.declared.text.Goal.TheVariants as goals
-use Rattle.jsx_tree.specs.Signs.{AfterExpr, Sign, Tok, Semicolon, Line, Begin, End}
-use Rattle.jsx_tree.specs.Kinds.{Module, Kind, program, Tree, leaf, node, list, Forest, none, part}
+-- Statements one behind the other.
+use Rattle.std.proofs.Common.{◌≡◌, Bool, true, false, not, List, [], ◌∷◌, ◌++◌, map, Box, Global, refl, sym, ◌∙◌, ap, subst}
+use Rattle.std.specs.Prelude.{IsTrue, codes, ◌||◌}
+use Rattle.jsx_base.specs.Token.{Text, Operand, Operator, TokenKind, IdentifierName, Punctuator, StringLiteral, NoToken, breaks, skip, same, is_kind, is_token, at_front, token}
+use Rattle.jsx_tree.specs.Signs.{AfterExpr, Sign, Tok, Line}
+use Rattle.jsx_tree.specs.Kinds.{ExprStmt, statement, Tree, leaf, node, list, none, part}
 use Rattle.jsx_tree.specs.Nonterminals as places
 use Rattle.jsx_tree.specs.Grammar.{TopLines}
-use Rattle.jsx_tree.specs.Form.{Several, is, is_last, last_only, admits, shaped, fits_below, fit_slots, fit_each, positions}
+use Rattle.jsx_tree.specs.Form.{is, is_last, last_only, admits, fits_below, fit_each}
 use Rattle.jsx_tree.specs.Spelling.{spelled, each_said, gathered}
-use Rattle.jsx_tree.specs.Reading.{Place, Lost, At, forth, scan, ended_at, reads, semi_at}
-use Rattle.jsx_tree.specs.StaticRules.{Surroundings, outside, legal, each_legal, first_of_list, is_string_stmt}
-use Rattle.jsx_tree.specs.Program.{Reads}
-use Rattle.jsx_tree.specs.Stage.{ReadsSoFar, has_kind, in_stage, each_in_stage, with_semicolons}
+use Rattle.jsx_tree.specs.Reading.{Place, Lost, At, forth, scan, ended_at}
+use Rattle.jsx_tree.specs.StaticRules.{Surroundings, each_legal, first_of_list, is_string_stmt}
+use Rattle.jsx_tree.specs.Stage.{is_string, each_in_stage, with_semicolons}
 use Rattle.jsx_tree.specs.declared.tree.Stmt.{Stmt}
 use Rattle.jsx_tree.specs.declared.tree.Item.{Item}
 use Rattle.jsx_tree.specs.declared.tree.Item.TheVariants as item
 use Rattle.jsx_tree.specs.View.{forest, view_stmt, view_item}
-use Rattle.jsx_syntax.specs.Pieces.{is_found, Statement, Constant, Bound, Empty, Part, one, Past, fixed, form, Walk, next, Run, stop, more}
+use Rattle.jsx_syntax.specs.Pieces.{is_found, Statement, Constant, Evaluation, Bound, Empty, Part, one, IsName, IsNumber, IsString, token_kind, Past, fixed, form, no_string, done, next, Primary, literal, markup, Run, stop, more}
 use Rattle.jsx_syntax.specs.Answers.{Barred}
-use Rattle.jsx_syntax.proofs.Tokens.{and_left, and_right, and_both, same_is, found_before, found_first}
-use Rattle.jsx_syntax.proofs.Unique.{one_past, one_inj}
-use Rattle.jsx_syntax.proofs.Meaning.{Fits, fits_statement, scan_both}
-use Rattle.jsx_syntax.proofs.Whole.{Staged, module', constant, bound, element, staged, statement_past}
+use Rattle.jsx_syntax.proofs.Tokens.{and_left, and_right, and_both, same_is}
+use Rattle.jsx_syntax.proofs.Apart.{clash, found_token}
+use Rattle.jsx_syntax.proofs.Unique.{found_at, one_past, one_inj, split}
+use Rattle.jsx_syntax.proofs.Signs.{scan_both}
+use Rattle.jsx_syntax.proofs.Meaning.{fits_past}
 
 pub run_on : {x y z : Place} {ts : List Tree} {t : Tree} → Run x ts y → Past (Part Statement) y (one t) z → Run x (ts ++ t ∷ []) z
 run_on stop p = more p stop
@@ -38,25 +37,32 @@ run_push {x} {y} {z} is js b s r p e f =
 
 -- ---- the end of a text begins no statement
 
-abbrev is_const : Lexeme → Bool
-is_const x = is_token x IdentifierName (codes "const")
+no_front : (f : Bool) (s t : Text) (k : TokenKind) → is_kind NoToken k ≡ false → s ≡ [] → is_token (at_front Operator f s) k t ≡ true → ⊥
+no_front f s t k n e h = clash _ (and_left (is_kind NoToken k) (same [] t) (subst (λ v. is_token (at_front Operator f v) k t ≡ true) e h)) n
 
-no_const : (b : Bool) (text : Text) → is_end text ≡ true → is_const (token Operator b text) ≡ true → ⊥
-no_const b text e h =
-    let s : skip text ≡ [] = same_is (skip text) [] (and_left (same (skip text) []) _ e) in
-    let bad : false ≡ true = sym (ap (λ t. is_const (at_front Operator (b || breaks text) t)) s) ∙ h in
-    cc
+no_token_there : (k : TokenKind) (t : Text) (x : Place) → is_kind NoToken k ≡ false → ended_at x ≡ true → IsTrue (is_found (forth (Tok Operator k t) x)) → ⊥
+no_token_there k t Lost n e f = cc
+no_token_there k t (At q d text) n e f = no_front (same q [] || breaks text) (skip text) t k n (same_is (skip text) [] (and_left (same (skip text) []) _ e)) (found_token _ (At t AfterExpr (token Operator (same q []) text).rest) f)
 
-const_found : (b : Bool) (y : Place) → IsTrue (is_found (cond b y Lost)) → b ≡ true
-const_found true y f = refl
-const_found false y f = cc
+no_less_front : (f : Bool) (s : Text) → s ≡ [] → is_token (at_front Operand f s) Punctuator (codes "<") ≡ true → ⊥
+no_less_front f s e h = let bad : false ≡ true = sym (ap (λ v. is_token (at_front Operand f v) Punctuator (codes "<")) e) ∙ h in cc
 
-end_is_end : (x : Place) → ended_at x ≡ true → IsTrue (is_found (forth (Tok Operator IdentifierName (codes "const")) x)) → ⊥
-end_is_end Lost e f = cc
-end_is_end (At q e text) h f = no_const (same q []) text h (const_found _ _ f)
+no_less_there : (x : Place) → ended_at x ≡ true → IsTrue (is_found (forth (Tok Operand Punctuator (codes "<")) x)) → ⊥
+no_less_there Lost e f = cc
+no_less_there (At q d text) e f = no_less_front (same q [] || breaks text) (skip text) (same_is (skip text) [] (and_left (same (skip text) []) _ e)) (found_token _ (At (codes "<") AfterExpr (token Operand (same q []) text).rest) f)
+
+no_primary_there : {x y : Place} {t : Tree} → Primary x t y → ended_at x ≡ true → ⊥
+no_primary_there {x} (literal IsName {t = t} a b e f) h = no_token_there (token_kind IsName) t x refl h (found_at e f)
+no_primary_there {x} (literal IsNumber {t = t} a b e f) h = no_token_there (token_kind IsNumber) t x refl h (found_at e f)
+no_primary_there {x} (literal IsString {t = t} a b e f) h = no_token_there (token_kind IsString) t x refl h (found_at e f)
+no_primary_there {x} (markup (form Empty c (next (fixed e f) w))) h = no_less_there x h (found_at e f)
+no_primary_there (markup (form Constant c w)) h = cc
+no_primary_there (markup (form Evaluation c w)) h = cc
+no_primary_there (markup (form Bound c w)) h = cc
 
 pub no_statement : {x y : Place} {t : Tree} → Past (Part Statement) x (one t) y → ended_at x ≡ true → ⊥
-no_statement {x} (form Constant c (next (fixed e f) w)) h = end_is_end x h (subst (λ p. IsTrue (is_found p)) (sym e) f)
+no_statement {x} (form Constant c (next (fixed e f) w)) h = no_token_there IdentifierName (codes "const") x refl h (found_at e f)
+no_statement (form Evaluation c (next (no_string r s n) w)) h = no_primary_there (split r).first h
 no_statement (form Bound c w) h = cc
 no_statement (form Empty c w) h = cc
 
@@ -87,18 +93,21 @@ nothing_more r f e b = no_run r.run f e b
 
 -- ---- what each statement of a run keeps
 
-fits_past : {x y : Place} {t : Tree} → Past (Part Statement) x (one t) y → Fits places.Item t x y
-fits_past (form Constant c w) = fits_statement w
-fits_past (form Bound c w) = cc
-fits_past (form Empty c w) = cc
-
 not_last : {x y : Place} {t : Tree} → Past (Part Statement) x (one t) y → is_last t ≡ false
 not_last (form Constant c w) = refl
+not_last (form Evaluation c w) = refl
 not_last (form Bound c w) = cc
 not_last (form Empty c w) = cc
 
+no_string_statement : (t : Tree) → is_string t ≡ false → is_string_stmt (node (statement ExprStmt) (part t none)) ≡ false
+no_string_statement (leaf StringLiteral u) e = cc
+no_string_statement (leaf _ u) e = refl
+no_string_statement (node k cs) e = refl
+no_string_statement (list ts) e = refl
+
 not_string : {x y : Place} {t : Tree} → Past (Part Statement) x (one t) y → is_string_stmt t ≡ false
 not_string (form Constant c w) = refl
+not_string (form Evaluation c (next (no_string {t = t} r s n) (next (fixed e f) done))) = no_string_statement t n
 not_string (form Bound c w) = cc
 not_string (form Empty c w) = cc
 
@@ -131,47 +140,3 @@ pub all_scan : {x y : Place} {ts : List Tree} → Run x ts y → scan x (with_se
 all_scan stop = refl
 all_scan {x} (more {t = t} {ts = ts} p r) =
     gathered_more x (spelled t) (each_said (forest ts)) ∙ (ap (λ q. scan q (with_semicolons (gathered TopLines (each_said (forest ts))))) (fits_past p).scanned ∙ all_scan r)
-
--- ---- where no semicolon is missing, the plain scan comes to the same place
-
-abbrev is_semi : Lexeme → Bool
-is_semi x = is_token x Punctuator (codes ";")
-
-same_front : (p q b : Bool) (L N : Lexeme) → is_semi N ≡ false → is_semi (cond (p || ((true || b) && q)) N L) ≡ true → cond (p || ((false || b) && q)) N L ≡ cond (p || ((true || b) && q)) N L
-same_front true q b L N n h = refl
-same_front false true b L N n h = cc
-same_front false false true L N n h = refl
-same_front false false false L N n h = refl
-
-first_at : (b : Bool) (s : Text) → is_semi (at_front Operator (true || b) s) ≡ true → at_front Operator (false || b) s ≡ at_front Operator (true || b) s
-first_at b [] h = refl
-first_at b (c ∷ s) h = same_front (begins (codes "<!--") (c ∷ s)) (begins (codes "-->") (c ∷ s)) b (lexed Operator (state Operator c s) c s) (no_token (c ∷ s)) refl h
-
-first_semi : (first : Bool) (text : Text) → is_semi (token Operator first text) ≡ true → token Operator false text ≡ token Operator first text
-first_semi false text h = refl
-first_semi true text h = first_at (breaks text) (skip text) h
-
-taken_semi : (l m : Lexeme) (q : Text) (x : Place) (y : Lexeme → Place) → l ≡ m → is_semi m ≡ true → cond (is_semi l) (y l) x ≡ cond (is_semi m) (y m) Lost
-taken_semi l m q x y e h = (λ i. cond (is_semi (e i)) (y (e i)) x) ∙ (ap (λ b. cond b (y m) x) h ∙ sym (ap (λ b. cond b (y m) Lost) h))
-
-found_semi : (b : Bool) (y : Place) → IsTrue (is_found (cond b y Lost)) → b ≡ true
-found_semi true y f = refl
-found_semi false y f = cc
-
-semi_too : (x : Place) → IsTrue (is_found (forth (Tok Operator Punctuator (codes ";")) x)) → forth Semicolon x ≡ forth (Tok Operator Punctuator (codes ";")) x
-semi_too Lost f = cc
-semi_too (At q e text) f =
-    let m = token Operator (same q []) text in
-    let h : is_semi m ≡ true = found_semi (is_semi m) (At (codes ";") AfterExpr m.rest) f in
-    taken_semi (token Operator false text) m q _ (λ l. At (codes ";") AfterExpr l.rest) (first_semi (same q []) text h) h
-
-pub plain_too : (ms : List Sign) (x : Place) → IsTrue (is_found (scan x (with_semicolons ms))) → scan x ms ≡ scan x (with_semicolons ms)
-plain_too [] x f = refl
-plain_too (Semicolon ∷ ms) x f =
-    let f1 = found_first (with_semicolons ms) (forth (Tok Operator Punctuator (codes ";")) x) f in
-    ap (λ p. scan p ms) (semi_too x f1) ∙ plain_too ms (forth (Tok Operator Punctuator (codes ";")) x) f
-plain_too (m ∷ ms) x f = plain_too ms (forth m x) f
-
-pub found_end : (x : Place) → ended_at x ≡ true → IsTrue (is_found x)
-found_end Lost e = cc
-found_end (At q f text) e = refl

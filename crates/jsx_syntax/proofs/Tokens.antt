@@ -1,11 +1,11 @@
 -- Each token is read in one way.
-use Rattle.std.proofs.Common.{◌≡◌, ℕ, nat_eq, Bool, true, false, cond, List, [], ◌∷◌, refl, sym, ◌∙◌, ap, subst}
+use Rattle.std.proofs.Common.{◌≡◌, Bool, true, false, List, [], ◌∷◌, refl, sym, ◌∙◌, subst}
 use Rattle.std.specs.Prelude.{◌&&◌, IsTrue}
 use Rattle.std.proofs.lemmas.Bool.{eqb-true, eq-eqb}
-use Rattle.jsx_base.specs.Token.{Text, Mode, TokenKind, Lexeme, is_kind, is_token, token, same}
-use Rattle.jsx_tree.specs.Signs.{Sign, Tok, Semicolon, TrailingComma, Unless, SameLine, Ends}
-use Rattle.jsx_tree.specs.Reading.{Place, Lost, At, forth, scan, go_if, token_at}
-use Rattle.jsx_tree.proofs.Laws.{scan_append, scan_lost}
+use Rattle.jsx_base.specs.Token.{Text, Mode, TokenKind, token, same}
+use Rattle.jsx_tree.specs.Signs.{Sign, Tok}
+use Rattle.jsx_tree.specs.Reading.{Place, Lost, At, forth, scan, go_if}
+use Rattle.jsx_tree.proofs.Laws.{scan_lost}
 use Rattle.jsx_syntax.specs.Pieces.{is_found}
 
 pub and_left : (a b : Bool) → (a && b) ≡ true → a ≡ true

@@ -60,7 +60,8 @@ const RESERVED: [&str; 46] = [
 /// The names that strict mode doesn't bind.
 const RESTRICTED: [&str; 2] = ["eval", "arguments"];
 
-fn is_reserved(name: &str) -> bool
+/// Whether the word is no identifier.
+pub fn is_reserved(name: &str) -> bool
     ensures { result ≡ among (chars name.now) grammar.reserved }
 {
     RESERVED.contains(&name)
@@ -105,4 +106,11 @@ pub fn is_plain_tag(name: &str) -> bool
     ensures { result ≡ stage.is_plain_tag (chars name.now) }
 {
     begins_with_letter(name) && !has_dash(name) && !is_this(name)
+}
+
+/// Whether the text is all decimal digits.
+pub fn is_all_digits(text: &str) -> bool
+    ensures { result ≡ stage.is_all_digits (chars text.now) }
+{
+    text.chars().all(|c| c.is_ascii_digit())
 }

@@ -4,6 +4,7 @@
 mod automaton;
 mod characters;
 mod error;
+mod expression;
 mod gap;
 mod identifiers;
 mod lexer;
@@ -14,6 +15,7 @@ mod names;
 mod number;
 mod parser;
 mod quoted;
+mod statement;
 
 pub use error::ParseError;
 pub use module::{one_tree, parse};

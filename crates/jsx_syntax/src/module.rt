@@ -11,7 +11,7 @@ ghost use Rattle.jsx_syntax.specs.Answers.{Refused, ToEnd, NoRun, NoTree, IsWith
 
 use crate::error::ParseError;
 use crate::lexer::Lexer;
-use crate::parser::declaration;
+use crate::statement::statement;
 use jsx_base::{BytePos, Span};
 use jsx_tree::{Item, Module, Program};
 use std::alloc::Global;
@@ -23,7 +23,7 @@ fn items<'s>(alloc: Global, lexer: &mut Lexer<'s>) -> Result<Vec<Item<'s>>, Pars
 {
     let mut items = Vec::new(alloc);
     'statements: while !lexer.is_at_end() {
-        let statement = declaration(alloc, lexer)?;
+        let statement = statement(alloc, lexer)?;
         items.push(Item::Stmt(Box::new(alloc, statement)?))?;
     }
     Ok(items)

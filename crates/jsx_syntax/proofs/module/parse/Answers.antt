@@ -1,11 +1,9 @@
-use Rattle.std.proofs.Common.{◌≡◌, ap, map}
+use Rattle.std.proofs.Common.{ap, map}
 use Rattle.std.specs.Prelude.{Err}
-use Rattle.std.specs.Str.{chars}
 use Rattle.jsx_tree.specs.Signs.{AfterExpr}
 use Rattle.jsx_tree.specs.Reading.{At}
 use Rattle.jsx_tree.specs.View.{directive}
-use Rattle.jsx_syntax.specs.Here.{place_of}
-use Rattle.jsx_syntax.proofs.Modules.{begin, whole, unread}
+use Rattle.jsx_syntax.proofs.Modules.{whole, unread}
 use Rattle.jsx_syntax.proofs.module.parse.Goals as goal
 
 pub returns-in-Ok-clause-read : goal.returns-in-Ok-clause-read

@@ -1,0 +1,33 @@
+use Rattle.std.proofs.Common.{◌+◌, ◌*◌, ◌<◌, ◌≤◌, map}
+use Rattle.jsx_tree.specs.View.{view_expr}
+use Rattle.jsx_syntax.specs.Here.{place_of, left}
+use Rattle.jsx_syntax.specs.Pieces.{Reads}
+use Rattle.jsx_syntax.proofs.Steps.{MoreArguments}
+use Rattle.jsx_syntax.proofs.expression.+expression.Given as goal
+
+abbrev pub decreases-expression : goal.decreases-expression
+decreases-expression l = 3 * left l.lexer.now
+
+abbrev pub decreases-call : goal.decreases-call
+decreases-call l = 3 * left l.lexer.now + 2
+
+abbrev pub decreases-arguments : goal.decreases-arguments
+decreases-arguments l = 3 * left l.lexer.now + 1
+
+abbrev pub invariant-arguments-arguments : goal.invariant-arguments-arguments
+invariant-arguments-arguments l = record {
+  so_far : MoreArguments (place_of l.fn.lexer) (map view_expr l.all.items) (place_of l.lexer);
+  within : left l.lexer ≤ left l.fn.lexer;
+}
+
+abbrev pub decreases-arguments-arguments : goal.decreases-arguments-arguments
+decreases-arguments-arguments l = left l.lexer
+
+abbrev pub invariant-expression-steps : goal.invariant-expression-steps
+invariant-expression-steps l = record {
+  so_far : Reads (place_of l.fn.lexer) (view_expr l.expr) (place_of l.lexer);
+  within : left l.lexer < left l.fn.lexer;
+}
+
+abbrev pub decreases-expression-steps : goal.decreases-expression-steps
+decreases-expression-steps l = left l.lexer

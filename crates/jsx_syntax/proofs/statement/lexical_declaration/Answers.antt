@@ -1,0 +1,10 @@
+use Rattle.std.proofs.Common.{refl}
+use Rattle.jsx_syntax.specs.Pieces.{declarators}
+use Rattle.jsx_syntax.proofs.Steps.{fails_2, built_2}
+use Rattle.jsx_syntax.proofs.statement.lexical_declaration.Goals as goal
+
+pub returns-in_err-expect-clause-refused : goal.returns-in_err-expect-clause-refused
+returns-in_err-expect-clause-refused c = fails_2 _ _ c.in_err-expect.ensures.refused (declarators c.in_ok-all.ensures.read) c.from_residual-in_err-expect.ensures.1
+
+pub returns-clause-read : goal.returns-clause-read
+returns-clause-read c = built_2 (declarators c.in_ok-all.ensures.read) c.in_ok-expect.ensures.read refl

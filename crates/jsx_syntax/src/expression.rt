@@ -1,0 +1,157 @@
+//! Expressions.
+
+ghost use Rattle.std.specs.Prelude.{◌≡◌, ◌<◌, ◌≤◌, IfOk, OnOk, map};
+ghost use Rattle.jsx_tree.specs.View.{view_jsx, view_expr};
+ghost use Rattle.jsx_syntax.specs.Here.{place_of, left};
+ghost use Rattle.jsx_syntax.specs.Pieces.{Past, Primary, Dotted, Called, Arguments, one, template, kind_of};
+ghost use Rattle.jsx_syntax.specs.Pieces as piece;
+ghost use Rattle.jsx_syntax.specs.Answers.{Barred, NoWalk, NoPrimary, NoDotted, NoArguments, Refused, Built};
+
+use crate::error::ParseError;
+use crate::identifiers::{is_all_digits, is_reserved};
+use crate::lexer::{Fixed, Leaf, Lexer};
+use crate::parser::{expect, give_up, identifier_name, span_to, tag_name};
+use jsx_base::{DUMMY_SP, Span};
+use jsx_tree::{Access, Expr, Ident, Jsx, LiteralKind, Tag, Text};
+use std::alloc::Global;
+
+/// A JSX element with neither attributes nor children: `<a/>`.
+#[tactic(auto, using(crate::proofs::Steps::steps))]
+fn element<'s>(lexer: &mut Lexer<'s>) -> Result<Jsx<'s>, ParseError>
+    ensures read { IfOk result (λ j. Built (template piece.Empty) (kind_of piece.Empty) (view_jsx j) (place_of lexer.old) (place_of lexer.new)) }
+    ensures shorter { OnOk result (left lexer.new < left lexer.old) }
+    ensures refused { Refused result (NoWalk (template piece.Empty) (place_of lexer.old)) }
+{
+    expect(lexer, Fixed::Less)?;
+    let lo = lexer.last_place();
+    let name = tag_name(lexer)?;
+    expect(lexer, Fixed::TagSlash)?;
+    expect(lexer, Fixed::TagGreater)?;
+    Ok(Jsx::Element(span_to(lo, lexer, ">"), Tag::Name(name)))
+}
+
+/// An expression that begins with no other: an identifier, a literal or an element.
+fn primary<'s>(lexer: &mut Lexer<'s>) -> Result<Expr<'s>, ParseError>
+    ensures read { IfOk result (λ e. Primary (place_of lexer.old) (view_expr e) (place_of lexer.new)) }
+    ensures shorter { OnOk result (left lexer.new < left lexer.old) }
+    ensures refused { Refused result (NoPrimary (place_of lexer.old)) }
+{
+    if let Some(raw) = lexer.leaf(Leaf::Name) {
+        if is_reserved(raw) {
+            return Err(give_up(lexer));
+        }
+        let lo = lexer.last_place();
+        let text = Text::Read(raw, lo);
+        return Ok(Expr::Ident(span_to(lo, lexer, raw), Ident { text }));
+    }
+    if let Some(raw) = lexer.leaf(Leaf::Str) {
+        let lo = lexer.last_place();
+        return Ok(Expr::Literal(
+            span_to(lo, lexer, raw),
+            LiteralKind::Str,
+            Text::Read(raw, lo),
+        ));
+    }
+    if let Some(raw) = lexer.leaf(Leaf::Num) {
+        if !is_all_digits(raw) {
+            return Err(give_up(lexer));
+        }
+        let lo = lexer.last_place();
+        return Ok(Expr::Literal(
+            span_to(lo, lexer, raw),
+            LiteralKind::Num,
+            Text::Read(raw, lo),
+        ));
+    }
+    Ok(Expr::Jsx(element(lexer)?))
+}
+
+fn is_number(expr: &Expr) -> bool
+    ensures { result ≡ piece.is_number (view_expr expr.now) }
+{
+    matches!(expr, Expr::Literal(_, LiteralKind::Num, _))
+}
+
+/// The span of an expression that was read.
+pub fn span_of(expr: &Expr) -> Span {
+    let at = match expr {
+        Expr::Ident(at, _) => at,
+        Expr::Literal(at, _, _) => at,
+        Expr::Access(Access::Call(at, _, _)) => at,
+        Expr::Access(Access::Member(at, _, _)) => at,
+        Expr::Jsx(Jsx::Element(at, _)) => at,
+    };
+    match at {
+        Some(span) => *span,
+        None => DUMMY_SP,
+    }
+}
+
+/// A member behind its `.`: `a.b`.
+fn member<'s>(
+    alloc: Global,
+    lexer: &mut Lexer<'s>,
+    object: Expr<'s>,
+) -> Result<Expr<'s>, ParseError>
+    ensures read { IfOk result (λ e. Dotted (place_of lexer.old) (view_expr object.entry) (place_of lexer.new) (view_expr e)) }
+    ensures shorter { OnOk result (left lexer.new < left lexer.old) }
+    ensures refused { Refused result (NoDotted (place_of lexer.old) (view_expr object.entry)) }
+{
+    if is_number(&object) {
+        return Err(give_up(lexer));
+    }
+    let raw = identifier_name(lexer)?;
+    let span = span_to(span_of(&object).lo, lexer, raw);
+    let name = Text::Read(raw, lexer.last_place());
+    Ok(Expr::Access(Access::Member(span, Box::new(alloc, object)?, name)))
+}
+
+/// Arguments behind their `(`, with the `)`: `a, b)`.
+#[cycle(expression)]
+fn arguments<'s>(alloc: Global, lexer: &mut Lexer<'s>) -> Result<Vec<Expr<'s>>, ParseError>
+    ensures read { IfOk result (λ v. Arguments (place_of lexer.old) (map view_expr v.items) (place_of lexer.new)) }
+    ensures shorter { OnOk result (left lexer.new < left lexer.old) }
+    ensures refused { Refused result (NoArguments (place_of lexer.old)) }
+{
+    let mut all = Vec::new(alloc);
+    'arguments: while !lexer.take(Fixed::Close) {
+        let argument = expression(alloc, lexer)?;
+        all.push(argument)?;
+        if !lexer.take(Fixed::Comma) {
+            expect(lexer, Fixed::Close)?;
+            return Ok(all);
+        }
+    }
+    Ok(all)
+}
+
+/// A call behind its `(`: `a(b, c)`.
+#[cycle(expression)]
+fn call<'s>(alloc: Global, lexer: &mut Lexer<'s>, callee: Expr<'s>) -> Result<Expr<'s>, ParseError>
+    ensures read { IfOk result (λ e. Called (place_of lexer.old) (view_expr callee.entry) (place_of lexer.new) (view_expr e)) }
+    ensures shorter { OnOk result (left lexer.new < left lexer.old) }
+    ensures refused { Refused result (NoArguments (place_of lexer.old)) }
+{
+    let all = arguments(alloc, lexer)?;
+    let span = span_to(span_of(&callee).lo, lexer, ")");
+    Ok(Expr::Access(Access::Call(span, Box::new(alloc, callee)?, all)))
+}
+
+/// An expression, up to where it doesn't go on: `a.b(c).d`.
+#[cycle(expression)]
+pub fn expression<'s>(alloc: Global, lexer: &mut Lexer<'s>) -> Result<Expr<'s>, ParseError>
+    ensures read { IfOk result (λ e. Past piece.Whole (place_of lexer.old) (one (view_expr e)) (place_of lexer.new)) }
+    ensures shorter { OnOk result (left lexer.new < left lexer.old) }
+    ensures refused { Refused result (Barred piece.Whole (place_of lexer.old)) }
+{
+    let mut expr = primary(lexer)?;
+    'steps: loop {
+        if lexer.take(Fixed::Dot) {
+            expr = member(alloc, lexer, expr)?;
+        } else if lexer.take(Fixed::Open) {
+            expr = call(alloc, lexer, expr)?;
+        } else {
+            return Ok(expr);
+        }
+    }
+}
