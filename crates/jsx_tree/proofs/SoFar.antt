@@ -2,13 +2,13 @@
 use Rattle.std.specs.Prelude.{◌≡◌, [], codes, Bool, true, false, refl, ◌&&◌}
 use Prim.Native.String.{String}
 use Rattle.jsx_tree.specs.Signs.{AfterExpr}
-use Rattle.jsx_tree.specs.Kinds.{LetWord, ConstWord, Module, Var, Declarator, Element, program, statement, jsx, Tree}
+use Rattle.jsx_tree.specs.Kinds.{LetWord, ConstWord, Module, Var, Declarator, Call, Member, Element, program, statement, expression, jsx, Tree}
 use Rattle.jsx_tree.specs.Nonterminals.{WholeProgram}
 use Rattle.jsx_tree.specs.Spelling.{spelled}
 use Rattle.jsx_tree.specs.Reading.{At, scan, ended_at, reads}
 use Rattle.jsx_tree.specs.StaticRules.{outside, legal}
 use Rattle.jsx_tree.specs.Stage.{in_stage, with_semicolons}
-use Rattle.jsx_tree.proofs.Samples.{n, n1, n2, l0, l1, l2, jn}
+use Rattle.jsx_tree.proofs.Samples.{n, num, str, n1, n2, l0, l1, l2, l3, stmt, jn}
 
 abbrev takes : String → Tree → Bool
 takes s t = reads (codes s) t && (legal outside t && (in_stage WholeProgram t && ended_at (scan (At [] AfterExpr (codes s)) (with_semicolons (spelled t)))))
@@ -68,11 +68,73 @@ reserved_tag = refl
 another_word : takes "let x = <a/>;" (program_of (l1 (n1 (statement (Var LetWord)) (l1 (n2 (statement Declarator) (n "x") (l1 (element "a"))))))) ≡ false
 another_word = refl
 
-no_element : takes "const x = a;" (program_of (l1 (n1 (statement (Var ConstWord)) (l1 (n2 (statement Declarator) (n "x") (l1 (n "a"))))))) ≡ false
-no_element = refl
-
 words_apart : takes "constx = <a/>;" (program_of (l1 (constant "x" "a"))) ≡ false
 words_apart = refl
 
 open_comment : takes "const x = <a/>; /*" (program_of (l1 (constant "x" "a"))) ≡ false
 open_comment = refl
+
+-- ---- expressions
+
+abbrev one_stmt : Tree → Tree
+one_stmt e = program_of (l1 (stmt e))
+
+abbrev bind : String → Tree → Tree
+bind x e = n2 (statement Declarator) (n x) (l1 e)
+
+abbrev call : Tree → Tree → Tree
+call f xs = n2 (expression Call) f xs
+
+abbrev dot : Tree → String → Tree
+dot o x = n2 (expression Member) o (n x)
+
+no_element : takes "const x = a;" (program_of (l1 (n1 (statement (Var ConstWord)) (l1 (bind "x" (n "a")))))) ≡ true
+no_element = refl
+
+two_declarators : takes "const a = 1, b = 'c';" (program_of (l1 (n1 (statement (Var ConstWord)) (l2 (bind "a" (num "1")) (bind "b" (str "'c'")))))) ≡ true
+two_declarators = refl
+
+no_initializer : takes "const a;" (program_of (l1 (n1 (statement (Var ConstWord)) (l1 (n2 (statement Declarator) (n "a") l0))))) ≡ false
+no_initializer = refl
+
+call_of_elements : takes "f(<a/>, <B/>, x.y);" (one_stmt (call (n "f") (l3 (element "a") (element "B") (dot (n "x") "y")))) ≡ true
+call_of_elements = refl
+
+trailing_comma : takes "f(a,);" (one_stmt (call (n "f") (l1 (n "a")))) ≡ true
+trailing_comma = refl
+
+members_and_calls : takes "a.b(c).class()(1);" (one_stmt (call (call (dot (call (dot (n "a") "b") (l1 (n "c"))) "class") l0) (l1 (num "1")))) ≡ true
+members_and_calls = refl
+
+element_member : takes "<a/>.b;" (one_stmt (dot (element "a") "b")) ≡ true
+element_member = refl
+
+string_member : takes "'a'.b;" (one_stmt (dot (str "'a'") "b")) ≡ true
+string_member = refl
+
+string_alone : takes "'a';" (one_stmt (str "'a'")) ≡ false
+string_alone = refl
+
+number_alone : takes "1;" (one_stmt (num "1")) ≡ true
+number_alone = refl
+
+number_member : takes "1 .a;" (one_stmt (dot (num "1") "a")) ≡ false
+number_member = refl
+
+number_and_dot : takes "1.x;" (one_stmt (dot (num "1") "x")) ≡ false
+number_and_dot = refl
+
+number_called : takes "1(a);" (one_stmt (call (num "1") (l1 (n "a")))) ≡ true
+number_called = refl
+
+hexadecimal : takes "f(0x1);" (one_stmt (call (n "f") (l1 (num "0x1")))) ≡ false
+hexadecimal = refl
+
+this_word : takes "this;" (one_stmt (n "this")) ≡ false
+this_word = refl
+
+reserved_word : takes "f(null);" (one_stmt (call (n "f") (l1 (n "null")))) ≡ false
+reserved_word = refl
+
+eval_is_referred_to : takes "eval;" (one_stmt (n "eval")) ≡ true
+eval_is_referred_to = refl
