@@ -60,6 +60,22 @@ fn code_of_sources(rt: HostRuntime) -> Result<(), Fail> {
             "const Foo = /*#__PURE__*/ React.createElement(Foo, null);\nconst b = /*#__PURE__*/ React.createElement(\"b\", null);\n",
         ),
         (
+            "f(<a/>, <B/>, x.y);",
+            "f(/*#__PURE__*/ React.createElement(\"a\", null), /*#__PURE__*/ React.createElement(B, null), x.y);\n",
+        ),
+        (
+            "const a = <a/>, b = 'x\\'y', c = 12\n;f ( ) ; f(a,);",
+            "const a = /*#__PURE__*/ React.createElement(\"a\", null), b = 'x\\'y', c = 12;\nf();\nf(a);\n",
+        ),
+        (
+            "<a/> . b (\"c\\n\") (1) ( ) .class; \"d\".e;",
+            "/*#__PURE__*/ React.createElement(\"a\", null).b(\"c\\n\")(1)().class;\n\"d\".e;\n",
+        ),
+        (
+            "a(b(<c/>, d), \"\", 0, f(g(h(<I/>))));",
+            "a(b(/*#__PURE__*/ React.createElement(\"c\", null), d), \"\", 0, f(g(h(/*#__PURE__*/ React.createElement(I, null)))));\n",
+        ),
+        (
             "const \u{e9}$_1 = <a1_$\u{e9}/>;",
             "const \u{e9}$_1 = /*#__PURE__*/ React.createElement(\"a1_$\u{e9}\", null);\n",
         ),
@@ -72,7 +88,7 @@ fn code_of_sources(rt: HostRuntime) -> Result<(), Fail> {
 
 #[test]
 fn sources_that_do_not_read(rt: HostRuntime) -> Result<(), Fail> {
-    let rows: [&[u8]; 22] = [
+    let rows: [&[u8]; 46] = [
         b"c",
         b"const",
         b"const x",
@@ -92,6 +108,30 @@ fn sources_that_do_not_read(rt: HostRuntime) -> Result<(), Fail> {
         b"const x = <a/>; \"",
         b"const x = <a/>; \0",
         b"constx = <a/>;",
+        b"\"use strict\";",
+        b"a",
+        b"a b;",
+        b"a\n++\nb;",
+        b"-x ** y;",
+        b"1.x;",
+        b"1 .x;",
+        b"1.5;",
+        b"0x1;",
+        b"01;",
+        b"a.;",
+        b"a..b;",
+        b"f(;",
+        b"f(,);",
+        b"f(a b);",
+        b"f(...a);",
+        b"f(this);",
+        b"null;",
+        b"const a;",
+        b"const a = 1,;",
+        b"const {a} = b;",
+        b"(a);",
+        b"f(\"a\nb\");",
+        b"<a></a>;",
         b"\xff",
         b"const x = <\xc3/>;",
         b"const x = <a/>;\xe2\x82",
