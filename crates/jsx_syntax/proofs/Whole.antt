@@ -243,7 +243,7 @@ member_parts a b x y c m s e f =
     let m2 = three (admits Name b) (fits_below Name b) true m1.2 in
     let w = is_word b m2.0 m2.1 (and_left (in_stage Name b) true (and_right (in_stage DotObject a) (in_stage Name b && true) s)) in
     subst (λ v. Reads x (node (expression Member) (part a (part v none))) y) (sym w.is)
-    (member_reads a w.name x y c m1.0 m1.1 (and_left (in_stage DotObject a) _ s) w.whole' (subst (λ v. scan x (with_semicolons (spelled (node (expression Member) (part a (part v none))))) ≡ y) w.is e) f)
+    (member_reads a w.name x y c m1.0 m1.1 (and_left (in_stage DotObject a) (in_stage Name b && true) s) w.whole' (subst (λ v. scan x (with_semicolons (spelled (node (expression Member) (part a (part v none))))) ≡ y) w.is e) f)
 
 -- `a(b, c)`
 
@@ -297,7 +297,7 @@ call_parts : (a b : Tree) (x y : Place) → Claim a → Ready b → fit_slots (p
 call_parts a (list ts) x y c r m s e f =
     let m1 = three (admits MemberObject a) (fits_below MemberObject a) (last_only ts && (fit_each Argument ts && true)) m in
     let m2 = three (last_only ts) (fit_each Argument ts) true m1.2 in
-    call_reads a ts x y c (each_of ts r) m1.0 m1.1 (and_left (in_stage MemberObject a) _ s) m2.1 (and_left (each_in_stage Argument ts) true (and_right (in_stage MemberObject a) (each_in_stage Argument ts && true) s)) e f
+    call_reads a ts x y c (each_of ts r) m1.0 m1.1 (and_left (in_stage MemberObject a) (each_in_stage Argument ts && true) s) m2.1 (and_left (each_in_stage Argument ts) true (and_right (in_stage MemberObject a) (each_in_stage Argument ts && true) s)) e f
 call_parts a (leaf k t) x y c r m s e f = let bad = (three (admits MemberObject a) (fits_below MemberObject a) false m).2 in cc
 call_parts a (node k cs) x y c r m s e f = let bad = (three (admits MemberObject a) (fits_below MemberObject a) false m).2 in cc
 
