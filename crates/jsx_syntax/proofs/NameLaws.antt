@@ -6,7 +6,7 @@ use Rattle.jsx_base.specs.Token.{Text, Operator, Tag, IdentifierName, JsxName, i
 use Rattle.jsx_syntax.specs.Ahead.{IsAhead, IsPiece, NoneAhead, name_mode, name_kind, name_state, goes_on}
 use Rattle.jsx_syntax.specs.Gaps.{IsBehind}
 use Rattle.jsx_syntax.proofs.Families.{may_be, either, only}
-use Rattle.jsx_syntax.proofs.Fronts.{none_ahead, none_at_end}
+use Rattle.jsx_syntax.proofs.Fronts.{none_ahead}
 use Rattle.jsx_syntax.proofs.Pieces.{Lexes, Alone, alone, is_ahead, raw_is, still_behind}
 
 first_of : (b : Bool) (x y : State) → b ≡ true → cond b x y ≡ x
@@ -78,10 +78,6 @@ pub no_name : (d : Bool) (whole : Text) (c : ℕ) (text : Text) → whole ≡ c 
 no_name true whole c text w h = subst (NoneAhead Tag JsxName) (sym w) (none_ahead JsxName Tag c text refl refl (not_name true c text h))
 no_name false whole c text w h = subst (NoneAhead Operator IdentifierName) (sym w) (none_ahead IdentifierName Operator c text refl refl (not_name false c text h))
 
-pub no_name_at_end : (d : Bool) (whole : Text) → whole ≡ [] → NoneAhead (name_mode d) (name_kind d) whole
-no_name_at_end true whole w = subst (NoneAhead Tag JsxName) (sym w) (none_at_end JsxName Tag refl)
-no_name_at_end false whole w = subst (NoneAhead Operator IdentifierName) (sym w) (none_at_end IdentifierName Operator refl)
-
 pub record NameGoes (d : Bool) (whole text : Text) : Type 0 where
   pub rest_is : left (name_state d) text ≡ left (name_state d) whole
 
@@ -94,9 +90,3 @@ pub name_goes : (d : Bool) (whole : Text) (c : ℕ) (text : Text) → whole ≡ 
 name_goes d whole c text w h =
     subst (λ x. NameGoes d x text) (sym w)
     (record { rest_is = goes_by d (goes_on d c) c text h ∙ sym (ap (λ s. cond (is_dead s) (c ∷ text) (left s text)) (name_step d c)) })
-
--- behind the name
-pub name_ends : (d : Bool) (whole : Text) (c : ℕ) (text : Text) → whole ≡ c ∷ text → goes_on d c ≡ false → whole ≡ left (name_state d) whole
-name_ends d whole c text w h =
-    subst (λ x. x ≡ left (name_state d) x) (sym w)
-    (sym (ap (λ s. cond (is_dead s) (c ∷ text) (left s text)) (name_step d c) ∙ ap (λ b. cond (is_dead (cond b (name_state d) Dead)) (c ∷ text) (left (cond b (name_state d) Dead) text)) h))

@@ -1,5 +1,5 @@
 -- The code's states and the automata's.
-use Rattle.std.proofs.Common.{◌≡◌, ℕ, ◌∷◌, true, false, cond, refl, sym, ap, subst}
+use Rattle.std.proofs.Common.{◌≡◌, ℕ, ◌∷◌, false, cond, refl, sym, ap, subst}
 use Rattle.jsx_base.specs.Token.{Text, State as Taken, step, is_dead, left, last_state}
 use Rattle.jsx_syntax.specs.declared.automaton.Number.{Number}
 use Rattle.jsx_syntax.specs.declared.automaton.Number.TheVariants as number
@@ -49,17 +49,3 @@ further s t c whole text w e n =
       rest_is = sym (ap (λ b. cond b (c ∷ text) (left (step s c) text)) m);
       last_is = sym (ap (λ b. cond b s (last_state (step s c) text)) m);
     }))
-
-pub record Stops (s : Taken) (whole : Text) : Type 0 where
-  pub rest_is : whole ≡ left s whole
-  pub last_is : s ≡ last_state s whole
-
--- at a character that the automaton doesn't take
-pub stops : (s t : Taken) (c : ℕ) (whole text : Text) → whole ≡ c ∷ text → t ≡ step s c → is_dead t ≡ true → Stops s whole
-stops s t c whole text w e d =
-    let m : is_dead (step s c) ≡ true = subst (λ x. is_dead x ≡ true) e d in
-    subst (Stops s) (sym w)
-    (record {
-      rest_is = sym (ap (λ b. cond b (c ∷ text) (left (step s c) text)) m);
-      last_is = sym (ap (λ b. cond b s (last_state (step s c) text)) m);
-    })

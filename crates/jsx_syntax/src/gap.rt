@@ -10,7 +10,7 @@ ghost use Rattle.jsx_syntax.specs.Characters.{EndsWith};
 use crate::characters::{begins_with, first, is_blank, is_line_end};
 
 /// Where in a gap a character stands.
-#[derive(Clone, Copy, PartialEq, Eq)]
+#[derive(Clone, Copy)]
 enum Gap {
     Blank,
     Line,

@@ -42,7 +42,10 @@ fn equals(ahead: &str) -> Option<&str>
     let Some(rest) = behind(ahead, '=') else {
         return None;
     };
-    if begins_with(rest, '=') || begins_with(rest, '>') {
+    if begins_with(rest, '=') {
+        return None;
+    }
+    if begins_with(rest, '>') {
         return None;
     }
     Some(rest)
@@ -66,7 +69,10 @@ fn dot(ahead: &str) -> Option<&str>
     let Some(rest) = behind(ahead, '.') else {
         return None;
     };
-    if begins_with_digit(rest) || has_two_dots(rest) {
+    if begins_with_digit(rest) {
+        return None;
+    }
+    if has_two_dots(rest) {
         return None;
     }
     Some(rest)
