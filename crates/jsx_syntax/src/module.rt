@@ -31,7 +31,7 @@ fn items<'s>(alloc: Global, lexer: &mut Lexer<'s>) -> Result<Vec<Item<'s>>, Pars
 
 /// The module that a text is.
 pub fn parse<'s>(alloc: Global, text: &'s str) -> Result<Program<'s>, ParseError>
-    requires { length text.now < 4294901760 }
+    requires { length text.now < 0xFFFF_0000 }
     // What was read is what the text says.
     ensures read { IfOk result (λ program. ReadsSoFar (chars text.now) (view program)) }
     // A syntax error comes only where no tree reads the text.
