@@ -16,7 +16,7 @@ use Rattle.jsx_syntax.specs.Pieces.{is_found, Run, stop, more}
 use Rattle.jsx_syntax.specs.Answers.{ToEnd, NoRun, NoTree}
 use Rattle.jsx_syntax.proofs.Tokens.{and_left, and_right, and_both, found_first}
 use Rattle.jsx_syntax.proofs.Signs.{scan_both, plain_too, found_end}
-use Rattle.jsx_syntax.proofs.Whole.{Staged, module', constant, bound, evaluation, call, member, element, staged, trees_of, forest_back, statement_past}
+use Rattle.jsx_syntax.proofs.Whole.{Staged, module', constant, bound, evaluation, call, member, element, staged, three, trees_of, forest_back, statement_past}
 use Rattle.jsx_syntax.proofs.Runs.{one_run, all_fit, all_staged, all_legal, all_before, first_is_none, gathered_more, all_scan}
 
 abbrev pub begin : Text → Place
@@ -88,15 +88,15 @@ record IsModule (t : Tree) : Type 0 where
 
 module_parts : (cs : Forest) → fit_slots (positions (program Module)) cs ≡ true → in_stages (positions (program Module)) cs ≡ true → IsModule (node (program Module) cs)
 module_parts none m s = cc
-module_parts (part a none) m s = let bad = and_right (fits_below DirectiveOnly a) false (and_right (shaped (Several TopLines) DirectiveOnly a) (fits_below DirectiveOnly a && false) m) in cc
+module_parts (part a none) m s = let bad = (three (shaped (Several TopLines) DirectiveOnly a) (fits_below DirectiveOnly a) false m).2 in cc
 module_parts (part a (part b (part c cs))) m s =
-    let m1 = and_right (fits_below DirectiveOnly a) (shaped (Several TopLines) Item b && (fits_below Item b && false)) (and_right (shaped (Several TopLines) DirectiveOnly a) (fits_below DirectiveOnly a && (shaped (Several TopLines) Item b && (fits_below Item b && false))) m) in
-    let bad = and_right (fits_below Item b) false (and_right (shaped (Several TopLines) Item b) (fits_below Item b && false) m1) in cc
+    let m1 = (three (shaped (Several TopLines) DirectiveOnly a) (fits_below DirectiveOnly a) (shaped (Several TopLines) Item b && (fits_below Item b && false)) m).2 in
+    let bad = (three (shaped (Several TopLines) Item b) (fits_below Item b) false m1).2 in cc
 module_parts (part a (part b none)) m s =
-    let m1 = and_right (shaped (Several TopLines) DirectiveOnly a) (fits_below DirectiveOnly a && (shaped (Several TopLines) Item b && (fits_below Item b && true))) m in
-    let m2 = and_right (fits_below DirectiveOnly a) (shaped (Several TopLines) Item b && (fits_below Item b && true)) m1 in
-    let n = no_directives a (and_left (shaped (Several TopLines) DirectiveOnly a) _ m) (and_left (fits_below DirectiveOnly a) _ m1) (and_left (in_stage DirectiveOnly a) _ s) in
-    let l = is_list b (and_left (shaped (Several TopLines) Item b) _ m2) in
+    let m1 = three (shaped (Several TopLines) DirectiveOnly a) (fits_below DirectiveOnly a) (shaped (Several TopLines) Item b && (fits_below Item b && true)) m in
+    let m2 = three (shaped (Several TopLines) Item b) (fits_below Item b) true m1.2 in
+    let n = no_directives a m1.0 m1.1 (and_left (in_stage DirectiveOnly a) (in_stage Item b && true) s) in
+    let l = is_list b m2.0 in
     record { trees = l.trees; is = (λ i. node (program Module) (part (n i) (part (l.is i) none))) }
 
 module_kind : {k : Kind} → Staged k → (cs : Forest) → in_homes WholeProgram (homes k) ≡ true → fit_slots (positions k) cs ≡ true → in_stages (positions k) cs ≡ true → IsModule (node k cs)

@@ -130,16 +130,16 @@ walks_element g {x} {y} plain all e f =
 
 pub element_walk : (cs : Forest) {x y : Place} → fit_slots (positions (jsx Element)) cs ≡ true → in_stages (positions (jsx Element)) cs ≡ true → scan x (with_semicolons (spelled (node (jsx Element) cs))) ≡ y → IsTrue (is_found y) → Walk (template Empty) x cs y
 element_walk none m s e f = cc
-element_walk (part a none) m s e f = let bad = and_right (fits_below TagName a) false (and_right (admits TagName a) (fits_below TagName a && false) m) in cc
+element_walk (part a none) m s e f = let bad = (three (admits TagName a) (fits_below TagName a) false m).2 in cc
 element_walk (part a (part b (part c cs))) m s e f =
-    let m1 = and_right (fits_below TagName a) (shaped (Several Spaced) Attributes b && (fits_below Attributes b && false)) (and_right (admits TagName a) (fits_below TagName a && (shaped (Several Spaced) Attributes b && (fits_below Attributes b && false))) m) in
-    let bad = and_right (fits_below Attributes b) false (and_right (shaped (Several Spaced) Attributes b) (fits_below Attributes b && false) m1) in cc
+    let m1 = (three (admits TagName a) (fits_below TagName a) (shaped (Several Spaced) Attributes b && (fits_below Attributes b && false)) m).2 in
+    let bad = (three (shaped (Several Spaced) Attributes b) (fits_below Attributes b) false m1).2 in cc
 element_walk (part a (part b none)) {x} {y} m s e f =
-    let m1 = and_right (admits TagName a) (fits_below TagName a && (shaped (Several Spaced) Attributes b && (fits_below Attributes b && true))) m in
-    let m2 = and_right (fits_below TagName a) (shaped (Several Spaced) Attributes b && (fits_below Attributes b && true)) m1 in
+    let m1 = three (admits TagName a) (fits_below TagName a) (shaped (Several Spaced) Attributes b && (fits_below Attributes b && true)) m in
+    let m2 = three (shaped (Several Spaced) Attributes b) (fits_below Attributes b) true m1.2 in
     let s1 = and_right (in_stage TagName a) (in_stage Attributes b && true) s in
-    let t = is_tag a (and_left (admits TagName a) _ m) (and_left (fits_below TagName a) _ m1) (and_left (in_stage TagName a) _ s) in
-    let n = no_attributes b (and_left (shaped (Several Spaced) Attributes b) _ m2) (and_left (fits_below Attributes b) true (and_right (shaped (Several Spaced) Attributes b) _ m2)) (and_left (in_stage Attributes b) true s1) in
+    let t = is_tag a m1.0 m1.1 (and_left (in_stage TagName a) (in_stage Attributes b && true) s) in
+    let n = no_attributes b m2.0 m2.1 (and_left (in_stage Attributes b) true s1) in
     let same : part a (part b none) ≡ element_of t.name = (λ i. part (t.is i) (part (n i) none)) in
     subst (λ cs. Walk (template Empty) x cs y) (sym same) (walks_element t.name t.plain t.whole (subst (λ cs. scan x (with_semicolons (spelled (node (jsx Element) cs))) ≡ y) same e) f)
 
@@ -243,7 +243,7 @@ member_parts a b x y c m s e f =
     let m2 = three (admits Name b) (fits_below Name b) true m1.2 in
     let w = is_word b m2.0 m2.1 (and_left (in_stage Name b) true (and_right (in_stage DotObject a) (in_stage Name b && true) s)) in
     subst (λ v. Reads x (node (expression Member) (part a (part v none))) y) (sym w.is)
-    (member_reads a w.name x y c m1.0 m1.1 (and_left (in_stage DotObject a) _ s) w.whole' (subst (λ v. scan x (with_semicolons (spelled (node (expression Member) (part a (part v none))))) ≡ y) w.is e) f)
+    (member_reads a w.name x y c m1.0 m1.1 (and_left (in_stage DotObject a) (in_stage Name b && true) s) w.whole' (subst (λ v. scan x (with_semicolons (spelled (node (expression Member) (part a (part v none))))) ≡ y) w.is e) f)
 
 -- `a(b, c)`
 
@@ -297,7 +297,7 @@ call_parts : (a b : Tree) (x y : Place) → Claim a → Ready b → fit_slots (p
 call_parts a (list ts) x y c r m s e f =
     let m1 = three (admits MemberObject a) (fits_below MemberObject a) (last_only ts && (fit_each Argument ts && true)) m in
     let m2 = three (last_only ts) (fit_each Argument ts) true m1.2 in
-    call_reads a ts x y c (each_of ts r) m1.0 m1.1 (and_left (in_stage MemberObject a) _ s) m2.1 (and_left (each_in_stage Argument ts) true (and_right (in_stage MemberObject a) (each_in_stage Argument ts && true) s)) e f
+    call_reads a ts x y c (each_of ts r) m1.0 m1.1 (and_left (in_stage MemberObject a) (each_in_stage Argument ts && true) s) m2.1 (and_left (each_in_stage Argument ts) true (and_right (in_stage MemberObject a) (each_in_stage Argument ts && true) s)) e f
 call_parts a (leaf k t) x y c r m s e f = let bad = (three (admits MemberObject a) (fits_below MemberObject a) false m).2 in cc
 call_parts a (node k cs) x y c r m s e f = let bad = (three (admits MemberObject a) (fits_below MemberObject a) false m).2 in cc
 
@@ -431,21 +431,21 @@ is_option (node k cs) h i = cc
 pub binding_walk : (cs : Forest) {x y : Place} → fit_slots (positions (statement Declarator)) cs ≡ true → in_stages (positions (statement Declarator)) cs ≡ true → has_init ConstWord (node (statement Declarator) cs) ≡ true
     → scan x (with_semicolons (spelled (node (statement Declarator) cs))) ≡ y → IsTrue (is_found y) → stops y ≡ true → Walk (template Bound) x cs y
 binding_walk none m s i e f st = cc
-binding_walk (part a none) m s i e f st = let bad = and_right (fits_below (Pat Binds) a) false (and_right (admits (Pat Binds) a) (fits_below (Pat Binds) a && false) m) in cc
+binding_walk (part a none) m s i e f st = let bad = (three (admits (Pat Binds) a) (fits_below (Pat Binds) a) false m).2 in cc
 binding_walk (part a (part b (part c cs))) m s i e f st =
-    let m1 = and_right (fits_below (Pat Binds) a) (shaped Maybe (Expr 1) b && (fits_below (Expr 1) b && false)) (and_right (admits (Pat Binds) a) (fits_below (Pat Binds) a && (shaped Maybe (Expr 1) b && (fits_below (Expr 1) b && false))) m) in
-    let bad = and_right (fits_below (Expr 1) b) false (and_right (shaped Maybe (Expr 1) b) (fits_below (Expr 1) b && false) m1) in cc
+    let m1 = (three (admits (Pat Binds) a) (fits_below (Pat Binds) a) (shaped Maybe (Expr 1) b && (fits_below (Expr 1) b && false)) m).2 in
+    let bad = (three (shaped Maybe (Expr 1) b) (fits_below (Expr 1) b) false m1).2 in cc
 binding_walk (part a (part b none)) {x} {y} m s i e f st =
-    let m1 = and_right (admits (Pat Binds) a) (fits_below (Pat Binds) a && (shaped Maybe (Expr 1) b && (fits_below (Expr 1) b && true))) m in
-    let m2 = and_right (fits_below (Pat Binds) a) (shaped Maybe (Expr 1) b && (fits_below (Expr 1) b && true)) m1 in
+    let m1 = three (admits (Pat Binds) a) (fits_below (Pat Binds) a) (shaped Maybe (Expr 1) b && (fits_below (Expr 1) b && true)) m in
+    let m2 = three (shaped Maybe (Expr 1) b) (fits_below (Expr 1) b) true m1.2 in
     let s1 = and_right (in_stage (Pat Binds) a) (in_stage (Expr 1) b && true) s in
-    let t = is_pattern a (and_left (admits (Pat Binds) a) _ m) (and_left (fits_below (Pat Binds) a) _ m1) (and_left (in_stage (Pat Binds) a) _ s) in
-    let o = is_option b (and_left (shaped Maybe (Expr 1) b) _ m2) i in
-    let m3 = subst (λ v. fits_below (Expr 1) v ≡ true) o.is (and_left (fits_below (Expr 1) b) true (and_right (shaped Maybe (Expr 1) b) (fits_below (Expr 1) b && true) m2)) in
+    let t = is_pattern a m1.0 m1.1 (and_left (in_stage (Pat Binds) a) (in_stage (Expr 1) b && true) s) in
+    let o = is_option b m2.0 i in
+    let m3 = three (admits (Expr 1) o.value) (fits_below (Expr 1) o.value) true (subst (λ v. fits_below (Expr 1) v ≡ true) o.is m2.1) in
     let s3 = subst (λ v. in_stage (Expr 1) v ≡ true) o.is (and_left (in_stage (Expr 1) b) true s1) in
     let same : part a (part b none) ≡ binding_of t.name o.value = (λ j. part (t.is j) (part (o.is j) none)) in
     subst (λ cs. Walk (template Bound) x cs y) (sym same)
-    (walks_binding t.name o.value t.fine t.whole (and_left (admits (Expr 1) o.value) _ m3) (and_left (fits_below (Expr 1) o.value) true (and_right (admits (Expr 1) o.value) (fits_below (Expr 1) o.value && true) m3)) (and_left (in_stage (Expr 1) o.value) true s3)
+    (walks_binding t.name o.value t.fine t.whole m3.0 m3.1 (and_left (in_stage (Expr 1) o.value) true s3)
     (subst (λ cs. scan x (with_semicolons (spelled (node (statement Declarator) cs))) ≡ y) same e) f st)
 
 record IsBinding (t : Tree) : Type 0 where

@@ -31,7 +31,7 @@ fn items<'s>(alloc: Global, lexer: &mut Lexer<'s>) -> Result<Vec<Item<'s>>, Pars
 
 /// The module that a text is.
 pub fn parse<'s>(alloc: Global, text: &'s str) -> Result<Program<'s>, ParseError>
-    requires { length text.now < 4294901760 }
+    requires { length text.now < 0xFFFF_0000 }
     // What was read is what the text says.
     ensures read { IfOk result (λ program. ReadsSoFar (chars text.now) (view program)) }
     // A syntax error comes only where no tree reads the text.
@@ -58,3 +58,53 @@ pub fn parse<'s>(alloc: Global, text: &'s str) -> Result<Program<'s>, ParseError
 pub fn one_tree()
     ensures { (text : Text) (t u : Tree) → ReadsSoFar text t → ReadsSoFar text u → t ≡ u }
 {}
+
+#[cfg(test)]
+mod tests {
+    use super::parse;
+    use crate::ParseError;
+    use jsx_base::BytePos;
+    use jsx_tree::Program;
+    use std::alloc::Global;
+
+    /// The number of statements, or the place of the error.
+    fn read(alloc: Global, text: &str) -> Result<usize, ParseError> {
+        if text.len() >= 1000 {
+            return Err(ParseError::Memory);
+        }
+        let Program::Module(module) = parse(alloc, text)?;
+        Ok(module.body.len())
+    }
+
+    #[test]
+    fn reads_modules(rt: HostRuntime) {
+        for (text, want) in [
+            ("", 0),
+            (" // a\n/* b */", 0),
+            ("const a = <b/>;", 1),
+            ("const a = b.c(1, 'd',)(), e = <f/>.g;h\n(i) ;", 2),
+            ("<a/>; 1(2); 'a'.b; eval;", 4),
+            ("a.if.class;", 1),
+        ] {
+            assert_eq!(rt; read(rt.alloc(), text), Ok(want), "at {text}");
+        }
+    }
+
+    #[test]
+    fn refuses_what_no_tree_reads(rt: HostRuntime) {
+        for (text, place) in [
+            ("const a = <b/>", 13),
+            ("const eval = a;", 6),
+            ("a(,);", 1),
+            ("a(b,,);", 3),
+            ("'use strict';", 0),
+            ("1 .a;", 2),
+            ("this;", 0),
+            ("const a;", 6),
+            ("a; /* b", 1),
+        ] {
+            let want = Err(ParseError::Syntax(BytePos(place)));
+            assert_eq!(rt; read(rt.alloc(), text), want, "at {text}");
+        }
+    }
+}
