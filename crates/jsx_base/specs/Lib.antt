@@ -1,5 +1,6 @@
 pub mod Token
 pub mod Calls
+pub mod MultiSpan
 pub mod Faults
 pub mod Sink
 pub mod Source

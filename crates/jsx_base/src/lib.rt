@@ -2,10 +2,12 @@
 #![tactic(auto)]
 
 mod calls;
+mod multi_span;
 mod place;
 mod sink;
 mod source;
 
+pub use multi_span::{MultiSpan, SpanLabel};
 pub use place::{BytePos, DUMMY_SP, Span, Spanned};
 pub use sink::{MemSink, Sink, StdSink};
 pub use source::{Failed, MemSource, Source, StdSource};
