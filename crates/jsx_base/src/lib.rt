@@ -2,12 +2,16 @@
 #![tactic(auto)]
 
 mod calls;
+mod file_name;
+mod marks;
 mod multi_span;
 mod place;
 mod sink;
 mod source;
 
+pub use file_name::FileName;
+pub use marks::{BaseError, Globals, Mark, Marks, SyntaxContext};
 pub use multi_span::{MultiSpan, SpanLabel};
-pub use place::{BytePos, DUMMY_SP, Span, Spanned};
-pub use sink::{MemSink, Sink, StdSink};
+pub use place::{BytePos, CharPos, DUMMY_SP, Span, Spanned};
+pub use sink::{MemSink, QuietSink, Sink, StdSink};
 pub use source::{Failed, MemSource, Source, StdSource};
