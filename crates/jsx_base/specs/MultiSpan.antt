@@ -1,5 +1,5 @@
 -- What clients see of the spans and labels to which a report points.
-use Rattle.std.specs.Prelude.{ℕ, List, ◌++◌, Option, Some, None, Bool, true, not, map, filter, nat_eq, ◌&&◌, cond, string_bytes}
+use Rattle.std.specs.Prelude.{ℕ, List, [], ◌∷◌, ◌++◌, Option, Some, None, Bool, true, not, map, filter, nat_eq, ◌&&◌, cond, string_bytes}
 use Rattle.std.specs.List.{list_any}
 use Rattle.std.specs.Option.{option_map}
 use Rattle.std.specs.declared.string.String.{String}
@@ -52,3 +52,7 @@ replaced before after span = cond (is_span before span) after span
 
 abbrev pub replaced_label : Span → Span → Span × List ℕ → Span × List ℕ
 replaced_label before after label = (replaced before after label.0, label.1)
+
+-- one primary span, with the text of each label
+abbrev pub relabelled : Spans → Span → Spans
+relabelled spans after = record { primary = after ∷ []; labels = map (λ label. (after, label.1)) spans.labels }

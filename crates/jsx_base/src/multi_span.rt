@@ -3,7 +3,7 @@
 ghost use Rattle.std.specs.Prelude.{◌≡◌, ◌+◌, [], ◌∷◌, ◌++◌, Bool, false, ◌||◌, slice_get, string_bytes, length, map, IfOk, IfErr, OnOk, OnErr};
 ghost use Rattle.std.specs.Option.{option_map};
 ghost use Rattle.std.specs.List.{list_any};
-ghost use Rattle.jsx_base.specs.MultiSpan.{spans_of, label_of, label_data, labelled, shown_labels, is_span, replaced, replaced_label};
+ghost use Rattle.jsx_base.specs.MultiSpan.{spans_of, label_of, label_data, labelled, shown_labels, is_span, relabelled, replaced, replaced_label};
 
 use crate::Span;
 use std::alloc::{AllocError, Global};
@@ -114,6 +114,21 @@ impl MultiSpan {
         let in_primary = replace_spans(&mut self.primary_spans, before, after);
         let in_labels = replace_labels(&mut self.span_labels, before, after);
         in_primary || in_labels
+    }
+
+    /// One primary span, at which the text of each label stands.
+    ///
+    /// # Errors
+    ///
+    /// `AllocError` for want of memory.
+    pub fn moved_to(&self, alloc: Global, after: Span) -> Result<MultiSpan, AllocError>
+        ensures { IfOk result (λ moved. spans_of moved ≡ relabelled (spans_of self.now) after) }
+    {
+        let mut moved = MultiSpan::from_span(alloc, after)?;
+        for (_, label) in &self.span_labels {
+            moved.push_span_label(after, String::from_str(alloc, label.as_str())?)?;
+        }
+        Ok(moved)
     }
 
     /// An equal one.
