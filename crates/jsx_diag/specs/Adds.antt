@@ -39,10 +39,6 @@ with_child report child = record report { children = report.children ++ child �
 abbrev pub with_label : Report → Span → Text → Report
 with_label report span text = record report { span = record report.span { labels = report.span.labels ++ (span, text) ∷ [] } }
 
--- one primary span, with the text of each old label
-abbrev pub relabelled : Spans → Span → Spans
-relabelled spans after = record { primary = after ∷ []; labels = map (λ label. (after, label.1)) spans.labels }
-
 abbrev pub edit : Span → Text → Edit
 edit span text = record { span = span; snippet = text }
 
@@ -75,3 +71,7 @@ expected_found label expected found expected_extra found_extra =
 -- a report of one plain message, which points nowhere
 abbrev pub new_report : Level → Option Code → Text → Report
 new_report level code message = record { level = level; message = plain_piece message ∷ []; code = code; span = nowhere; children = []; suggestions = [] }
+
+-- with the notes of another report, and its span and code
+abbrev pub with_details : Report → Report → Report
+with_details report from = record report { children = report.children ++ from.children; span = from.span; code = from.code }
