@@ -14,3 +14,6 @@ pub use level::{Applicability, Level, Style};
 pub use message::{DiagnosticStyledString, Message, StringPart};
 pub use sub_diagnostic::SubDiagnostic;
 pub use suggestion::{CodeSuggestion, Substitution, SubstitutionPart};
+
+#[cfg(test)]
+mod tests;
