@@ -2,3 +2,4 @@ mod Lexing
 mod Literals
 pub mod Automata
 pub mod Gains
+pub mod Spans

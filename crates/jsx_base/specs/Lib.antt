@@ -1,6 +1,9 @@
 pub mod Token
 pub mod Calls
+pub mod MultiSpan
 pub mod Faults
+pub mod FileName
+pub mod Globals
 pub mod Sink
 pub mod Source
 pub mod StdSink

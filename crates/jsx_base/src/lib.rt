@@ -2,14 +2,20 @@
 #![tactic(auto)]
 
 mod calls;
+mod file_name;
+mod marks;
+mod multi_span;
 mod node;
 mod place;
 mod rule;
 mod sink;
 mod source;
 
+pub use file_name::FileName;
+pub use marks::{BaseError, Globals, Mark, Marks, SyntaxContext};
+pub use multi_span::{MultiSpan, SpanLabel};
 pub use node::AstNode;
-pub use place::{BytePos, DUMMY_SP, Span, Spanned};
+pub use place::{BytePos, CharPos, DUMMY_SP, Span, Spanned};
 pub use rule::{Answers, Rule};
-pub use sink::{MemSink, Sink, StdSink};
+pub use sink::{MemSink, QuietSink, Sink, StdSink};
 pub use source::{Failed, MemSource, Source, StdSource};

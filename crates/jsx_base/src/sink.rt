@@ -5,10 +5,12 @@ ghost use Rattle.jsx_base.specs.Faults.{Rose};
 ghost use Rattle.jsx_base.specs.Sink.{Gains, GainsPrefix};
 
 mod mem_sink;
+mod quiet_sink;
 mod std_sink;
 
 use crate::Failed;
 pub use mem_sink::MemSink;
+pub use quiet_sink::QuietSink;
 use std::alloc::AllocError;
 pub use std_sink::StdSink;
 
@@ -92,6 +94,16 @@ mod tests {
             assert_eq!(rt; sink.bytes().len(), held);
         }
         assert_eq!(rt; sink.bytes(), b"abef".as_slice());
+        Ok(())
+    }
+
+    #[test]
+    fn a_quiet_sink_holds_what_was_written(rt: HostRuntime) -> Result<(), Fail> {
+        let mut sink = QuietSink::new(rt.alloc());
+        sink.reserve(4)?;
+        assert_eq!(rt; sink.write(b"ab"), Ok(()));
+        assert_eq!(rt; sink.write(b"cd"), Ok(()));
+        assert_eq!(rt; sink.bytes(), b"abcd".as_slice());
         Ok(())
     }
 
