@@ -27,7 +27,11 @@ fn declarator<'s>(alloc: Global, lexer: &mut Lexer<'s>) -> Result<Pat<'s>, Parse
     expect(lexer, Fixed::Equals)?;
     let value = expression(alloc, lexer)?;
     let span = Span::new(lo, span_of(&value).hi);
-    Ok(Pat::Binding(Some(span), Box::new(alloc, name)?, Some(Box::new(alloc, value)?)))
+    Ok(Pat::Binding(
+        Some(span),
+        Box::new(alloc, name)?,
+        Some(Box::new(alloc, value)?),
+    ))
 }
 
 /// One declarator or more, with commas between: `a = b, c = d`.
@@ -36,7 +40,7 @@ fn declarators<'s>(alloc: Global, lexer: &mut Lexer<'s>) -> Result<Vec<Pat<'s>>,
     ensures shorter { OnOk result (left lexer.new < left lexer.old) }
     ensures refused { Refused result (Barred piece.Declarators (place_of lexer.old)) }
 {
-    let mut all = Vec::new(alloc);
+    let mut all = Vec::with_capacity(alloc, 1)?;
     'declarators: loop {
         let next = declarator(alloc, lexer)?;
         all.push(next)?;
