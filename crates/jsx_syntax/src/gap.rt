@@ -30,7 +30,9 @@ enum Gap {
 fn after_blank(c: char, rest: &str) -> Gap
     ensures { gap_of result ≡ gap_after_blank c (chars rest.now) }
 {
-    if is_blank(c) || is_line_end(c) {
+    if c.is_ascii_graphic() && c != '/' {
+        Gap::Over
+    } else if is_blank(c) || is_line_end(c) {
         Gap::Blank
     } else if c == '/' && begins_with(rest, '/') {
         Gap::Line

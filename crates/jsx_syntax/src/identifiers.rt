@@ -1,70 +1,55 @@
 //! Which words may stand where.
 
-ghost use Rattle.std.specs.Prelude.{◌≡◌, ◌∷◌, [], codes, not};
+ghost use Rattle.std.specs.Prelude.{◌≡◌, ◌∷◌, [], codes, filter, map, nat_eq, not};
 ghost use Rattle.std.specs.Str.{chars};
 ghost use Rattle.std.specs.Char.{is_ascii_alphabetic};
 ghost use Rattle.jsx_base.specs.Token.{first_is, same, among};
 ghost use Rattle.jsx_tree.specs.Nonterminals as grammar;
 ghost use Rattle.jsx_tree.specs.Stage as stage;
 
-/// The words that are no identifier, in strict mode (ECMA-262 section 13.1).
-const RESERVED: [&str; 46] = [
-    "break",
-    "case",
-    "catch",
-    "class",
-    "const",
-    "continue",
-    "debugger",
-    "default",
-    "delete",
-    "do",
-    "else",
-    "enum",
-    "export",
-    "extends",
-    "false",
-    "finally",
-    "for",
-    "function",
-    "if",
-    "import",
-    "in",
-    "instanceof",
-    "new",
-    "null",
-    "return",
-    "super",
-    "switch",
-    "this",
-    "throw",
-    "true",
-    "try",
-    "typeof",
-    "var",
-    "void",
-    "while",
-    "with",
-    "implements",
-    "interface",
-    "let",
-    "package",
-    "private",
-    "protected",
-    "public",
-    "static",
-    "yield",
-    "await",
-];
-
 /// The names that strict mode doesn't bind.
 const RESTRICTED: [&str; 2] = ["eval", "arguments"];
+
+/// The words that are no identifier in strict mode (ECMA-262 section 13.1), of those that begin with the byte.
+fn reserved_from(first: u8) -> &'static [&'static str]
+    ensures { map (λ w. w.now) result.now ≡ filter (first_is (nat_eq first)) grammar.reserved }
+{
+    match first {
+        b'a' => &["await"],
+        b'b' => &["break"],
+        b'c' => &["case", "catch", "class", "const", "continue"],
+        b'd' => &["debugger", "default", "delete", "do"],
+        b'e' => &["else", "enum", "export", "extends"],
+        b'f' => &["false", "finally", "for", "function"],
+        b'i' => &[
+            "if",
+            "import",
+            "in",
+            "instanceof",
+            "implements",
+            "interface",
+        ],
+        b'l' => &["let"],
+        b'n' => &["new", "null"],
+        b'p' => &["package", "private", "protected", "public"],
+        b'r' => &["return"],
+        b's' => &["super", "switch", "static"],
+        b't' => &["this", "throw", "true", "try", "typeof"],
+        b'v' => &["var", "void"],
+        b'w' => &["while", "with"],
+        b'y' => &["yield"],
+        _ => &[],
+    }
+}
 
 /// Whether the word is no identifier.
 pub fn is_reserved(name: &str) -> bool
     ensures { result ≡ among (chars name.now) grammar.reserved }
 {
-    RESERVED.contains(&name)
+    match name.as_bytes().first() {
+        Some(&first) => reserved_from(first).contains(&name),
+        None => false,
+    }
 }
 
 fn is_restricted(name: &str) -> bool

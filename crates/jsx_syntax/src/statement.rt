@@ -40,7 +40,7 @@ fn declarators<'s>(alloc: Global, lexer: &mut Lexer<'s>) -> Result<Vec<Pat<'s>>,
     ensures shorter { OnOk result (left lexer.new < left lexer.old) }
     ensures refused { Refused result (Barred piece.Declarators (place_of lexer.old)) }
 {
-    let mut all = Vec::new(alloc);
+    let mut all = Vec::with_capacity(alloc, 1)?;
     'declarators: loop {
         let next = declarator(alloc, lexer)?;
         all.push(next)?;

@@ -7,7 +7,7 @@ use Rattle.jsx_syntax.proofs.Steps.{passed, formed, to_place, map_push, barred_b
 use Rattle.jsx_syntax.proofs.statement.declarators.Goals as goal
 
 pub returns-in_err-next-clause-refused : goal.returns-in_err-next-clause-refused
-returns-in_err-next-clause-refused c = passed _ _ _ _ c.in_err-next.ensures.refused c.from_residual.ensures.1 (λ n. bad_binding c.declarators.invariant.so_far (barred_binding n))
+returns-in_err-next-clause-refused c = passed _ _ _ _ c.in_err-next.ensures.refused c.from_residual-in_err-next.ensures.1 (λ n. bad_binding c.declarators.invariant.so_far (barred_binding n))
 
 pub returns-then-not-take-clause-read : goal.returns-then-not-take-clause-read
 returns-then-not-take-clause-read c = to_place (ap place_of (c.take.ensures.stays c.if-not-take.true))
