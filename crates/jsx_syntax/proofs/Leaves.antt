@@ -26,12 +26,6 @@ no_fixed answer {s} {x} e = record { bars = λ _ _. record { no = at } }
     at : (g : Given) (y : Place) → Past (Fixed s) x g y → ⊥
     at g y (fixed e' f) = let same : y ≡ Lost = sym e' ∙ e in let bad : IsTrue (is_found Lost) = subst (λ p. IsTrue (is_found p)) same f in cc
 
-pub no_leaf : {T : Type 0} (answer : Result T ParseError) (c : Nonterminal) (k : TokenKind) {x : Place} → ((t : Text) → forth (Tok (mode_of k) k t) x ≡ Lost) → Refused answer (Barred (Leaf c k) x)
-no_leaf answer c k {x} e = record { bars = λ _ _. record { no = at } }
-  where
-    at : (g : Given) (y : Place) → Past (Leaf c k) x g y → ⊥
-    at g y (spelled {t = t} a b l e' f) = let same : y ≡ Lost = sym e' ∙ e t in let bad : IsTrue (is_found Lost) = subst (λ p. IsTrue (is_found p)) same f in cc
-
 -- the text that stands there may not stand there
 pub unfit_leaf : {T : Type 0} (answer : Result T ParseError) (c : Nonterminal) (k : TokenKind) (t : Text) {x y : Place} → y ≡ forth (Tok (mode_of k) k t) x → IsTrue (is_found y) → (IsTrue (leaf_in c k t) → IsTrue (leaf_at c k t) → ⊥) → Refused answer (Barred (Leaf c k) x)
 unfit_leaf answer c k t {x} {y} e f unfit = record { bars = λ _ _. record { no = at } }

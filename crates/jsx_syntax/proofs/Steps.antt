@@ -129,9 +129,6 @@ pub record MoreBindings (x : Place) (ts : List Tree) (y : Place) : Type 0 where
   pub reads : (us : List Tree) (z : Place) → Bindings y us z → Bindings x (ts ++ us) z
   pub bars : Barred Declarators y → Barred Declarators x
 
-pub first_binding : {x : Place} {ts : List Tree} → ts ≡ [] → MoreBindings x ts x
-first_binding {x} {ts} e = record { reads = λ us z b. subst (λ v. Bindings x (v ++ us) z) (sym e) b; bars = λ b. b }
-
 no_more_bindings : {x y z : Place} {t : Tree} → Past (Part Binding) x (one t) y → Past (Fixed (pun_sign ",")) y nothing z → Barred Declarators z → Barred Declarators x
 no_more_bindings {x} {y} {z} {t} p q b = record { no = at }
   where
@@ -168,9 +165,6 @@ to_place {x} {ts = ts} e b = subst (λ v. Bindings x ts v) (sym e) b
 pub record MoreArguments (x : Place) (ts : List Tree) (y : Place) : Type 0 where
   pub reads : (us : List Tree) (z : Place) → Arguments y us z → Arguments x (ts ++ us) z
   pub bars : NoArguments y → NoArguments x
-
-pub first_argument : {x : Place} {ts : List Tree} → ts ≡ [] → MoreArguments x ts x
-first_argument {x} {ts} e = record { reads = λ us z b. subst (λ v. Arguments x (v ++ us) z) (sym e) b; bars = λ b. b }
 
 pub all_arguments : {x y z : Place} {ts : List Tree} → MoreArguments x ts y → Past (Fixed (pun_sign ")")) y nothing z → Arguments x ts z
 all_arguments {x} {z = z} {ts} m p = subst (λ v. Arguments x v z) (append-nil ts) (m.reads [] z (closed p))
@@ -258,10 +252,6 @@ bad_primary {x} n = record { no = at }
 
 -- ---- an error behind some pieces of a row, and a node with all its pieces
 
-pub fails_1 : {T U : Type 0} (answer : Result T ParseError) (ps : List Piece) {e : ParseError} {p1 : Piece} {x0 : Place}
-    → Refused {T = U} (Err e) (Barred p1 x0) → IsErrAnd answer (λ y. y ≡ e) → Refused answer (NoWalk (p1 ∷ ps) x0)
-fails_1 answer ps nope is = passed answer _ _ _ nope is (λ b. bar b)
-
 pub fails_2 : {T U : Type 0} (answer : Result T ParseError) (ps : List Piece) {e : ParseError} {p1 p2 : Piece} {x0 x1 : Place} {g1 : Given}
     → Refused {T = U} (Err e) (Barred p2 x1) → Past p1 x0 g1 x1 → IsErrAnd answer (λ y. y ≡ e) → Refused answer (NoWalk (p1 ∷ p2 ∷ ps) x0)
 fails_2 answer ps nope q1 is = passed answer _ _ _ nope is (λ b. on q1 (bar b))
@@ -278,10 +268,6 @@ pub fails_5 : {T U : Type 0} (answer : Result T ParseError) (ps : List Piece) {e
     → Refused {T = U} (Err e) (Barred p5 x4) → Past p1 x0 g1 x1 → Past p2 x1 g2 x2 → Past p3 x2 g3 x3 → Past p4 x3 g4 x4 → IsErrAnd answer (λ y. y ≡ e) → Refused answer (NoWalk (p1 ∷ p2 ∷ p3 ∷ p4 ∷ p5 ∷ ps) x0)
 fails_5 answer ps nope q1 q2 q3 q4 is = passed answer _ _ _ nope is (λ b. on q1 (on q2 (on q3 (on q4 (bar b)))))
 
-pub built_1 : {k : Kind} {t : Tree} {p1 : Piece} {x0 x1 : Place} {g1 : Given}
-    → Past p1 x0 g1 x1 → t ≡ node k (with g1 none) → Built (p1 ∷ []) k t x0 x1
-built_1 {g1 = g1} q1 is = record { parts = with g1 none; is = is; walk = next q1 done }
-
 pub built_2 : {k : Kind} {t : Tree} {p1 p2 : Piece} {x0 x1 x2 : Place} {g1 g2 : Given}
     → Past p1 x0 g1 x1 → Past p2 x1 g2 x2 → t ≡ node k (with g1 (with g2 none)) → Built (p1 ∷ p2 ∷ []) k t x0 x2
 built_2 {g1 = g1} {g2 = g2} q1 q2 is = record { parts = with g1 (with g2 none); is = is; walk = next q1 (next q2 done) }
@@ -290,12 +276,6 @@ pub built_3 : {k : Kind} {t : Tree} {p1 p2 p3 : Piece} {x0 x1 x2 x3 : Place} {g1
     → Past p1 x0 g1 x1 → Past p2 x1 g2 x2 → Past p3 x2 g3 x3 → t ≡ node k (with g1 (with g2 (with g3 none))) → Built (p1 ∷ p2 ∷ p3 ∷ []) k t x0 x3
 built_3 {g1 = g1} {g2 = g2} {g3 = g3} q1 q2 q3 is = record { parts = with g1 (with g2 (with g3 none)); is = is; walk = next q1 (next q2 (next q3 done)) }
 
-pub built_4 : {k : Kind} {t : Tree} {p1 p2 p3 p4 : Piece} {x0 x1 x2 x3 x4 : Place} {g1 g2 g3 g4 : Given}
-    → Past p1 x0 g1 x1 → Past p2 x1 g2 x2 → Past p3 x2 g3 x3 → Past p4 x3 g4 x4 → t ≡ node k (with g1 (with g2 (with g3 (with g4 none)))) → Built (p1 ∷ p2 ∷ p3 ∷ p4 ∷ []) k t x0 x4
-built_4 {g1 = g1} {g2 = g2} {g3 = g3} {g4 = g4} q1 q2 q3 q4 is = record { parts = with g1 (with g2 (with g3 (with g4 none))); is = is; walk = next q1 (next q2 (next q3 (next q4 done))) }
-
 pub built_5 : {k : Kind} {t : Tree} {p1 p2 p3 p4 p5 : Piece} {x0 x1 x2 x3 x4 x5 : Place} {g1 g2 g3 g4 g5 : Given}
     → Past p1 x0 g1 x1 → Past p2 x1 g2 x2 → Past p3 x2 g3 x3 → Past p4 x3 g4 x4 → Past p5 x4 g5 x5 → t ≡ node k (with g1 (with g2 (with g3 (with g4 (with g5 none))))) → Built (p1 ∷ p2 ∷ p3 ∷ p4 ∷ p5 ∷ []) k t x0 x5
 built_5 {g1 = g1} {g2 = g2} {g3 = g3} {g4 = g4} {g5 = g5} q1 q2 q3 q4 q5 is = record { parts = with g1 (with g2 (with g3 (with g4 (with g5 none)))); is = is; walk = next q1 (next q2 (next q3 (next q4 (next q5 done)))) }
-
-pub ruleset steps = (fails_1, fails_2, fails_3, fails_4, fails_5, built_1, built_2, built_3, built_4, built_5)

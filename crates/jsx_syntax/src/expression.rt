@@ -16,7 +16,6 @@ use jsx_tree::{Access, Expr, Ident, Jsx, LiteralKind, Tag, Text};
 use std::alloc::Global;
 
 /// A JSX element with neither attributes nor children: `<a/>`.
-#[tactic(auto, using(crate::proofs::Steps::steps))]
 fn element<'s>(lexer: &mut Lexer<'s>) -> Result<Jsx<'s>, ParseError>
     ensures read { IfOk result (λ j. Built (template piece.Empty) (kind_of piece.Empty) (view_jsx j) (place_of lexer.old) (place_of lexer.new)) }
     ensures shorter { OnOk result (left lexer.new < left lexer.old) }
