@@ -4,10 +4,10 @@ ghost use Rattle.std.specs.Prelude.{◌≡◌, ◌<◌, IsTrue, nat_eq, false, t
 ghost use Rattle.std.specs.Str.{chars};
 ghost use Rattle.jsx_base.specs.Token.{gap_next, gap_after_blank, skip, is_cut};
 ghost use Rattle.jsx_base.specs.Token.{Blank};
-ghost use Rattle.jsx_syntax.specs.Gaps.{gap_of, IsBehind};
+ghost use Rattle.jsx_syntax.specs.Gaps.{gap_of, IsBehind, IsWithoutGap};
 ghost use Rattle.jsx_syntax.specs.Characters.{EndsWith};
 
-use crate::characters::{begins_with, first, is_blank, is_line_end};
+use crate::characters::{begins_with, behind, first, is_blank, is_line_end};
 
 /// Where in a gap a character stands.
 #[derive(Clone, Copy)]
@@ -88,8 +88,8 @@ pub struct Ahead<'s> {
     pub is_cut: bool,
 }
 
-/// Goes over blanks, line ends and comments.
-pub fn skip(text: &str) -> Ahead
+/// Goes over blanks, line ends and comments, one character at a time.
+fn go_over(text: &str) -> Ahead
     ensures rest { chars result.rest.now ≡ skip (chars text.now) }
     ensures is_cut { result.is_cut ≡ is_cut Blank (chars text.now) }
     ensures front { IsBehind (chars result.rest.now) }
@@ -112,4 +112,36 @@ pub fn skip(text: &str) -> Ahead
         rest,
         is_cut: is_open(gap),
     }
+}
+
+/// Whether the text begins with a character that only a token begins with. Most tokens do.
+#[inline]
+fn begins_token(text: &str) -> bool
+    ensures { IsTrue result → IsWithoutGap (chars text.now) }
+{
+    match first(text) {
+        Some((c, _)) => c.is_ascii_graphic() && c != '/',
+        None => false,
+    }
+}
+
+/// Goes over blanks, line ends and comments.
+#[inline]
+pub fn skip(text: &str) -> Ahead
+    ensures rest { chars result.rest.now ≡ skip (chars text.now) }
+    ensures is_cut { result.is_cut ≡ is_cut Blank (chars text.now) }
+    ensures front { IsBehind (chars result.rest.now) }
+    ensures ends { EndsWith text.now result.rest.now }
+{
+    let rest = match behind(text, ' ') {
+        Some(rest) => rest,
+        None => text,
+    };
+    if begins_token(rest) {
+        return Ahead {
+            rest,
+            is_cut: false,
+        };
+    }
+    go_over(text)
 }

@@ -5,7 +5,7 @@ use denote.Shadow.{shadow}
 use denote.Text.{Utf8}
 use Rattle.jsx_syntax.specs.Gaps.{gap_of}
 use Rattle.jsx_syntax.specs.Characters.{EndsWith}
-use Rattle.jsx_syntax.proofs.gap.skip.Given as goal
+use Rattle.jsx_syntax.proofs.gap.go_over.Given as goal
 
 abbrev pub invariant-loop-c : goal.invariant-loop-c
 invariant-loop-c l = record {
