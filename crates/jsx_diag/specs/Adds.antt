@@ -1,12 +1,11 @@
 -- What a call adds to a report.
-use Rattle.std.specs.Prelude.{ℕ, List, [], ◌∷◌, ◌++◌, Option, None, Some, Bool, true, false, map, codes, string_bytes}
+use Rattle.std.specs.Prelude.{List, [], ◌∷◌, ◌++◌, Option, None, Bool, map, codes, string_bytes}
 use Rattle.std.specs.declared.string.String.{String}
 use Rattle.std.specs.declared.alloc.Global.{Global}
 use Rattle.jsx_base.specs.declared.place.Span.{Span}
 use Rattle.jsx_base.specs.MultiSpan.{Spans}
 use Rattle.jsx_diag.specs.declared.level.Level.{Level}
 use Rattle.jsx_diag.specs.declared.level.Level.TheVariants.{Note}
-use Rattle.jsx_diag.specs.declared.level.Style.{Style}
 use Rattle.jsx_diag.specs.declared.level.Style.TheVariants.{NoStyle, Highlight}
 use Rattle.jsx_diag.specs.declared.level.Applicability.{Applicability}
 use Rattle.jsx_diag.specs.Data.{Text, Piece, Part, Plain, Marked, Edit, Suggestion, Child, Code, Report}

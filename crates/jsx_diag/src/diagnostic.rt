@@ -1,6 +1,6 @@
 //! A report.
 
-ghost use Rattle.std.specs.Prelude.{◌≡◌, [], ◌∷◌, None, IfOk, string_bytes, map};
+ghost use Rattle.std.specs.Prelude.{◌≡◌, ◌↔◌, IsTrue, [], ◌∷◌, None, IfOk, string_bytes, map};
 ghost use Rattle.std.specs.Option.{option_map};
 ghost use Rattle.std.specs.List.{flat_map};
 ghost use Rattle.jsx_base.specs.MultiSpan.{spans_of};
@@ -115,6 +115,13 @@ impl Diagnostic {
         ensures { result ≡ is_cancelled_level self.now.level }
     {
         self.level == Level::Cancelled
+    }
+
+    /// Whether the two are equal in every field.
+    pub fn is_same(&self, other: &Diagnostic) -> bool
+        ensures { IsTrue result ↔ (report_of self.now ≡ report_of other.now) }
+    {
+        *self == *other
     }
 
     /// The pieces of its message.

@@ -126,7 +126,7 @@ fn suggestions_follow_one_another(rt: HostRuntime) -> Result<(), Fail> {
     );
     assert!(rt; report.suggestions[7].applicability == sure);
     let copy = report.try_clone(alloc)?;
-    assert!(rt; copy == report);
+    assert!(rt; copy == report && copy.is_same(&report));
     Ok(())
 }
 
