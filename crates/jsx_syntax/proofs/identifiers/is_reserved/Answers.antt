@@ -1,10 +1,10 @@
 use Rattle.std.proofs.Common.{◌≡◌, ℕ, nat_eq, Bool, true, false, List, [], ◌∷◌, map, refl, sym, ◌∙◌, ap, Bor, Some, None}
 use Rattle.std.specs.Prelude.{◌||◌, cond}
 use Rattle.std.specs.List.{filter, list_any, slice_get}
-use Rattle.std.specs.Str.{chars, bytes_eq}
+use Rattle.std.specs.Str.{bytes_eq}
 use Rattle.std.proofs.lemmas.Bool.{eq-eqb, false≢true}
 use Rattle.std.proofs.lemmas.Slice.Eq.{bytes_eq-Decides}
-use Rattle.jsx_base.specs.Token.{Text, first_is, among}
+use Rattle.jsx_base.specs.Token.{Text, first_is}
 use Rattle.jsx_tree.specs.Nonterminals as grammar
 use Rattle.jsx_syntax.proofs.Spellings.{any_reserved}
 use Rattle.jsx_syntax.proofs.identifiers.is_reserved.Goals as goal
