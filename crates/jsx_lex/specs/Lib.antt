@@ -1,3 +1,10 @@
+pub mod Automaton
+pub mod Characters
+pub mod Front
+pub mod Gaps
 pub mod Kinds
+pub mod Marks
 pub mod Places
+pub mod Plain
 pub mod Stand
+pub mod Taken

@@ -1,7 +1,18 @@
 //! The tokens of a text, one at a time, in the mode that the reader asks for.
 #![tactic(auto)]
 
+mod automaton;
+mod characters;
+mod front;
+mod gap;
 mod lexer;
+mod machine;
+mod marks;
+mod number;
+mod plain;
+mod quoted;
+mod regexp;
+mod template;
 mod token;
 
 pub use lexer::Lexer;

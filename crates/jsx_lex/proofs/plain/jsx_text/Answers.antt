@@ -1,0 +1,5 @@
+use Rattle.jsx_lex.proofs.PlainRuns.{jsx_text_is}
+use Rattle.jsx_lex.proofs.plain.jsx_text.Goals as goal
+
+pub returns-clause-token : goal.returns-clause-token
+returns-clause-token c = jsx_text_is _ _ c.past.ensures.keeps c.past.ensures.stops
