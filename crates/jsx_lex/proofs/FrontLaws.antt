@@ -1,11 +1,11 @@
 -- The token at the front of a text.
-use Rattle.std.proofs.Common.{◌≡◌, ℕ, [], ◌∷◌, Bool, true, false, cond, ◌||◌, ◌&&◌, codes, refl, sym, ap, ◌∙◌, subst, Option, Some, None, MatchOption}
+use Rattle.std.proofs.Common.{◌≡◌, ℕ, [], ◌∷◌, Bool, true, false, cond, ◌||◌, codes, refl, sym, ap, ◌∙◌, subst, Option, Some, None, MatchOption}
 use Rattle.std.specs.Prelude.{nat_eq, IfSome}
 use Rattle.std.specs.Str.{chars}
-use Rattle.std.proofs.lemmas.Bool.{false≢true, eq-eqb, ne_eqb}
+use Rattle.std.proofs.lemmas.Bool.{false≢true, ne_eqb}
 use Rattle.jsx_base.specs.Token.{Text, Mode, Children, Tag, Piece, TokenKind as Kind, IdentifierName, Punctuator, NumericLiteral, BigIntLiteral, StringLiteral, RegExpLiteral, NoSubstitution, TemplateHead, TemplateMiddle, TemplateTail, JsxName, JsxString, JsxText, Elision, NoToken}
 use Rattle.jsx_base.specs.Token.{is_kind, State, Dead, Done, InName, BehindZero, InDigits, BehindPoint, InFraction, BehindE, BehindSign, InExponent, InBase, BehindN, InString, InEscape, InHex, InUnicode, InBraces, BehindNul, BehindCr, AtRegExp, InRegExp, InRegExpEscape, InFlags, InPiece, InPieceEscape, BehindDollar, InJsxName, InJsxString, InJsxText}
-use Rattle.jsx_base.specs.Token.{Lexeme, is_dead, step, in_piece, is_start, is_one_of, ended, no_token, lexed, state, at_front, accepts, last_state, taken, left}
+use Rattle.jsx_base.specs.Token.{Lexeme, is_dead, in_piece, is_start, is_one_of, ended, no_token, lexed, state, at_front, accepts, last_state, taken, left}
 use Rattle.jsx_lex.specs.declared.token.TokenKind.{TokenKind}
 use Rattle.jsx_lex.specs.declared.token.TokenKind.TheVariants as token
 use Rattle.jsx_lex.specs.declared.machine.Found.{Found}

@@ -1,5 +1,5 @@
 -- Over a gap, character by character.
-use Rattle.std.proofs.Common.{◌≡◌, ℕ, zero, suc, [], ◌∷◌, Bool, true, false, cond, not, ◌&&◌, ◌||◌, codes, sym, refl, ap, ◌∙◌, subst}
+use Rattle.std.proofs.Common.{◌≡◌, ℕ, [], ◌∷◌, Bool, true, false, cond, not, ◌&&◌, ◌||◌, codes, sym, refl, ap, ◌∙◌, subst}
 use Rattle.std.specs.Prelude.{nat_eq}
 use Rattle.std.proofs.lemmas.Bool.{false≢true}
 use Rattle.jsx_base.specs.Token.{Text, Gap, Blank, InLineComment, Opening, InBlockComment, Closing, BehindGap, gap_next, gap_after_blank, is_over, behind_gap, is_cut, breaks_in, skip, is_line_end, is_blank, begins, first_is}
@@ -154,7 +154,7 @@ no_gap c text h k n =
 
 -- at a token's first character, and at the text's end
 
-not_cut : (text : Text) → is_cut BehindGap text ≡ false
+pub not_cut : (text : Text) → is_cut BehindGap text ≡ false
 not_cut [] = refl
 not_cut (c ∷ text) = not_cut text
 
@@ -163,7 +163,7 @@ pub record IsWithoutGap (text : Text) : Type 0 where
   pub cut_is : is_cut Blank text ≡ false
   pub breaks_are : breaks_in Blank text ≡ false
 
-over_is : (g : Gap) → is_over g ≡ true → g ≡ BehindGap
+pub over_is : (g : Gap) → is_over g ≡ true → g ≡ BehindGap
 over_is Blank h = absurd (false≢true h)
 over_is InLineComment h = absurd (false≢true h)
 over_is (Opening n) h = absurd (false≢true h)

@@ -5,3 +5,5 @@ pub mod PlainRuns
 pub mod Table
 pub mod MarkLaws
 pub mod FrontLaws
+pub mod Raws
+pub mod Stands

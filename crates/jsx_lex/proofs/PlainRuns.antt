@@ -1,8 +1,8 @@
 -- Over the characters that don't change a token's state.
-use Rattle.std.proofs.Common.{◌≡◌, ℕ, [], ◌∷◌, Bool, true, false, cond, not, ◌||◌, ◌&&◌, codes, refl, sym, ap, ◌∙◌, subst}
+use Rattle.std.proofs.Common.{◌≡◌, ℕ, [], ◌∷◌, Bool, true, false, cond, not, ◌||◌, codes, refl, sym, ap, ◌∙◌}
 use Rattle.std.specs.Prelude.{nat_eq}
 use Rattle.std.proofs.lemmas.Bool.{false≢true, eq-eqb, eqb-true}
-use Rattle.jsx_base.specs.Token.{Text, TokenKind as Kind, IdentifierName, JsxName, JsxString, JsxText, StringLiteral, NoToken, State, Dead, Done, InName, InJsxName, InString, InEscape, InPiece, InPieceEscape, BehindDollar, InJsxString, InJsxText}
+use Rattle.jsx_base.specs.Token.{Text, TokenKind as Kind, JsxString, StringLiteral, State, Dead, Done, InName, InJsxName, InString, InEscape, InPiece, InPieceEscape, BehindDollar, InJsxString, InJsxText}
 use Rattle.jsx_base.specs.Token.{step, is_dead, left, last_state, accepts, ended, no_token, first_is, is_part, is_one_of}
 use Rattle.jsx_lex.specs.declared.token.TokenKind.{TokenKind}
 use Rattle.jsx_lex.specs.declared.token.TokenKind.TheVariants as token

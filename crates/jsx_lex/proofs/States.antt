@@ -1,5 +1,5 @@
 -- The code's states and the automata's.
-use Rattle.std.proofs.Common.{◌≡◌, ℕ, ◌∷◌, Bool, true, false, cond, refl, sym, ap, subst}
+use Rattle.std.proofs.Common.{◌≡◌, ℕ, ◌∷◌, Bool, false, cond, refl, sym, ap, subst}
 use Rattle.jsx_base.specs.Token.{Text, State as Taken, step, is_dead, left, last_state}
 use Rattle.jsx_lex.specs.declared.automaton.Number.{Number}
 use Rattle.jsx_lex.specs.declared.automaton.Number.TheVariants as number

@@ -1,5 +1,5 @@
 -- The longest of a table that a text begins with: one law for all punctuators.
-use Rattle.std.proofs.Common.{◌≡◌, ℕ, List, [], ◌∷◌, ◌++◌, Bool, true, false, cond, not, ◌||◌, ◌&&◌, codes, refl, sym, ap, ◌∙◌, subst, ⊎_elim, ◌⊎◌, inl, inr}
+use Rattle.std.proofs.Common.{◌≡◌, ℕ, List, [], ◌∷◌, ◌++◌, Bool, true, false, cond, ◌||◌, ◌&&◌, refl, sym, ap, ◌∙◌, subst, ⊎_elim}
 use Rattle.std.specs.Prelude.{nat_eq}
 use Rattle.std.proofs.lemmas.Bool.{false≢true, and_parts, and_from, and_left, or_parts, or_cases, eq-eqb, eqb-true, false_from_ne_true}
 use Rattle.jsx_base.specs.Token.{Text, among, same, begins, is_longer, longer, longest, drop_as, first_is, is_one_of}
@@ -93,7 +93,7 @@ no_shorter (q ∷ qs) p r h =
     let below : is_longer p y ≡ false = no_shorter qs p r a in
     choice P (is_longer (cond (begins q t) q []) y) _ y (λ l. longer_still p (cond (begins q t) q []) y below l) (λ _. below)) (or_cases (same p q) (among p qs) h)
 
-begins_longest : (qs : List Text) (t : Text) → begins (longest qs t) t ≡ true
+pub begins_longest : (qs : List Text) (t : Text) → begins (longest qs t) t ≡ true
 begins_longest [] t = refl
 begins_longest (q ∷ qs) t =
     let P : Text → Type 0 = λ x. begins x t ≡ true in

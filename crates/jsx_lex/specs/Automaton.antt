@@ -1,5 +1,5 @@
 -- The automata, as the code runs them.
-use Rattle.std.specs.Prelude.{ℕ, Bool, cond, ◌||◌, ◌&&◌, nat_eq, true, false}
+use Rattle.std.specs.Prelude.{ℕ, Bool, cond, ◌||◌, ◌&&◌, true, false}
 use Rattle.jsx_base.specs.Token.{Base as Digits, Hexadecimal, Octal, BinaryDigits, State as Taken, Dead, Done, StringLiteral, BehindZero, InDigits, BehindPoint, InFraction, BehindE, BehindSign, InExponent, InBase, BehindN, InString, InEscape, InHex, InUnicode, InBraces, BehindNul, BehindCr, AtRegExp, InRegExp, InRegExpEscape, InFlags, InPiece, InPieceEscape, BehindDollar, TokenKind, NoSubstitution, TemplateHead, TemplateMiddle, TemplateTail, digit_step, is_letter}
 use Rattle.jsx_lex.specs.declared.automaton.Base.{Base}
 use Rattle.jsx_lex.specs.declared.automaton.Base.TheVariants as base

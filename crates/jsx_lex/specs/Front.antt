@@ -1,7 +1,8 @@
 -- The token at the front of a text, as the code finds it.
-use Rattle.std.specs.Prelude.{◌≡◌, ℕ, [], ◌∷◌, Bool, true, false, ◌&&◌, ◌||◌, codes}
-use Rattle.jsx_base.specs.Token.{Text, Mode, Operand, Operator, Lexeme, NoToken, NoSubstitution, TemplateHead, Punctuator, State, Dead, Done, InName, InString, InPiece, AtRegExp, begins, is_kind, is_one_of}
+use Rattle.std.specs.Prelude.{◌≡◌, ◌↔◌, ◌++◌, ℕ, IsTrue, [], ◌∷◌, Bool, true, false, ◌&&◌, ◌||◌, codes}
+use Rattle.jsx_base.specs.Token.{Text, Mode, Operand, Operator, Lexeme, NoToken, NoSubstitution, TemplateHead, Punctuator, State, Dead, Done, InName, InString, InPiece, AtRegExp, begins, is_kind, is_one_of, same, at_front}
 use Rattle.jsx_lex.specs.declared.token.TokenKind.{TokenKind}
+use Rattle.jsx_lex.specs.declared.token.TokenKind.TheVariants as token
 use Rattle.jsx_lex.specs.declared.front.Start.{Start}
 use Rattle.jsx_lex.specs.declared.front.Start.TheVariants as start
 use Rattle.jsx_lex.specs.Automaton.{number_state}
@@ -37,3 +38,15 @@ pub record IsTagMark (c : ℕ) (k : TokenKind) : Type 0 where
   pub spelling_is : spelling k ≡ c ∷ []
   pub is_mark : is_punctuator k ≡ true
   pub is_one : is_one_of c (codes "<>/=:.{") ≡ true
+
+-- the token that comes next, or the end of the text
+pub record IsNext (m : Mode) (f : Bool) (text : Text) (k : TokenKind) (rest : Text) : Type 0 where
+  pub kind_is : kind_of k ≡ (at_front m f text).kind
+  pub rest_is : rest ≡ (at_front m f text).rest
+  pub spelled : IsTrue (is_punctuator k) → (at_front m f text).raw ≡ spelling k
+  pub raw_is : text ≡ (at_front m f text).raw ++ rest
+  pub end_is : (k ≡ token.End) ↔ IsTrue (same text [])
+
+pub record IsNotNext (m : Mode) (f : Bool) (text : Text) : Type 0 where
+  pub none : (at_front m f text).kind ≡ NoToken
+  pub more : same text [] ≡ false

@@ -1,5 +1,5 @@
 -- The gap before a token, as the code goes over it.
-use Rattle.std.specs.Prelude.{◌≡◌, ℕ, List, [], ◌∷◌, Bool, true, false, ◌||◌}
+use Rattle.std.specs.Prelude.{◌≡◌, ℕ, List, [], ◌∷◌, Bool, true, ◌||◌}
 use Rattle.std.specs.Str.{chars}
 use Rattle.jsx_base.specs.Token.{Text, Gap, Blank, gap_after_blank, is_over, behind_gap, is_cut, breaks_in}
 use Rattle.jsx_lex.specs.Characters.{IsTail}

@@ -2,6 +2,7 @@ pub mod Automaton
 pub mod Characters
 pub mod Front
 pub mod Gaps
+pub mod Here
 pub mod Kinds
 pub mod Marks
 pub mod Places

@@ -1,5 +1,5 @@
 -- Where a lexer stands, and what it finds there.
-use Rattle.std.specs.Prelude.{◌≡◌, ◌-◌, ℕ, length, [], Bool, true, false, cond, ◌||◌, ◌&&◌, IsFalse}
+use Rattle.std.specs.Prelude.{◌≡◌, ◌-◌, ℕ, length, [], Bool, cond, ◌||◌, ◌&&◌, IsFalse}
 use Rattle.std.specs.Str.{chars}
 use Rattle.jsx_base.specs.Token.{Text, Mode, Lexeme, NoToken, token, skips, breaks, is_end, same}
 use Rattle.jsx_lex.specs.declared.lexer.Lexer.{Lexer}

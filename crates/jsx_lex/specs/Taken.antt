@@ -1,5 +1,5 @@
 -- What a token takes from a state of its automaton on.
-use Rattle.std.specs.Prelude.{◌≡◌, Bool, false}
+use Rattle.std.specs.Prelude.{◌≡◌, false}
 use Rattle.jsx_base.specs.Token.{Text, State, TokenKind as Kind, NoToken, left, last_state, accepts, ended, is_kind, no_token}
 use Rattle.jsx_lex.specs.declared.token.TokenKind.{TokenKind}
 use Rattle.jsx_lex.specs.Kinds.{kind_of, is_punctuator}

@@ -18,6 +18,14 @@ pub fn first(text: &str) -> Option<(char, &str)>
     }
 }
 
+/// Whether the text has no characters.
+#[inline]
+pub fn is_empty(text: &str) -> bool
+    ensures { result ≡ same (chars text.now) [] }
+{
+    first(text).is_none()
+}
+
 /// The text behind its first character, if that is this one.
 #[inline]
 pub fn after(text: &str, c: char) -> Option<&str>

@@ -3,12 +3,12 @@
 ghost use Rattle.std.specs.Prelude.{◌≡◌, ◌∷◌, [], ◌&&◌, ◌||◌, MatchOption, IfSome, IsTrue, true, false, codes};
 ghost use Rattle.std.specs.Str.{chars};
 ghost use Rattle.jsx_base.specs.Token.{NoToken, Tag, Children, Piece, begins, is_one_of, code_state, at_front};
-ghost use Rattle.jsx_lex.specs.Front.{code_mode, start_state, is_html, IsFound, IsTagMark};
+ghost use Rattle.jsx_lex.specs.Front.{code_mode, start_state, is_html, IsFound, IsNext, IsNotNext, IsTagMark};
 ghost use Rattle.jsx_lex.specs.Kinds.{mode_of};
 ghost use Rattle.jsx_lex.specs.Places.{EndsWith};
 
 use crate::automaton::{Number, RegExp, State};
-use crate::characters::{after, begins_with, begins_with_digit, first, is_start};
+use crate::characters::{after, begins_with, begins_with_digit, first, is_empty, is_start};
 use crate::machine::{Found, literal};
 use crate::marks::mark;
 use crate::plain::{jsx_name, jsx_string, jsx_text, name, string, template};
@@ -171,7 +171,7 @@ fn children(is_fresh: bool, c: char, text: &str) -> Option<Found>
 
 /// The token at the front of the text, before which nothing is skipped.
 #[inline]
-pub fn front(mode: Mode, is_fresh: bool, text: &str) -> Option<Found>
+fn front(mode: Mode, is_fresh: bool, text: &str) -> Option<Found>
     ensures token { MatchOption result ((at_front (mode_of mode) is_fresh (chars text.now)).kind ≡ NoToken) (λ x. IsFound (at_front (mode_of mode) is_fresh (chars text.now)) x.kind (chars x.rest.now)) }
     ensures ends { IfSome result (λ x. EndsWith text.now x.rest.now) }
 {
@@ -185,4 +185,22 @@ pub fn front(mode: Mode, is_fresh: bool, text: &str) -> Option<Found>
         Mode::Tag => tag(is_fresh, c, behind),
         Mode::Children => children(is_fresh, c, behind),
     }
+}
+
+/// The token or the end at the front of the text, before which nothing is skipped.
+#[inline]
+pub fn token(mode: Mode, is_fresh: bool, text: &str) -> Option<Found>
+    ensures token { MatchOption result (IsNotNext (mode_of mode) is_fresh (chars text.now)) (λ x. IsNext (mode_of mode) is_fresh (chars text.now) x.kind (chars x.rest.now)) }
+    ensures ends { IfSome result (λ x. EndsWith text.now x.rest.now) }
+{
+    if is_empty(text) {
+        return Some(Found {
+            kind: TokenKind::End,
+            rest: text,
+        });
+    }
+    let Some(found) = front(mode, is_fresh, text) else {
+        return None;
+    };
+    Some(found)
 }

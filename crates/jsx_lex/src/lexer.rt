@@ -2,7 +2,10 @@
 
 ghost use Rattle.jsx_lex.specs.Places.{EndsWith};
 
-use crate::token::{Mode, Token, TokenKind};
+use crate::characters::before;
+use crate::front::token;
+use crate::gap::skip;
+use crate::token::{Mode, Token};
 
 /// Stands at a place of a text. A copy goes its own way from there.
 #[derive(Clone, Copy)]
@@ -17,13 +20,23 @@ pub struct Lexer<'s> {
     ghost within: { EndsWith text.now rest.now },
 }
 
+/// What a lexer reads its next token from.
+#[derive(Clone, Copy)]
+struct Here<'s> {
+    rest: &'s str,
+    /// Whether only blanks and comments stand before it on its line.
+    is_fresh: bool,
+    has_new_line: bool,
+}
+
 impl<'s> Lexer<'s> {
-    ghost use Rattle.std.specs.Prelude.{◌≡◌, ◌+◌, ◌↔◌, IfNone, IfSome, IsTrue, IsFalse, length, true, false};
+    ghost use Rattle.std.specs.Prelude.{◌≡◌, ◌+◌, ◌↔◌, IfNone, IfSome, MatchOption, IsTrue, IsFalse, length, true, false};
     ghost use Rattle.std.specs.Str.{chars};
     ghost use Rattle.jsx_base.specs.Token.{Blank, Mode as Reads, is_cut, skip, skips};
     ghost use Rattle.jsx_lex.specs.declared.token.TokenKind.TheVariants as kind;
     ghost use Rattle.jsx_lex.specs.Kinds.{mode_of, kind_of, is_punctuator, spelling};
     ghost use Rattle.jsx_lex.specs.Places.{StandsAt};
+    ghost use Rattle.jsx_lex.specs.Here.{IsHere};
     ghost use Rattle.jsx_lex.specs.Stand.{rest_of, place_of, ahead, is_at_end, has_new_line, IsNothing};
 
     /// Stands at the first byte of the text.
@@ -57,7 +70,37 @@ impl<'s> Lexer<'s> {
         ensures same_line { (m : Reads) → has_new_line m self.new ≡ has_new_line m self.old }
         ensures same_end { (m : Reads) → IsTrue (skips m) → is_at_end m self.new ≡ is_at_end m self.old }
         ensures text { self.new.text.now ≡ self.old.text.now }
-    {}
+    {
+        let Some(gap) = skip(self.rest) else {
+            return;
+        };
+        self.rest = gap.rest;
+        self.is_on_new_line = self.is_on_new_line || gap.has_new_line;
+    }
+
+    /// What stands behind the gap that the mode skips. None where a comment in it isn't closed.
+    #[inline]
+    fn here(&self, mode: Mode) -> Option<Here<'s>>
+        ensures here { MatchOption result (IsNothing (mode_of mode) self.now) (λ h. IsHere (mode_of mode) self.now h) }
+        ensures ends { IfSome result (λ h. EndsWith self.now.text.now h.rest.now) }
+    {
+        if !mode.skips() {
+            return Some(Here {
+                rest: self.rest,
+                is_fresh: false,
+                has_new_line: false,
+            });
+        }
+        let Some(gap) = skip(self.rest) else {
+            return None;
+        };
+        let has_new_line = self.is_on_new_line || gap.has_new_line;
+        Some(Here {
+            rest: gap.rest,
+            is_fresh: self.is_first || has_new_line,
+            has_new_line,
+        })
+    }
 
     /// The next token, behind which the lexer then stands. None exactly where no token of the mode begins, and then the
     /// lexer stays where it is. Costs the lengths of the gap and of the token.
@@ -76,6 +119,21 @@ impl<'s> Lexer<'s> {
         ensures unsettled { IfSome result (λ t. self.new.is_on_new_line ≡ false) }
         ensures text { self.new.text.now ≡ self.old.text.now }
     {
-        None
+        let Some(here) = self.here(mode) else {
+            return None;
+        };
+        let Some(found) = token(mode, here.is_fresh, here.rest) else {
+            return None;
+        };
+        let token = Token {
+            kind: found.kind,
+            raw: before(here.rest, found.rest),
+            at: self.text.len() - here.rest.len(),
+            new_line: here.has_new_line,
+        };
+        self.rest = found.rest;
+        self.is_first = false;
+        self.is_on_new_line = false;
+        Some(token)
     }
 }

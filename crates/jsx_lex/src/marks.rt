@@ -91,7 +91,11 @@ fn greater_greater(text: &str) -> Found
     ensures ends { EndsWith text.now result.rest.now }
 {
     if let Some(rest) = after(text, '>') {
-        return with_equal(TokenKind::GreaterGreaterGreater, TokenKind::GreaterGreaterGreaterEqual, rest);
+        return with_equal(
+            TokenKind::GreaterGreaterGreater,
+            TokenKind::GreaterGreaterGreaterEqual,
+            rest,
+        );
     }
     if let Some(rest) = after(text, '=') {
         return Found {
@@ -260,7 +264,11 @@ fn question(text: &str) -> Found
     ensures ends { EndsWith text.now result.rest.now }
 {
     if let Some(rest) = after(text, '?') {
-        return with_equal(TokenKind::QuestionQuestion, TokenKind::QuestionQuestionEqual, rest);
+        return with_equal(
+            TokenKind::QuestionQuestion,
+            TokenKind::QuestionQuestionEqual,
+            rest,
+        );
     }
     if let Some(rest) = after_chain(text) {
         return Found {

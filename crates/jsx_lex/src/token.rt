@@ -1,5 +1,9 @@
 //! Modes, kinds of token, and tokens.
 
+ghost use Rattle.std.specs.Prelude.{◌≡◌};
+ghost use Rattle.jsx_base.specs.Token.{skips};
+ghost use Rattle.jsx_lex.specs.Kinds.{mode_of};
+
 /// What is read.
 #[derive(Clone, Copy, Debug, PartialEq, Eq)]
 pub enum Mode {
@@ -13,6 +17,19 @@ pub enum Mode {
     Tag,
     /// What stands between JSX tags.
     Children,
+}
+
+impl Mode {
+    /// Whether blanks, line ends and comments are skipped before the token.
+    #[inline]
+    pub(crate) fn skips(self) -> bool
+        ensures { result ≡ skips (mode_of self) }
+    {
+        match self {
+            Mode::Operand | Mode::Operator | Mode::Tag => true,
+            Mode::Piece | Mode::Children => false,
+        }
+    }
 }
 
 /// A kind of token, one for each punctuator.

@@ -1,6 +1,6 @@
 use Rattle.std.proofs.Common.{◌≡◌, sym, subst, MatchOption}
 use Rattle.std.specs.Str.{chars}
-use Rattle.jsx_base.specs.Token.{Piece, NoToken, at_front}
+use Rattle.jsx_base.specs.Token.{NoToken, at_front}
 use Rattle.jsx_lex.specs.Front.{IsFound}
 use Rattle.jsx_lex.specs.Kinds.{mode_of}
 use Rattle.jsx_lex.proofs.Endings.{ends_with_all, ends_behind}

@@ -1,8 +1,6 @@
-use Rattle.std.proofs.Common.{◌≡◌, ◌||◌, nat_eq, true, false, sym, ap, ◌∙◌}
+use Rattle.std.proofs.Common.{◌≡◌, ◌||◌, nat_eq, false, sym, ap, ◌∙◌}
 use Rattle.std.proofs.lemmas.Str.{IsUtf8-past_char}
 use Rattle.std.proofs.lemmas.Bool.{ne_eqb}
-use Rattle.std.specs.Str.{chars}
-use Rattle.jsx_base.specs.Token.{InBlockComment, is_line_end}
 use Rattle.jsx_lex.proofs.Endings.{ends_behind}
 use Rattle.jsx_lex.proofs.Gaps.{block_further, flagged, or_true, or_false}
 use Rattle.jsx_lex.proofs.gap.past_block.Goals as goal
