@@ -1,5 +1,6 @@
 pub mod Token
 pub mod Calls
+pub mod Comments
 pub mod MultiSpan
 pub mod Faults
 pub mod FileName

@@ -2,6 +2,7 @@
 #![tactic(auto)]
 
 mod calls;
+mod comments;
 mod file_name;
 mod marks;
 mod multi_span;
@@ -11,6 +12,7 @@ mod rule;
 mod sink;
 mod source;
 
+pub use comments::{Comment, CommentKind, Comments, SingleThreadedComments};
 pub use file_name::FileName;
 pub use marks::{BaseError, Globals, Mark, Marks, SyntaxContext};
 pub use multi_span::{MultiSpan, SpanLabel};
