@@ -29,7 +29,7 @@ enum Start {
 }
 
 /// What the character of code begins, before the text behind it.
-#[inline]
+#[inline(always)]
 fn start_of(is_operand: bool, c: char, text: &str) -> Start
     ensures { start_state c result ≡ code_state is_operand c (chars text.now) }
 {
@@ -80,7 +80,7 @@ fn closes_html(text: &str) -> bool
 }
 
 /// Whether the character begins a comment of HTML: `<!--`, or `-->` at the begin of a line.
-#[inline]
+#[inline(always)]
 fn is_html(is_fresh: bool, c: char, text: &str) -> bool
     ensures { result ≡ is_html is_fresh c (chars text.now) }
 {
@@ -92,7 +92,7 @@ fn is_html(is_fresh: bool, c: char, text: &str) -> bool
 }
 
 /// The token of code that begins with the character, before the text behind it.
-#[inline]
+#[inline(always)]
 fn code(is_operand: bool, is_fresh: bool, c: char, text: &str) -> Option<Found>
     ensures token { MatchOption result ((at_front (code_mode is_operand) is_fresh (c ∷ chars text.now)).kind ≡ NoToken) (λ x. IsFound (at_front (code_mode is_operand) is_fresh (c ∷ chars text.now)) x.kind (chars x.rest.now)) }
     ensures ends { IfSome result (λ x. EndsWith text.now x.rest.now) }
@@ -170,7 +170,7 @@ fn children(is_fresh: bool, c: char, text: &str) -> Option<Found>
 }
 
 /// The token at the front of the text, before which nothing is skipped.
-#[inline]
+#[inline(always)]
 fn front(mode: Mode, is_fresh: bool, text: &str) -> Option<Found>
     ensures token { MatchOption result ((at_front (mode_of mode) is_fresh (chars text.now)).kind ≡ NoToken) (λ x. IsFound (at_front (mode_of mode) is_fresh (chars text.now)) x.kind (chars x.rest.now)) }
     ensures ends { IfSome result (λ x. EndsWith text.now x.rest.now) }
@@ -188,7 +188,7 @@ fn front(mode: Mode, is_fresh: bool, text: &str) -> Option<Found>
 }
 
 /// The token or the end at the front of the text, before which nothing is skipped.
-#[inline]
+#[inline(always)]
 pub fn token(mode: Mode, is_fresh: bool, text: &str) -> Option<Found>
     ensures token { MatchOption result (IsNotNext (mode_of mode) is_fresh (chars text.now)) (λ x. IsNext (mode_of mode) is_fresh (chars text.now) x.kind (chars x.rest.now)) }
     ensures ends { IfSome result (λ x. EndsWith text.now x.rest.now) }

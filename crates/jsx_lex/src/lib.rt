@@ -13,6 +13,8 @@ mod plain;
 mod quoted;
 mod regexp;
 mod template;
+#[cfg(test)]
+mod tests;
 mod token;
 
 pub use lexer::Lexer;

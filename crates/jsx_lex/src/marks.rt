@@ -12,7 +12,7 @@ use crate::machine::Found;
 use crate::token::TokenKind;
 
 /// Behind a punctuator that may have one `=` more and no other character.
-#[inline]
+#[inline(always)]
 fn with_equal(plain: TokenKind, longer: TokenKind, text: &str) -> Found
     requires { IsTrue (is_pair plain longer) }
     ensures mark { IsMark (spelling plain ++ chars text.now) result.kind (chars result.rest.now) }
@@ -28,7 +28,7 @@ fn with_equal(plain: TokenKind, longer: TokenKind, text: &str) -> Found
 }
 
 /// `=`, `==`, `===` and `=>`.
-#[inline]
+#[inline(always)]
 fn equal(text: &str) -> Found
     ensures mark { IsMark (61 ∷ chars text.now) result.kind (chars result.rest.now) }
     ensures ends { EndsWith text.now result.rest.now }
@@ -298,7 +298,7 @@ fn after_dots(text: &str) -> Option<&str>
 }
 
 /// `.` and `...`.
-#[inline]
+#[inline(always)]
 fn dot(text: &str) -> Found
     ensures mark { IsMark (46 ∷ chars text.now) result.kind (chars result.rest.now) }
     ensures ends { EndsWith text.now result.rest.now }
@@ -316,7 +316,7 @@ fn dot(text: &str) -> Found
 }
 
 /// The punctuator of one character that none goes on with.
-#[inline]
+#[inline(always)]
 fn single(c: char) -> Option<TokenKind>
     ensures { MatchOption result (is_one_of c (codes "{}()[];,~:") ≡ false) (λ k. IsSingle c k) }
 {
@@ -336,7 +336,7 @@ fn single(c: char) -> Option<TokenKind>
 }
 
 /// The punctuator that begins with the character, before the text behind that: one that compares or assigns.
-#[inline]
+#[inline(always)]
 fn comparison(c: char, text: &str) -> Option<Found>
     ensures mark { MatchOption result (is_one_of c (codes "=!<>") ≡ false) (λ x. IsMark (c ∷ chars text.now) x.kind (chars x.rest.now)) }
     ensures ends { IfSome result (λ x. EndsWith text.now x.rest.now) }
@@ -351,7 +351,7 @@ fn comparison(c: char, text: &str) -> Option<Found>
 }
 
 /// The punctuator that begins with the character: one of arithmetic.
-#[inline]
+#[inline(always)]
 fn arithmetic(c: char, text: &str) -> Option<Found>
     ensures mark { MatchOption result (is_one_of c (codes "+-*/%^") ≡ false) (λ x. IsMark (c ∷ chars text.now) x.kind (chars x.rest.now)) }
     ensures ends { IfSome result (λ x. EndsWith text.now x.rest.now) }
@@ -368,7 +368,7 @@ fn arithmetic(c: char, text: &str) -> Option<Found>
 }
 
 /// The punctuator that begins with the character: one that chooses or goes to a member.
-#[inline]
+#[inline(always)]
 fn choice(c: char, text: &str) -> Option<Found>
     ensures mark { MatchOption result (is_one_of c (codes "&|?.") ≡ false) (λ x. IsMark (c ∷ chars text.now) x.kind (chars x.rest.now)) }
     ensures ends { IfSome result (λ x. EndsWith text.now x.rest.now) }
@@ -383,7 +383,7 @@ fn choice(c: char, text: &str) -> Option<Found>
 }
 
 /// The punctuator that begins with the character, before the text behind that.
-#[inline]
+#[inline(always)]
 pub fn mark(c: char, text: &str) -> Option<Found>
     ensures mark { MatchOption result (punctuator (c ∷ chars text.now) ≡ []) (λ x. IsMark (c ∷ chars text.now) x.kind (chars x.rest.now)) }
     ensures ends { IfSome result (λ x. EndsWith text.now x.rest.now) }

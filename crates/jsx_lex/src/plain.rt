@@ -28,7 +28,7 @@ pub enum Plain {
 }
 
 /// Whether the state stays over the character.
-#[inline]
+#[inline(always)]
 fn stays(plain: Plain, c: char) -> bool
     ensures { result ≡ stays plain c }
 {
@@ -43,7 +43,7 @@ fn stays(plain: Plain, c: char) -> bool
 }
 
 /// The text from the first character on over which the state doesn't stay.
-#[inline]
+#[inline(always)]
 fn past(plain: Plain, text: &str) -> &str
     ensures keeps { Keeps (plain_state plain) (chars text.now) (chars result.now) }
     ensures stops { first_is (stays plain) (chars result.now) ≡ false }
@@ -60,7 +60,7 @@ fn past(plain: Plain, text: &str) -> &str
 }
 
 /// A name whose first character stands before the text.
-#[inline]
+#[inline(always)]
 pub fn name(text: &str) -> Found
     ensures token { IsTaken InName (chars text.now) result.kind (chars result.rest.now) }
     ensures ends { EndsWith text.now result.rest.now }
@@ -72,7 +72,7 @@ pub fn name(text: &str) -> Found
 }
 
 /// A name in a tag, whose first character stands before the text.
-#[inline]
+#[inline(always)]
 pub fn jsx_name(text: &str) -> Found
     ensures token { IsTaken InJsxName (chars text.now) result.kind (chars result.rest.now) }
     ensures ends { EndsWith text.now result.rest.now }
@@ -84,7 +84,7 @@ pub fn jsx_name(text: &str) -> Found
 }
 
 /// A text between tags, whose first character stands before the text.
-#[inline]
+#[inline(always)]
 pub fn jsx_text(text: &str) -> Found
     ensures token { IsTaken InJsxText (chars text.now) result.kind (chars result.rest.now) }
     ensures ends { EndsWith text.now result.rest.now }
