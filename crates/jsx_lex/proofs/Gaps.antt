@@ -65,7 +65,7 @@ line_further text rest behind c p e n =
     join InLineComment InLineComment InLineComment text rest behind false false p
     (flagged _ _ _ _ _ _ n (goes InLineComment InLineComment c rest behind e (second_of (is_line_end c) _ _ n) refl))
 
-line_end : (c : ℕ) (text : Text) → is_line_end c ≡ true → Leads InLineComment (c ∷ text) Blank (c ∷ text) false
+pub line_end : (c : ℕ) (text : Text) → is_line_end c ≡ true → Leads InLineComment (c ∷ text) Blank (c ∷ text) false
 line_end c text h =
     let a = goes InLineComment Blank c (c ∷ text) text refl (first_of (is_line_end c) _ _ h) refl in
     let b = goes Blank Blank c (c ∷ text) text refl (first_of (is_blank c || is_line_end c) _ _ (or_right (is_blank c) _ h)) refl in
@@ -88,7 +88,7 @@ line_leads text behind rest e p =
 
 -- block comments
 
-begins_one : (d : ℕ) (text : Text) → begins (d ∷ []) text ≡ first_is (nat_eq d) text
+pub begins_one : (d : ℕ) (text : Text) → begins (d ∷ []) text ≡ first_is (nat_eq d) text
 begins_one d [] = refl
 begins_one d (c ∷ text) = elim (nat_eq d c) as (λ b. (b && true) ≡ b) [ true ↦ refl | false ↦ refl ]
 
@@ -129,7 +129,7 @@ opened : (text : Text) → Leads (Opening 0) text InBlockComment text false
 opened [] = record { behind_is = refl; cut_is = refl; breaks_are = refl }
 opened (c ∷ text) = record { behind_is = refl; cut_is = refl; breaks_are = refl }
 
-opens : (text : Text) → Leads Blank (47 ∷ 42 ∷ text) InBlockComment text false
+pub opens : (text : Text) → Leads Blank (47 ∷ 42 ∷ text) InBlockComment text false
 opens text =
     join Blank (Opening 1) InBlockComment _ _ _ false false (goes Blank (Opening 1) 47 (47 ∷ 42 ∷ text) (42 ∷ text) refl refl refl)
     (join (Opening 1) (Opening 0) InBlockComment _ _ _ false false (goes (Opening 1) (Opening 0) 42 (42 ∷ text) text refl refl refl) (opened text))

@@ -7,3 +7,5 @@ pub mod MarkLaws
 pub mod FrontLaws
 pub mod Raws
 pub mod Stands
+pub mod CommentLaws
+pub mod FoundComments

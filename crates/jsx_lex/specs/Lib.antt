@@ -1,10 +1,12 @@
 pub mod Automaton
 pub mod Characters
+pub mod Comments
 pub mod Front
 pub mod Gaps
 pub mod Here
 pub mod Kinds
 pub mod Marks
+pub mod Parts
 pub mod Places
 pub mod Plain
 pub mod Stand

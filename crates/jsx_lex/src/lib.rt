@@ -3,6 +3,7 @@
 
 mod automaton;
 mod characters;
+mod comment;
 mod front;
 mod gap;
 mod lexer;
@@ -17,5 +18,6 @@ mod template;
 mod tests;
 mod token;
 
+pub use comment::comments;
 pub use lexer::Lexer;
 pub use token::{Mode, Token, TokenKind};
