@@ -1,17 +1,15 @@
 -- Over the comments of a gap.
-use Rattle.std.proofs.Common.{◌≡◌, ◌+◌, ℕ, List, [], ◌∷◌, ◌++◌, Bool, true, false, cond, ◌&&◌, ◌||◌, codes, length, refl, sym, ap, ◌∙◌, subst, arith, length-append}
-use Rattle.std.specs.Prelude.{nat_eq, encode_utf8}
+use Rattle.std.proofs.Common.{◌≡◌, ℕ, List, [], ◌∷◌, ◌++◌, Bool, true, false, cond, ◌&&◌, ◌||◌, codes, refl, sym, ap, ◌∙◌, subst}
+use Rattle.std.specs.Prelude.{nat_eq}
 use Rattle.std.specs.Str.{chars, IsUtf8}
-use Rattle.std.proofs.lemmas.Bool.{false≢true, and_parts, eqb-true, or_left, or_right}
+use Rattle.std.proofs.lemmas.Bool.{false≢true}
 use Rattle.std.proofs.lemmas.List.{append_cancel_right}
-use Rattle.std.proofs.lemmas.Str.{IsUtf8-past_char}
 use lib.Utf8.{encode}
-use Rattle.jsx_base.specs.Token.{Text, Gap, Blank, InLineComment, InBlockComment, Closing, gap_next, behind_gap, is_cut, is_line_end, is_blank, begins, first_is}
+use Rattle.jsx_base.specs.Token.{Text, Gap, Blank, InLineComment, InBlockComment, Closing, behind_gap, is_cut, is_line_end, is_blank, begins, first_is}
 use Rattle.jsx_lex.specs.Characters.{Follows}
 use Rattle.jsx_lex.specs.Comments.{to_line_end, from_line_end, to_close, from_close}
-use Rattle.jsx_lex.specs.Gaps.{Leads}
-use Rattle.jsx_lex.specs.Parts.{IsClosed, GoesOn, IsSpace, IsLine, IsBlock}
-use Rattle.jsx_lex.proofs.Gaps.{goes, line_end, line_leads, begins_one, opens}
+use Rattle.jsx_lex.specs.Parts.{IsClosed, IsSpace, IsLine, IsBlock}
+use Rattle.jsx_lex.proofs.Gaps.{goes, line_end, begins_one, opens}
 
 first_of : {A : Type 0} (b : Bool) (x y : A) → b ≡ true → cond b x y ≡ x
 first_of true x y e = refl

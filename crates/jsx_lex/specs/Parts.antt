@@ -1,10 +1,9 @@
 -- A part of a gap, as the code finds it.
 use Rattle.std.specs.Prelude.{◌≡◌, ◌++◌, ◌∷◌, ◌||◌, ℕ, List, codes, encode_utf8, true}
 use Rattle.std.specs.Str.{chars, IsUtf8}
-use Rattle.jsx_base.specs.Token.{Text, Blank, behind_gap, is_cut, is_blank, is_line_end}
+use Rattle.jsx_base.specs.Token.{Blank, behind_gap, is_cut, is_blank, is_line_end}
 use Rattle.jsx_lex.specs.Comments.{HasComments, to_line_end, to_close, from_close}
 use Rattle.jsx_base.specs.Comments.{CommentData}
-use Rattle.jsx_lex.specs.Places.{EndsWith}
 use Rattle.jsx_lex.specs.declared.comment.Part.{Part}
 use Rattle.jsx_lex.specs.declared.comment.Part.TheVariants.{Space, Line, Block}
 

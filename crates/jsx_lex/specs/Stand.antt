@@ -1,7 +1,7 @@
 -- Where a lexer stands, and what it finds there.
-use Rattle.std.specs.Prelude.{◌≡◌, ◌-◌, ℕ, length, [], Bool, cond, ◌||◌, ◌&&◌, IsFalse}
-use Rattle.std.specs.Str.{chars}
-use Rattle.jsx_base.specs.Token.{Text, Mode, Lexeme, NoToken, token, skips, breaks, is_end, same}
+use Rattle.std.specs.Prelude.{◌≡◌, ◌-◌, ℕ, length, [], Bool, cond, ◌||◌, ◌&&◌, IsTrue, IsFalse, drop}
+use Rattle.std.specs.Str.{chars, IsCharBoundary}
+use Rattle.jsx_base.specs.Token.{Text, Mode, Lexeme, NoToken, Blank, token, skip, skips, breaks, is_cut, is_end, same}
 use Rattle.jsx_lex.specs.declared.lexer.Lexer.{Lexer}
 
 -- the characters that are left
@@ -27,6 +27,16 @@ is_at_end m l = cond (skips m) (is_end (rest_of l)) (same (rest_of l) [])
 -- whether a line ends in the gap before the token
 abbrev pub has_new_line : Mode → Lexer → Bool
 has_new_line m l = skips m && (l.is_on_new_line || breaks (rest_of l))
+
+-- what stands behind the gap that the mode skips
+abbrev pub behind : Mode → Lexer → Text
+behind m l = cond (skips m) (skip (rest_of l)) (rest_of l)
+
+-- The gap that the mode skips ends at this place. No comment in it is open.
+pub record IsBehindGap (m : Mode) (l : Lexer) (at : ℕ) : Type 0 where
+  pub rest_is : chars (drop at l.text.now) ≡ behind m l
+  pub whole : IsTrue (skips m) → IsFalse (is_cut Blank (rest_of l))
+  pub boundary : IsCharBoundary l.text.now at
 
 -- no token begins, and the text doesn't end
 pub record IsNothing (m : Mode) (l : Lexer) : Type 0 where

@@ -1,7 +1,7 @@
 //! A text, character by character.
 
-ghost use Rattle.std.specs.Prelude.{◌≡◌, ◌<◌, ◌++◌, ◌∷◌, [], IsTrue, MatchOption, nat_eq, false, true, length};
-ghost use Rattle.std.specs.Str.{chars};
+ghost use Rattle.std.specs.Prelude.{◌≡◌, ◌<◌, ◌-◌, ◌++◌, drop, ◌∷◌, [], IsTrue, MatchOption, nat_eq, false, true, length};
+ghost use Rattle.std.specs.Str.{chars, IsCharBoundary};
 ghost use Rattle.jsx_base.specs.Token.{first_is, same, is_start, is_part, is_blank, is_line_end, is_digit};
 ghost use Rattle.jsx_lex.specs.Characters.{Follows};
 ghost use Rattle.jsx_lex.specs.Places.{EndsWith};
@@ -117,4 +117,15 @@ pub fn before<'s>(text: &'s str, rest: &str) -> &'s str
     ensures characters { chars text.now ≡ chars result.now ++ chars rest.now }
 {
     text.split_at(text.len() - rest.len()).0
+}
+
+/// Where the rest of a text begins, in bytes.
+#[inline]
+pub fn offset(text: &str, rest: &str) -> usize
+    requires { EndsWith text.now rest.now }
+    ensures value { result ≡ length text.now - length rest.now }
+    ensures boundary { IsCharBoundary text.now result }
+    ensures rest { drop result text.now ≡ rest.now }
+{
+    text.len() - rest.len()
 }

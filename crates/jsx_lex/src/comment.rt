@@ -9,7 +9,7 @@ ghost use Rattle.jsx_lex.specs.Gaps.{IsBehind};
 ghost use Rattle.jsx_lex.specs.Parts.{IsPart, IsClosed};
 ghost use Rattle.jsx_lex.specs.Places.{EndsWith};
 
-use crate::characters::{after, before, first, is_blank, is_line_end};
+use crate::characters::{after, before, first, is_blank, is_line_end, offset};
 use jsx_base::{BytePos, Comment, CommentKind, Span};
 use std::alloc::{AllocError, Global};
 
@@ -102,7 +102,7 @@ fn place(start: BytePos, text: &str, rest: &str) -> BytePos
     requires fits { start.0 + length text.now < 2 ^ 32 }
     ensures { result.0 ≡ start.0 + (length text.now - length rest.now) }
 {
-    BytePos(start.0 + (text.len() - rest.len()) as u32)
+    BytePos(start.0 + offset(text, rest) as u32)
 }
 
 /// A comment of its own memory.

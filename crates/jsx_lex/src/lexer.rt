@@ -2,7 +2,7 @@
 
 ghost use Rattle.jsx_lex.specs.Places.{EndsWith};
 
-use crate::characters::before;
+use crate::characters::{before, offset};
 use crate::front::token;
 use crate::gap::skip;
 use crate::token::{Mode, Token};
@@ -30,14 +30,14 @@ struct Here<'s> {
 }
 
 impl<'s> Lexer<'s> {
-    ghost use Rattle.std.specs.Prelude.{◌≡◌, ◌+◌, ◌↔◌, IfNone, IfSome, MatchOption, IsTrue, IsFalse, length, true, false};
-    ghost use Rattle.std.specs.Str.{chars};
+    ghost use Rattle.std.specs.Prelude.{◌≡◌, ◌+◌, ◌↔◌, IfNone, IfSome, MatchOption, IsTrue, IsFalse, drop, length, true, false};
+    ghost use Rattle.std.specs.Str.{chars, IsCharBoundary};
     ghost use Rattle.jsx_base.specs.Token.{Blank, Mode as Reads, is_cut, skip, skips};
     ghost use Rattle.jsx_lex.specs.declared.token.TokenKind.TheVariants as kind;
     ghost use Rattle.jsx_lex.specs.Kinds.{mode_of, kind_of, is_punctuator, spelling};
     ghost use Rattle.jsx_lex.specs.Places.{StandsAt};
     ghost use Rattle.jsx_lex.specs.Here.{IsHere};
-    ghost use Rattle.jsx_lex.specs.Stand.{rest_of, place_of, ahead, is_at_end, has_new_line, IsNothing};
+    ghost use Rattle.jsx_lex.specs.Stand.{rest_of, place_of, ahead, is_at_end, has_new_line, IsNothing, IsBehindGap};
 
     /// Stands at the first byte of the text.
     pub fn new(text: &'s str) -> Lexer<'s>
@@ -56,9 +56,11 @@ impl<'s> Lexer<'s> {
 
     /// The place, in bytes from the text's begin.
     pub fn at(&self) -> usize
-        ensures { result ≡ place_of self.now }
+        ensures place { result ≡ place_of self.now }
+        ensures boundary { IsCharBoundary self.now.text.now result }
+        ensures rest { drop result self.now.text.now ≡ self.now.rest.now }
     {
-        self.text.len() - self.rest.len()
+        offset(self.text, self.rest)
     }
 
     /// Goes over the gap before the next token, if it isn't cut, and keeps whether a line ends in it: the tokens of the
@@ -113,6 +115,7 @@ impl<'s> Lexer<'s> {
         ensures spelling { IfSome result (λ t. IsTrue (is_punctuator t.kind) → chars t.raw.now ≡ spelling t.kind) }
         ensures rest { IfSome result (λ t. rest_of self.new ≡ (ahead (mode_of mode) self.old).rest) }
         ensures new_line { IfSome result (λ t. t.new_line ≡ has_new_line (mode_of mode) self.old) }
+        ensures gap { IfSome result (λ t. IsBehindGap (mode_of mode) self.old t.at) }
         ensures at { IfSome result (λ t. StandsAt self.old.text.now t.raw.now t.at) }
         ensures behind { IfSome result (λ t. place_of self.new ≡ t.at + length t.raw.now) }
         ensures read { IfSome result (λ t. self.new.is_first ≡ false) }
@@ -128,7 +131,7 @@ impl<'s> Lexer<'s> {
         let token = Token {
             kind: found.kind,
             raw: before(here.rest, found.rest),
-            at: self.text.len() - here.rest.len(),
+            at: offset(self.text, here.rest),
             new_line: here.has_new_line,
         };
         self.rest = found.rest;

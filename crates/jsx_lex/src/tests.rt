@@ -1,6 +1,8 @@
 //! Tables of tokens, written by hand from ECMA-262 section 12 and the JSX specification.
 
-use crate::{Lexer, Mode, Token, TokenKind};
+use crate::{Lexer, Mode, Token, TokenKind, comments};
+use jsx_base::{BytePos, Comment, CommentKind};
+use std::alloc::{AllocError, Global};
 
 /// What is wanted of the first token: mode, kind, place, raw text, whether a line ends before it, and the place behind.
 type Row<'s> = (&'s str, Mode, TokenKind, usize, &'s str, bool, usize);
@@ -676,4 +678,50 @@ fn settles(rt: HostRuntime) {
             "at {text}"
         );
     }
+}
+
+/// The comments before the first token of a short text that begins at the place 7.
+fn leading(alloc: Global, text: &str) -> Result<Vec<Comment>, AllocError> {
+    let mut lexer = Lexer::new(text);
+    let from = lexer.at();
+    let Some(token) = lexer.next(Mode::Operator) else {
+        return Ok(Vec::new(alloc));
+    };
+    if text.len() >= 1000 {
+        return Ok(Vec::new(alloc));
+    }
+    comments(alloc, text, BytePos(7), from, token.at)
+}
+
+fn is_comment(comment: &Comment, kind: CommentKind, lo: u32, hi: u32, text: &str) -> bool {
+    comment.kind == kind
+        && comment.span.lo.0 == lo
+        && comment.span.hi.0 == hi
+        && comment.text.as_str() == text
+}
+
+#[test]
+fn finds_comments(rt: HostRuntime) -> Result<(), AllocError> {
+    let found = leading(rt.alloc(), " // a\u{E9}\n/* b\n*//**/ x")?;
+    assert_eq!(rt; found.len(), 3);
+    for (comment, (kind, lo, hi, text)) in found.iter().zip([
+        (CommentKind::Line, 8, 14, " a\u{E9}"),
+        (CommentKind::Block, 15, 22, " b\n"),
+        (CommentKind::Block, 22, 26, ""),
+    ]) {
+        assert!(rt; is_comment(comment, kind, lo, hi, text), "at {text}");
+    }
+    Ok(())
+}
+
+#[test]
+fn finds_comments_to_the_end(rt: HostRuntime) -> Result<(), AllocError> {
+    let found = leading(rt.alloc(), "//")?;
+    assert_eq!(rt; found.len(), 1);
+    for comment in found.iter() {
+        assert!(rt; is_comment(comment, CommentKind::Line, 7, 9, ""));
+    }
+    assert_eq!(rt; leading(rt.alloc(), " \u{2028} ")?.len(), 0);
+    assert_eq!(rt; leading(rt.alloc(), "a // b")?.len(), 0);
+    Ok(())
 }

@@ -1,8 +1,6 @@
-use Rattle.std.proofs.Common.{◌≡◌, ◌≤◌, length, drop, ap, sym, subst, ◌∙◌, arith, length-append}
-use Rattle.std.specs.Str.{chars}
+use Rattle.std.proofs.Common.{length, drop, ap, sym, subst, ◌∙◌}
 use Rattle.std.proofs.lemmas.Str.{IsUtf8-drop}
 use Rattle.jsx_lex.specs.Parts.{IsPart, IsSpace, IsLine, IsBlock}
-use Rattle.jsx_lex.specs.Places.{EndsWith, front_of}
 use Rattle.jsx_lex.proofs.Endings.{ends_within}
 use Rattle.jsx_lex.proofs.FoundComments.{space_ends, line_ends, block_ends, space_shorter, more_space, more_line, more_block, pushed, none, all_found, ends_length}
 use Rattle.jsx_lex.proofs.comment.comments.Goals as goal
