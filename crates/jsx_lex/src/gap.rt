@@ -90,6 +90,15 @@ fn gap_part(c: char, text: &str) -> Between
     ensures is { IsBetween c (chars text.now) result }
     ensures ends { IsPartOf text.now result }
 {
+    if c.is_ascii_graphic() && c != '/' {
+        return Between::Over;
+    }
+    if c == ' ' {
+        return Between::Part(Ahead {
+            rest: text,
+            has_new_line: false,
+        });
+    }
     if is_blank(c) {
         return Between::Part(Ahead {
             rest: text,
