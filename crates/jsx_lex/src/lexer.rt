@@ -63,6 +63,13 @@ impl<'s> Lexer<'s> {
         offset(self.text, self.rest)
     }
 
+    /// What is left of the text.
+    pub fn rest(&self) -> &'s str
+        ensures { result.now ≡ self.now.rest.now }
+    {
+        self.rest
+    }
+
     /// Goes over the gap before the next token, if it isn't cut, and keeps whether a line ends in it: the tokens of the
     /// modes that skip stay as they are, and each costs no more than its own length.
     pub fn settle(&mut self)

@@ -103,7 +103,7 @@ ended_first d t JsxString c raw rest e = and_left _ _ e
 ended_first d t JsxText c raw rest e = and_left _ _ e
 ended_first d t Elision c raw rest e = and_left _ _ e
 
-turned : (d c : ℕ) → nat_eq d c ≡ false → nat_eq c d ≡ false
+pub turned : (d c : ℕ) → nat_eq d c ≡ false → nat_eq c d ≡ false
 turned d c e = false_from_ne_true (nat_eq c d) (λ h. false≢true (sym e ∙ eq-eqb d c (sym (eqb-true c d h))))
 
 abbrev Other : ℕ → Text → Text → Type 0

@@ -2,18 +2,23 @@
 use Rattle.std.proofs.Common.{◌≡◌, ℕ, [], ◌∷◌, ◌++◌, Bool, true, false, cond, ◌||◌, ◌&&◌, codes, refl, sym, ap, ◌∙◌, subst}
 use Rattle.std.specs.Prelude.{nat_eq}
 use Rattle.std.proofs.lemmas.Bool.{false≢true, and_left, and_right, and_from, or_from, eqb-true, false_from_ne_true}
-use Rattle.jsx_base.specs.Token.{Text, Operator, Tag, IdentifierName, JsxName, is_over, gap_after_blank, begins, first_is, is_digit, is_start, is_one_of, State, Dead, InName, InJsxName, step, is_dead, accepts, taken, left, last_state, ended, lexed, state, no_token, at_front}
-use Rattle.jsx_syntax.specs.Ahead.{IsAhead, IsPiece, NoneAhead, name_mode, name_kind, name_state, goes_on}
+use Rattle.jsx_base.specs.Token.{Text, Operator, Tag, IdentifierName, JsxName, is_over, gap_after_blank, begins, first_is, is_digit, is_start, is_part, is_one_of, State, Dead, InName, InJsxName, step, is_dead, accepts, taken, left, last_state, ended, lexed, state, no_token, at_front}
+use Rattle.jsx_syntax.specs.Ahead.{IsAhead, IsPiece, NoneAhead, name_mode, name_kind, name_state}
 use Rattle.jsx_syntax.specs.Gaps.{IsBehind}
 use Rattle.jsx_syntax.proofs.Families.{may_be, either, only}
 use Rattle.jsx_syntax.proofs.Fronts.{none_ahead}
 use Rattle.jsx_syntax.proofs.Pieces.{Lexes, Alone, alone, is_ahead, raw_is, still_behind}
 
+-- what a name goes on with
+abbrev goes_on : Bool → ℕ → Bool
+goes_on true c = is_part c || nat_eq c 45
+goes_on false c = is_part c
+
 first_of : (b : Bool) (x y : State) → b ≡ true → cond b x y ≡ x
 first_of true x y e = refl
 first_of false x y e = absurd (false≢true e)
 
-pub name_step : (d : Bool) (c : ℕ) → step (name_state d) c ≡ cond (goes_on d c) (name_state d) Dead
+name_step : (d : Bool) (c : ℕ) → step (name_state d) c ≡ cond (goes_on d c) (name_state d) Dead
 name_step true c = refl
 name_step false c = refl
 
@@ -77,16 +82,3 @@ not_name false c text h =
 pub no_name : (d : Bool) (whole : Text) (c : ℕ) (text : Text) → whole ≡ c ∷ text → is_start c ≡ false → NoneAhead (name_mode d) (name_kind d) whole
 no_name true whole c text w h = subst (NoneAhead Tag JsxName) (sym w) (none_ahead JsxName Tag c text refl refl (not_name true c text h))
 no_name false whole c text w h = subst (NoneAhead Operator IdentifierName) (sym w) (none_ahead IdentifierName Operator c text refl refl (not_name false c text h))
-
-pub record NameGoes (d : Bool) (whole text : Text) : Type 0 where
-  pub rest_is : left (name_state d) text ≡ left (name_state d) whole
-
-goes_by : (d b : Bool) (c : ℕ) (text : Text) → b ≡ true → left (name_state d) text ≡ cond (is_dead (cond b (name_state d) Dead)) (c ∷ text) (left (cond b (name_state d) Dead) text)
-goes_by d false c text e = absurd (false≢true e)
-goes_by d true c text e = sym (ap (λ x. cond x (c ∷ text) (left (name_state d) text)) (alive d))
-
--- a character of the name further
-pub name_goes : (d : Bool) (whole : Text) (c : ℕ) (text : Text) → whole ≡ c ∷ text → goes_on d c ≡ true → NameGoes d whole text
-name_goes d whole c text w h =
-    subst (λ x. NameGoes d x text) (sym w)
-    (record { rest_is = goes_by d (goes_on d c) c text h ∙ sym (ap (λ s. cond (is_dead s) (c ∷ text) (left s text)) (name_step d c)) })

@@ -65,6 +65,7 @@ pub is_ahead : (m : Mode) (k : TokenKind) (s : State) (c : ℕ) (text raw rest :
 is_ahead m k s c text raw rest l r e =
     subst (λ w. IsAhead m k (c ∷ text) w rest) (raw_is s c text raw rest r e)
     (record {
+      parts = e ∙ ap (λ w. w ++ rest) (sym (raw_is s c text raw rest r e));
       it = λ f. is_it k (at_front m f (c ∷ text)) (c ∷ taken s text) (left s text) (l.front f);
       behind = λ f. ap (λ x. x.rest) (l.front f) ∙ sym r;
       shorter = let h = left_within s text in omega (arith, ap length r);

@@ -18,7 +18,7 @@ abbrev pub all_plain : List Text → Bool
 all_plain [] = true
 all_plain (w ∷ ws) = is_plain w && all_plain ws
 
-by_both : (a b : Bool) → (a ≡ true → b ≡ true) → (b ≡ true → a ≡ true) → a ≡ b
+pub by_both : (a b : Bool) → (a ≡ true → b ≡ true) → (b ≡ true → a ≡ true) → a ≡ b
 by_both true b f g = sym (f refl)
 by_both false true f g = g refl
 by_both false false f g = refl

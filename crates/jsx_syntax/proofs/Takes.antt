@@ -13,6 +13,3 @@ behind_within g (c ∷ text) = within (is_over (gap_next g c text)) c (behind_ga
 
 pub skip_within : (text : Text) → length (skip text) ≤ length text
 skip_within text = behind_within Blank text
-
-pub at_end : (b cut : Bool) (text : Text) → b ≡ same (skip text) [] → cut ≡ is_cut Blank text → (b && not cut) ≡ is_end text
-at_end b cut text e f = ap (λ x. x && not cut) e ∙ ap (λ x. same (skip text) [] && not x) f

@@ -19,19 +19,6 @@ same_is (b ∷ s) (c ∷ t) h =
     let p = and_parts (nat_eq b c) (same s t) h in
     ap (λ x. x ∷ s) (eqb-true b c p.0) ∙ ap (λ x. c ∷ x) (same_is s t p.1)
 
--- no token of the kind, so none with this text either
-pub none_not : (m : Mode) (k : TokenKind) (text t : Text) → NoneAhead m k text → IsNotAhead m k text t
-none_not m k text t n = record { not_it = λ f. and_left (is_kind (at_front m f text).kind k) (same (at_front m f text).raw t) (n.none f) }
-
--- the token has another text
-pub other_text : (m : Mode) (k : TokenKind) (text raw rest t : Text) → IsAhead m k text raw rest → same raw t ≡ false → IsNotAhead m k text t
-other_text m k text raw rest t a e = record {
-  not_it = λ f.
-      let x : Lexeme = at_front m f text in
-      let r : x.raw ≡ raw = same_is x.raw raw ((and_parts (is_kind x.kind k) (same x.raw raw) (a.it f)).1) in
-      and_right (is_kind x.kind k) (same x.raw t) (ap (λ y. same y t) r ∙ e);
-}
-
 pub chars_const : chars (codes "const") ≡ codes "const"
 unfolding chars
 chars_const = refl

@@ -1,12 +1,13 @@
 -- What stands at the front of a text, whatever stood before it.
-use Rattle.std.specs.Prelude.{◌≡◌, ◌<◌, ℕ, nat_eq, ◌||◌, Bool, true, false, length}
-use Rattle.jsx_base.specs.Token.{Text, Mode, Operator, Tag, TokenKind, IdentifierName, JsxName, State, InName, InJsxName, is_part, at_front, is_token, is_kind}
+use Rattle.std.specs.Prelude.{◌≡◌, ◌<◌, ◌++◌, ℕ, Bool, true, false, length}
+use Rattle.jsx_base.specs.Token.{Text, Mode, Operator, Tag, TokenKind, IdentifierName, JsxName, State, InName, InJsxName, at_front, is_token, is_kind}
 use Rattle.jsx_tree.specs.Form.{is_leaf}
 
 -- The token of this kind and text, with that rest behind it. The flag says whether it is the first of its line.
 pub record IsAhead (m : Mode) (k : TokenKind) (text t rest : Text) : Type 0 where
   pub it : (f : Bool) → is_token (at_front m f text) k t ≡ true
   pub behind : (f : Bool) → (at_front m f text).rest ≡ rest
+  pub parts : text ≡ t ++ rest
   pub shorter : length rest < length text
 
 pub record IsNotAhead (m : Mode) (k : TokenKind) (text t : Text) : Type 0 where
@@ -33,8 +34,3 @@ name_kind false = IdentifierName
 abbrev pub name_state : Bool → State
 name_state true = InJsxName
 name_state false = InName
-
--- what a name goes on with
-abbrev pub goes_on : Bool → ℕ → Bool
-goes_on true c = is_part c || nat_eq c 45
-goes_on false c = is_part c

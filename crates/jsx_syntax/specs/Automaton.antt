@@ -1,50 +1,6 @@
--- The automata of numbers and strings, as the code runs them.
-use Rattle.std.specs.Prelude.{ℕ, Bool, cond, ◌||◌, ◌&&◌, nat_eq, true, false}
-use Rattle.jsx_base.specs.Token.{Base as Digits, Hexadecimal, Octal, BinaryDigits, State as Taken, Dead, Done, StringLiteral, BehindZero, InDigits, BehindPoint, InFraction, BehindE, BehindSign, InExponent, InBase, BehindN, InString, InEscape, InHex, InUnicode, InBraces, BehindNul, BehindCr, digit_step, is_letter, is_digit, first_is, Text}
-use Rattle.jsx_syntax.specs.declared.automaton.Base.{Base}
-use Rattle.jsx_syntax.specs.declared.automaton.Base.TheVariants as base
-use Rattle.jsx_syntax.specs.declared.automaton.Number.{Number}
-use Rattle.jsx_syntax.specs.declared.automaton.Number.TheVariants as number
-use Rattle.jsx_syntax.specs.declared.automaton.Quoted.{Quoted}
-use Rattle.jsx_syntax.specs.declared.automaton.Quoted.TheVariants as quoted
-use Rattle.jsx_syntax.specs.declared.automaton.State.{State}
-use Rattle.jsx_syntax.specs.declared.automaton.State.TheVariants as state
+-- Where a number may begin.
+use Rattle.std.specs.Prelude.{ℕ, true, false, cond, ◌&&◌, nat_eq}
+use Rattle.jsx_base.specs.Token.{Text, State, Dead, BehindZero, InDigits, InFraction, first_is, is_digit}
 
-abbrev pub base_of : Base → Digits
-base_of base.Hexadecimal = Hexadecimal
-base_of base.Octal = Octal
-base_of base.Binary = BinaryDigits
-
-abbrev pub number_state : Number → Taken
-number_state number.BehindZero = BehindZero
-number_state (number.InDigits b) = InDigits b
-number_state number.BehindPoint = BehindPoint
-number_state (number.InFraction b) = InFraction b
-number_state number.BehindE = BehindE
-number_state number.BehindSign = BehindSign
-number_state (number.InExponent b) = InExponent b
-number_state (number.InBase d b) = InBase (base_of d) b
-number_state number.BehindN = BehindN
-
-abbrev pub quoted_state : ℕ → Quoted → Taken
-quoted_state q quoted.InBody = InString q
-quoted_state q quoted.InEscape = InEscape q
-quoted_state q (quoted.InHex n) = InHex q n
-quoted_state q quoted.InUnicode = InUnicode q
-quoted_state q (quoted.InBraces b v) = InBraces q b v
-quoted_state q quoted.BehindNul = BehindNul q
-quoted_state q quoted.BehindCr = BehindCr q
-quoted_state q quoted.Closed = Done StringLiteral
-
-abbrev pub state_of : State → Taken
-state_of state.Dead = Dead
-state_of (state.Number n) = number_state n
-state_of (state.Quoted q s) = quoted_state q s
-
--- behind a digit of the fraction or not, and before its first
-abbrev pub in_fraction : Bool → Bool → ℕ → Taken
-in_fraction is_digit is_first c = digit_step InFraction is_digit c (cond ((is_digit || is_first) && is_letter 101 c) BehindE Dead)
-
--- where a number may begin
-abbrev pub number_start : ℕ → Text → Taken
+abbrev pub number_start : ℕ → Text → State
 number_start c text = cond (nat_eq c 48) BehindZero (cond (is_digit c) (InDigits true) (cond (nat_eq c 46 && first_is is_digit text) (InFraction false) Dead))

@@ -9,10 +9,11 @@ use Rattle.jsx_syntax.specs.declared.lexer.Fixed.TheVariants as fixed
 use Rattle.jsx_syntax.specs.declared.lexer.Leaf.{Leaf}
 use Rattle.jsx_syntax.specs.declared.lexer.Leaf.TheVariants as leaf
 
--- behind a token, none at the text's begin, before the rest of the text
+-- behind a token, none at the text's begin, before the rest of the text; the whole text has so many bytes
 pub record Here : Type 0 where
   pub last : Text
   pub rest : Text
+  pub end : ℕ
 
 abbrev pub place_of : Here → Place
 place_of h = At h.last AfterExpr h.rest

@@ -1,7 +1,8 @@
 pub mod Here
+pub mod Spans
+pub mod Seen
 pub mod Answers
 pub mod Pieces
-pub mod Characters
 pub mod Ahead
 pub mod Gaps
 pub mod Spelled

@@ -1,8 +1,13 @@
 -- The tokens with one spelling.
-use Rattle.std.specs.Prelude.{codes}
+use Rattle.std.specs.Prelude.{◌≡◌, true, codes}
 use Rattle.jsx_base.specs.Token.{Text, Mode, Operand, Operator, Tag, TokenKind, IdentifierName, Punctuator}
 use Rattle.jsx_syntax.specs.declared.lexer.Fixed.{Fixed}
 use Rattle.jsx_syntax.specs.declared.lexer.Fixed.TheVariants as fixed
+use Rattle.jsx_syntax.specs.declared.lexer.Leaf.{Leaf}
+use Rattle.jsx_lex.specs.declared.token.TokenKind.{TokenKind as MarkKind}
+use Rattle.jsx_lex.specs.Kinds.{is_punctuator, spelling}
+use Rattle.jsx_tree.specs.Spelling.{mode_of}
+use Rattle.jsx_syntax.specs.Here.{kind_of}
 
 abbrev pub fixed_mode : Fixed → Mode
 fixed_mode fixed.Const = Operator
@@ -31,3 +36,12 @@ fixed_text fixed.Dot = codes "."
 fixed_text fixed.Less = codes "<"
 fixed_text fixed.TagSlash = codes "/"
 fixed_text fixed.TagGreater = codes ">"
+
+abbrev pub leaf_mode : Leaf → Mode
+leaf_mode l = mode_of (kind_of l)
+
+-- the punctuator that the token is
+pub record IsMarkOf (k : MarkKind) (f : Fixed) : Type 0 where
+  pub mark : is_punctuator k ≡ true
+  pub text : spelling k ≡ fixed_text f
+  pub kind : fixed_kind f ≡ Punctuator

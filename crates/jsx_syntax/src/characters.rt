@@ -1,117 +1,22 @@
 //! A text, character by character.
 
-ghost use Rattle.std.specs.Prelude.{◌≡◌, ◌<◌, ◌++◌, ◌∷◌, [], IsTrue, MatchOption, nat_eq, false, true, length};
+ghost use Rattle.std.specs.Prelude.{◌≡◌, codes};
 ghost use Rattle.std.specs.Str.{chars};
-ghost use Rattle.jsx_base.specs.Token.{first_is, same, is_start, is_part, is_blank, is_line_end, is_digit};
-ghost use Rattle.jsx_syntax.specs.Characters.{Follows, EndsWith};
+ghost use Rattle.jsx_base.specs.Token.{same};
+ghost use Rattle.jsx_syntax.specs.Spans.{bytes};
 
-/// The first character and the text behind it.
+/// How many bytes the text has.
 #[inline]
-pub fn first(text: &str) -> Option<(char, &str)>
-    ensures { MatchOption result (chars text.now ≡ []) (λ (c, rest). Follows text.now c rest.now) }
+pub fn bytes(text: &str) -> usize
+    ensures { result ≡ bytes (chars text.now) }
 {
-    let mut chars = text.chars();
-    match chars.next() {
-        Some(c) => Some((c, chars.as_str())),
-        None => None,
-    }
+    text.len()
 }
 
-/// Whether the text has no characters.
+/// Whether the word is `const`.
 #[inline]
-pub fn is_empty(text: &str) -> bool
-    ensures { result ≡ same (chars text.now) [] }
+pub fn is_const(word: &str) -> bool
+    ensures { result ≡ same (chars word.now) (codes "const") }
 {
-    first(text).is_none()
-}
-
-/// The text behind its first character, if that is this one.
-#[inline]
-pub fn behind(text: &str, c: char) -> Option<&str>
-    ensures { MatchOption result (first_is (nat_eq c) (chars text.now) ≡ false) (λ rest. Follows text.now c rest.now) }
-{
-    match first(text) {
-        Some((d, rest)) => { if c == d { Some(rest) } else { None } }
-        None => None,
-    }
-}
-
-/// Whether the text begins with this character.
-#[inline]
-pub fn begins_with(text: &str, c: char) -> bool
-    ensures { result ≡ first_is (nat_eq c) (chars text.now) }
-{
-    behind(text, c).is_some()
-}
-
-/// Whether the text begins with a decimal digit.
-#[inline]
-pub fn begins_with_digit(text: &str) -> bool
-    ensures { result ≡ first_is is_digit (chars text.now) }
-{
-    match first(text) {
-        Some((c, _)) => c.is_ascii_digit(),
-        None => false,
-    }
-}
-
-/// Whether a name may begin with the character.
-#[inline]
-pub fn is_start(c: char) -> bool
-    ensures { result ≡ is_start c }
-{
-    c.is_ascii_alphabetic()
-        || c == '$'
-        || c == '_'
-        || (c >= '\u{80}' && unicode_ident::is_xid_start(c))
-}
-
-/// Whether a name may go on with the character.
-#[inline]
-pub fn is_part(c: char) -> bool
-    ensures { result ≡ is_part c }
-{
-    c.is_ascii_alphabetic()
-        || c.is_ascii_digit()
-        || c == '$'
-        || c == '_'
-        || c == '\u{200C}'
-        || c == '\u{200D}'
-        || (c >= '\u{80}' && unicode_ident::is_xid_continue(c))
-}
-
-/// Whether the character ends a line.
-#[inline]
-pub fn is_line_end(c: char) -> bool
-    ensures { result ≡ is_line_end c }
-{
-    c == '\n' || c == '\r' || c == '\u{2028}' || c == '\u{2029}'
-}
-
-/// Whether the character is a blank in a line.
-#[inline]
-pub fn is_blank(c: char) -> bool
-    ensures { result ≡ is_blank c }
-{
-    matches!(
-        c,
-        ' ' | '\t'
-            | '\u{B}'
-            | '\u{C}'
-            | '\u{A0}'
-            | '\u{1680}'
-            | '\u{202F}'
-            | '\u{205F}'
-            | '\u{3000}'
-            | '\u{FEFF}'
-            | '\u{2000}'..='\u{200A}'
-    )
-}
-
-/// What stands before the rest of a text.
-pub fn before<'s>(text: &'s str, rest: &str) -> &'s str
-    requires { EndsWith text.now rest.now }
-    ensures { chars text.now ≡ chars result.now ++ chars rest.now }
-{
-    text.split_at(text.len() - rest.len()).0
+    word == "const"
 }

@@ -6,18 +6,20 @@ ghost use Rattle.jsx_syntax.specs.Here.{place_of, left};
 ghost use Rattle.jsx_syntax.specs.Pieces.{Past, Primary, Dotted, Called, Arguments, one, template, kind_of};
 ghost use Rattle.jsx_syntax.specs.Pieces as piece;
 ghost use Rattle.jsx_syntax.specs.Answers.{Barred, NoWalk, NoPrimary, NoDotted, NoArguments, Refused, Built};
+ghost use Rattle.jsx_syntax.specs.Spans.{Extends, Spans, Starts, end_of, expr_at, jsx_at, next_of};
 
 use crate::error::ParseError;
 use crate::identifiers::{is_all_digits, is_reserved};
 use crate::lexer::{Fixed, Leaf, Lexer};
 use crate::parser::{expect, give_up, identifier_name, span_to, tag_name};
-use jsx_base::{DUMMY_SP, Span};
+use jsx_base::BytePos;
 use jsx_tree::{Access, Expr, Ident, Jsx, LiteralKind, Tag, Text};
 use std::alloc::Global;
 
 /// A JSX element with neither attributes nor children: `<a/>`.
 fn element<'s>(lexer: &mut Lexer<'s>) -> Result<Jsx<'s>, ParseError>
     ensures read { IfOk result (λ j. Built (template piece.Empty) (kind_of piece.Empty) (view_jsx j) (place_of lexer.old) (place_of lexer.new)) }
+    ensures span { IfOk result (λ j. Spans (jsx_at j) (next_of lexer.old) (end_of lexer.new)) }
     ensures shorter { OnOk result (left lexer.new < left lexer.old) }
     ensures refused { Refused result (NoWalk (template piece.Empty) (place_of lexer.old)) }
 {
@@ -26,12 +28,13 @@ fn element<'s>(lexer: &mut Lexer<'s>) -> Result<Jsx<'s>, ParseError>
     let name = tag_name(lexer)?;
     expect(lexer, Fixed::TagSlash)?;
     expect(lexer, Fixed::TagGreater)?;
-    Ok(Jsx::Element(span_to(lo, lexer, ">"), Tag::Name(name)))
+    Ok(Jsx::Element(span_to(lo, lexer), Tag::Name(name)))
 }
 
 /// An expression that begins with no other: an identifier, a literal or an element.
 fn primary<'s>(lexer: &mut Lexer<'s>) -> Result<Expr<'s>, ParseError>
     ensures read { IfOk result (λ e. Primary (place_of lexer.old) (view_expr e) (place_of lexer.new)) }
+    ensures span { IfOk result (λ e. Spans (expr_at e) (next_of lexer.old) (end_of lexer.new)) }
     ensures shorter { OnOk result (left lexer.new < left lexer.old) }
     ensures refused { Refused result (NoPrimary (place_of lexer.old)) }
 {
@@ -41,26 +44,18 @@ fn primary<'s>(lexer: &mut Lexer<'s>) -> Result<Expr<'s>, ParseError>
         }
         let lo = lexer.last_place();
         let text = Text::Read(raw, lo);
-        return Ok(Expr::Ident(span_to(lo, lexer, raw), Ident { text }));
+        return Ok(Expr::Ident(span_to(lo, lexer), Ident { text }));
     }
     if let Some(raw) = lexer.leaf(Leaf::Str) {
         let lo = lexer.last_place();
-        return Ok(Expr::Literal(
-            span_to(lo, lexer, raw),
-            LiteralKind::Str,
-            Text::Read(raw, lo),
-        ));
+        return Ok(Expr::Literal(span_to(lo, lexer), LiteralKind::Str, Text::Read(raw, lo)));
     }
     if let Some(raw) = lexer.leaf(Leaf::Num) {
         if !is_all_digits(raw) {
             return Err(give_up(lexer));
         }
         let lo = lexer.last_place();
-        return Ok(Expr::Literal(
-            span_to(lo, lexer, raw),
-            LiteralKind::Num,
-            Text::Read(raw, lo),
-        ));
+        return Ok(Expr::Literal(span_to(lo, lexer), LiteralKind::Num, Text::Read(raw, lo)));
     }
     Ok(Expr::Jsx(element(lexer)?))
 }
@@ -71,8 +66,10 @@ fn is_number(expr: &Expr) -> bool
     matches!(expr, Expr::Literal(_, LiteralKind::Num, _))
 }
 
-/// The span of an expression that was read.
-pub fn span_of(expr: &Expr) -> Span {
+/// Where an expression that was read begins.
+pub fn start_of(expr: &Expr) -> BytePos
+    ensures { Starts (expr_at expr.now) result }
+{
     let at = match expr {
         Expr::Ident(at, _) => at,
         Expr::Literal(at, _, _) => at,
@@ -81,8 +78,8 @@ pub fn span_of(expr: &Expr) -> Span {
         Expr::Jsx(Jsx::Element(at, _)) => at,
     };
     match at {
-        Some(span) => *span,
-        None => DUMMY_SP,
+        Some(span) => span.lo,
+        None => BytePos(0),
     }
 }
 
@@ -93,6 +90,7 @@ fn member<'s>(
     object: Expr<'s>,
 ) -> Result<Expr<'s>, ParseError>
     ensures read { IfOk result (λ e. Dotted (place_of lexer.old) (view_expr object.entry) (place_of lexer.new) (view_expr e)) }
+    ensures span { IfOk result (λ e. Extends (expr_at object.entry) (expr_at e) (end_of lexer.new)) }
     ensures shorter { OnOk result (left lexer.new < left lexer.old) }
     ensures refused { Refused result (NoDotted (place_of lexer.old) (view_expr object.entry)) }
 {
@@ -100,7 +98,7 @@ fn member<'s>(
         return Err(give_up(lexer));
     }
     let raw = identifier_name(lexer)?;
-    let span = span_to(span_of(&object).lo, lexer, raw);
+    let span = span_to(start_of(&object), lexer);
     let name = Text::Read(raw, lexer.last_place());
     Ok(Expr::Access(Access::Member(span, Box::new(alloc, object)?, name)))
 }
@@ -128,11 +126,12 @@ fn arguments<'s>(alloc: Global, lexer: &mut Lexer<'s>) -> Result<Vec<Expr<'s>>, 
 #[cycle(expression)]
 fn call<'s>(alloc: Global, lexer: &mut Lexer<'s>, callee: Expr<'s>) -> Result<Expr<'s>, ParseError>
     ensures read { IfOk result (λ e. Called (place_of lexer.old) (view_expr callee.entry) (place_of lexer.new) (view_expr e)) }
+    ensures span { IfOk result (λ e. Extends (expr_at callee.entry) (expr_at e) (end_of lexer.new)) }
     ensures shorter { OnOk result (left lexer.new < left lexer.old) }
     ensures refused { Refused result (NoArguments (place_of lexer.old)) }
 {
     let all = arguments(alloc, lexer)?;
-    let span = span_to(span_of(&callee).lo, lexer, ")");
+    let span = span_to(start_of(&callee), lexer);
     Ok(Expr::Access(Access::Call(span, Box::new(alloc, callee)?, all)))
 }
 
@@ -140,6 +139,7 @@ fn call<'s>(alloc: Global, lexer: &mut Lexer<'s>, callee: Expr<'s>) -> Result<Ex
 #[cycle(expression)]
 pub fn expression<'s>(alloc: Global, lexer: &mut Lexer<'s>) -> Result<Expr<'s>, ParseError>
     ensures read { IfOk result (λ e. Past piece.Whole (place_of lexer.old) (one (view_expr e)) (place_of lexer.new)) }
+    ensures span { IfOk result (λ e. Spans (expr_at e) (next_of lexer.old) (end_of lexer.new)) }
     ensures shorter { OnOk result (left lexer.new < left lexer.old) }
     ensures refused { Refused result (Barred piece.Whole (place_of lexer.old)) }
 {

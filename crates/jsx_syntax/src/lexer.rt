@@ -1,21 +1,20 @@
 //! The tokens that the grammar so far asks for, one at a time from the front of the text.
 
-ghost use Rattle.std.specs.Prelude.{◌≡◌, ◌<◌, ◌^◌, IsTrue, IsFalse, IfSome, IfNone, MatchOption, length};
+ghost use Rattle.std.specs.Prelude.{◌≡◌, ◌<◌, ◌^◌, ◌&&◌, IsTrue, IsFalse, IfSome, IfNone, MatchOption, false, true, length, []};
 ghost use Rattle.std.specs.Str.{chars};
-ghost use Rattle.jsx_base.specs.Token.{Text};
+ghost use Rattle.jsx_base.specs.Token.{Text, same, is_kind};
 ghost use Rattle.jsx_tree.specs.Reading.{Lost, forth, ended_at};
 ghost use Rattle.jsx_tree.specs.Form.{is_leaf};
-ghost use Rattle.jsx_tree.specs.Spelling.{mode_of};
+ghost use Rattle.jsx_lex.specs.Kinds.{is_punctuator, mode_of as mode_read, kind_of as kind_read, spelling};
 ghost use Rattle.jsx_syntax.specs.Here.{Here, place_of, left, sign_of, kind_of, leaf_sign};
-ghost use Rattle.jsx_syntax.specs.Ahead.{IsPiece, NoneAhead};
-ghost use Rattle.jsx_syntax.specs.Gaps.{IsBehind};
+ghost use Rattle.jsx_syntax.specs.Seen.{IsNext, IsSeen, NoNext, here_of, is_it};
+ghost use Rattle.jsx_syntax.specs.Spans.{begin_of, end_of, next_of};
+ghost use Rattle.jsx_syntax.specs.Spelled.{IsMarkOf, fixed_mode, fixed_kind, fixed_text, leaf_mode};
 
-use crate::characters::is_empty;
-use crate::gap::skip;
-use crate::literal::{number, string};
-use crate::marks::{behind_fixed, spelling};
-use crate::names::{Piece, name};
+use crate::characters::{bytes, is_const};
+use crate::seen::Seen;
 use jsx_base::BytePos;
+use jsx_lex::{Lexer as Tokens, Mode, Token, TokenKind};
 use std::marker::Model;
 
 /// A token with one spelling.
@@ -47,102 +46,233 @@ pub enum Leaf {
     JsxName,
 }
 
-/// Stands before the rest of a text.
+impl Fixed {
+    /// The mode in which it is read.
+    #[inline(always)]
+    fn mode(self) -> Mode
+        ensures { mode_read result ≡ fixed_mode self }
+    {
+        match self {
+            Fixed::Less => Mode::Operand,
+            Fixed::TagSlash | Fixed::TagGreater => Mode::Tag,
+            _ => Mode::Operator,
+        }
+    }
+
+    /// The punctuator that it is, if it isn't a word.
+    #[inline(always)]
+    fn mark(self) -> Option<TokenKind>
+        ensures { MatchOption result (self ≡ Fixed.Const) (λ k. IsMarkOf k self) }
+    {
+        Some(match self {
+            Fixed::Const => return None,
+            Fixed::Equals => TokenKind::Equal,
+            Fixed::Semicolon => TokenKind::Semicolon,
+            Fixed::Open => TokenKind::LeftParen,
+            Fixed::Close => TokenKind::RightParen,
+            Fixed::Comma => TokenKind::Comma,
+            Fixed::Dot => TokenKind::Dot,
+            Fixed::Less => TokenKind::Less,
+            Fixed::TagSlash => TokenKind::Slash,
+            Fixed::TagGreater => TokenKind::Greater,
+        })
+    }
+
+    /// Whether the token is this one.
+    #[inline(always)]
+    fn is(self, token: &Token) -> bool
+        requires { IsTrue (is_punctuator token.now.kind) → chars token.now.raw.now ≡ spelling token.now.kind }
+        ensures { result ≡ is_it token.now (fixed_kind self) (fixed_text self) }
+    {
+        match self.mark() {
+            Some(mark) => token.kind == mark,
+            None => token.kind == TokenKind::IdentifierName && is_const(token.raw),
+        }
+    }
+}
+
+impl Leaf {
+    /// The mode in which it is read.
+    #[inline(always)]
+    fn mode(self) -> Mode
+        ensures { mode_read result ≡ leaf_mode self }
+    {
+        match self {
+            Leaf::JsxName => Mode::Tag,
+            Leaf::Name | Leaf::Num | Leaf::Str => Mode::Operator,
+        }
+    }
+
+    /// Whether the token is of this kind.
+    #[inline(always)]
+    fn is(self, token: &Token) -> bool
+        ensures { result ≡ is_kind (kind_read token.now.kind) (kind_of self) }
+    {
+        let kind = match self {
+            Leaf::Name => TokenKind::IdentifierName,
+            Leaf::Num => TokenKind::NumericLiteral,
+            Leaf::Str => TokenKind::StringLiteral,
+            Leaf::JsxName => TokenKind::JsxName,
+        };
+        token.kind == kind
+    }
+}
+
+/// Stands before the rest of a text, and keeps the token that was looked at.
 #[derive(Drop)]
 pub struct Lexer<'s> {
-    /// The token that was taken last, empty at first.
+    /// The text of the token that was taken last, empty at first.
     last: &'s str,
-    rest: &'s str,
+    /// Behind that token.
+    here: Tokens<'s>,
+    /// The token that comes next, once it was looked at.
+    seen: Option<Seen<'s>>,
     /// The whole text's length in bytes.
     end: usize,
     ghost is_short: { end < 0xFFFF_0000 },
+    ghost is_whole: { length here.text.now ≡ end },
+    ghost is_first: { here.is_first ≡ same (chars last.now) [] },
+    ghost is_unsettled: { here.is_on_new_line ≡ false },
+    ghost is_seen: { IsSeen (here_of last.now here) seen },
 }
 
 impl<'s> Model for Lexer<'s> {
-    ghost use Rattle.std.specs.Str.{chars};
     ghost use Rattle.jsx_syntax.specs.Here.{Here};
+    ghost use Rattle.jsx_syntax.specs.Seen.{here_of};
 
     ghost Value = { Here };
 
-    ghost view = { λ l. record { last = chars l.last.now; rest = chars l.rest.now } };
+    ghost view = { λ l. here_of l.last.now l.here };
 }
 
 impl<'s> Lexer<'s> {
-    ghost use Rattle.std.specs.Prelude.{[]};
-
     pub fn new(text: &'s str) -> Lexer<'s>
         requires { length text.now < 0xFFFF_0000 }
         ensures last { result.last ≡ [] }
         ensures rest { result.rest ≡ chars text.now }
+        ensures end { result.end ≡ length text.now }
     {
         Lexer {
             last: "",
-            rest: text,
+            here: Tokens::new(text),
+            seen: None,
             end: text.len(),
         }
     }
 
-    /// Whether nothing but blanks, line ends and whole comments is left.
-    pub fn is_at_end(&self) -> bool
-        ensures { result ≡ ended_at (place_of self.now) }
+    /// Reads the token that comes next in a mode, and keeps it.
+    fn read(&mut self, mode: Mode) -> Option<Seen<'s>>
+        ensures stays { self.new ≡ self.old }
+        ensures found { MatchOption result (NoNext (mode_read mode) self.old) (λ s. IsNext (mode_read mode) self.old s.token s.behind) }
     {
-        let ahead = skip(self.rest);
-        is_empty(ahead.rest) && !ahead.is_cut
+        let mut behind = self.here;
+        let Some(token) = behind.next(mode) else {
+            return None;
+        };
+        let seen = Seen {
+            mode,
+            token,
+            behind,
+        };
+        self.seen = Some(seen);
+        Some(seen)
+    }
+
+    /// Looks at the token that comes next in a mode.
+    #[inline(always)]
+    fn look(&mut self, mode: Mode) -> Option<Seen<'s>>
+        ensures stays { self.new ≡ self.old }
+        ensures found { MatchOption result (NoNext (mode_read mode) self.old) (λ s. IsNext (mode_read mode) self.old s.token s.behind) }
+    {
+        if let Some(seen) = self.seen {
+            if seen.mode == mode {
+                return Some(seen);
+            }
+        }
+        self.read(mode)
+    }
+
+    /// Goes behind a token that was looked at.
+    #[inline(always)]
+    fn step(&mut self, seen: &Seen<'s>)
+        requires whole { length seen.now.behind.text.now ≡ self.old.end }
+        requires read { seen.now.behind.is_first ≡ false }
+        requires unsettled { seen.now.behind.is_on_new_line ≡ false }
+        requires full { same (chars seen.now.token.raw.now) [] ≡ false }
+        ensures { self.new ≡ here_of seen.now.token.raw.now seen.now.behind }
+    {
+        self.last = seen.token.raw;
+        self.here = seen.behind;
+        self.seen = None;
+    }
+
+    /// Whether nothing but blanks, line ends and whole comments is left.
+    pub fn is_at_end(&mut self) -> bool
+        ensures ends { result ≡ ended_at (place_of self.old) }
+        ensures stays { self.new ≡ self.old }
+    {
+        match self.look(Mode::Operator) {
+            Some(seen) => seen.token.kind == TokenKind::End,
+            None => false,
+        }
     }
 
     /// Takes the next token if it is this one.
+    #[inline]
     pub fn take(&mut self, fixed: Fixed) -> bool
         ensures taken { IsTrue result → place_of self.new ≡ forth (sign_of fixed) (place_of self.old) }
+        ensures begins { IsTrue result → begin_of self.new ≡ next_of self.old }
         ensures shorter { IsTrue result → left self.new < left self.old }
         ensures missing { IsFalse result → forth (sign_of fixed) (place_of self.old) ≡ Lost }
         ensures stays { IsFalse result → self.new ≡ self.old }
     {
-        let Some(rest) = behind_fixed(fixed, skip(self.rest).rest) else {
+        let Some(seen) = self.look(fixed.mode()) else {
             return false;
         };
-        self.last = spelling(fixed);
-        self.rest = rest;
+        if !fixed.is(&seen.token) {
+            return false;
+        }
+        self.step(&seen);
         true
     }
 
     /// Takes the next token if it is of this kind, and gives its text.
+    #[inline]
     pub fn leaf(&mut self, leaf: Leaf) -> Option<&'s str>
         ensures taken { IfSome result (λ raw. place_of self.new ≡ forth (leaf_sign leaf (chars raw.now)) (place_of self.old)) }
+        ensures begins { IfSome result (λ raw. begin_of self.new ≡ next_of self.old) }
         ensures shorter { IfSome result (λ raw. left self.new < left self.old) }
         ensures whole { IfSome result (λ raw. IsTrue (is_leaf (kind_of leaf) (chars raw.now))) }
         ensures missing { IfNone result ((t : Text) → forth (leaf_sign leaf t) (place_of self.old) ≡ Lost) }
         ensures stays { IfNone result (self.new ≡ self.old) }
     {
-        let Some(piece) = piece(leaf, skip(self.rest).rest) else {
+        let Some(seen) = self.look(leaf.mode()) else {
             return None;
         };
-        self.last = piece.raw;
-        self.rest = piece.rest;
-        Some(piece.raw)
+        if !leaf.is(&seen.token) {
+            return None;
+        }
+        self.step(&seen);
+        Some(seen.token.raw)
+    }
+
+    /// The place behind the token that was taken last, in bytes from the text's begin.
+    pub fn place(&self) -> BytePos
+        ensures { result.0 ≡ end_of self.now }
+    {
+        let place = self.end.saturating_sub(bytes(self.here.rest()));
+        BytePos(place as u32)
     }
 
     /// The place of the token that was taken last, in bytes from the text's begin.
     pub fn last_place(&self) -> BytePos
-        ensures { result.0 < 0xFFFF_0000 }
+        ensures { result.0 ≡ begin_of self.now }
     {
         let place = self
             .end
-            .saturating_sub(self.rest.len())
-            .saturating_sub(self.last.len());
+            .saturating_sub(bytes(self.here.rest()))
+            .saturating_sub(bytes(self.last));
         BytePos(place as u32)
-    }
-}
-
-/// The token of a kind at the front of a text.
-fn piece(leaf: Leaf, ahead: &str) -> Option<Piece>
-    requires { IsBehind (chars ahead.now) }
-    ensures { MatchOption result (NoneAhead (mode_of (kind_of leaf)) (kind_of leaf) (chars ahead.now)) (λ p. IsPiece (mode_of (kind_of leaf)) (kind_of leaf) (chars ahead.now) (chars p.raw.now) (chars p.rest.now)) }
-{
-    match leaf {
-        Leaf::Name => name(false, ahead),
-        Leaf::Num => number(ahead),
-        Leaf::Str => string(ahead),
-        Leaf::JsxName => name(true, ahead),
     }
 }
 

@@ -1,6 +1,6 @@
 //! A whole text.
 
-ghost use Rattle.std.specs.Prelude.{◌≡◌, ◌<◌, ◌≤◌, IfOk, IfErr, length, map, ℕ};
+ghost use Rattle.std.specs.Prelude.{◌≡◌, ◌<◌, ◌≤◌, IfOk, IfErr, Some, length, map, ℕ};
 ghost use Rattle.std.specs.Str.{chars};
 ghost use Rattle.jsx_tree.specs.Kinds.{Tree};
 ghost use Rattle.jsx_tree.specs.Stage.{ReadsSoFar};
@@ -8,6 +8,7 @@ ghost use Rattle.jsx_tree.specs.View.{view, view_item};
 ghost use Rattle.jsx_base.specs.Token.{Text};
 ghost use Rattle.jsx_syntax.specs.Here.{place_of};
 ghost use Rattle.jsx_syntax.specs.Answers.{Refused, ToEnd, NoRun, NoTree, IsWithin};
+ghost use Rattle.jsx_syntax.specs.Spans.{Spans, program_at};
 
 use crate::error::ParseError;
 use crate::lexer::Lexer;
@@ -37,6 +38,7 @@ pub fn parse<'s>(alloc: Global, text: &'s str) -> Result<Program<'s>, ParseError
     // A syntax error comes only where no tree reads the text.
     ensures refused { Refused result (NoTree (chars text.now)) }
     ensures place { IfErr result (IsWithin (length text.now)) }
+    ensures span { IfOk result (λ program. Spans (Some (program_at program)) 0 (length text.now)) }
 {
     let end = BytePos(text.len() as u32);
     let mut lexer = Lexer::new(text);

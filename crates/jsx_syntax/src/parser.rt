@@ -10,6 +10,7 @@ ghost use Rattle.jsx_syntax.specs.Here.{place_of, left, sign_of};
 ghost use Rattle.jsx_syntax.specs.Pieces.{Past, one, nothing};
 ghost use Rattle.jsx_syntax.specs.Pieces as piece;
 ghost use Rattle.jsx_syntax.specs.Answers.{Barred, Refused};
+ghost use Rattle.jsx_syntax.specs.Spans.{ComesFrom, FailsAt, Spans, begin_of, end_of, next_of, pat_at};
 
 use crate::error::ParseError;
 use crate::identifiers::{is_bound, is_plain_tag};
@@ -18,20 +19,24 @@ use jsx_base::{BytePos, Span};
 use jsx_tree::{Ident, Pat, Text};
 
 /// From a place to the end of the token that was taken last.
-pub fn span_to(lo: BytePos, lexer: &Lexer, token: &str) -> Option<Span> {
-    let len = u32::try_from(token.len()).unwrap_or(u32::MAX);
-    let hi = lexer.last_place().0.saturating_add(len);
-    Some(Span::new(lo, BytePos(hi)))
+pub fn span_to(lo: BytePos, lexer: &Lexer) -> Option<Span>
+    ensures { Spans result lo.0 (end_of lexer.now) }
+{
+    let hi = lexer.place();
+    Some(Span { lo, hi })
 }
 
-/// The error where the parser stands.
-pub fn give_up(lexer: &Lexer) -> ParseError {
+/// The error at the token that was taken last.
+pub fn give_up(lexer: &Lexer) -> ParseError
+    ensures { FailsAt result (begin_of lexer.now) }
+{
     ParseError::Syntax(lexer.last_place())
 }
 
 /// Takes a token with one spelling.
 pub fn expect(lexer: &mut Lexer, fixed: Fixed) -> Result<(), ParseError>
     ensures read { IfOk result (λ _. Past (piece.Fixed (sign_of fixed)) (place_of lexer.old) nothing (place_of lexer.new)) }
+    ensures begins { OnOk result (begin_of lexer.new ≡ next_of lexer.old) }
     ensures shorter { OnOk result (left lexer.new < left lexer.old) }
     ensures refused { Refused result (Barred (piece.Fixed (sign_of fixed)) (place_of lexer.old)) }
 {
@@ -45,6 +50,8 @@ pub fn expect(lexer: &mut Lexer, fixed: Fixed) -> Result<(), ParseError>
 /// A binding identifier (ECMA-262 section 13.1).
 pub fn binding_identifier<'s>(lexer: &mut Lexer<'s>) -> Result<Pat<'s>, ParseError>
     ensures read { IfOk result (λ p. Past (piece.Leaf (grammar.Pat Binds) IdentifierName) (place_of lexer.old) (one (view_pat p)) (place_of lexer.new)) }
+    ensures span { IfOk result (λ p. Spans (pat_at p) (next_of lexer.old) (end_of lexer.new)) }
+    ensures begins { OnOk result (begin_of lexer.new ≡ next_of lexer.old) }
     ensures shorter { OnOk result (left lexer.new < left lexer.old) }
     ensures refused { Refused result (Barred (piece.Leaf (grammar.Pat Binds) IdentifierName) (place_of lexer.old)) }
 {
@@ -56,12 +63,13 @@ pub fn binding_identifier<'s>(lexer: &mut Lexer<'s>) -> Result<Pat<'s>, ParseErr
     }
     let lo = lexer.last_place();
     let text = Text::Read(raw, lo);
-    Ok(Pat::Ident(span_to(lo, lexer, raw), Ident { text }))
+    Ok(Pat::Ident(span_to(lo, lexer), Ident { text }))
 }
 
 /// The name of a tag.
 pub fn tag_name<'s>(lexer: &mut Lexer<'s>) -> Result<Text<'s>, ParseError>
     ensures read { IfOk result (λ t. Past (piece.Leaf grammar.TagName JsxName) (place_of lexer.old) (one (leaf JsxName (text_of t))) (place_of lexer.new)) }
+    ensures place { IfOk result (λ t. ComesFrom t (next_of lexer.old)) }
     ensures shorter { OnOk result (left lexer.new < left lexer.old) }
     ensures refused { Refused result (Barred (piece.Leaf grammar.TagName JsxName) (place_of lexer.old)) }
 {
@@ -77,6 +85,7 @@ pub fn tag_name<'s>(lexer: &mut Lexer<'s>) -> Result<Text<'s>, ParseError>
 /// An identifier name, reserved or not (ECMA-262 section 12.7).
 pub fn identifier_name<'s>(lexer: &mut Lexer<'s>) -> Result<&'s str, ParseError>
     ensures read { IfOk result (λ raw. Past (piece.Leaf grammar.Name IdentifierName) (place_of lexer.old) (one (leaf IdentifierName (chars raw.now))) (place_of lexer.new)) }
+    ensures begins { OnOk result (begin_of lexer.new ≡ next_of lexer.old) }
     ensures shorter { OnOk result (left lexer.new < left lexer.old) }
     ensures refused { Refused result (Barred (piece.Leaf grammar.Name IdentifierName) (place_of lexer.old)) }
 {

@@ -7,18 +7,19 @@ ghost use Rattle.jsx_syntax.specs.Here.{place_of, left};
 ghost use Rattle.jsx_syntax.specs.Pieces.{Past, Bindings, one, template, kind_of, behind_const};
 ghost use Rattle.jsx_syntax.specs.Pieces as piece;
 ghost use Rattle.jsx_syntax.specs.Answers.{Barred, NoWalk, Refused, Built};
+ghost use Rattle.jsx_syntax.specs.Spans.{Spans, begin_of, end_of, expr_at, next_of, pat_at, stmt_at};
 
 use crate::error::ParseError;
-use crate::expression::{expression, span_of};
+use crate::expression::{expression, start_of};
 use crate::lexer::{Fixed, Lexer};
 use crate::parser::{binding_identifier, expect, give_up, span_to};
-use jsx_base::Span;
 use jsx_tree::{DeclareWord, Expr, LiteralKind, Pat, Stmt};
 use std::alloc::Global;
 
 /// A variable and its initializer: `a = b`.
 fn declarator<'s>(alloc: Global, lexer: &mut Lexer<'s>) -> Result<Pat<'s>, ParseError>
     ensures read { IfOk result (λ p. Built (template piece.Bound) (kind_of piece.Bound) (view_pat p) (place_of lexer.old) (place_of lexer.new)) }
+    ensures span { IfOk result (λ p. Spans (pat_at p) (next_of lexer.old) (end_of lexer.new)) }
     ensures shorter { OnOk result (left lexer.new < left lexer.old) }
     ensures refused { Refused result (NoWalk (template piece.Bound) (place_of lexer.old)) }
 {
@@ -26,9 +27,8 @@ fn declarator<'s>(alloc: Global, lexer: &mut Lexer<'s>) -> Result<Pat<'s>, Parse
     let lo = lexer.last_place();
     expect(lexer, Fixed::Equals)?;
     let value = expression(alloc, lexer)?;
-    let span = Span::new(lo, span_of(&value).hi);
     Ok(Pat::Binding(
-        Some(span),
+        span_to(lo, lexer),
         Box::new(alloc, name)?,
         Some(Box::new(alloc, value)?),
     ))
@@ -53,13 +53,14 @@ fn declarators<'s>(alloc: Global, lexer: &mut Lexer<'s>) -> Result<Vec<Pat<'s>>,
 /// A lexical declaration behind its word: `const a = b, c = d;`.
 fn lexical_declaration<'s>(alloc: Global, lexer: &mut Lexer<'s>) -> Result<Stmt<'s>, ParseError>
     ensures read { IfOk result (λ s. Built behind_const (kind_of piece.Constant) (view_stmt s) (place_of lexer.old) (place_of lexer.new)) }
+    ensures span { IfOk result (λ s. Spans (stmt_at s) (begin_of lexer.old) (end_of lexer.new)) }
     ensures shorter { OnOk result (left lexer.new < left lexer.old) }
     ensures refused { Refused result (NoWalk behind_const (place_of lexer.old)) }
 {
     let lo = lexer.last_place();
     let all = declarators(alloc, lexer)?;
     expect(lexer, Fixed::Semicolon)?;
-    Ok(Stmt::Var(span_to(lo, lexer, ";"), DeclareWord::Const, all))
+    Ok(Stmt::Var(span_to(lo, lexer), DeclareWord::Const, all))
 }
 
 fn is_string(expr: &Expr) -> bool
@@ -71,6 +72,7 @@ fn is_string(expr: &Expr) -> bool
 /// An expression that is no string alone.
 fn value<'s>(alloc: Global, lexer: &mut Lexer<'s>) -> Result<Expr<'s>, ParseError>
     ensures read { IfOk result (λ e. Past piece.NoString (place_of lexer.old) (one (view_expr e)) (place_of lexer.new)) }
+    ensures span { IfOk result (λ e. Spans (expr_at e) (next_of lexer.old) (end_of lexer.new)) }
     ensures shorter { OnOk result (left lexer.new < left lexer.old) }
     ensures refused { Refused result (Barred piece.NoString (place_of lexer.old)) }
 {
@@ -84,18 +86,20 @@ fn value<'s>(alloc: Global, lexer: &mut Lexer<'s>) -> Result<Expr<'s>, ParseErro
 /// An expression statement: `a(b);`.
 fn expression_statement<'s>(alloc: Global, lexer: &mut Lexer<'s>) -> Result<Stmt<'s>, ParseError>
     ensures read { IfOk result (λ s. Built (template piece.Evaluation) (kind_of piece.Evaluation) (view_stmt s) (place_of lexer.old) (place_of lexer.new)) }
+    ensures span { IfOk result (λ s. Spans (stmt_at s) (next_of lexer.old) (end_of lexer.new)) }
     ensures shorter { OnOk result (left lexer.new < left lexer.old) }
     ensures refused { Refused result (NoWalk (template piece.Evaluation) (place_of lexer.old)) }
 {
     let expr = value(alloc, lexer)?;
     expect(lexer, Fixed::Semicolon)?;
-    let span = span_to(span_of(&expr).lo, lexer, ";");
+    let span = span_to(start_of(&expr), lexer);
     Ok(Stmt::Expr(span, Box::new(alloc, expr)?))
 }
 
 /// A statement.
 pub fn statement<'s>(alloc: Global, lexer: &mut Lexer<'s>) -> Result<Stmt<'s>, ParseError>
     ensures read { IfOk result (λ s. Past (piece.Part piece.Statement) (place_of lexer.old) (one (view_stmt s)) (place_of lexer.new)) }
+    ensures span { IfOk result (λ s. Spans (stmt_at s) (next_of lexer.old) (end_of lexer.new)) }
     ensures shorter { OnOk result (left lexer.new < left lexer.old) }
     ensures refused { Refused result (Barred (piece.Part piece.Statement) (place_of lexer.old)) }
 {

@@ -4,6 +4,8 @@ use Rattle.jsx_tree.specs.Reading.{Lost, forth}
 use Rattle.jsx_syntax.specs.Here.{place_of, left}
 use Rattle.jsx_syntax.specs.Pieces.{Fixed, Whole, pun_sign, one, Past, whole, primary, grown, by_dot, by_call}
 use Rattle.jsx_syntax.specs.Answers.{Barred}
+use Rattle.jsx_syntax.specs.Spans.{end_of}
+use Rattle.jsx_syntax.proofs.Places.{spans_from}
 use Rattle.jsx_syntax.proofs.Leaves.{read_fixed}
 use Rattle.jsx_syntax.proofs.Steps.{passed, from_place, map_push, all_arguments, last_argument, no_argument, no_close, next_argument, stopped, bad_dot, bad_call, bad_primary}
 use Rattle.jsx_syntax.proofs.Trees.{call_called}
@@ -41,7 +43,7 @@ pub expression-returns-in_err-expr-clause-refused : goal.expression-returns-in_e
 expression-returns-in_err-expr-clause-refused t c = passed _ _ _ _ c.in_err-expr.ensures.refused c.from_residual.ensures.1 (λ n. bad_primary n)
 
 pub expression-steps-init : goal.expression-steps-init
-expression-steps-init t c = record { so_far = primary c.in_ok-expr.ensures.read; within = c.in_ok-expr.ensures.shorter }
+expression-steps-init t c = record { so_far = primary c.in_ok-expr.ensures.read; span = c.in_ok-expr.ensures.span; within = c.in_ok-expr.ensures.shorter }
 
 pub expression-returns-in_err-expr-2-clause-refused : goal.expression-returns-in_err-expr-2-clause-refused
 expression-returns-in_err-expr-2-clause-refused t c = passed _ _ _ _ c.in_err-expr-2.ensures.refused c.from_residual-in_err-expr-2.ensures.1
@@ -50,6 +52,7 @@ expression-returns-in_err-expr-2-clause-refused t c = passed _ _ _ _ c.in_err-ex
 pub expression-steps-preserved-then-take : goal.expression-steps-preserved-then-take
 expression-steps-preserved-then-take t c = record {
   so_far = grown c.steps.invariant.so_far (by_dot (read_fixed (c.take.ensures.taken c.if-take.true) refl) c.in_ok-expr-2.ensures.read);
+  span = c.in_ok-expr-2.ensures.span.on _ _ c.steps.invariant.span;
   within = omega (arith, c.in_ok-expr-2.ensures.shorter, c.take.ensures.shorter c.if-take.true, c.steps.invariant.within);
 }
 
@@ -62,8 +65,15 @@ expression-steps-preserved t c =
     let same : left c.take.new.self ≡ left c.steps.lexer = ap left (c.take.ensures.stays c.if-take.false) in
     record {
       so_far = grown c.steps.invariant.so_far (by_call (from_place (ap place_of (c.take.ensures.stays c.if-take.false)) (read_fixed (c.take-else-take.ensures.taken c.if-take-2.true) refl)) c.in_ok-expr-3.ensures.read);
+      span = c.in_ok-expr-3.ensures.span.on _ _ c.steps.invariant.span;
       within = omega (arith, same, c.in_ok-expr-3.ensures.shorter, c.take-else-take.ensures.shorter c.if-take-2.true, c.steps.invariant.within);
     }
+
+pub expression-returns-else-take-2-clause-span : goal.expression-returns-else-take-2-clause-span
+expression-returns-else-take-2-clause-span t c =
+    let stays : end_of c.take.new.self ≡ end_of c.steps.lexer = ap end_of (c.take.ensures.stays c.if-take.false) in
+    let stays' : end_of c.take-else-take.new.self ≡ end_of c.steps.lexer = ap end_of (c.take-else-take.ensures.stays c.if-take-2.false) ∙ stays in
+    spans_from c.steps.invariant.span refl refl (sym stays')
 
 pub expression-returns-else-take-2-clause-read : goal.expression-returns-else-take-2-clause-read
 expression-returns-else-take-2-clause-read t c =

@@ -2,6 +2,7 @@ use Rattle.std.proofs.Common.{◌+◌, ◌*◌, ◌<◌, ◌≤◌, map}
 use Rattle.jsx_tree.specs.View.{view_expr}
 use Rattle.jsx_syntax.specs.Here.{place_of, left}
 use Rattle.jsx_syntax.specs.Pieces.{Reads}
+use Rattle.jsx_syntax.specs.Spans.{Spans, end_of, expr_at, next_of}
 use Rattle.jsx_syntax.proofs.Steps.{MoreArguments}
 use Rattle.jsx_syntax.proofs.expression.+expression.Given as goal
 
@@ -26,6 +27,7 @@ decreases-arguments-arguments l = left l.lexer
 abbrev pub invariant-expression-steps : goal.invariant-expression-steps
 invariant-expression-steps l = record {
   so_far : Reads (place_of l.fn.lexer) (view_expr l.expr) (place_of l.lexer);
+  span : Spans (expr_at l.expr) (next_of l.fn.lexer) (end_of l.lexer);
   within : left l.lexer < left l.fn.lexer;
 }
 

@@ -1,9 +1,36 @@
-use Rattle.std.proofs.Common.{length, ap, arith}
-use Rattle.std.specs.Str.{chars}
-use Rattle.jsx_syntax.specs.Here.{left}
-use Rattle.jsx_syntax.proofs.Takes.{skip_within}
+use Rattle.std.proofs.Common.{◌≡◌, ◌<◌, true, sym, ap, ◌∙◌, subst}
+use Rattle.jsx_base.specs.Token.{is_kind}
+use Rattle.jsx_lex.specs.Kinds.{kind_of as kind_read}
+use Rattle.jsx_syntax.specs.Here.{place_of, left, kind_of}
+use Rattle.jsx_syntax.specs.Seen.{IsNext}
+use Rattle.jsx_syntax.specs.Spans.{begin_of}
+use Rattle.jsx_syntax.specs.Spelled.{leaf_mode}
+use Rattle.jsx_syntax.proofs.Taking.{taken_by, begins_by, shorter_by, kind_some, leaf_some, leaf_skips, leaf_by, leaf_full, leaf_it}
 use Rattle.jsx_syntax.proofs.lexer.Lexer.leaf.Goals as goal
+
+pub step-requires-clause-full : goal.step-requires-clause-full
+step-requires-clause-full c =
+    let n = subst (λ m. IsNext m c.args.self.now c.in-Some.seen.token c.in-Some.seen.behind) c.mode.ensures c.in-Some.ensures.found in
+    leaf_full c.args.leaf _ (leaf_by c.args.leaf n (sym c.is.ensures ∙ c.if-not-is.false))
+
+pub returns-clause-taken : goal.returns-clause-taken
+returns-clause-taken c =
+    let n = subst (λ m. IsNext m c.args.self.now c.in-Some.seen.token c.in-Some.seen.behind) c.mode.ensures c.in-Some.ensures.found in
+    ap place_of c.step.ensures ∙ taken_by (kind_of c.args.leaf) _ n (leaf_it c.args.leaf c.in-Some.seen.token (sym c.is.ensures ∙ c.if-not-is.false))
+
+pub returns-clause-begins : goal.returns-clause-begins
+returns-clause-begins c =
+    let n = subst (λ m. IsNext m c.args.self.now c.in-Some.seen.token c.in-Some.seen.behind) c.mode.ensures c.in-Some.ensures.found in
+    ap begin_of c.step.ensures ∙ begins_by n (leaf_skips c.args.leaf) (kind_some _ (kind_of c.args.leaf) (leaf_some c.args.leaf) (sym c.is.ensures ∙ c.if-not-is.false))
 
 pub returns-clause-shorter : goal.returns-clause-shorter
 returns-clause-shorter c =
-    omega (arith, skip_within (chars c.self.inside.rest.now), c.in-Some.ensures.ahead.shorter, ap length c.skip.ensures.rest, ap left c.self.view_is)
+    let n = subst (λ m. IsNext m c.args.self.now c.in-Some.seen.token c.in-Some.seen.behind) c.mode.ensures c.in-Some.ensures.found in
+    let is : is_kind (kind_read c.in-Some.seen.token.kind) (kind_of c.args.leaf) ≡ true = sym c.is.ensures ∙ c.if-not-is.false in
+    subst (λ y. left y < left c.args.self.now) (sym c.step.ensures)
+    (shorter_by n (leaf_skips c.args.leaf) (kind_some _ (kind_of c.args.leaf) (leaf_some c.args.leaf) is) (leaf_full c.args.leaf _ (leaf_by c.args.leaf n is)))
+
+pub returns-clause-whole : goal.returns-clause-whole
+returns-clause-whole c =
+    let n = subst (λ m. IsNext m c.args.self.now c.in-Some.seen.token c.in-Some.seen.behind) c.mode.ensures c.in-Some.ensures.found in
+    leaf_by c.args.leaf n (sym c.is.ensures ∙ c.if-not-is.false)
