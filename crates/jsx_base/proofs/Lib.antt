@@ -1,6 +1,12 @@
 mod Lexing
 mod Literals
 pub mod Automata
+pub mod FileOrder
+pub mod FirstLine
 pub mod Gains
+pub mod LineAt
+pub mod LineParts
 pub mod Remarks
 pub mod Spans
+pub mod SpotAt
+pub mod Walks
