@@ -1,6 +1,8 @@
 mod Lexing
 mod Literals
 pub mod Automata
+pub mod FileAt
+pub mod FileEnds
 pub mod FileOrder
 pub mod FirstLine
 pub mod Gains

@@ -15,3 +15,5 @@ pub mod Files
 pub mod SourceFile
 pub mod SourceMap
 pub mod Columns
+pub mod SpanPlaces
+pub mod Locs

@@ -14,6 +14,7 @@ mod sink;
 mod source;
 mod source_file;
 mod source_map;
+mod source_mapper;
 
 pub use comments::{Comment, CommentKind, Comments, SingleThreadedComments};
 pub use file_name::FileName;
@@ -26,3 +27,4 @@ pub use sink::{MemSink, QuietSink, Sink, StdSink};
 pub use source::{Failed, MemSource, Source, StdSource};
 pub use source_file::SourceFile;
 pub use source_map::SourceMap;
+pub use source_mapper::{Loc, SourceMapper};

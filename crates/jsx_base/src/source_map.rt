@@ -1,11 +1,16 @@
 //! The files of a program, and their places.
 
-ghost use Rattle.std.specs.Prelude.{◌≡◌, ◌+◌, ◌<◌, ◌≤◌, ◌↔◌, ◌⊎◌, [], ◌∷◌, ◌++◌, map, length, string_bytes, Err, IfOk, IfErr, OnOk, OnErr, MatchOption};
+ghost use Rattle.std.specs.Prelude.{◌≡◌, ℕ, slice_index_or, ◌+◌, ◌<◌, ◌≤◌, ◌↔◌, ◌⊎◌, [], ◌∷◌, ◌++◌, map, length, string_bytes, Err, IfOk, IfErr, OnOk, OnErr, MatchOption};
 ghost use Rattle.std.specs.List.{All};
-ghost use Rattle.jsx_base.specs.Files.{InOrder, end_of};
+ghost use Rattle.jsx_base.specs.Files.{InOrder, end_of, file_at};
+ghost use Rattle.std.specs.Option.{option_map};
+ghost use Rattle.std.specs.declared.alloc.Global.{Global};
+ghost use Rattle.std.specs.declared.rc.Rc.{Rc};
+ghost use Rattle.jsx_base.specs.declared.source_file.SourceFile.{SourceFile};
 ghost use Rattle.jsx_base.specs.SourceFile.{shared_file, Fits};
 
-use crate::{BaseError, BytePos, FileName, Globals, SourceFile};
+use crate::source_mapper::loc_in;
+use crate::{BaseError, BytePos, FileName, Globals, Loc, SourceFile, SourceMapper, Span};
 use std::alloc::{AllocError, Global};
 use std::rc::Rc;
 
@@ -64,6 +69,13 @@ impl SourceMap {
         Ok(file)
     }
 
+    // The file of a place.
+    fn file_at(&self, pos: BytePos) -> Option<&Rc<SourceFile>>
+        ensures { option_map (λ it. shared_file it.now) result ≡ file_at (files_of self.now) pos.0 }
+    {
+        file_in(&self.files, pos.0)
+    }
+
     // Adds a file between two places.
     fn add(
         &mut self,
@@ -83,6 +95,69 @@ impl SourceMap {
         self.files.push(file.clone()?)?;
         Ok(file)
     }
+}
+
+impl SourceMapper for SourceMap {
+    ghost use Rattle.jsx_base.specs.FileName.{name_of};
+    ghost use Rattle.jsx_base.specs.SourceMap.{files_of};
+    ghost use Rattle.jsx_base.specs.Locs.{loc_data};
+
+    ghost files = { files_of };
+
+    ghost call_span = { λ _ sp. sp };
+
+    ghost offset_line = { λ _ line. line };
+
+    fn lookup_char_pos(&self, pos: BytePos) -> Option<Loc<'_>> {
+        match self.file_at(pos) {
+            Some(file) => Some(loc_in(file, pos)),
+            None => None,
+        }
+    }
+
+    fn span_to_filename(&self, alloc: Global, sp: Span) -> Result<FileName, AllocError> {
+        match self.file_at(sp.lo.min(sp.hi)) {
+            Some(file) => file.name.try_clone(alloc),
+            None => Ok(FileName::Anon),
+        }
+    }
+
+    fn call_span_if_macro(&self, sp: Span) -> Span {
+        sp
+    }
+
+    fn doctest_offset_line(&self, line: usize) -> usize {
+        line
+    }
+
+    ghost in_order = { λ it. it.in_order };
+}
+
+// The file of a place.
+fn file_in(files: &[Rc<SourceFile>], pos: u32) -> Option<&Rc<SourceFile>>
+    requires { InOrder (map shared_file files.now) }
+    ensures { option_map (λ it. shared_file it.now) result ≡ file_at (map shared_file files.now) pos }
+{
+    let begun = files_until(files, pos);
+    if begun == 0 {
+        return None;
+    }
+    let file = &files[begun - 1];
+    if pos <= file.end_pos.0 {
+        Some(file)
+    } else {
+        None
+    }
+}
+
+// How many files begin at a place or before it.
+fn files_until(files: &[Rc<SourceFile>], pos: u32) -> usize
+    requires { InOrder (map shared_file files.now) }
+    ensures bound { result ≤ length files.now }
+    ensures until { (k : ℕ) (d : Rc SourceFile Global) → k < result → (shared_file (slice_index_or files.now k d)).start ≤ pos }
+    ensures from { (k : ℕ) (d : Rc SourceFile Global) → result ≤ k → k < length files.now → pos < (shared_file (slice_index_or files.now k d)).start }
+{
+    files.partition_point(|file| file.start_pos.0 <= pos)
 }
 
 // The place behind a text of so many bytes, if that and one more place are left.

@@ -1,0 +1,8 @@
+-- What clients see of a place and of the lines of a span.
+use Rattle.std.specs.Prelude.{map}
+use Rattle.jsx_base.specs.declared.source_mapper.Loc.{Loc}
+use Rattle.jsx_base.specs.Files.{Place}
+use Rattle.jsx_base.specs.SourceFile.{shared_file}
+
+abbrev pub loc_data : Loc → Place
+loc_data it = record { file = shared_file it.file.now; line = it.line; col = it.col.0; col_display = it.col_display }

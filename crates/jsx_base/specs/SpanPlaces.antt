@@ -1,0 +1,66 @@
+-- Spans in the files of a source map.
+use Rattle.std.specs.Prelude.{◌≡◌, ℕ, ◌+◌, ◌-◌, ◌≤◌, List, [], Option, cond, ◌&&◌, nat_eq, min, max, drop, length, map, slice_get}
+use Rattle.std.specs.List.{find, range_with_len}
+use Rattle.std.specs.Option.{option_map, unwrap_or}
+use Rattle.jsx_base.specs.declared.place.Span.{Span}
+use Rattle.jsx_base.specs.FileName.{Name, AnonName}
+use Rattle.jsx_base.specs.Lines.{lines, size, line_of, col_of}
+use Rattle.jsx_base.specs.Files.{File, holds, file_at, front_at}
+
+-- the ends of a span, in order
+abbrev pub low : Span → ℕ
+low sp = min sp.lo.0 sp.hi.0
+
+abbrev pub high : Span → ℕ
+high sp = max sp.lo.0 sp.hi.0
+
+-- the file in which both ends are
+abbrev pub span_file : List File → Span → Option File
+span_file files sp = find (λ file. holds (low sp) file && holds (high sp) file) files
+
+-- the text of a span
+abbrev pub text_between : Span → File → List ℕ
+text_between sp file = drop (length (front_at file (low sp))) (front_at file (high sp))
+
+abbrev pub snippet : List File → Span → Option (List ℕ)
+snippet files sp = option_map (text_between sp) (span_file files sp)
+
+-- the name of the file of a span
+abbrev pub span_name : List File → Span → Name
+span_name files sp = unwrap_or (option_map (λ file. file.name) (file_at files (low sp))) AnonName
+
+-- where the character of a place begins
+abbrev pub begin_of : File → ℕ → ℕ
+begin_of file pos = file.start + size (front_at file pos)
+
+-- the first of two spans ends on the line on which the second begins, and not after it
+abbrev pub meet : File → Span → Span → Type 0
+meet file left right = (line_of (front_at file (high left)) ≡ line_of (front_at file (low right))) × (begin_of file (high left) ≤ begin_of file (low right))
+
+-- a line of a span: its number from 0, and its columns
+pub record LineData : Type 0 where
+  pub index : ℕ
+  pub start_col : ℕ
+  pub end_col : ℕ
+
+-- the line of this number, of a span between two fronts: from the first line's column, or 0, up to the last line's column, or the line's end
+abbrev pub line_between : File → List ℕ → List ℕ → ℕ → LineData
+line_between file before upto index = record {
+  index = index;
+  start_col = cond (nat_eq (index + 1) (line_of before)) (col_of before) 0;
+  end_col = cond (nat_eq (index + 1) (line_of upto)) (col_of upto) (length (unwrap_or (slice_get (lines file.text) index) []));
+}
+
+-- the lines of a span
+pub record LinesData : Type 0 where
+  pub file : File
+  pub lines : List LineData
+
+abbrev pub lines_between : File → List ℕ → List ℕ → List LineData
+lines_between file before upto = map (line_between file before upto) (range_with_len (line_of before - 1) (line_of upto - (line_of before - 1)))
+
+abbrev pub lines_in : Span → File → LinesData
+lines_in sp file = record { file = file; lines = lines_between file (front_at file (low sp)) (front_at file (high sp)) }
+
+abbrev pub span_lines : List File → Span → Option LinesData
+span_lines files sp = option_map (lines_in sp) (span_file files sp)

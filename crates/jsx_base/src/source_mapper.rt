@@ -1,0 +1,127 @@
+//! Which file, line and columns a place has.
+
+ghost use Rattle.std.specs.Prelude.{◌≡◌, ℕ, List, IfOk};
+ghost use Rattle.std.specs.Option.{option_map};
+ghost use Rattle.jsx_base.specs.declared.place.Span.{Span};
+ghost use Rattle.jsx_base.specs.FileName.{name_of};
+ghost use Rattle.jsx_base.specs.Files.{File, InOrder, place_at, place_in};
+ghost use Rattle.jsx_base.specs.SourceFile.{shared_file};
+ghost use Rattle.jsx_base.specs.Locs.{loc_data};
+ghost use Rattle.jsx_base.specs.SpanPlaces.{span_name};
+
+use crate::{BytePos, CharPos, FileName, SourceFile, Span};
+use std::alloc::{AllocError, Global};
+use std::rc::Rc;
+
+/// A place in a file.
+#[derive(Debug, Drop)]
+pub struct Loc<'m> {
+    pub file: &'m Rc<SourceFile>,
+    /// From 1.
+    pub line: usize,
+    /// From 0.
+    pub col: CharPos,
+    /// Display columns, from 0.
+    pub col_display: usize,
+}
+
+// A place in a file.
+pub(crate) fn loc_in(file: &Rc<SourceFile>, pos: BytePos) -> Loc<'_>
+    ensures { loc_data result ≡ place_in pos.0 (shared_file file.now) }
+{
+    let spot = file.spot(pos);
+    Loc {
+        file,
+        line: spot.line,
+        col: CharPos(spot.col),
+        col_display: spot.col_display,
+    }
+}
+
+/// Files, and what is at their places.
+pub trait SourceMapper {
+    /// The files, by rising places.
+    ghost files: { Self → List File };
+
+    /// The span that stands for one that a macro made.
+    ghost call_span: { Self → Span → Span };
+
+    /// The line that stands for one of a text in a documentation comment.
+    ghost offset_line: { Self → ℕ → ℕ };
+
+    /// The line and the columns of a place. `None` exactly outside all files. It takes time by the
+    /// logarithm of the files and of the file's lines, and by the bytes of the line.
+    fn lookup_char_pos(&self, pos: BytePos) -> Option<Loc<'_>>
+        ensures { option_map loc_data result ≡ place_at (files self.now) pos.0 };
+
+    /// The name of the file in which a span begins, or `Anon` outside all files.
+    ///
+    /// # Errors
+    ///
+    /// `AllocError` for want of memory.
+    fn span_to_filename(&self, alloc: Global, sp: Span) -> Result<FileName, AllocError>
+        ensures { IfOk result (λ name. name_of name ≡ span_name (files self.now) sp) };
+
+    /// The span that is shown in place of one that a macro made.
+    fn call_span_if_macro(&self, sp: Span) -> Span
+        ensures { result ≡ call_span self.now sp };
+
+    /// The number of a line that is shown.
+    fn doctest_offset_line(&self, line: usize) -> usize
+        ensures { result ≡ offset_line self.now line };
+
+    /// Each file begins after the end of the one before.
+    ghost in_order: { (it : Self) → InOrder (files it) };
+}
+
+impl<M: SourceMapper> SourceMapper for &M {
+    ghost files = { λ it. M.files it.now };
+
+    ghost call_span = { λ it. M.call_span it.now };
+
+    ghost offset_line = { λ it. M.offset_line it.now };
+
+    fn lookup_char_pos(&self, pos: BytePos) -> Option<Loc<'_>> {
+        (**self).lookup_char_pos(pos)
+    }
+
+    fn span_to_filename(&self, alloc: Global, sp: Span) -> Result<FileName, AllocError> {
+        (**self).span_to_filename(alloc, sp)
+    }
+
+    fn call_span_if_macro(&self, sp: Span) -> Span {
+        (**self).call_span_if_macro(sp)
+    }
+
+    fn doctest_offset_line(&self, line: usize) -> usize {
+        (**self).doctest_offset_line(line)
+    }
+
+    ghost in_order = { λ it. M.in_order it.now };
+}
+
+impl<M: SourceMapper> SourceMapper for Rc<M> {
+    ghost files = { λ it. M.files it.value };
+
+    ghost call_span = { λ it. M.call_span it.value };
+
+    ghost offset_line = { λ it. M.offset_line it.value };
+
+    fn lookup_char_pos(&self, pos: BytePos) -> Option<Loc<'_>> {
+        (**self).lookup_char_pos(pos)
+    }
+
+    fn span_to_filename(&self, alloc: Global, sp: Span) -> Result<FileName, AllocError> {
+        (**self).span_to_filename(alloc, sp)
+    }
+
+    fn call_span_if_macro(&self, sp: Span) -> Span {
+        (**self).call_span_if_macro(sp)
+    }
+
+    fn doctest_offset_line(&self, line: usize) -> usize {
+        (**self).doctest_offset_line(line)
+    }
+
+    ghost in_order = { λ it. M.in_order it.value };
+}
