@@ -1,6 +1,7 @@
 mod Lexing
 mod Literals
 pub mod Automata
+pub mod Between
 pub mod FileAt
 pub mod FileEnds
 pub mod FileOrder

@@ -1,6 +1,6 @@
 -- Spans in the files of a source map.
-use Rattle.std.specs.Prelude.{◌≡◌, ℕ, ◌+◌, ◌-◌, ◌≤◌, List, [], Option, cond, ◌&&◌, nat_eq, min, max, drop, length, map, slice_get}
-use Rattle.std.specs.List.{find, range_with_len}
+use Rattle.std.specs.Prelude.{◌≡◌, ℕ, ◌+◌, ◌-◌, ◌≤◌, List, [], Bool, Option, Some, None, cond, ◌&&◌, nat_eq, nat_le, min, max, drop, length, map, slice_get}
+use Rattle.std.specs.List.{range_with_len}
 use Rattle.std.specs.Option.{option_map, unwrap_or}
 use Rattle.jsx_base.specs.declared.place.Span.{Span}
 use Rattle.jsx_base.specs.FileName.{Name, AnonName}
@@ -14,9 +14,14 @@ low sp = min sp.lo.0 sp.hi.0
 abbrev pub high : Span → ℕ
 high sp = max sp.lo.0 sp.hi.0
 
+-- a file, where it has this place too
+abbrev pub also_with : ℕ → Option File → Option File
+also_with pos None = None
+also_with pos (Some file) = cond (holds pos file) (Some file) None
+
 -- the file in which both ends are
 abbrev pub span_file : List File → Span → Option File
-span_file files sp = find (λ file. holds (low sp) file && holds (high sp) file) files
+span_file files sp = also_with (high sp) (file_at files (low sp))
 
 -- the text of a span
 abbrev pub text_between : Span → File → List ℕ
@@ -33,9 +38,22 @@ span_name files sp = unwrap_or (option_map (λ file. file.name) (file_at files (
 abbrev pub begin_of : File → ℕ → ℕ
 begin_of file pos = file.start + size (front_at file pos)
 
--- the first of two spans ends on the line on which the second begins, and not after it
-abbrev pub meet : File → Span → Span → Type 0
-meet file left right = (line_of (front_at file (high left)) ≡ line_of (front_at file (low right))) × (begin_of file (high left) ≤ begin_of file (low right))
+-- whether the first of two spans ends on the line on which the second begins, and not after it
+abbrev pub meets : Span → Span → File → Bool
+meets left right file =
+    nat_eq (line_of (front_at file (high left))) (line_of (front_at file (low right)))
+    && nat_le (begin_of file (high left)) (begin_of file (low right))
+
+-- from the first span's begin to the second one's end, where they meet in a file
+abbrev pub merged_in : Span → Span → Option File → Option Span
+merged_in left right None = None
+merged_in left right (Some file) =
+    cond (holds (low right) file && (holds (high right) file && meets left right file))
+    (Some (record { lo = record { 0 = begin_of file (low left) }; hi = record { 0 = begin_of file (high right) } }))
+    None
+
+abbrev pub merged : List File → Span → Span → Option Span
+merged files left right = merged_in left right (span_file files left)
 
 -- a line of a span: its number from 0, and its columns
 pub record LineData : Type 0 where

@@ -1,6 +1,6 @@
 //! A file, and its lines.
 
-ghost use Rattle.std.specs.Prelude.{◌≡◌, ℕ, ◌+◌, ◌^◌, ◌<◌, ◌≤◌, ◌∷◌, nat_le, slice_index, [], length, slice_get, string_bytes, IfOk, MatchOption};
+ghost use Rattle.std.specs.Prelude.{◌≡◌, ℕ, ◌+◌, ◌^◌, ◌<◌, ◌≤◌, ◌∷◌, drop, nat_le, slice_index, [], length, slice_get, string_bytes, IfOk, MatchOption};
 ghost use Rattle.std.specs.Str.{chars};
 ghost use Rattle.std.specs.List.Sorted.{IsPartitionedBy};
 ghost use Rattle.std.specs.Option.{option_map};
@@ -23,13 +23,14 @@ pub struct SourceFile {
     // How many bytes stand before each line.
     line_starts: Vec<usize>,
     ghost end: { end_pos.0 ≡ start_pos.0 + length (string_bytes src) },
-    ghost short: { length (string_bytes src) < 2 ^ 32 },
+    ghost short: { end_pos.0 < 2 ^ 32 },
     ghost line_starts_are: { line_starts.items ≡ starts 0 (lines (chars (string_bytes src))) },
 }
 
 impl SourceFile {
     ghost use Rattle.jsx_base.specs.FileName.{name_of};
-    ghost use Rattle.jsx_base.specs.Files.{front_at};
+    ghost use Rattle.jsx_base.specs.Files.{front_at, holds};
+    ghost use Rattle.jsx_base.specs.SpanPlaces.{begin_of};
     ghost use Rattle.jsx_base.specs.SourceFile.{file_of, file_from};
 
     // The file of a text between two places.
@@ -73,7 +74,30 @@ impl SourceFile {
         }
     }
 
+    // Whether a place is in the file.
+    pub(crate) fn has(&self, pos: u32) -> bool
+        ensures { result ≡ holds pos (file_of self.now) }
+    {
+        self.start_pos.0 <= pos && pos <= self.end_pos.0
+    }
+
     // Where the character of a place begins.
+    pub(crate) fn begin_of(&self, pos: BytePos) -> BytePos
+        ensures { result.0 ≡ begin_of (file_of self.now) pos.0 }
+    {
+        BytePos(self.start_pos.0 + self.spot(pos).before as u32)
+    }
+
+    // The text between two places.
+    pub(crate) fn text_between(&self, low: BytePos, high: BytePos) -> &str
+        requires { low.0 ≤ high.0 }
+        ensures { chars result.now ≡ drop (length (front_at (file_of self.now) low.0)) (front_at (file_of self.now) high.0) }
+    {
+        let (front, _) = self.src.as_str().split_at(self.spot(high).before);
+        front.split_at(self.spot(low).before).1
+    }
+
+    // The line and the columns of a place.
     pub(crate) fn spot(&self, pos: BytePos) -> Spot
         ensures line { result.line ≡ line_of (front_at (file_of self.now) pos.0) }
         ensures col { result.col ≡ col_of (front_at (file_of self.now) pos.0) }

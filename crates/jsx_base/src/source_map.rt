@@ -9,8 +9,10 @@ ghost use Rattle.std.specs.declared.rc.Rc.{Rc};
 ghost use Rattle.jsx_base.specs.declared.source_file.SourceFile.{SourceFile};
 ghost use Rattle.jsx_base.specs.SourceFile.{shared_file, Fits};
 
-use crate::source_mapper::loc_in;
-use crate::{BaseError, BytePos, FileName, Globals, Loc, SourceFile, SourceMapper, Span};
+use crate::source_mapper::{loc_in, merge_in};
+use crate::{
+    BaseError, BytePos, FileName, Globals, LinesError, Loc, SourceFile, SourceMapper, Span,
+};
 use std::alloc::{AllocError, Global};
 use std::rc::Rc;
 
@@ -26,6 +28,7 @@ impl SourceMap {
     ghost use Rattle.jsx_base.specs.FileName.{name_of};
     ghost use Rattle.jsx_base.specs.SourceFile.{file_from};
     ghost use Rattle.jsx_base.specs.SourceMap.{files_of};
+    ghost use Rattle.jsx_base.specs.SpanPlaces.{span_file};
 
     /// No files. It takes no memory.
     pub fn new(alloc: Global) -> SourceMap
@@ -76,6 +79,23 @@ impl SourceMap {
         file_in(&self.files, pos.0)
     }
 
+    // The file in which both ends of a span are.
+    fn span_file(&self, sp: Span) -> Option<&Rc<SourceFile>>
+        ensures { option_map (λ it. shared_file it.now) result ≡ span_file (files_of self.now) sp }
+    {
+        let (low, high) = (sp.lo.0.min(sp.hi.0), sp.lo.0.max(sp.hi.0));
+        match self.file_at(BytePos(low)) {
+            Some(file) => {
+                if high <= file.end_pos.0 {
+                    Some(file)
+                } else {
+                    None
+                }
+            }
+            None => None,
+        }
+    }
+
     // Adds a file between two places.
     fn add(
         &mut self,
@@ -119,6 +139,26 @@ impl SourceMapper for SourceMap {
         match self.file_at(sp.lo.min(sp.hi)) {
             Some(file) => file.name.try_clone(alloc),
             None => Ok(FileName::Anon),
+        }
+    }
+
+    fn span_to_snippet(&self, alloc: Global, sp: Span) -> Result<String, LinesError> {
+        match self.span_file(sp) {
+            Some(file) => {
+                let text = file.text_between(sp.lo.min(sp.hi), sp.lo.max(sp.hi));
+                match String::from_str(alloc, text) {
+                    Ok(text) => Ok(text),
+                    Err(_) => Err(LinesError::Memory),
+                }
+            }
+            None => Err(LinesError::OtherFile),
+        }
+    }
+
+    fn merge_spans(&self, sp_lhs: Span, sp_rhs: Span) -> Option<Span> {
+        match self.span_file(sp_lhs) {
+            Some(file) => merge_in(file, sp_lhs, sp_rhs),
+            None => None,
         }
     }
 

@@ -1,17 +1,27 @@
 //! Which file, line and columns a place has.
 
-ghost use Rattle.std.specs.Prelude.{◌≡◌, ℕ, List, IfOk};
+ghost use Rattle.std.specs.Prelude.{◌≡◌, ℕ, List, Some, None, string_bytes, IfOk, IfErr};
 ghost use Rattle.std.specs.Option.{option_map};
+ghost use Rattle.std.specs.Str.{chars};
 ghost use Rattle.jsx_base.specs.declared.place.Span.{Span};
 ghost use Rattle.jsx_base.specs.FileName.{name_of};
 ghost use Rattle.jsx_base.specs.Files.{File, InOrder, place_at, place_in};
-ghost use Rattle.jsx_base.specs.SourceFile.{shared_file};
+ghost use Rattle.jsx_base.specs.SourceFile.{file_of, shared_file};
 ghost use Rattle.jsx_base.specs.Locs.{loc_data};
-ghost use Rattle.jsx_base.specs.SpanPlaces.{span_name};
+ghost use Rattle.jsx_base.specs.SpanPlaces.{low, high, span_name, snippet, merged, merged_in};
 
 use crate::{BytePos, CharPos, FileName, SourceFile, Span};
 use std::alloc::{AllocError, Global};
 use std::rc::Rc;
+
+/// Why the text or the lines of a span weren't given.
+#[derive(Clone, Copy, Debug, PartialEq, Eq)]
+pub enum LinesError {
+    /// The ends of the span aren't in one file.
+    OtherFile,
+    /// Want of memory.
+    Memory,
+}
 
 /// A place in a file.
 #[derive(Debug, Drop)]
@@ -38,6 +48,39 @@ pub(crate) fn loc_in(file: &Rc<SourceFile>, pos: BytePos) -> Loc<'_>
     }
 }
 
+// The ends of a span, in order.
+pub(crate) fn ends(sp: Span) -> (BytePos, BytePos)
+    ensures low { result.0.0 ≡ low sp }
+    ensures high { result.1.0 ≡ high sp }
+{
+    let (low, high) = (sp.lo.0.min(sp.hi.0), sp.lo.0.max(sp.hi.0));
+    (BytePos(low), BytePos(high))
+}
+
+// From the first span's begin to the second one's end, where they meet in this file.
+pub(crate) fn merge_in(file: &SourceFile, left: Span, right: Span) -> Option<Span>
+    ensures { result ≡ merged_in left right (Some (file_of file.now)) }
+{
+    let (low, end) = ends(left);
+    let (begin, high) = ends(right);
+    if !file.has(begin.0) {
+        return None;
+    }
+    if !file.has(high.0) {
+        return None;
+    }
+    if file.spot(end).line != file.spot(begin).line {
+        return None;
+    }
+    if file.begin_of(end).0 > file.begin_of(begin).0 {
+        return None;
+    }
+    Some(Span {
+        lo: file.begin_of(low),
+        hi: file.begin_of(high),
+    })
+}
+
 /// Files, and what is at their places.
 pub trait SourceMapper {
     /// The files, by rising places.
@@ -61,6 +104,21 @@ pub trait SourceMapper {
     /// `AllocError` for want of memory.
     fn span_to_filename(&self, alloc: Global, sp: Span) -> Result<FileName, AllocError>
         ensures { IfOk result (λ name. name_of name ≡ span_name (files self.now) sp) };
+
+    /// The text of a span.
+    ///
+    /// # Errors
+    ///
+    /// `OtherFile` exactly where the ends of the span aren't in one file, and `Memory` for want of
+    /// memory.
+    fn span_to_snippet(&self, alloc: Global, sp: Span) -> Result<String, LinesError>
+        ensures text { IfOk result (λ text. Some (chars (string_bytes text)) ≡ snippet (files self.now) sp) }
+        ensures other_file { IfErr result (λ error. error ≡ LinesError.OtherFile → snippet (files self.now) sp ≡ None) };
+
+    /// From the first span's begin to the second one's end. `None` exactly where they aren't in one
+    /// file, or the first doesn't end on the line on which the second begins, or ends after it.
+    fn merge_spans(&self, sp_lhs: Span, sp_rhs: Span) -> Option<Span>
+        ensures { result ≡ merged (files self.now) sp_lhs sp_rhs };
 
     /// The span that is shown in place of one that a macro made.
     fn call_span_if_macro(&self, sp: Span) -> Span
@@ -89,6 +147,14 @@ impl<M: SourceMapper> SourceMapper for &M {
         (**self).span_to_filename(alloc, sp)
     }
 
+    fn span_to_snippet(&self, alloc: Global, sp: Span) -> Result<String, LinesError> {
+        (**self).span_to_snippet(alloc, sp)
+    }
+
+    fn merge_spans(&self, sp_lhs: Span, sp_rhs: Span) -> Option<Span> {
+        (**self).merge_spans(sp_lhs, sp_rhs)
+    }
+
     fn call_span_if_macro(&self, sp: Span) -> Span {
         (**self).call_span_if_macro(sp)
     }
@@ -113,6 +179,14 @@ impl<M: SourceMapper> SourceMapper for Rc<M> {
 
     fn span_to_filename(&self, alloc: Global, sp: Span) -> Result<FileName, AllocError> {
         (**self).span_to_filename(alloc, sp)
+    }
+
+    fn span_to_snippet(&self, alloc: Global, sp: Span) -> Result<String, LinesError> {
+        (**self).span_to_snippet(alloc, sp)
+    }
+
+    fn merge_spans(&self, sp_lhs: Span, sp_rhs: Span) -> Option<Span> {
+        (**self).merge_spans(sp_lhs, sp_rhs)
     }
 
     fn call_span_if_macro(&self, sp: Span) -> Span {
