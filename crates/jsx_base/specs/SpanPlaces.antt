@@ -1,9 +1,9 @@
 -- Spans in the files of a source map.
-use Rattle.std.specs.Prelude.{◌≡◌, ℕ, ◌+◌, ◌-◌, ◌≤◌, List, [], Bool, Option, Some, None, cond, ◌&&◌, nat_eq, nat_le, min, max, drop, length, map, slice_get}
+use Rattle.std.specs.Prelude.{ℕ, ◌+◌, ◌-◌, List, ◌++◌, codes, decimal, [], Bool, Option, Some, None, cond, ◌&&◌, nat_eq, nat_le, min, max, drop, length, map, slice_get}
 use Rattle.std.specs.List.{range_with_len}
 use Rattle.std.specs.Option.{option_map, unwrap_or}
 use Rattle.jsx_base.specs.declared.place.Span.{Span}
-use Rattle.jsx_base.specs.FileName.{Name, AnonName}
+use Rattle.jsx_base.specs.FileName.{Name, RealName, InternalName, CustomName, AnonName}
 use Rattle.jsx_base.specs.Lines.{lines, size, line_of, col_of}
 use Rattle.jsx_base.specs.Files.{File, holds, file_at, front_at}
 
@@ -82,3 +82,25 @@ lines_in sp file = record { file = file; lines = lines_between file (front_at fi
 
 abbrev pub span_lines : List File → Span → Option LinesData
 span_lines files sp = option_map (lines_in sp) (span_file files sp)
+
+-- what is printed for a name
+abbrev pub shown : Name → List ℕ
+shown (RealName text) = text
+shown (InternalName text) = codes "<" ++ text ++ codes ">"
+shown (CustomName text) = codes "<" ++ text ++ codes ">"
+shown AnonName = codes "<anon>"
+
+-- `line:col`, the column from 1
+abbrev pub shown_place : ℕ → File → List ℕ
+shown_place pos file = decimal (line_of (front_at file pos)) ++ codes ":" ++ decimal (col_of (front_at file pos) + 1)
+
+-- `name:line:col: line:col`
+abbrev pub shown_places : Span → File → File → List ℕ
+shown_places sp first last = shown first.name ++ codes ":" ++ shown_place (low sp) first ++ codes ": " ++ shown_place (high sp) last
+
+abbrev pub shown_ends : Span → Option File → Option File → List ℕ
+shown_ends sp (Some first) (Some last) = shown_places sp first last
+shown_ends sp first last = codes "no-location"
+
+abbrev pub shown_span : List File → Span → List ℕ
+shown_span files sp = shown_ends sp (file_at files (low sp)) (file_at files (high sp))

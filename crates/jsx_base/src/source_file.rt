@@ -103,6 +103,7 @@ impl SourceFile {
         ensures col { result.col ≡ col_of (front_at (file_of self.now) pos.0) }
         ensures col_display { result.col_display ≡ display_col_of (front_at (file_of self.now) pos.0) }
         ensures before { result.before ≡ size (front_at (file_of self.now) pos.0) }
+        ensures few { result.col ≤ pos.0 }
     {
         let place = pos.0.saturating_sub(self.start_pos.0) as usize;
         spot_in(self.src.as_str(), &self.line_starts, place)
@@ -126,6 +127,7 @@ fn spot_in(text: &str, line_starts: &[usize], place: usize) -> Spot
     ensures col { result.col ≡ col_of (front (chars text.now) place) }
     ensures col_display { result.col_display ≡ display_col_of (front (chars text.now) place) }
     ensures before { result.before ≡ size (front (chars text.now) place) }
+    ensures few { result.col ≤ place }
 {
     let line = lines_until(line_starts, place);
     let start = line_starts[line - 1];

@@ -9,7 +9,7 @@ ghost use Rattle.std.specs.declared.rc.Rc.{Rc};
 ghost use Rattle.jsx_base.specs.declared.source_file.SourceFile.{SourceFile};
 ghost use Rattle.jsx_base.specs.SourceFile.{shared_file, Fits};
 
-use crate::source_mapper::{loc_in, merge_in};
+use crate::source_mapper::{ends, loc_in, merge_in, show_places};
 use crate::{
     BaseError, BytePos, FileName, Globals, LinesError, Loc, SourceFile, SourceMapper, Span,
 };
@@ -140,6 +140,17 @@ impl SourceMapper for SourceMap {
             Some(file) => file.name.try_clone(alloc),
             None => Ok(FileName::Anon),
         }
+    }
+
+    fn span_to_string(&self, alloc: Global, sp: Span) -> Result<String, AllocError> {
+        let (low, high) = ends(sp);
+        let Some(first) = self.file_at(low) else {
+            return String::from_str(alloc, "no-location");
+        };
+        let Some(last) = self.file_at(high) else {
+            return String::from_str(alloc, "no-location");
+        };
+        show_places(alloc, sp, first, last)
     }
 
     fn span_to_snippet(&self, alloc: Global, sp: Span) -> Result<String, LinesError> {

@@ -1,14 +1,14 @@
 //! Which file, line and columns a place has.
 
-ghost use Rattle.std.specs.Prelude.{◌≡◌, ℕ, List, Some, None, string_bytes, IfOk, IfErr};
+ghost use Rattle.std.specs.Prelude.{◌≡◌, ℕ, List, Some, None, string_bytes, codes, decimal, ◌++◌, IfOk, IfErr};
 ghost use Rattle.std.specs.Option.{option_map};
 ghost use Rattle.std.specs.Str.{chars};
 ghost use Rattle.jsx_base.specs.declared.place.Span.{Span};
-ghost use Rattle.jsx_base.specs.FileName.{name_of};
+ghost use Rattle.jsx_base.specs.FileName.{name_of, shown_name};
 ghost use Rattle.jsx_base.specs.Files.{File, InOrder, place_at, place_in};
 ghost use Rattle.jsx_base.specs.SourceFile.{file_of, shared_file};
 ghost use Rattle.jsx_base.specs.Locs.{loc_data};
-ghost use Rattle.jsx_base.specs.SpanPlaces.{low, high, span_name, snippet, merged, merged_in};
+ghost use Rattle.jsx_base.specs.SpanPlaces.{low, high, span_name, snippet, merged, merged_in, shown_span, shown_places};
 
 use crate::{BytePos, CharPos, FileName, SourceFile, Span};
 use std::alloc::{AllocError, Global};
@@ -81,6 +81,36 @@ pub(crate) fn merge_in(file: &SourceFile, left: Span, right: Span) -> Option<Spa
     })
 }
 
+// `name:line:col: line:col` of the ends of a span, of which each is in its file.
+pub(crate) fn show_places(
+    alloc: Global,
+    sp: Span,
+    first: &SourceFile,
+    last: &SourceFile,
+) -> Result<String, AllocError>
+    ensures { IfOk result (λ text. string_bytes text ≡ shown_places sp (file_of first.now) (file_of last.now)) }
+{
+    let (low, high) = ends(sp);
+    let (begin, end) = (first.spot(low), last.spot(high));
+    let begin = (begin.line, begin.col + 1);
+    let end = (end.line, end.col + 1);
+    Ok(show_numbers(alloc, &first.name, begin, end)?)
+}
+
+// A name, and two lines with a column each.
+fn show_numbers(
+    alloc: Global,
+    name: &FileName,
+    begin: (usize, usize),
+    end: (usize, usize),
+) -> Result<String, AllocError>
+    ensures { IfOk result (λ text. string_bytes text
+        ≡ shown_name name.now ++ (codes ":" ++ (decimal begin.0 ++ (codes ":" ++ (decimal begin.1
+        ++ (codes ": " ++ (decimal end.0 ++ (codes ":" ++ decimal end.1)))))))) }
+{
+    format!(in alloc; "{name}:{}:{}: {}:{}", begin.0, begin.1, end.0, end.1)
+}
+
 /// Files, and what is at their places.
 pub trait SourceMapper {
     /// The files, by rising places.
@@ -104,6 +134,15 @@ pub trait SourceMapper {
     /// `AllocError` for want of memory.
     fn span_to_filename(&self, alloc: Global, sp: Span) -> Result<FileName, AllocError>
         ensures { IfOk result (λ name. name_of name ≡ span_name (files self.now) sp) };
+
+    /// `name:line:col: line:col` of the ends of a span, with columns from 1. `no-location` where an
+    /// end is outside all files.
+    ///
+    /// # Errors
+    ///
+    /// `AllocError` for want of memory.
+    fn span_to_string(&self, alloc: Global, sp: Span) -> Result<String, AllocError>
+        ensures { IfOk result (λ text. string_bytes text ≡ shown_span (files self.now) sp) };
 
     /// The text of a span.
     ///
@@ -147,6 +186,10 @@ impl<M: SourceMapper> SourceMapper for &M {
         (**self).span_to_filename(alloc, sp)
     }
 
+    fn span_to_string(&self, alloc: Global, sp: Span) -> Result<String, AllocError> {
+        (**self).span_to_string(alloc, sp)
+    }
+
     fn span_to_snippet(&self, alloc: Global, sp: Span) -> Result<String, LinesError> {
         (**self).span_to_snippet(alloc, sp)
     }
@@ -179,6 +222,10 @@ impl<M: SourceMapper> SourceMapper for Rc<M> {
 
     fn span_to_filename(&self, alloc: Global, sp: Span) -> Result<FileName, AllocError> {
         (**self).span_to_filename(alloc, sp)
+    }
+
+    fn span_to_string(&self, alloc: Global, sp: Span) -> Result<String, AllocError> {
+        (**self).span_to_string(alloc, sp)
     }
 
     fn span_to_snippet(&self, alloc: Global, sp: Span) -> Result<String, LinesError> {

@@ -1,6 +1,7 @@
 use Rattle.std.proofs.Common.{◌-◌, ◌+◌, length, get_or, ap, sym, ◌∙◌, arith}
 use Rattle.std.specs.Str.{chars}
 use Rattle.std.specs.List.{sum_by}
+use Rattle.std.proofs.lemmas.Str.{length-le-encodes}
 use Rattle.jsx_base.specs.Lines.{lines, front, size, columns_of}
 use Rattle.jsx_base.proofs.LineAt.{starts_partitioned}
 use Rattle.jsx_base.proofs.SpotAt.{SpotAt, spot_at, size_front}
@@ -56,3 +57,10 @@ returns-clause-before c =
     let s = get_or c.args.line_starts.now (c.lines_until-line.result - 1) 0 in
     ap (λ n. s + n) (c.walk-walked.ensures.bytes ∙ ap (λ bs. size (front (chars bs) (c.args.place - s))) c.split_at.ensures.back)
     ∙ sym (at (goal.at.returns-clause-before c).After-lines_until-line).before
+
+pub returns-clause-few : goal.returns-clause-few
+returns-clause-few c =
+    let s = get_or c.args.line_starts.now (c.lines_until-line.result - 1) 0 in
+    let few = size_front (chars c.split_at.result.1.now) (c.args.place - s) in
+    let less = length-le-encodes (front (chars c.split_at.result.1.now) (c.args.place - s)) in
+    omega (arith, few, less, c.walk-walked.ensures.chars)
