@@ -9,6 +9,7 @@ pub mod FirstLine
 pub mod Gains
 pub mod LineAt
 pub mod LineParts
+pub mod Ranges
 pub mod Remarks
 pub mod Spans
 pub mod SpotAt

@@ -61,24 +61,29 @@ pub record LineData : Type 0 where
   pub start_col : ℕ
   pub end_col : ℕ
 
--- the line of this number, of a span between two fronts: from the first line's column, or 0, up to the last line's column, or the line's end
-abbrev pub line_between : File → List ℕ → List ℕ → ℕ → LineData
-line_between file before upto index = record {
+-- the line of this number: from the first line's column, or 0, up to the last line's column, or the line's end
+abbrev pub line_between : File → ℕ × ℕ → ℕ × ℕ → ℕ → LineData
+line_between file first last index = record {
   index = index;
-  start_col = cond (nat_eq (index + 1) (line_of before)) (col_of before) 0;
-  end_col = cond (nat_eq (index + 1) (line_of upto)) (col_of upto) (length (unwrap_or (slice_get (lines file.text) index) []));
+  start_col = cond (nat_eq (index + 1) first.0) first.1 0;
+  end_col = cond (nat_eq (index + 1) last.0) last.1 (length (unwrap_or (slice_get (lines file.text) index) []));
 }
+
+-- the lines from one line and column to another
+abbrev pub lines_between : File → ℕ × ℕ → ℕ × ℕ → List LineData
+lines_between file first last = map (line_between file first last) (range_with_len (first.0 - 1) (last.0 - (first.0 - 1)))
 
 -- the lines of a span
 pub record LinesData : Type 0 where
   pub file : File
   pub lines : List LineData
 
-abbrev pub lines_between : File → List ℕ → List ℕ → List LineData
-lines_between file before upto = map (line_between file before upto) (range_with_len (line_of before - 1) (line_of upto - (line_of before - 1)))
+-- the line and the column that a front ends in
+abbrev pub line_col : List ℕ → ℕ × ℕ
+line_col before = (line_of before, col_of before)
 
 abbrev pub lines_in : Span → File → LinesData
-lines_in sp file = record { file = file; lines = lines_between file (front_at file (low sp)) (front_at file (high sp)) }
+lines_in sp file = record { file = file; lines = lines_between file (line_col (front_at file (low sp))) (line_col (front_at file (high sp))) }
 
 abbrev pub span_lines : List File → Span → Option LinesData
 span_lines files sp = option_map (lines_in sp) (span_file files sp)

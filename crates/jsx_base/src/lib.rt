@@ -27,4 +27,4 @@ pub use sink::{MemSink, QuietSink, Sink, StdSink};
 pub use source::{Failed, MemSource, Source, StdSource};
 pub use source_file::SourceFile;
 pub use source_map::SourceMap;
-pub use source_mapper::{LinesError, Loc, SourceMapper};
+pub use source_mapper::{FileLines, LineInfo, LinesError, Loc, SourceMapper};

@@ -3,7 +3,7 @@
 ghost use Rattle.std.specs.Prelude.{◌≡◌, ℕ, ◌+◌, ◌^◌, ◌<◌, ◌≤◌, ◌∷◌, drop, nat_le, slice_index, [], length, slice_get, string_bytes, IfOk, MatchOption};
 ghost use Rattle.std.specs.Str.{chars};
 ghost use Rattle.std.specs.List.Sorted.{IsPartitionedBy};
-ghost use Rattle.std.specs.Option.{option_map};
+ghost use Rattle.std.specs.Option.{option_map, unwrap_or};
 ghost use Rattle.jsx_base.specs.Lines.{lines, front, size, line_of, col_of, display_col_of};
 ghost use Rattle.jsx_base.specs.LineStarts.{Split, starts};
 
@@ -74,6 +74,16 @@ impl SourceFile {
         }
     }
 
+    // How many characters a line has, or 0 where there is none.
+    pub(crate) fn line_len(&self, index: usize) -> usize
+        ensures { result ≡ length (unwrap_or (slice_get (lines (file_of self.now).text) index) []) }
+    {
+        match self.get_line(index) {
+            Some(line) => char_count(line),
+            None => 0,
+        }
+    }
+
     // Whether a place is in the file.
     pub(crate) fn has(&self, pos: u32) -> bool
         ensures { result ≡ holds pos (file_of self.now) }
@@ -117,6 +127,13 @@ pub(crate) struct Spot {
     pub col: usize,
     pub col_display: usize,
     pub before: usize,
+}
+
+// How many characters a text has.
+fn char_count(text: &str) -> usize
+    ensures { result ≡ length (chars text.now) }
+{
+    text.chars().count()
 }
 
 // Where the character behind so many bytes of a text begins.

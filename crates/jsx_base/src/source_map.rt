@@ -9,9 +9,10 @@ ghost use Rattle.std.specs.declared.rc.Rc.{Rc};
 ghost use Rattle.jsx_base.specs.declared.source_file.SourceFile.{SourceFile};
 ghost use Rattle.jsx_base.specs.SourceFile.{shared_file, Fits};
 
-use crate::source_mapper::{ends, loc_in, merge_in, show_places};
+use crate::source_mapper::{ends, lines_in, loc_in, merge_in, show_places};
 use crate::{
-    BaseError, BytePos, FileName, Globals, LinesError, Loc, SourceFile, SourceMapper, Span,
+    BaseError, BytePos, FileLines, FileName, Globals, LinesError, Loc, SourceFile, SourceMapper,
+    Span,
 };
 use std::alloc::{AllocError, Global};
 use std::rc::Rc;
@@ -139,6 +140,18 @@ impl SourceMapper for SourceMap {
         match self.file_at(sp.lo.min(sp.hi)) {
             Some(file) => file.name.try_clone(alloc),
             None => Ok(FileName::Anon),
+        }
+    }
+
+    fn span_to_lines(&self, alloc: Global, sp: Span) -> Result<FileLines, LinesError> {
+        match self.span_file(sp) {
+            Some(file) => {
+                match lines_in(alloc, file, sp) {
+                    Ok(lines) => Ok(lines),
+                    Err(_) => Err(LinesError::Memory),
+                }
+            }
+            None => Err(LinesError::OtherFile),
         }
     }
 

@@ -1,18 +1,36 @@
 //! Which file, line and columns a place has.
 
-ghost use Rattle.std.specs.Prelude.{◌≡◌, ℕ, List, Some, None, string_bytes, codes, decimal, ◌++◌, IfOk, IfErr};
+ghost use Rattle.std.specs.Prelude.{◌≡◌, ℕ, ◌<◌, List, map, Some, None, string_bytes, codes, decimal, ◌++◌, IfOk, IfErr};
 ghost use Rattle.std.specs.Option.{option_map};
 ghost use Rattle.std.specs.Str.{chars};
 ghost use Rattle.jsx_base.specs.declared.place.Span.{Span};
 ghost use Rattle.jsx_base.specs.FileName.{name_of, shown_name};
 ghost use Rattle.jsx_base.specs.Files.{File, InOrder, place_at, place_in};
 ghost use Rattle.jsx_base.specs.SourceFile.{file_of, shared_file};
-ghost use Rattle.jsx_base.specs.Locs.{loc_data};
-ghost use Rattle.jsx_base.specs.SpanPlaces.{low, high, span_name, snippet, merged, merged_in, shown_span, shown_places};
+ghost use Rattle.jsx_base.specs.Locs.{loc_data, line_data, lines_data};
+ghost use Rattle.jsx_base.specs.SpanPlaces.{low, high, span_name, snippet, merged, merged_in, shown_span, shown_places, span_lines, lines_in, lines_between, line_between};
 
 use crate::{BytePos, CharPos, FileName, SourceFile, Span};
 use std::alloc::{AllocError, Global};
 use std::rc::Rc;
+
+/// A line of a span.
+#[derive(Clone, Copy, Debug, PartialEq, Eq)]
+pub struct LineInfo {
+    /// From 0.
+    pub line_index: usize,
+    /// Where the span begins in the line.
+    pub start_col: CharPos,
+    /// Where it ends there.
+    pub end_col: CharPos,
+}
+
+/// The lines of a span.
+#[derive(Debug, Drop)]
+pub struct FileLines {
+    pub file: Rc<SourceFile>,
+    pub lines: Vec<LineInfo>,
+}
 
 /// Why the text or the lines of a span weren't given.
 #[derive(Clone, Copy, Debug, PartialEq, Eq)]
@@ -81,6 +99,63 @@ pub(crate) fn merge_in(file: &SourceFile, left: Span, right: Span) -> Option<Spa
     })
 }
 
+// The lines of a span in a file.
+pub(crate) fn lines_in(
+    alloc: Global,
+    file: &Rc<SourceFile>,
+    sp: Span,
+) -> Result<FileLines, AllocError>
+    ensures { IfOk result (λ it. lines_data it ≡ lines_in sp (shared_file file.now)) }
+{
+    let (low, high) = ends(sp);
+    let (begin, end) = (file.spot(low), file.spot(high));
+    let lines = lines_between(alloc, file, (begin.line, begin.col), (end.line, end.col))?;
+    Ok(FileLines {
+        file: file.clone()?,
+        lines,
+    })
+}
+
+// The lines from one line and column to another.
+fn lines_between(
+    alloc: Global,
+    file: &SourceFile,
+    first: (usize, usize),
+    last: (usize, usize),
+) -> Result<Vec<LineInfo>, AllocError>
+    ensures { IfOk result (λ it. map line_data it.items ≡ lines_between (file_of file.now) first last) }
+{
+    let begin = first.0.saturating_sub(1);
+    let mut lines = Vec::new(alloc);
+    for index in begin..last.0 {
+        lines.push(line_between(file, first, last, index))?;
+    }
+    Ok(lines)
+}
+
+// One of these lines.
+fn line_between(
+    file: &SourceFile,
+    first: (usize, usize),
+    last: (usize, usize),
+    index: usize,
+) -> LineInfo
+    requires { index < last.0 }
+    ensures { line_data result ≡ line_between (file_of file.now) first last index }
+{
+    let start_col = if index + 1 == first.0 { first.1 } else { 0 };
+    let end_col = if index + 1 == last.0 {
+        last.1
+    } else {
+        file.line_len(index)
+    };
+    LineInfo {
+        line_index: index,
+        start_col: CharPos(start_col),
+        end_col: CharPos(end_col),
+    }
+}
+
 // `name:line:col: line:col` of the ends of a span, of which each is in its file.
 pub(crate) fn show_places(
     alloc: Global,
@@ -144,6 +219,16 @@ pub trait SourceMapper {
     fn span_to_string(&self, alloc: Global, sp: Span) -> Result<String, AllocError>
         ensures { IfOk result (λ text. string_bytes text ≡ shown_span (files self.now) sp) };
 
+    /// The lines of a span, each with the columns between which it is in the span.
+    ///
+    /// # Errors
+    ///
+    /// `OtherFile` exactly where the ends of the span aren't in one file, and `Memory` for want of
+    /// memory.
+    fn span_to_lines(&self, alloc: Global, sp: Span) -> Result<FileLines, LinesError>
+        ensures lines { IfOk result (λ it. Some (lines_data it) ≡ span_lines (files self.now) sp) }
+        ensures other_file { IfErr result (λ error. error ≡ LinesError.OtherFile → span_lines (files self.now) sp ≡ None) };
+
     /// The text of a span.
     ///
     /// # Errors
@@ -186,6 +271,10 @@ impl<M: SourceMapper> SourceMapper for &M {
         (**self).span_to_filename(alloc, sp)
     }
 
+    fn span_to_lines(&self, alloc: Global, sp: Span) -> Result<FileLines, LinesError> {
+        (**self).span_to_lines(alloc, sp)
+    }
+
     fn span_to_string(&self, alloc: Global, sp: Span) -> Result<String, AllocError> {
         (**self).span_to_string(alloc, sp)
     }
@@ -222,6 +311,10 @@ impl<M: SourceMapper> SourceMapper for Rc<M> {
 
     fn span_to_filename(&self, alloc: Global, sp: Span) -> Result<FileName, AllocError> {
         (**self).span_to_filename(alloc, sp)
+    }
+
+    fn span_to_lines(&self, alloc: Global, sp: Span) -> Result<FileLines, LinesError> {
+        (**self).span_to_lines(alloc, sp)
     }
 
     fn span_to_string(&self, alloc: Global, sp: Span) -> Result<String, AllocError> {
