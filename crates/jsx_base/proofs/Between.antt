@@ -1,5 +1,5 @@
 -- The text between two places.
-use Rattle.std.proofs.Common.{◌≡◌, ⊎_elim, ℕ, ◌+◌, ◌-◌, ◌<◌, ◌≤◌, List, [], ◌∷◌, ◌++◌, length, take, drop, refl, ap, sym, ◌∙◌, subst, arith}
+use Rattle.std.proofs.Common.{◌≡◌, ⊎_elim, ℕ, ◌-◌, ◌≤◌, List, [], ◌∷◌, ◌++◌, length, take, drop, refl, ap, sym, ◌∙◌, subst, arith}
 use Rattle.std.specs.Str.{IsUtf8, IsCharBoundary, chars, encode_utf8_all}
 use Rattle.std.specs.Char.{len_utf8}
 use Rattle.std.proofs.Math.Seq.{drop-append_seam, take-append_seam}

@@ -1,5 +1,6 @@
 mod Lexing
 mod Literals
+mod PlaceExamples
 pub mod Automata
 pub mod Between
 pub mod FileAt

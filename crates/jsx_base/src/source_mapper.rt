@@ -339,3 +339,120 @@ impl<M: SourceMapper> SourceMapper for Rc<M> {
 
     ghost in_order = { λ it. M.in_order it.value };
 }
+
+#[cfg(test)]
+mod tests {
+    use super::*;
+    use crate::{Globals, SourceMap};
+    use std::process::Abort;
+    use std::test::Fail;
+
+    // `<a>` has the places from 1 to 6, and `<b>` those from 7 to 10.
+    fn two_files(alloc: Global) -> Result<SourceMap, Fail> {
+        let mut map = SourceMap::new(alloc);
+        let mut globals = Globals::new();
+        for (name, text) in [("a", "ab\ncd"), ("b", "\u{e9}x")] {
+            let name = FileName::Custom(String::from_str(alloc, name)?);
+            map.new_source_file(&mut globals, name, String::from_str(alloc, text)?)?;
+        }
+        Ok(map)
+    }
+
+    fn span(lo: u32, hi: u32) -> Span {
+        Span {
+            lo: BytePos(lo),
+            hi: BytePos(hi),
+        }
+    }
+
+    fn assert_shown<M: SourceMapper>(
+        rt: &impl Abort,
+        alloc: Global,
+        map: &M,
+        (lo, hi): (u32, u32),
+        want: &str,
+    ) -> Result<(), Fail> {
+        let shown = map.span_to_string(alloc, span(lo, hi))?;
+        assert_eq!(rt; shown.as_str(), want);
+        Ok(())
+    }
+
+    #[test]
+    fn spans_are_shown_with_lines_and_columns(rt: HostRuntime) -> Result<(), Fail> {
+        let map = two_files(rt.alloc())?;
+        assert_shown(&rt, rt.alloc(), &map, (1, 3), "<a>:1:1: 1:3")?;
+        assert_shown(&rt, rt.alloc(), &&map, (6, 2), "<a>:1:2: 2:3")?;
+        assert_shown(&rt, rt.alloc(), &map, (5, 8), "<a>:2:2: 1:1")?;
+        assert_shown(
+            &rt,
+            rt.alloc(),
+            &Rc::new(rt.alloc(), map)?,
+            (0, 3),
+            "no-location",
+        )?;
+        Ok(())
+    }
+
+    #[test]
+    fn snippets_lie_in_one_file(rt: HostRuntime) -> Result<(), Fail> {
+        let map = two_files(rt.alloc())?;
+        for (lo, hi, want) in [(2, 5, Some("b\nc")), (8, 10, Some("\u{e9}x")), (6, 7, None)] {
+            let snippet = map.span_to_snippet(rt.alloc(), span(lo, hi));
+            match (snippet, want) {
+                (Ok(text), Some(want)) => assert_eq!(rt; text.as_str(), want),
+                (got, want) => assert_eq!(rt; got.is_err(), want.is_none()),
+            }
+        }
+        Ok(())
+    }
+
+    #[test]
+    fn lines_of_a_span_have_columns(rt: HostRuntime) -> Result<(), Fail> {
+        let map = two_files(rt.alloc())?;
+        let Ok(found) = map.span_to_lines(rt.alloc(), span(2, 5)) else {
+            return Err(Fail::from(AllocError));
+        };
+        let want = [(0, 1, 2), (1, 0, 1)];
+        assert_eq!(rt; found.lines.len(), want.len());
+        for (line, want) in found.lines.iter().zip(want) {
+            assert_eq!(rt; (line.line_index, line.start_col.0, line.end_col.0), want);
+        }
+        assert!(rt; map.span_to_lines(rt.alloc(), span(6, 7)).is_err());
+        Ok(())
+    }
+
+    #[test]
+    fn spans_of_one_line_merge(rt: HostRuntime) -> Result<(), Fail> {
+        let map = two_files(rt.alloc())?;
+        for (left, right, want) in [
+            (span(1, 2), span(2, 5), Some(span(1, 5))),
+            (span(1, 3), span(4, 5), None),
+            (span(2, 3), span(2, 3), None),
+            (span(4, 6), span(7, 8), None),
+            (span(7, 8), span(9, 10), Some(span(7, 10))),
+        ] {
+            assert_eq!(rt; map.merge_spans(left, right), want);
+        }
+        Ok(())
+    }
+
+    #[test]
+    fn a_place_has_a_file(rt: HostRuntime) -> Result<(), Fail> {
+        let map = two_files(rt.alloc())?;
+        for (pos, want) in [
+            (0, "<anon>"),
+            (6, "<a>"),
+            (7, "<b>"),
+            (10, "<b>"),
+            (11, "<anon>"),
+        ] {
+            let name = map.span_to_filename(rt.alloc(), span(pos, pos))?;
+            assert_eq!(rt; name.to_string(rt.alloc())?.as_str(), want);
+            let found = map.lookup_char_pos(BytePos(pos)).is_some();
+            assert_eq!(rt; found, want != "<anon>");
+        }
+        assert_eq!(rt; map.call_span_if_macro(span(1, 2)), span(1, 2));
+        assert_eq!(rt; map.doctest_offset_line(7), 7);
+        Ok(())
+    }
+}

@@ -1,4 +1,4 @@
-use Rattle.std.proofs.Common.{◌≡◌, ◌<◌, ◌≤◌, sym, ap, subst, arith}
+use Rattle.std.proofs.Common.{◌<◌, ◌≤◌, sym, subst, arith}
 use Rattle.jsx_base.specs.SourceFile.{shared_file}
 use Rattle.jsx_base.proofs.FileAt.{find_no_file}
 use Rattle.jsx_base.proofs.FileEnds.{file_found, file_missed}

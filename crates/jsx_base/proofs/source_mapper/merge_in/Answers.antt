@@ -1,8 +1,8 @@
-use Rattle.std.proofs.Common.{◌≡◌, ◌≤◌, ap, sym, ◌∙◌, arith}
+use Rattle.std.proofs.Common.{ap, sym, ◌∙◌, arith}
 use Rattle.jsx_base.specs.Files.{File, front_at, holds}
 use Rattle.jsx_base.specs.Lines.{line_of}
 use Rattle.jsx_base.specs.SourceFile.{file_of}
-use Rattle.jsx_base.specs.SpanPlaces.{low, high, begin_of}
+use Rattle.jsx_base.specs.SpanPlaces.{begin_of}
 use Rattle.jsx_base.proofs.FileEnds.{merge_some}
 use Rattle.jsx_base.proofs.source_mapper.merge_in.Goals as goal
 

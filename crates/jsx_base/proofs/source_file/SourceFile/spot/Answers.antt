@@ -1,4 +1,4 @@
-use Rattle.std.proofs.Common.{◌<◌, ◌^◌, length, sym, subst, string_bytes, arith}
+use Rattle.std.proofs.Common.{◌<◌, ◌^◌, length, sym, subst, arith}
 use Rattle.jsx_base.proofs.source_file.SourceFile.spot.Goals as goal
 
 pub spot_in-requires-clause-short : goal.spot_in-requires-clause-short

@@ -1,4 +1,4 @@
-use Rattle.std.proofs.Common.{◌≡◌, ◌-◌, length, take, drop, ap, sym, ◌∙◌, subst, string_bytes, arith}
+use Rattle.std.proofs.Common.{◌≡◌, ◌-◌, take, drop, ap, sym, ◌∙◌, subst, string_bytes, arith}
 use Rattle.std.specs.Str.{IsCharBoundary, chars}
 use Rattle.std.proofs.lemmas.Str.{IsUtf8-string_bytes}
 use Rattle.jsx_base.specs.Lines.{size, front}

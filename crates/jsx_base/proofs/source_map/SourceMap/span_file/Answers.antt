@@ -1,5 +1,5 @@
-use Rattle.std.proofs.Common.{◌≡◌, ◌≤◌, ◌<◌, Some, ap, sym, ◌∙◌, subst, arith}
-use Rattle.jsx_base.specs.Files.{File, file_at}
+use Rattle.std.proofs.Common.{◌≡◌, Some, ap, sym, ◌∙◌, arith}
+use Rattle.jsx_base.specs.Files.{file_at}
 use Rattle.jsx_base.specs.SourceFile.{shared_file}
 use Rattle.jsx_base.specs.SourceMap.{files_of}
 use Rattle.jsx_base.specs.SpanPlaces.{low, high}
