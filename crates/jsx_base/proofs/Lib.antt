@@ -1,6 +1,17 @@
 mod Lexing
 mod Literals
+mod PlaceExamples
 pub mod Automata
+pub mod Between
+pub mod FileAt
+pub mod FileEnds
+pub mod FileOrder
+pub mod FirstLine
 pub mod Gains
+pub mod LineAt
+pub mod LineParts
+pub mod Ranges
 pub mod Remarks
 pub mod Spans
+pub mod SpotAt
+pub mod Walks

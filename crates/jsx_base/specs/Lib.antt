@@ -9,3 +9,11 @@ pub mod Sink
 pub mod Source
 pub mod StdSink
 pub mod StdSource
+pub mod Lines
+pub mod LineStarts
+pub mod Files
+pub mod SourceFile
+pub mod SourceMap
+pub mod Columns
+pub mod SpanPlaces
+pub mod Locs

@@ -2,6 +2,7 @@
 #![tactic(auto)]
 
 mod calls;
+mod columns;
 mod comments;
 mod file_name;
 mod marks;
@@ -11,6 +12,9 @@ mod place;
 mod rule;
 mod sink;
 mod source;
+mod source_file;
+mod source_map;
+mod source_mapper;
 
 pub use comments::{Comment, CommentKind, Comments, SingleThreadedComments};
 pub use file_name::FileName;
@@ -21,3 +25,6 @@ pub use place::{BytePos, CharPos, DUMMY_SP, Span, Spanned};
 pub use rule::{Answers, Rule};
 pub use sink::{MemSink, QuietSink, Sink, StdSink};
 pub use source::{Failed, MemSource, Source, StdSource};
+pub use source_file::SourceFile;
+pub use source_map::SourceMap;
+pub use source_mapper::{FileLines, LineInfo, LinesError, Loc, SourceMapper};

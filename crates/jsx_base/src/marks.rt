@@ -86,6 +86,13 @@ impl Globals {
         self.next_pos
     }
 
+    // The next free place is this one, which doesn't lie before it.
+    pub(crate) fn move_to(&mut self, next_pos: u32)
+        ensures { self.new ≡ record self.old { next_pos = next_pos } }
+    {
+        self.next_pos = next_pos;
+    }
+
     /// The next mark. It takes no memory.
     ///
     /// # Errors
