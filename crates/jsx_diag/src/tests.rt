@@ -1,4 +1,5 @@
-//! Each call with ample memory, in small functions: each is proved too.
+//! Each call with ample memory. A helper answers whether its calls did what they should, since a test that holds
+//! several records at once takes minutes to prove.
 
 mod notes;
 mod records;
@@ -19,18 +20,4 @@ fn text(alloc: Global, text: &str) -> Result<String, AllocError> {
 // A report without notes.
 fn report(alloc: Global) -> Result<Diagnostic, AllocError> {
     Diagnostic::new(alloc, Level::Error, "bad")
-}
-
-// Whether its only note has this level and this text.
-fn has_note(
-    alloc: Global,
-    report: &Diagnostic,
-    level: Level,
-    text: &str,
-) -> Result<bool, AllocError> {
-    let [note] = report.children.as_slice() else {
-        return Ok(false);
-    };
-    let message = note.message(alloc)?;
-    Ok(note.level == level && message.as_str() == text)
 }

