@@ -17,15 +17,20 @@ use Rattle.jsx_base.specs.MultiSpan.{label_of, spans_of}
 use Rattle.jsx_base.specs.contracts.place.SpanPartialEq.TheImpl as span
 use Rattle.jsx_base.specs.contracts.multi_span.MultiSpanPartialEq.TheImpl as spans
 use Rattle.jsx_diag.specs.declared.message.Message.{Message}
+use Rattle.jsx_diag.specs.declared.message.StringPart.{StringPart}
+use Rattle.jsx_diag.specs.declared.message.StringPart.TheVariants.{Normal, Highlighted}
+use Rattle.jsx_diag.specs.declared.message.DiagnosticStyledString.{DiagnosticStyledString}
 use Rattle.jsx_diag.specs.declared.sub_diagnostic.SubDiagnostic.{SubDiagnostic}
 use Rattle.jsx_diag.specs.declared.diagnostic.DiagnosticId.{DiagnosticId}
 use Rattle.jsx_diag.specs.declared.diagnostic.DiagnosticId.TheVariants.{Error, Lint}
 use Rattle.jsx_diag.specs.declared.diagnostic.Diagnostic.{Diagnostic}
-use Rattle.jsx_diag.specs.Data.{piece_of, edit_of, edits_of, suggestion_of, child_of, code_of, report_of}
+use Rattle.jsx_diag.specs.Data.{piece_of, part_of, parts_of, edit_of, edits_of, suggestion_of, child_of, code_of, report_of}
 use Rattle.jsx_diag.specs.contracts.suggestion.SubstitutionPartPartialEq.TheImpl as part
 use Rattle.jsx_diag.specs.contracts.suggestion.SubstitutionPartialEq.TheImpl as substitution
 use Rattle.jsx_diag.specs.contracts.suggestion.CodeSuggestionPartialEq.TheImpl as suggestion
 use Rattle.jsx_diag.specs.contracts.message.MessagePartialEq.TheImpl as message
+use Rattle.jsx_diag.specs.contracts.message.StringPartPartialEq.TheImpl as string_part
+use Rattle.jsx_diag.specs.contracts.message.DiagnosticStyledStringPartialEq.TheImpl as styled
 use Rattle.jsx_diag.specs.contracts.sub_diagnostic.SubDiagnosticPartialEq.TheImpl as child
 use Rattle.jsx_diag.specs.contracts.diagnostic.DiagnosticIdPartialEq.TheImpl as code
 use Rattle.jsx_diag.specs.contracts.diagnostic.DiagnosticPartialEq.TheImpl as report
@@ -57,6 +62,15 @@ suggestion_decides a b = let ways = decides_list substitution.eq-value.it edits_
 
 pub message_decides : (a b : Message) → Decides (message.eq-value.it a b) (piece_of a ≡ piece_of b)
 message_decides a b = (λ t. search rules, λ h. search rules)
+
+pub string_part_decides : (a b : StringPart) → Decides (string_part.eq-value.it a b) (part_of a ≡ part_of b)
+string_part_decides (Normal a) (Normal b) = (λ t. search rules, λ h. search rules)
+string_part_decides (Normal a) (Highlighted b) = (λ t. cc, λ h. cc)
+string_part_decides (Highlighted a) (Normal b) = (λ t. cc, λ h. cc)
+string_part_decides (Highlighted a) (Highlighted b) = (λ t. search rules, λ h. search rules)
+
+pub styled_decides : (a b : DiagnosticStyledString) → Decides (styled.eq-value.it a b) (parts_of a ≡ parts_of b)
+styled_decides a b = decides_list string_part.eq-value.it part_of string_part_decides a.0.items b.0.items
 
 pub span_decides : (a b : Span) → Decides (span.eq-value.it a b) (a ≡ b)
 span_decides a b = (λ t. search rules, λ h. search rules)

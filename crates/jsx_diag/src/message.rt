@@ -1,6 +1,6 @@
 //! Messages, whose pieces have a look of their own.
 
-ghost use Rattle.std.specs.Prelude.{◌≡◌, [], ◌∷◌, ◌++◌, IfOk, OnOk, OnErr, string_bytes, map};
+ghost use Rattle.std.specs.Prelude.{◌≡◌, ◌↔◌, IsTrue, [], ◌∷◌, ◌++◌, IfOk, OnOk, OnErr, string_bytes, map};
 ghost use Rattle.std.specs.List.{flat_map};
 ghost use Rattle.jsx_diag.specs.Data.{Plain, Marked, piece_of, part_of, parts_of, part_text};
 ghost use Rattle.jsx_diag.specs.Adds.{plain_piece, part_piece};
@@ -126,6 +126,13 @@ impl DiagnosticStyledString {
         let mut styled = DiagnosticStyledString::new(alloc);
         styled.push_highlighted(t)?;
         Ok(styled)
+    }
+
+    /// Whether the two have the same parts.
+    pub fn is_same(&self, other: &DiagnosticStyledString) -> bool
+        ensures { IsTrue result ↔ (parts_of self.now ≡ parts_of other.now) }
+    {
+        *self == *other
     }
 
     /// The texts of the parts, one after another.

@@ -1,6 +1,6 @@
 //! What a report adds to its message, as a note.
 
-ghost use Rattle.std.specs.Prelude.{◌≡◌, IfOk, string_bytes, map};
+ghost use Rattle.std.specs.Prelude.{◌≡◌, ◌↔◌, IsTrue, IfOk, string_bytes, map};
 ghost use Rattle.std.specs.List.{flat_map};
 ghost use Rattle.jsx_diag.specs.Data.{piece_of, child_of};
 
@@ -36,6 +36,13 @@ impl SubDiagnostic {
         ensures { result.now ≡ self.now.message }
     {
         &self.message
+    }
+
+    /// Whether the two are equal in every field.
+    pub fn is_same(&self, other: &SubDiagnostic) -> bool
+        ensures { IsTrue result ↔ (child_of self.now ≡ child_of other.now) }
+    {
+        *self == *other
     }
 
     /// An equal one.

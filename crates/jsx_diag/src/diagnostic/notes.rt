@@ -17,7 +17,7 @@ impl Diagnostic {
     ///
     /// # Errors
     ///
-    /// `AllocError` for want of memory. Then nothing has changed.
+    /// `AllocError` for want of memory. The call under it, `push_label`, then changes nothing.
     pub fn span_label(&mut self, span: Span, label: String) -> Result<&mut Self, AllocError>
         ensures same_reference { IfOk result (λ it. it.ghost_name ≡ self.entry.ghost_name) }
         ensures added { IfOk result (λ it. report_of it.now ≡ with_label (report_of self.old) span (string_bytes label)) }
@@ -30,7 +30,7 @@ impl Diagnostic {
     ///
     /// # Errors
     ///
-    /// `AllocError` for want of memory. Then nothing has changed.
+    /// `AllocError` for want of memory. The call under it, `push_child`, then changes nothing.
     pub fn sub(
         &mut self,
         level: Level,
@@ -49,7 +49,7 @@ impl Diagnostic {
     ///
     /// # Errors
     ///
-    /// `AllocError` for want of memory. Then nothing has changed.
+    /// `AllocError` for want of memory. The call under it, `push_child`, then changes nothing.
     pub fn note(&mut self, msg: &str) -> Result<&mut Self, AllocError>
         ensures same_reference { IfOk result (λ it. it.ghost_name ≡ self.entry.ghost_name) }
         ensures added { IfOk result (λ it. report_of it.now ≡ with_child (report_of self.old) (plain_child Level.Note msg.now nowhere None)) }
@@ -63,7 +63,7 @@ impl Diagnostic {
     ///
     /// # Errors
     ///
-    /// `AllocError` for want of memory. Then nothing has changed.
+    /// `AllocError` for want of memory. The call under it, `push_child`, then changes nothing.
     pub fn span_note(&mut self, sp: MultiSpan, msg: &str) -> Result<&mut Self, AllocError>
         ensures same_reference { IfOk result (λ it. it.ghost_name ≡ self.entry.ghost_name) }
         ensures added { IfOk result (λ it. report_of it.now ≡ with_child (report_of self.old) (plain_child Level.Note msg.now (spans_of sp) None)) }
@@ -76,7 +76,7 @@ impl Diagnostic {
     ///
     /// # Errors
     ///
-    /// `AllocError` for want of memory. Then nothing has changed.
+    /// `AllocError` for want of memory. The call under it, `push_child`, then changes nothing.
     pub fn warn(&mut self, msg: &str) -> Result<&mut Self, AllocError>
         ensures same_reference { IfOk result (λ it. it.ghost_name ≡ self.entry.ghost_name) }
         ensures added { IfOk result (λ it. report_of it.now ≡ with_child (report_of self.old) (plain_child Level.Warning msg.now nowhere None)) }
@@ -90,7 +90,7 @@ impl Diagnostic {
     ///
     /// # Errors
     ///
-    /// `AllocError` for want of memory. Then nothing has changed.
+    /// `AllocError` for want of memory. The call under it, `push_child`, then changes nothing.
     pub fn span_warn(&mut self, sp: MultiSpan, msg: &str) -> Result<&mut Self, AllocError>
         ensures same_reference { IfOk result (λ it. it.ghost_name ≡ self.entry.ghost_name) }
         ensures added { IfOk result (λ it. report_of it.now ≡ with_child (report_of self.old) (plain_child Level.Warning msg.now (spans_of sp) None)) }
@@ -103,7 +103,7 @@ impl Diagnostic {
     ///
     /// # Errors
     ///
-    /// `AllocError` for want of memory. Then nothing has changed.
+    /// `AllocError` for want of memory. The call under it, `push_child`, then changes nothing.
     pub fn help(&mut self, msg: &str) -> Result<&mut Self, AllocError>
         ensures same_reference { IfOk result (λ it. it.ghost_name ≡ self.entry.ghost_name) }
         ensures added { IfOk result (λ it. report_of it.now ≡ with_child (report_of self.old) (plain_child Level.Help msg.now nowhere None)) }
@@ -117,7 +117,7 @@ impl Diagnostic {
     ///
     /// # Errors
     ///
-    /// `AllocError` for want of memory. Then nothing has changed.
+    /// `AllocError` for want of memory. The call under it, `push_child`, then changes nothing.
     pub fn span_help(&mut self, sp: MultiSpan, msg: &str) -> Result<&mut Self, AllocError>
         ensures same_reference { IfOk result (λ it. it.ghost_name ≡ self.entry.ghost_name) }
         ensures added { IfOk result (λ it. report_of it.now ≡ with_child (report_of self.old) (plain_child Level.Help msg.now (spans_of sp) None)) }
@@ -130,7 +130,7 @@ impl Diagnostic {
     ///
     /// # Errors
     ///
-    /// `AllocError` for want of memory. Then nothing has changed.
+    /// `AllocError` for want of memory. The call under it, `push_child`, then changes nothing.
     pub fn highlighted_note(&mut self, msg: Vec<Message>) -> Result<&mut Self, AllocError>
         ensures same_reference { IfOk result (λ it. it.ghost_name ≡ self.entry.ghost_name) }
         ensures added { IfOk result (λ it. report_of it.now ≡ with_child (report_of self.old) (note_of (map piece_of msg.items))) }
@@ -143,13 +143,12 @@ impl Diagnostic {
     ///
     /// # Errors
     ///
-    /// `AllocError` for want of memory. Then nothing has changed.
+    /// `AllocError` for want of memory. The call under it, `relabel`, then changes nothing.
     pub fn replace_span_with(&mut self, after: Span) -> Result<&mut Self, AllocError>
         ensures same_reference { IfOk result (λ it. it.ghost_name ≡ self.entry.ghost_name) }
         ensures replaced { IfOk result (λ it. report_of it.now ≡ record (report_of self.old) { span = relabelled (report_of self.old).span after }) }
     {
-        let span = self.span.moved_to(*self.children.allocator(), after)?;
-        self.span = span;
+        self.relabel(after)?;
         Ok(self)
     }
 
@@ -157,7 +156,7 @@ impl Diagnostic {
     ///
     /// # Errors
     ///
-    /// `AllocError` for want of memory. Then nothing has changed.
+    /// `AllocError` for want of memory. The call under it, `push_child`, then changes nothing.
     pub fn note_trait_signature(
         &mut self,
         name: String,
@@ -179,7 +178,7 @@ impl Diagnostic {
     ///
     /// # Errors
     ///
-    /// `AllocError` for want of memory. Then nothing has changed.
+    /// `AllocError` for want of memory. The call under it, `push_child`, then changes nothing.
     pub fn note_expected_found(
         &mut self,
         label: &str,
@@ -205,7 +204,7 @@ impl Diagnostic {
     ///
     /// # Errors
     ///
-    /// `AllocError` for want of memory. Then nothing has changed.
+    /// `AllocError` for want of memory. The call under it, `push_child`, then changes nothing.
     pub fn note_expected_found_extra(
         &mut self,
         label: &str,
@@ -233,18 +232,12 @@ impl Diagnostic {
     ///
     /// # Errors
     ///
-    /// `AllocError` for want of memory. Then nothing has changed.
+    /// `AllocError` for want of memory. The call under it, `push_details`, then changes nothing.
     pub fn copy_details_not_message(&mut self, from: &Diagnostic) -> Result<&mut Self, AllocError>
         ensures same_reference { IfOk result (λ it. it.ghost_name ≡ self.entry.ghost_name) }
         ensures copied { IfOk result (λ it. report_of it.now ≡ with_details (report_of self.old) (report_of from.now)) }
     {
-        let alloc = *self.children.allocator();
-        let span = from.span.try_clone(alloc)?;
-        let code = clone_code(alloc, &from.code)?;
-        let mut children = clone_children(alloc, &from.children)?;
-        self.children.append(&mut children)?;
-        self.span = span;
-        self.code = code;
+        self.push_details(from)?;
         Ok(self)
     }
 
@@ -270,6 +263,39 @@ impl Diagnostic {
         ensures kept { OnErr result (report_of self.new ≡ report_of self.old) }
     {
         self.children.push(child)?;
+        Ok(())
+    }
+
+    /// Moves its labels to one primary span, as `replace_span_with` does.
+    ///
+    /// # Errors
+    ///
+    /// `AllocError` for want of memory. Then nothing has changed.
+    pub fn relabel(&mut self, after: Span) -> Result<(), AllocError>
+        ensures replaced { OnOk result (report_of self.new ≡ record (report_of self.old) { span = relabelled (report_of self.old).span after }) }
+        ensures kept { OnErr result (report_of self.new ≡ report_of self.old) }
+    {
+        let span = self.span.moved_to(*self.children.allocator(), after)?;
+        self.span = span;
+        Ok(())
+    }
+
+    /// Takes over notes, span and code, as `copy_details_not_message` does.
+    ///
+    /// # Errors
+    ///
+    /// `AllocError` for want of memory. Then nothing has changed.
+    pub fn push_details(&mut self, from: &Diagnostic) -> Result<(), AllocError>
+        ensures copied { OnOk result (report_of self.new ≡ with_details (report_of self.old) (report_of from.now)) }
+        ensures kept { OnErr result (report_of self.new ≡ report_of self.old) }
+    {
+        let alloc = *self.children.allocator();
+        let span = from.span.try_clone(alloc)?;
+        let code = clone_code(alloc, &from.code)?;
+        let mut children = clone_children(alloc, &from.children)?;
+        self.children.append(&mut children)?;
+        self.span = span;
+        self.code = code;
         Ok(())
     }
 

@@ -13,7 +13,7 @@ impl Diagnostic {
     ///
     /// # Errors
     ///
-    /// `AllocError` for want of memory. Then nothing has changed.
+    /// `AllocError` for want of memory. The call under it, `push_suggestion`, then changes nothing.
     pub fn span_suggestion(
         &mut self,
         sp: Span,
@@ -31,7 +31,7 @@ impl Diagnostic {
     ///
     /// # Errors
     ///
-    /// `AllocError` for want of memory. Then nothing has changed.
+    /// `AllocError` for want of memory. The call under it, `push_suggestion`, then changes nothing.
     pub fn span_suggestion_short(
         &mut self,
         sp: Span,
@@ -49,7 +49,7 @@ impl Diagnostic {
     ///
     /// # Errors
     ///
-    /// `AllocError` for want of memory. Then nothing has changed.
+    /// `AllocError` for want of memory. The call under it, `push_suggestion`, then changes nothing.
     pub fn span_suggestions(
         &mut self,
         sp: Span,
@@ -68,7 +68,7 @@ impl Diagnostic {
     ///
     /// # Errors
     ///
-    /// `AllocError` for want of memory. Then nothing has changed.
+    /// `AllocError` for want of memory. The call under it, `push_suggestion`, then changes nothing.
     pub fn multipart_suggestion(
         &mut self,
         msg: &str,
@@ -86,7 +86,7 @@ impl Diagnostic {
     ///
     /// # Errors
     ///
-    /// `AllocError` for want of memory. Then nothing has changed.
+    /// `AllocError` for want of memory. The call under it, `push_suggestion`, then changes nothing.
     pub fn span_suggestion_with_applicability(
         &mut self,
         sp: Span,
@@ -105,7 +105,7 @@ impl Diagnostic {
     ///
     /// # Errors
     ///
-    /// `AllocError` for want of memory. Then nothing has changed.
+    /// `AllocError` for want of memory. The call under it, `push_suggestion`, then changes nothing.
     pub fn span_suggestion_short_with_applicability(
         &mut self,
         sp: Span,
@@ -124,7 +124,7 @@ impl Diagnostic {
     ///
     /// # Errors
     ///
-    /// `AllocError` for want of memory. Then nothing has changed.
+    /// `AllocError` for want of memory. The call under it, `push_suggestion`, then changes nothing.
     pub fn span_suggestions_with_applicability(
         &mut self,
         sp: Span,
@@ -144,7 +144,7 @@ impl Diagnostic {
     ///
     /// # Errors
     ///
-    /// `AllocError` for want of memory. Then nothing has changed.
+    /// `AllocError` for want of memory. The call under it, `push_suggestion`, then changes nothing.
     pub fn multipart_suggestion_with_applicability(
         &mut self,
         msg: &str,

@@ -5,30 +5,105 @@ use crate::plugin::{
     TransformPluginMetadataContext, TransformPluginMetadataContextKind, UnknownKey,
     VersionedSerializable,
 };
+use std::alloc::{AllocError, Global};
 use std::collections::HashMap;
-use std::test::Fail;
 
-#[test]
-fn the_package_is_written_as_json(rt: HostRuntime) -> Result<(), Fail> {
-    let alloc = rt.alloc();
-    let package = PluginCorePkgDiagnostics {
-        pkg_version: String::from_str(alloc, "1.2")?,
-        git_sha: String::from_str(alloc, "ab\"c")?,
-        cargo_features: String::from_str(alloc, "")?,
+fn text(alloc: Global, text: &str) -> Result<String, AllocError> {
+    String::from_str(alloc, text)
+}
+
+fn package(alloc: Global) -> Result<PluginCorePkgDiagnostics, AllocError> {
+    Ok(PluginCorePkgDiagnostics {
+        pkg_version: text(alloc, "1.2")?,
+        git_sha: text(alloc, "ab\"c")?,
+        cargo_features: String::new(alloc),
         ast_schema_version: PLUGIN_TRANSFORM_AST_SCHEMA_VERSION,
-    };
-    let json = serde_json::to_string(alloc, &package)?;
-    assert_eq!(rt;
-        json.as_str(),
-        "{\"pkg_version\":\"1.2\",\"git_sha\":\"ab\\\"c\",\"cargo_features\":\"\",\"ast_schema_version\":1}"
-    );
-    let copy = package.try_clone(alloc)?;
-    assert_eq!(rt; copy, package);
-    Ok(())
+    })
+}
+
+fn package_is_written_as_json(alloc: Global) -> Result<bool, serde_json::Error> {
+    let json = serde_json::to_string(alloc, &package(alloc)?)?;
+    Ok(
+        json.as_str()
+            == "{\"pkg_version\":\"1.2\",\"git_sha\":\"ab\\\"c\",\"cargo_features\":\"\",\"ast_schema_version\":1}",
+    )
+}
+
+fn package_is_copied(alloc: Global) -> Result<bool, AllocError> {
+    let package = package(alloc)?;
+    Ok(package.try_clone(alloc)? == package)
+}
+
+fn error_is_copied(alloc: Global) -> Result<bool, AllocError> {
+    let error = PluginError::Deserialize(text(alloc, "no")?);
+    Ok(error.try_clone(alloc)? == error)
 }
 
 #[test]
-fn numbers_stand_for_kinds(rt: HostRuntime) {
+fn packages_and_errors_are_copied(rt: HostRuntime) {
+    assert!(rt; package_is_written_as_json(rt.alloc()).unwrap_or(false));
+    assert!(rt; package_is_copied(rt.alloc()).unwrap_or(false));
+    assert!(rt; error_is_copied(rt.alloc()).unwrap_or(false));
+}
+
+// Of the file a.js in the environment test.
+fn context(alloc: Global) -> Result<TransformPluginMetadataContext, AllocError> {
+    let file = text(alloc, "a.js")?;
+    let env = text(alloc, "test")?;
+    Ok(TransformPluginMetadataContext::new(alloc, Some(file), env, None, None))
+}
+
+// Whether the context has this text for the kind.
+fn gives(
+    alloc: Global,
+    context: &TransformPluginMetadataContext,
+    kind: TransformPluginMetadataContextKind,
+    want: &str,
+) -> Result<bool, AllocError> {
+    match context.get(alloc, &kind)? {
+        Some(text) => Ok(text.as_str() == want),
+        None => Ok(false),
+    }
+}
+
+fn context_gives_its_texts(alloc: Global) -> Result<bool, AllocError> {
+    let context = context(alloc)?;
+    Ok(
+        gives(
+            alloc,
+            &context,
+            TransformPluginMetadataContextKind::Filename,
+            "a.js",
+        )? && gives(
+            alloc,
+            &context,
+            TransformPluginMetadataContextKind::Env,
+            "test",
+        )?,
+    )
+}
+
+fn context_lacks_what_it_was_not_given(alloc: Global) -> Result<bool, AllocError> {
+    let context = context(alloc)?;
+    let folder = context.get(alloc, &TransformPluginMetadataContextKind::Cwd)?;
+    Ok(folder.is_none() && context.experimental.is_empty())
+}
+
+fn empty_map_is_taken_as_it_is(alloc: Global) -> bool {
+    let given = Some(HashMap::new(alloc));
+    let context = TransformPluginMetadataContext::new(alloc, None, String::new(alloc), None, given);
+    context.experimental.is_empty()
+}
+
+#[test]
+fn a_context_gives_its_texts(rt: HostRuntime) {
+    assert!(rt; context_gives_its_texts(rt.alloc()).unwrap_or(false));
+    assert!(rt; context_lacks_what_it_was_not_given(rt.alloc()).unwrap_or(false));
+    assert!(rt; empty_map_is_taken_as_it_is(rt.alloc()));
+}
+
+#[test]
+fn kinds_and_wrapped_values_are_kept(rt: HostRuntime) {
     assert_eq!(rt;
         TransformPluginMetadataContextKind::from_key(1),
         Ok(TransformPluginMetadataContextKind::Filename)
@@ -37,42 +112,7 @@ fn numbers_stand_for_kinds(rt: HostRuntime) {
         TransformPluginMetadataContextKind::from_key(4),
         Err(UnknownKey(4))
     );
-}
-
-#[test]
-fn a_context_gives_its_texts(rt: HostRuntime) -> Result<(), Fail> {
-    let alloc = rt.alloc();
-    let file = String::from_str(alloc, "a.js")?;
-    let env = String::from_str(alloc, "test")?;
-    let context = TransformPluginMetadataContext::new(alloc, Some(file), env, None, None);
-    let filename = context.get(alloc, &TransformPluginMetadataContextKind::Filename)?;
-    assert_eq!(rt; filename, Some(String::from_str(alloc, "a.js")?));
-    let env = context.get(alloc, &TransformPluginMetadataContextKind::Env)?;
-    assert_eq!(rt; env, Some(String::from_str(alloc, "test")?));
-    assert_eq!(rt;
-        context.get(alloc, &TransformPluginMetadataContextKind::Cwd)?,
-        None
-    );
-    assert!(rt; context.experimental.is_empty());
-    let empty = String::new(alloc);
-    let more = TransformPluginMetadataContext::new(
-        alloc,
-        None,
-        empty,
-        None,
-        Some(HashMap::new(alloc)),
-    );
-    assert!(rt; more.experimental.is_empty());
-    Ok(())
-}
-
-#[test]
-fn errors_and_wrapped_values_are_kept(rt: HostRuntime) -> Result<(), Fail> {
-    let alloc = rt.alloc();
-    let error = PluginError::Deserialize(String::from_str(alloc, "no")?);
-    assert_eq!(rt; error.try_clone(alloc)?, error);
     let wrapped = VersionedSerializable::new(7u8);
     assert_eq!(rt; *wrapped.inner(), 7);
     assert_eq!(rt; wrapped.into_inner(), 7);
-    Ok(())
 }

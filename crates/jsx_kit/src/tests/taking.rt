@@ -9,32 +9,50 @@ use jsx_base::{BytePos, DUMMY_SP, Span};
 use std::alloc::{AllocError, Global};
 use std::cmp::Ordering;
 use std::collections::HashMap;
-use std::test::Fail;
+
+const PLACE: Span = Span {
+    lo: BytePos(3),
+    hi: BytePos(5),
+};
+
+fn box_is_left_with_a_dummy(alloc: Global) -> Result<bool, AllocError> {
+    let mut boxed = Box::new(alloc, PLACE)?;
+    let taken = *boxed.take(alloc)?;
+    let left = *boxed;
+    boxed.map_with_mut(alloc, |b| b)?;
+    Ok(taken == PLACE && left == DUMMY_SP && *boxed == DUMMY_SP)
+}
+
+fn dummy_box_holds_a_dummy(alloc: Global) -> Result<bool, AllocError> {
+    let dummy: Box<Span> = Take::dummy(alloc)?;
+    Ok(*dummy == DUMMY_SP)
+}
+
+fn option_is_left_with_none(alloc: Global) -> Result<bool, AllocError> {
+    let mut three = Some(3);
+    let taken = Take::take(&mut three, alloc)?;
+    Ok(taken == Some(3) && three.is_none())
+}
+
+fn vec_is_left_empty(alloc: Global) -> Result<bool, AllocError> {
+    let mut items = vec![in alloc; 1u8, 2]?;
+    let taken = Take::take(&mut items, alloc)?;
+    Ok(taken.as_slice() == [1, 2].as_slice() && items.is_empty())
+}
+
+fn span_is_mapped_in_place(alloc: Global) -> Result<bool, AllocError> {
+    let mut placed = PLACE;
+    placed.map_with_mut(alloc, |s| Span::new(s.lo, BytePos(9)))?;
+    Ok(placed == Span::new(BytePos(3), BytePos(9)))
+}
 
 #[test]
-fn taking_leaves_a_dummy(rt: HostRuntime) -> Result<(), Fail> {
-    let alloc = rt.alloc();
-    let span = Span::new(BytePos(3), BytePos(5));
-    let mut boxed = Box::new(alloc, span)?;
-    assert_eq!(rt; *boxed.take(alloc)?, span);
-    assert_eq!(rt; *boxed, DUMMY_SP);
-    let dummy: Box<Span> = Take::dummy(alloc)?;
-    assert_eq!(rt; *dummy, DUMMY_SP);
-    let mut three = Some(3);
-    assert_eq!(rt; Take::take(&mut three, alloc)?, Some(3));
-    assert_eq!(rt; three, None);
-    let mut items = vec![in alloc; 1u8, 2]?;
-    assert_eq!(rt;
-        Take::take(&mut items, alloc)?.as_slice(),
-        [1, 2].as_slice()
-    );
-    assert!(rt; items.is_empty());
-    let mut placed = span;
-    placed.map_with_mut(alloc, |s| Span::new(s.lo, BytePos(9)))?;
-    assert_eq!(rt; placed, Span::new(BytePos(3), BytePos(9)));
-    boxed.map_with_mut(alloc, |b| b)?;
-    assert_eq!(rt; *boxed, DUMMY_SP);
-    Ok(())
+fn taking_leaves_a_dummy(rt: HostRuntime) {
+    assert!(rt; box_is_left_with_a_dummy(rt.alloc()).unwrap_or(false));
+    assert!(rt; dummy_box_holds_a_dummy(rt.alloc()).unwrap_or(false));
+    assert!(rt; option_is_left_with_none(rt.alloc()).unwrap_or(false));
+    assert!(rt; vec_is_left_empty(rt.alloc()).unwrap_or(false));
+    assert!(rt; span_is_mapped_in_place(rt.alloc()).unwrap_or(false));
 }
 
 struct A;
@@ -57,22 +75,21 @@ impl CompilerPass for B {
     }
 }
 
-#[test]
-fn passes_are_named_by_their_parts(rt: HostRuntime) -> Result<(), Fail> {
-    let both = AndThen::<A, B>::name(rt.alloc())?;
-    assert_eq!(rt; both.as_str(), "a -> b");
-    let again = Repeat::<AndThen<A, B>>::name(rt.alloc())?;
-    assert_eq!(rt; again.as_str(), "repeat(a -> b)");
-    Ok(())
+fn passes_are_named_by_their_parts(alloc: Global) -> Result<bool, AllocError> {
+    let both = AndThen::<A, B>::name(alloc)?;
+    let again = Repeat::<AndThen<A, B>>::name(alloc)?;
+    Ok(both.as_str() == "a -> b" && again.as_str() == "repeat(a -> b)")
 }
 
-#[test]
-fn locks_show_what_was_written(rt: HostRuntime) -> Result<(), Fail> {
+fn lock_shows_what_was_written() -> bool {
     let mut lock = Lock::new(1u8);
     *lock.lock() = 2;
     *lock.borrow() += 1;
     *lock.borrow_mut() += 1;
-    assert_eq!(rt; *lock.lock(), 4);
+    *lock.lock() == 4
+}
+
+fn shared_lock_shows_what_was_written() -> bool {
     let mut shared = RwLock::new(1u8);
     *shared.write() = 5;
     *shared.get_mut() += 1;
@@ -81,13 +98,21 @@ fn locks_show_what_was_written(rt: HostRuntime) -> Result<(), Fail> {
         *value += 1;
     }
     shared.with_write_lock(|value| *value /= 2);
-    assert_eq!(rt; *shared.read(), 4);
-    assert_eq!(rt; shared.with_read_lock(|value| *value / 2), 2);
-    let copy = shared.try_clone(rt.alloc())?;
-    assert_eq!(rt; *copy.borrow(), 4);
+    *shared.read() == 4 && shared.with_read_lock(|value| *value / 2) == 2
+}
+
+fn shared_lock_is_copied(alloc: Global) -> Result<bool, AllocError> {
+    let copy = RwLock::new(4u8).try_clone(alloc)?;
     let empty: RwLock<u8> = RwLock::default();
-    assert_eq!(rt; *empty.read(), 0);
-    Ok(())
+    Ok(*copy.borrow() == 4 && *empty.read() == 0)
+}
+
+#[test]
+fn passes_are_named_and_locks_show_what_was_written(rt: HostRuntime) {
+    assert!(rt; passes_are_named_by_their_parts(rt.alloc()).unwrap_or(false));
+    assert!(rt; lock_shows_what_was_written());
+    assert!(rt; shared_lock_shows_what_was_written());
+    assert!(rt; shared_lock_is_copied(rt.alloc()).unwrap_or(false));
 }
 
 // The order of cells is that of their values.
@@ -104,8 +129,17 @@ fn cells_are_equal<T: PartialEq + Copy>(a: &LockCell<T>, b: &LockCell<T>) -> boo
     *a == *b
 }
 
+fn key_keeps_its_value(alloc: Global) -> bool {
+    let mut map = HashMap::new(alloc);
+    map.insert_same(1u8, 2u8) == Ok(())
+        && map.insert_same(1, 2) == Ok(())
+        && map.insert_same(1, 3) == Err(InsertError::Different)
+        && map.get(&1) == Some(&2)
+        && map.len() == 1
+}
+
 #[test]
-fn cells_compare_by_their_values(rt: HostRuntime) {
+fn cells_compare_and_keys_keep_their_values(rt: HostRuntime) {
     let mut cell = LockCell::new(1u8);
     let other = LockCell::new(2u8);
     assert_eq!(rt; order_of_cells(&cell, &other), Ordering::Less);
@@ -113,15 +147,5 @@ fn cells_compare_by_their_values(rt: HostRuntime) {
     assert_eq!(rt; cell.get(), 2);
     assert!(rt; cells_are_equal(&cell, &other));
     assert!(rt; cell >= other);
-}
-
-#[test]
-fn a_key_keeps_its_value(rt: HostRuntime) -> Result<(), Fail> {
-    let mut map = HashMap::new(rt.alloc());
-    assert_eq!(rt; map.insert_same(1u8, 2u8), Ok(()));
-    assert_eq!(rt; map.insert_same(1, 2), Ok(()));
-    assert_eq!(rt; map.insert_same(1, 3), Err(InsertError::Different));
-    assert_eq!(rt; map.get(&1), Some(&2));
-    assert_eq!(rt; map.len(), 1);
-    Ok(())
+    assert!(rt; key_keeps_its_value(rt.alloc()));
 }
