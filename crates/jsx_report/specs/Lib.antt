@@ -1,0 +1,5 @@
+pub mod Same
+pub mod Emitter
+pub mod Books
+pub mod Made
+pub mod Handler
