@@ -37,6 +37,14 @@ stop_after goes_on count (Err e) = Err e
 abbrev pub answer_stopping : HandlerFlags → Bool → Books → Report → Result (Unit {0}) HandlerError
 answer_stopping flags goes_on books report = stop_after goes_on (booked flags books report).count (answer_to flags books report)
 
+-- what is answered to an error that is a bug where the flags say so
+abbrev pub bug_or_ok : {T : Type 0} → HandlerFlags → T → Result T HandlerError
+bug_or_ok flags x = if flags.treat_err_as_bug then Err ExplicitBug else Ok x
+
+-- the error that a call answers, as a result
+abbrev pub refusal : HandlerError → Result (Unit {0}) HandlerError
+refusal e = Err e
+
 -- the same answer, with a `FatalError` in place of nothing
 abbrev pub as_fatal : Result (Unit {0}) HandlerError → Result Fatal HandlerError
 as_fatal (Ok x) = Ok (record {})

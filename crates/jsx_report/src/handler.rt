@@ -1,5 +1,6 @@
 //! A handler: it hands reports to an emitter, each once, and keeps the books.
 
+mod bugs;
 mod levels;
 mod report;
 mod settings;
