@@ -173,8 +173,8 @@ child_decides a b =
     let span = spans_decides a.span b.span in
     let shown = option_decides same_spans spans_decides a.render_span b.render_span in
     decides_by _ (both _ _ (both _ _ (both _ _ level message) span) shown)
-        (λ h. child_is a b h.0.0.0 h.0.0.1 h.0.1 h.1)
-        (λ h. (((ap (λ (x : Child). x.level) h, ap (λ (x : Child). x.message) h), ap (λ (x : Child). x.span) h), ap (λ (x : Child). x.render_span) h))
+    (λ h. child_is a b h.0.0.0 h.0.0.1 h.0.1 h.1)
+    (λ h. (((ap (λ (x : Child). x.level) h, ap (λ (x : Child). x.message) h), ap (λ (x : Child). x.span) h), ap (λ (x : Child). x.render_span) h))
 
 edit_decides : (a b : Edit) → Decides (same_edit a b) (a ≡ b)
 edit_decides a b =
@@ -192,8 +192,8 @@ suggestion_decides a b =
     let shown = bool_decides a.show_code_when_inline b.show_code_when_inline in
     let sure = applicability_decides a.applicability b.applicability in
     decides_by _ (both _ _ (both _ _ (both _ _ ways text) shown) sure)
-        (λ h. suggestion_is a b h.0.0.0 h.0.0.1 h.0.1 h.1)
-        (λ h. (((ap (λ (x : Suggestion). x.substitutions) h, ap (λ (x : Suggestion). x.msg) h), ap (λ (x : Suggestion). x.show_code_when_inline) h), ap (λ (x : Suggestion). x.applicability) h))
+    (λ h. suggestion_is a b h.0.0.0 h.0.0.1 h.0.1 h.1)
+    (λ h. (((ap (λ (x : Suggestion). x.substitutions) h, ap (λ (x : Suggestion). x.msg) h), ap (λ (x : Suggestion). x.show_code_when_inline) h), ap (λ (x : Suggestion). x.applicability) h))
 
 report_is : (a b : Report) → a.level ≡ b.level → a.message ≡ b.message → a.code ≡ b.code → a.span ≡ b.span → a.children ≡ b.children → a.suggestions ≡ b.suggestions → a ≡ b
 report_is a b level message kind span children suggestions = search rules
@@ -207,8 +207,8 @@ same_report_decides a b =
     let children = pointwise_decides {E = same_child} child_decides a.children b.children in
     let suggestions = pointwise_decides {E = same_suggestion} suggestion_decides a.suggestions b.suggestions in
     decides_by _ (both _ _ (both _ _ (both _ _ (both _ _ (both _ _ level message) kind) span) children) suggestions)
-        (λ h. report_is a b h.0.0.0.0.0 h.0.0.0.0.1 h.0.0.0.1 h.0.0.1 h.0.1 h.1)
-        (λ h. (((((ap (λ (x : Report). x.level) h, ap (λ (x : Report). x.message) h), ap (λ (x : Report). x.code) h), ap (λ (x : Report). x.span) h), ap (λ (x : Report). x.children) h), ap (λ (x : Report). x.suggestions) h))
+    (λ h. report_is a b h.0.0.0.0.0 h.0.0.0.0.1 h.0.0.0.1 h.0.0.1 h.0.1 h.1)
+    (λ h. (((((ap (λ (x : Report). x.level) h, ap (λ (x : Report). x.message) h), ap (λ (x : Report). x.code) h), ap (λ (x : Report). x.span) h), ap (λ (x : Report). x.children) h), ap (λ (x : Report). x.suggestions) h))
 
 -- two tests that decide one fact give one answer
 decides_same : {P : Type 0} (a b : Bool) → Decides a P → Decides b P → a ≡ b

@@ -3,3 +3,4 @@ pub mod Emitter
 pub mod Books
 pub mod Made
 pub mod Handler
+pub mod Builder

@@ -1,6 +1,7 @@
 //! A handler: it hands reports to an emitter, each once, and keeps the books.
 
 mod bugs;
+mod builders;
 mod levels;
 mod report;
 mod settings;

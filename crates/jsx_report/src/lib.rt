@@ -1,11 +1,13 @@
 //! Reports on their way out: what prints them, and the books of what was printed.
 #![tactic(auto)]
 
+mod builder;
 mod emitter;
 mod error;
 mod handler;
 mod known;
 
+pub use builder::DiagnosticBuilder;
 pub use emitter::Emitter;
 pub use error::{EmitError, HandlerError};
 pub use handler::Handler;
