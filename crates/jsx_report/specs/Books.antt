@@ -57,6 +57,13 @@ news books report = if is_news books report then report ∷ [] else []
 abbrev pub is_bug : HandlerFlags → Books → Report → Bool
 is_bug flags books report = is_news books report && is_error_level report.level && flags.treat_err_as_bug
 
+-- a bug that waits is entered, and printed at once where the flags say so
+abbrev pub delayed_after : HandlerFlags → Books → Report → Books
+delayed_after flags books report = let now = if flags.report_delayed_bugs then booked flags books report else books in record now { delayed = books.delayed ++ report ∷ [] }
+
+abbrev pub delayed_news : HandlerFlags → Books → Report → List Report
+delayed_news flags books report = if flags.report_delayed_bugs then news books report else []
+
 -- the same for reports one after another
 abbrev pub booked_all : HandlerFlags → Books → List Report → Books
 booked_all flags books [] = books

@@ -9,7 +9,7 @@ use Rattle.jsx_report.specs.declared.error.EmitError.TheVariants.{WriteFault, Me
 use Rattle.jsx_report.specs.declared.error.HandlerError.{HandlerError}
 use Rattle.jsx_report.specs.declared.error.HandlerError.TheVariants.{Emit, ExplicitBug, FatalError, Memory}
 use Rattle.jsx_report.specs.Emitter.{PrintsAll, PrintsFront, ShowAlike, is_empty}
-use Rattle.jsx_report.specs.Books.{Books, is_bug, booked, news}
+use Rattle.jsx_report.specs.Books.{Books, is_bug, booked, news, delayed_after, delayed_news}
 
 abbrev pub emitter_of : {E : Type 0} → Handler E → E
 emitter_of handler = handler.emitter
@@ -36,6 +36,10 @@ stop_after goes_on count (Err e) = Err e
 
 abbrev pub answer_stopping : HandlerFlags → Bool → Books → Report → Result (Unit {0}) HandlerError
 answer_stopping flags goes_on books report = stop_after goes_on (booked flags books report).count (answer_to flags books report)
+
+-- what is answered to a bug that waits
+abbrev pub answer_delayed : HandlerFlags → Books → Report → Result (Unit {0}) HandlerError
+answer_delayed flags books report = if flags.report_delayed_bugs then answer_to flags books report else Ok tt
 
 -- what is answered to an error that is a bug where the flags say so
 abbrev pub bug_or_ok : {T : Type 0} → HandlerFlags → T → Result T HandlerError
@@ -122,3 +126,7 @@ module _ {E : Type 0} (text : E → Option Text) (faults : E → ℕ) (explains 
   -- The report is handed in: where it is news, it is printed and entered.
   abbrev pub Reports : {T : Type 0} → Report → Handler E → Handler E → Result T HandlerError → Type 0
   Reports report old new result = Hands (news (books_of old) report) (booked old.flags (books_of old) report) old new result
+
+  -- The report is entered as a bug that waits.
+  abbrev pub Delays : {T : Type 0} → Report → Handler E → Handler E → Result T HandlerError → Type 0
+  Delays report old new result = Hands (delayed_news old.flags (books_of old) report) (delayed_after old.flags (books_of old) report) old new result

@@ -4,3 +4,5 @@ pub mod Books
 pub mod Made
 pub mod Handler
 pub mod Builder
+pub mod Ending
+pub mod Stop

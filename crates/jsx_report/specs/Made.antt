@@ -1,5 +1,5 @@
 -- The reports that a handler makes.
-use Rattle.std.specs.Prelude.{Bool, true, false, not, ◌&&◌, if◌then◌else◌, Option, None, ◌++◌, codes}
+use Rattle.std.specs.Prelude.{Bool, true, false, not, ◌&&◌, ◌||◌, if◌then◌else◌, Option, None, ◌++◌, codes}
 use Rattle.jsx_base.specs.MultiSpan.{Spans}
 use Rattle.jsx_diag.specs.declared.flags.HandlerFlags.{HandlerFlags}
 use Rattle.jsx_diag.specs.declared.level.Level.{Level}
@@ -40,3 +40,11 @@ bug_or flags level = if flags.treat_err_as_bug then Bug else level
 
 abbrev pub unimplemented : Text → Text
 unimplemented message = codes "unimplemented " ++ message
+
+-- the same report, as a bug
+abbrev pub as_bug : Report → Report
+as_bug report = record report { level = Bug }
+
+-- reports that could wait don't
+abbrev pub is_at_once : HandlerFlags → Bool
+is_at_once flags = flags.dont_buffer_diagnostics || flags.treat_err_as_bug

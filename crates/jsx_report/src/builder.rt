@@ -1,5 +1,8 @@
 //! A report that is being made. It has to be spent: there is no way to drop it.
 
+ghost use Rattle.std.specs.Prelude.{◌≡◌, [], ◌∷◌, ◌++◌, map, OnOk, OnErr};
+ghost use Rattle.jsx_diag.specs.Data.{report_of};
+
 mod notes;
 mod suggestions;
 
@@ -20,14 +23,14 @@ pub struct DiagnosticBuilder<'a, E: Emitter, D = Diagnostic> {
 }
 
 impl<'a, E: Emitter> DiagnosticBuilder<'a, E> {
-    ghost use Rattle.std.specs.Prelude.{◌≡◌, true, IsOk, IfOk};
+    ghost use Rattle.std.specs.Prelude.{◌≡◌, [], ◌∷◌, ◌++◌, map, true, Ok, Err, IsTrue, IsFalse, IsOk, IfOk, OnOk, OnErr};
     ghost use Rattle.std.specs.Option.{option_map};
     ghost use Rattle.std.specs.Borrow.{sem, RestsIfErr};
     ghost use Rattle.jsx_diag.specs.Data.{code_of, report_of};
     ghost use Rattle.jsx_diag.specs.Adds.{new_report};
     ghost use Rattle.jsx_report.specs.contracts.handler.Handler.{the_row};
-    ghost use Rattle.jsx_report.specs.Made.{plain_report};
-    ghost use Rattle.jsx_report.specs.Handler.{OnWent, Reports, answer_to, books_of};
+    ghost use Rattle.jsx_report.specs.Made.{as_bug, is_at_once, plain_report};
+    ghost use Rattle.jsx_report.specs.Handler.{Delays, Hands, OnWent, Reports, answer_delayed, answer_to, books_of};
     ghost use Rattle.jsx_report.specs.Builder.{diagnostic_of, suggests};
 
     /// A report of one plain message, which points nowhere.
@@ -130,6 +133,66 @@ impl<'a, E: Emitter> DiagnosticBuilder<'a, E> {
         handler.report(diagnostic)
     }
 
+    /// Keeps the report for later, also a cancelled one, or emits it where the flags say that reports
+    /// don't wait.
+    ///
+    /// # Errors
+    ///
+    /// Those of `emit` where it is emitted, or `Memory` for want of memory. The list is then as before.
+    pub fn buffer(self, buffered_diagnostics: &mut Vec<Diagnostic>) -> Result<(), HandlerError>
+        ensures reports { IsTrue (is_at_once self.entry.handler.now.flags) → Reports E.text E.faults E.explains E.shows (report_of (diagnostic_of self.entry)) self.entry.handler.now self.exit.0.now result }
+        ensures answer { IsTrue (is_at_once self.entry.handler.now.flags) → OnWent result (result ≡ answer_to self.entry.handler.now.flags (books_of self.entry.handler.now) (report_of (diagnostic_of self.entry))) }
+        ensures same_list { IsTrue (is_at_once self.entry.handler.now.flags) → buffered_diagnostics.new.items ≡ buffered_diagnostics.old.items }
+
+        ensures added { IsFalse (is_at_once self.entry.handler.now.flags) → OnOk result (map report_of buffered_diagnostics.new.items ≡ map report_of buffered_diagnostics.old.items ++ report_of (diagnostic_of self.entry) ∷ []) }
+        ensures kept { OnErr result (map report_of buffered_diagnostics.new.items ≡ map report_of buffered_diagnostics.old.items) }
+        ensures wanting { IsFalse (is_at_once self.entry.handler.now.flags) → OnErr result (result ≡ Err HandlerError.Memory) }
+        ensures same_handler { IsFalse (is_at_once self.entry.handler.now.flags) → self.exit.0.now ≡ self.entry.handler.now }
+    {
+        let DiagnosticBuilder {
+            handler,
+            diagnostic,
+            allow_suggestions: _,
+        } = self;
+        if handler.flags.dont_buffer_diagnostics || handler.flags.treat_err_as_bug {
+            return handler.report(diagnostic);
+        }
+        push(buffered_diagnostics, diagnostic)?;
+        Ok(())
+    }
+
+    /// Enters the report as a bug that waits, as `delay_span_bug` does, also a cancelled one.
+    ///
+    /// # Errors
+    ///
+    /// `ExplicitBug` where it is printed at once and shows a bug, `Emit` where the emitter refused it,
+    /// `Memory` for want of memory. After the last two the books are as before.
+    pub fn delay_as_bug(self) -> Result<(), HandlerError>
+        ensures delays { Delays E.text E.faults E.explains E.shows (as_bug (report_of (diagnostic_of self.entry))) self.entry.handler.now self.exit.0.now result }
+        ensures answer { OnWent result (result ≡ answer_delayed self.entry.handler.now.flags (books_of self.entry.handler.now) (as_bug (report_of (diagnostic_of self.entry)))) }
+    {
+        let DiagnosticBuilder {
+            handler,
+            mut diagnostic,
+            allow_suggestions: _,
+        } = self;
+        diagnostic.level = Level::Bug;
+        handler.delay(diagnostic)
+    }
+
+    // Prints the report, whether it is news or not, and enters nothing.
+    pub(crate) fn print(self) -> Result<(), HandlerError>
+        ensures hands { Hands E.text E.faults E.explains E.shows (report_of (diagnostic_of self.entry) ∷ []) (books_of self.entry.handler.now) self.entry.handler.now self.exit.0.now result }
+        ensures answer { OnWent result (result ≡ Ok tt) }
+    {
+        let DiagnosticBuilder {
+            handler,
+            diagnostic,
+            allow_suggestions: _,
+        } = self;
+        handler.print(&diagnostic)
+    }
+
     /// Lets the report go. Nothing is printed.
     pub fn cancel(self)
         ensures { self.exit.0.now ≡ self.entry.handler.now }
@@ -140,6 +203,15 @@ impl<'a, E: Emitter> DiagnosticBuilder<'a, E> {
             allow_suggestions: _,
         } = self;
     }
+}
+
+// Puts a report behind the others.
+fn push(reports: &mut Vec<Diagnostic>, report: Diagnostic) -> Result<(), AllocError>
+    ensures added { OnOk result (map report_of reports.new.items ≡ map report_of reports.old.items ++ report_of report ∷ []) }
+    ensures kept { OnErr result (map report_of reports.new.items ≡ map report_of reports.old.items) }
+{
+    reports.push(report)?;
+    Ok(())
 }
 
 impl<E: Emitter> Deref for DiagnosticBuilder<'_, E> {

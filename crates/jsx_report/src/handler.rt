@@ -2,6 +2,8 @@
 
 mod bugs;
 mod builders;
+mod delayed;
+mod ending;
 mod levels;
 mod report;
 mod settings;

@@ -1,12 +1,12 @@
 //! Reports to be made further, one call for each level.
 
-use crate::{DiagnosticBuilder, Emitter, Handler};
+use crate::{DiagnosticBuilder, Emitter, Handler, HandlerError};
 use jsx_base::{MultiSpan, Span};
 use jsx_diag::{Diagnostic, DiagnosticId, Level};
 use std::alloc::AllocError;
 
 impl<E: Emitter> Handler<E> {
-    ghost use Rattle.std.specs.Prelude.{◌≡◌, [], ◌∷◌, true, Some, None, IfOk};
+    ghost use Rattle.std.specs.Prelude.{◌≡◌, [], ◌∷◌, true, Some, None, Ok, IfOk};
     ghost use Rattle.std.specs.Option.{option_map};
     ghost use Rattle.std.specs.Borrow.{sem, RestsIfErr};
     ghost use Rattle.jsx_base.specs.MultiSpan.{spans_of};
@@ -14,6 +14,7 @@ impl<E: Emitter> Handler<E> {
     ghost use Rattle.jsx_diag.specs.Adds.{new_report, nowhere};
     ghost use Rattle.jsx_report.specs.contracts.handler.Handler.{the_row};
     ghost use Rattle.jsx_report.specs.Made.{heard, plain_report, report_at};
+    ghost use Rattle.jsx_report.specs.Handler.{Hands, OnWent, books_of};
     ghost use Rattle.jsx_report.specs.Builder.{diagnostic_of, suggests};
 
     /// A cancelled report.
@@ -263,6 +264,18 @@ impl<E: Emitter> Handler<E> {
         ensures { err.exit.0.now ≡ err.entry.handler.now }
     {
         err.cancel();
+    }
+
+    /// Prints the report, also where an equal one was entered or it is cancelled, and enters nothing.
+    ///
+    /// # Errors
+    ///
+    /// `Emit` where the emitter refused it.
+    pub fn force_print_db(db: DiagnosticBuilder<'_, E>) -> Result<(), HandlerError>
+        ensures hands { Hands E.text E.faults E.explains E.shows (report_of (diagnostic_of db.entry) ∷ []) (books_of db.entry.handler.now) db.entry.handler.now db.exit.0.now result }
+        ensures answer { OnWent result (result ≡ Ok tt) }
+    {
+        db.print()
     }
 
     // The level, or `Cancelled` for a warning where warnings are off.

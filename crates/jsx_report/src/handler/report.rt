@@ -6,7 +6,7 @@ use jsx_base::MultiSpan;
 use jsx_diag::{Diagnostic, DiagnosticId, Level};
 
 impl<E: Emitter> Handler<E> {
-    ghost use Rattle.std.specs.Prelude.{◌≡◌, ◌<◌, false, map, IsTrue};
+    ghost use Rattle.std.specs.Prelude.{◌≡◌, ◌<◌, [], ◌∷◌, false, Ok};
     ghost use Rattle.std.specs.Option.{option_map};
     ghost use Rattle.indexmap.specs.IndexSet.{spare};
     ghost use Rattle.jsx_diag.specs.Level.{is_error_level};
@@ -14,7 +14,7 @@ impl<E: Emitter> Handler<E> {
     ghost use Rattle.jsx_base.specs.MultiSpan.{spans_of};
     ghost use Rattle.jsx_report.specs.Made.{plain_report, report_at};
     ghost use Rattle.jsx_report.specs.Books.{counted, entered, knows_report};
-    ghost use Rattle.jsx_report.specs.Handler.{OnWent, Reports, answer_to, answer_entered, books_of, continues, emitter_of};
+    ghost use Rattle.jsx_report.specs.Handler.{Hands, OnWent, Reports, answer_to, answer_entered, books_of, continues, emitter_of};
 
     // Prints a report and enters it, where it is news.
     pub(crate) fn report(&mut self, report: Diagnostic) -> Result<(), HandlerError>
@@ -86,5 +86,14 @@ impl<E: Emitter> Handler<E> {
         let mut report = Diagnostic::new_with_code(self.allocator(), level, code, msg)?;
         report.set_span(span);
         self.report(report)
+    }
+
+    // Prints a report, whether it is news or not, and enters nothing.
+    pub(crate) fn print(&mut self, report: &Diagnostic) -> Result<(), HandlerError>
+        ensures hands { Hands E.text E.faults E.explains E.shows (report_of report.now ∷ []) (books_of self.old) self.old self.new result }
+        ensures answer { OnWent result (result ≡ Ok tt) }
+    {
+        self.emitter.emit(report, &self.flags)?;
+        Ok(())
     }
 }
