@@ -1,3 +1,4 @@
 pub mod Equality
 pub mod Sets
 pub mod Ending
+pub mod Waiting

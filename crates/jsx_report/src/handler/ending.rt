@@ -1,21 +1,63 @@
 //! The ends of a run: the bugs that waited, and how many errors there were.
 
+ghost use Rattle.std.specs.Prelude.{◌≡◌, ◌≤◌, vec_len, drop};
+
 use crate::{Emitter, Handler, HandlerError};
 use jsx_diag::Diagnostic;
 use std::mem;
 
 // Why reports weren't all handed in, and how many were before.
+#[derive(Drop)]
 struct Stop {
     done: usize,
     error: HandlerError,
 }
 
 impl<E: Emitter> Handler<E> {
-    ghost use Rattle.std.specs.Prelude.{◌≡◌, ◌<◌, length, map, IfErr};
+    ghost use Rattle.std.specs.Prelude.{◌≡◌, ◌≢◌, ◌<◌, not, length, map, IsOk, IfOk, IfErr};
     ghost use Rattle.jsx_diag.specs.Data.{report_of};
     ghost use Rattle.jsx_report.specs.Handler.{OnWent, Reports, answer_to, books_of};
-    ghost use Rattle.jsx_report.specs.Ending.{HandsSome, answer_all};
+    ghost use Rattle.jsx_report.specs.Emitter.{is_empty};
+    ghost use Rattle.jsx_report.specs.Ending.{HandsAll, HandsSome, answer_all, waiting, without_value};
     ghost use Rattle.jsx_report.specs.Stop.{done_of, rest_of, stop_answer};
+
+    /// Reports the bugs that waited, if no error was counted, and answers whether there were any. None
+    /// waits any longer then.
+    ///
+    /// # Errors
+    ///
+    /// Those of a report. It ends at the first: the reports before it wait no more, and are in the
+    /// books; it and those behind it wait.
+    pub fn finish(&mut self) -> Result<bool, HandlerError>
+        ensures any { IfOk result (λ any. any ≡ not (is_empty (books_of self.old).delayed)) }
+        ensures hands { (books_of self.old).count ≡ 0 → HandsAll E.text E.faults E.explains E.shows waiting (books_of self.old).delayed self.old self.new result }
+        ensures answer { (books_of self.old).count ≡ 0 → OnWent result (without_value result ≡ answer_all self.old.flags (books_of self.old) (books_of self.old).delayed) }
+        ensures counted { (books_of self.old).count ≢ 0 → IsOk result }
+        ensures kept { (books_of self.old).count ≢ 0 → self.new ≡ self.old }
+    {
+        let any = !self.delayed.is_empty();
+        if self.err_count == 0 {
+            self.report_delayed()?;
+        }
+        Ok(any)
+    }
+
+    // Hands in the bugs that waited. From the first on that is refused or shows a bug, they wait further.
+    fn report_delayed(&mut self) -> Result<(), HandlerError>
+        ensures hands { HandsAll E.text E.faults E.explains E.shows waiting (books_of self.old).delayed self.old self.new result }
+        ensures answer { OnWent result (result ≡ answer_all self.old.flags (books_of self.old) (books_of self.old).delayed) }
+    {
+        let none = Vec::new(self.allocator());
+        let mut bugs = mem::replace(&mut self.delayed, none);
+        match self.report_each(&bugs) {
+            Ok(()) => Ok(()),
+            Err(stop) => {
+                drop_front(&mut bugs, stop.done);
+                self.delayed = bugs;
+                Err(stop.error)
+            }
+        }
+    }
 
     // Hands in copies of these reports, up to the first that is refused or shows a bug.
     fn report_each(&mut self, reports: &[Diagnostic]) -> Result<(), Stop>
@@ -41,4 +83,12 @@ impl<E: Emitter> Handler<E> {
         let copy = report.try_clone(self.allocator())?;
         self.report(copy)
     }
+}
+
+// Lets go of the first so many reports.
+fn drop_front(reports: &mut Vec<Diagnostic>, count: usize)
+    requires { count ≤ vec_len reports.old }
+    ensures { reports.new.items ≡ drop count reports.old.items }
+{
+    reports.drain(..count);
 }
