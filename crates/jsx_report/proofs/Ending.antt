@@ -1,9 +1,10 @@
 -- One report after another.
-use Rattle.std.proofs.Common.{◌≡◌, ℕ, ◌≤◌, Bool, true, false, not, List, [], ◌∷◌, ◌++◌, Option, Result, Ok, Err, IsTrue, refl, sym, ap, subst, true≢false, ◌∙◌, append_assoc, append-nil, suc, ◌+◌, ◌<◌, map, length, take, drop, get_or, take-suc, drop-cons, add-one, rules, arith}
+use Rattle.std.proofs.Common.{◌≡◌, ℕ, ◌≤◌, Bool, true, false, not, ◌&&◌, List, [], ◌∷◌, ◌++◌, Option, Result, Ok, Err, IsTrue, refl, sym, ap, subst, true≢false, ◌∙◌, append_assoc, append-nil, suc, ◌+◌, ◌<◌, map, length, take, drop, get_or, take-suc, drop-cons, add-one, rules, arith}
 use Rattle.std.specs.Prelude.{if◌then◌else◌}
 use Rattle.std.proofs.lemmas.List.{get_or-map, length-map}
 use Rattle.jsx_base.specs.Faults.{Rose}
 use Rattle.jsx_diag.specs.declared.flags.HandlerFlags.{HandlerFlags}
+use Rattle.jsx_diag.specs.Level.{is_error_level}
 use Rattle.jsx_diag.specs.Data.{Text, Report}
 use Rattle.jsx_report.specs.declared.handler.Handler.{Handler}
 use Rattle.jsx_report.specs.declared.error.EmitError.TheVariants.{WriteFault, Memory as NoRoom}
@@ -72,6 +73,16 @@ answer_ended ExplicitBug f g b m done r later flags before went step = answers_e
 answer_ended FatalError f g b m done r later flags before went step = answers_end FatalError f g b m done r later flags before went step
 answer_ended (Emit e) f g b m done r later flags before went step = tt
 answer_ended Memory f g b m done r later flags before went step = tt
+
+no_bug : (x t : Bool) → t ≡ false → (if◌then◌else◌ {A = Result (Unit {0}) HandlerError} (x && t) (Err ExplicitBug) (Ok tt)) ≡ Ok tt
+no_bug true t h = rw h refl
+no_bug false t h = refl
+
+-- where errors aren't bugs, nothing ends it but a refusal
+pub answers_fine : (f : HandlerFlags) (b : Books) (rs : List Report) → f.treat_err_as_bug ≡ false → answer_all f b rs ≡ Ok tt
+answers_fine f b [] h = refl
+answers_fine f b (r ∷ rs) h =
+    ap (λ (x : Result (Unit {0}) HandlerError). and_then x (answer_all f (booked f b r) rs)) (no_bug (is_news b r && is_error_level r.level) f.treat_err_as_bug h) ∙ answers_fine f (booked f b r) rs h
 
 -- the next report, where it is the i-th
 mapped_at : {X Y : Type 0} (f : X → Y) (xs : List X) (i : ℕ) (x : X) → i < length xs → x ≡ get_or xs i x → get_or (map f xs) i (f x) ≡ f x

@@ -2,3 +2,5 @@ pub mod Equality
 pub mod Sets
 pub mod Ending
 pub mod Waiting
+pub mod Order
+pub mod Texts

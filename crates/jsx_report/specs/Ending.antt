@@ -1,5 +1,5 @@
 -- Reports one after another, and what a run ends with.
-use Rattle.std.specs.Prelude.{◌≡◌, ℕ, ◌≤◌, ◌<◌, Bool, true, false, not, ◌&&◌, if◌then◌else◌, nat_eq, nat_lt, List, [], ◌∷◌, ◌++◌, length, take, drop, filter_map, Option, Some, None, Result, Ok, Err, IsTrue, IsPermutation, OnOk, codes, decimal, ⊤}
+use Rattle.std.specs.Prelude.{◌≡◌, ◌⊎◌, ℕ, ◌≤◌, ◌<◌, Bool, true, false, not, ◌&&◌, if◌then◌else◌, nat_eq, nat_lt, List, [], ◌∷◌, ◌++◌, length, take, flat_map, Option, Some, None, Result, Ok, Err, IsTrue, IsPermutation, OnOk, codes, decimal, ⊤}
 use Rattle.std.specs.Ordering.{nat_cmp, is_lt}
 use Rattle.std.specs.Cmp.Lexicographic.{slice_cmp}
 use Rattle.jsx_base.specs.Faults.{Rose}
@@ -81,11 +81,14 @@ waiting delayed books = record books { delayed = delayed }
 abbrev pub as_booked : List Report → Books → Books
 as_booked rest books = books
 
+-- the name, where the code is one of errors
+abbrev pub error_name : Code → List Text
+error_name (ErrorCode name) = name ∷ []
+error_name (LintCode name) = []
+
 -- the names of errors among codes
 abbrev pub error_names : List Code → List Text
-error_names [] = []
-error_names (ErrorCode name ∷ codes) = name ∷ error_names codes
-error_names (LintCode name ∷ codes) = error_names codes
+error_names codes = flat_map error_name codes
 
 -- no text is less than the one before it, by their bytes
 abbrev pub IsInByteOrder : List Text → Type 0
@@ -98,31 +101,45 @@ pub record IsNamesOf (seen : List Code) (names : List Text) : Type 0 where
   pub same : IsPermutation (error_names seen) names
   pub order : IsInByteOrder names
 
--- the names with a comma between each two
-abbrev pub listed : List Text → Text
-listed [] = []
-listed (a ∷ []) = a
-listed (a ∷ b ∷ names) = a ++ codes ", " ++ listed (b ∷ names)
-
 abbrev pub count_text : ℕ → Text
 count_text count = if nat_eq count 1 then codes "aborting due to previous error" else codes "aborting due to " ++ decimal count ++ codes " previous errors"
 
--- at most nine names
-abbrev pub some_errors_text : List Text → Text
-some_errors_text names = codes "Some errors occurred: " ++ listed (take 9 names) ++ (if nat_lt 9 (length names) then codes "..." else codes ".")
+abbrev pub with_comma : Text → Text
+with_comma name = codes ", " ++ name
 
-abbrev pub this_error_text : Text → Text
+-- the first name and at most eight more; three dots say that there are others
+unfoldable pub some_errors_text : Text → List Text → Text
+some_errors_text first others = codes "Some errors occurred: " ++ first ++ flat_map with_comma (take 8 others) ++ (if nat_lt 8 (length others) then codes "..." else codes ".")
+
+unfoldable pub this_error_text : Text → Text
 this_error_text name = codes "For more information about this error, try `rustc --explain " ++ name ++ codes "`."
 
-abbrev pub an_error_text : Text → Text
+unfoldable pub an_error_text : Text → Text
 an_error_text name = codes "For more information about an error, try `rustc --explain " ++ name ++ codes "`."
 
 -- what is said of the errors by their names
 abbrev pub explanations : List Text → List Report
 explanations [] = []
 explanations (a ∷ []) = plain_report FailureNote (this_error_text a) ∷ []
-explanations (a ∷ b ∷ names) = plain_report FailureNote (some_errors_text (a ∷ b ∷ names)) ∷ plain_report FailureNote (an_error_text a) ∷ []
+explanations (a ∷ b ∷ names) = plain_report FailureNote (some_errors_text a (b ∷ names)) ∷ plain_report FailureNote (an_error_text a) ∷ []
 
 -- what a run with errors ends with
 abbrev pub closing : ℕ → Bool → List Text → List Report
 closing count explained names = plain_report Fatal (count_text count) ∷ (if explained then explanations names else [])
+
+-- what was made to be handed in at the end
+pub record IsClosing (count : ℕ) (explained : Bool) (seen : List Code) (reports : List Report) : Type 0 where
+  pub names : List Text
+  pub named : IsNamesOf seen names
+  pub reports_are : reports ≡ closing count explained names
+
+module _ {E : Type 0} (text : E → Option Text) (faults : E → ℕ) (explains : E → Bool) (shows : E → HandlerFlags → Report → Text → Type 0) where
+  -- What a run with errors ends with was handed in.
+  pub record Closes {T : Type 0} (old new : Handler E) (result : Result T HandlerError) : Type 0 where
+    pub reports : List Report
+    pub closing : IsClosing (books_of old).count (explains (emitter_of old)) (books_of old).seen reports
+    pub hands : HandsAll text faults explains shows as_booked reports old new result
+
+  -- Or memory was wanting before the first of it, and nothing has changed.
+  abbrev pub ClosesOrWants : {T : Type 0} → Handler E → Handler E → Result T HandlerError → Type 0
+  ClosesOrWants old new result = Closes old new result ⊎ ((result ≡ Err Memory) × (new ≡ old))

@@ -2,9 +2,13 @@
 
 ghost use Rattle.std.specs.Prelude.{◌≡◌, ◌≤◌, vec_len, drop};
 
+mod texts;
+
 use crate::{Emitter, Handler, HandlerError};
-use jsx_diag::Diagnostic;
+use jsx_diag::{Diagnostic, Level};
+use std::alloc::AllocError;
 use std::mem;
+use texts::{count_text, error_names, push_explanations, push_plain};
 
 // Why reports weren't all handed in, and how many were before.
 #[derive(Drop)]
@@ -14,11 +18,12 @@ struct Stop {
 }
 
 impl<E: Emitter> Handler<E> {
-    ghost use Rattle.std.specs.Prelude.{◌≡◌, ◌≢◌, ◌<◌, not, length, map, IsOk, IfOk, IfErr};
+    ghost use Rattle.std.specs.Prelude.{◌≡◌, ◌≢◌, ◌<◌, not, length, map, nat_eq, if◌then◌else◌, Ok, IsTrue, IsFalse, IsOk, IfOk, IfErr};
     ghost use Rattle.jsx_diag.specs.Data.{report_of};
-    ghost use Rattle.jsx_report.specs.Handler.{OnWent, Reports, answer_to, books_of};
+    ghost use Rattle.jsx_report.specs.Handler.{OnWent, Reports, answer_to, books_of, bug_or_ok, emitter_of};
+    ghost use Rattle.jsx_report.specs.Made.{plain_report};
     ghost use Rattle.jsx_report.specs.Emitter.{is_empty};
-    ghost use Rattle.jsx_report.specs.Ending.{HandsAll, HandsSome, answer_all, waiting, without_value};
+    ghost use Rattle.jsx_report.specs.Ending.{ClosesOrWants, HandsAll, HandsSome, IsClosing, answer_all, as_booked, count_text, waiting, without_value};
     ghost use Rattle.jsx_report.specs.Stop.{done_of, rest_of, stop_answer};
 
     /// Reports the bugs that waited, if no error was counted, and answers whether there were any. None
@@ -40,6 +45,57 @@ impl<E: Emitter> Handler<E> {
             self.report_delayed()?;
         }
         Ok(any)
+    }
+
+    /// Says how many errors were counted, if there were any, and where the errors that have a code are
+    /// explained, if the emitter shows that. Where the flags say that errors are bugs, it is a bug.
+    ///
+    /// # Errors
+    ///
+    /// `ExplicitBug` where the flags say so, `Emit` where the emitter refused a report, `Memory` for want
+    /// of memory. It ends at the first; the reports before it are in the books.
+    pub fn print_error_count(&mut self) -> Result<(), HandlerError>
+        ensures nothing { (books_of self.old).count ≡ 0 → (result ≡ Ok tt) × (self.new ≡ self.old) }
+        ensures bug { (books_of self.old).count ≢ 0 → IsTrue self.old.flags.treat_err_as_bug → Reports E.text E.faults E.explains E.shows (plain_report Level.Bug (count_text (books_of self.old).count)) self.old self.new result }
+        ensures closes { (books_of self.old).count ≢ 0 → IsFalse self.old.flags.treat_err_as_bug → ClosesOrWants E.text E.faults E.explains E.shows self.old self.new result }
+        ensures answer { OnWent result (result ≡ (if nat_eq (books_of self.old).count 0 then Ok tt else bug_or_ok self.old.flags tt)) }
+    {
+        if self.err_count == 0 {
+            return Ok(());
+        }
+        let message = count_text(self.allocator(), self.err_count)?;
+        if self.flags.treat_err_as_bug {
+            return Err(self.bug(message.as_str()));
+        }
+        let reports = self.closing_reports(message.as_str())?;
+        self.report_closing(&reports)
+    }
+
+    // The reports that a run with errors ends with.
+    fn closing_reports(&self, message: &str) -> Result<Vec<Diagnostic>, AllocError>
+        requires { message.now ≡ count_text (books_of self.now).count }
+        ensures { IfOk result (λ reports. IsClosing (books_of self.now).count (E.explains (emitter_of self.now)) (books_of self.now).seen (map report_of reports.items)) }
+    {
+        let alloc = self.allocator();
+        let names = error_names(alloc, self.seen.as_slice())?;
+        let mut reports = Vec::new(alloc);
+        push_plain(alloc, &mut reports, Level::Fatal, message)?;
+        if self.emitter.should_show_explain() {
+            push_explanations(alloc, &mut reports, &names)?;
+        }
+        Ok(reports)
+    }
+
+    // Hands in these reports, where errors aren't bugs.
+    fn report_closing(&mut self, reports: &[Diagnostic]) -> Result<(), HandlerError>
+        requires { IsFalse self.old.flags.treat_err_as_bug }
+        ensures hands { HandsAll E.text E.faults E.explains E.shows as_booked (map report_of reports.now) self.old self.new result }
+        ensures answer { OnWent result (result ≡ Ok tt) }
+    {
+        match self.report_each(reports) {
+            Ok(()) => Ok(()),
+            Err(stop) => Err(stop.error),
+        }
     }
 
     // Hands in the bugs that waited. From the first on that is refused or shows a bug, they wait further.
