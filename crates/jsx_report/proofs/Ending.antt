@@ -1,5 +1,5 @@
 -- One report after another.
-use Rattle.std.proofs.Common.{◌≡◌, ℕ, ◌≤◌, Bool, true, false, not, ◌&&◌, List, [], ◌∷◌, ◌++◌, Option, Result, Ok, Err, IsTrue, refl, sym, ap, subst, true≢false, ◌∙◌, append_assoc, append-nil, suc, ◌+◌, ◌<◌, map, length, take, drop, get_or, take-suc, drop-cons, add-one, rules, arith}
+use Rattle.std.proofs.Common.{◌≡◌, ℕ, ◌≤◌, Bool, true, false, not, ◌&&◌, List, [], ◌∷◌, ◌++◌, Option, Result, Ok, Err, IsTrue, refl, sym, ap, subst, true≢false, ◌∙◌, append_assoc, append-nil, suc, ◌+◌, ◌<◌, map, length, take, drop, get_or, take-suc, drop-cons, add-one, arith}
 use Rattle.std.specs.Prelude.{if◌then◌else◌}
 use Rattle.std.proofs.lemmas.List.{get_or-map, length-map}
 use Rattle.jsx_base.specs.Faults.{Rose}
@@ -10,10 +10,10 @@ use Rattle.jsx_report.specs.declared.handler.Handler.{Handler}
 use Rattle.jsx_report.specs.declared.error.EmitError.TheVariants.{WriteFault, Memory as NoRoom}
 use Rattle.jsx_report.specs.declared.error.HandlerError.{HandlerError}
 use Rattle.jsx_report.specs.declared.error.HandlerError.TheVariants.{Emit, ExplicitBug, FatalError, Memory}
-use Rattle.jsx_report.specs.Emitter.{Prints, PrintsPrefix, PrintsAll, PrintsFront, ShowAlike, is_empty}
+use Rattle.jsx_report.specs.Emitter.{PrintsPrefix, PrintsAll, PrintsFront, ShowAlike, is_empty}
 use Rattle.jsx_report.specs.Books.{Books, is_news, booked, news, booked_all, news_all}
-use Rattle.jsx_report.specs.Handler.{KeepsSettings, OnWent, Reports, answer_to, books_of, continues, emitter_of}
-use Rattle.jsx_report.specs.Ending.{HandsSome, and_then, answer_all, first_of}
+use Rattle.jsx_report.specs.Handler.{KeepsSettings, OnWent, Reports, answer_to, books_of, emitter_of}
+use Rattle.jsx_report.specs.Ending.{HandsSome, and_then, answer_all}
 
 pub booked_all-append : (f : HandlerFlags) (b : Books) (rs ss : List Report) → booked_all f b (rs ++ ss) ≡ booked_all f (booked_all f b rs) ss
 booked_all-append f b [] ss = refl
@@ -117,7 +117,7 @@ module _ {E : Type 0} (text : E → Option Text) (faults : E → ℕ) (explains 
         same_will = two.same_will ∙ one.same_will;
         same_explains = two.same_explains ∙ one.same_explains;
         same_pages = ShowAlike_trans (shows (emitter_of a)) (shows (emitter_of b)) (shows (emitter_of c)) one.same_pages two.same_pages;
-        never_falls = omega arith
+        never_falls = omega arith;
       }
 
   -- nothing was handed in yet
@@ -127,22 +127,23 @@ module _ {E : Type 0} (text : E → Option Text) (faults : E → ℕ) (explains 
   -- one report more went well
   pub one_more_went : (done : List Report) (r : Report) (old mid new : Handler E) → HandsSome text faults explains shows {T = Unit {0}} (λ b. b) done [] old mid (Ok tt) → Reports text faults explains shows {T = Unit {0}} r mid new (Ok tt) → HandsSome text faults explains shows {T = Unit {0}} (λ b. b) (done ++ r ∷ []) [] old new (Ok tt)
   one_more_went done r old mid new before step = record {
-      whole = refl;
-      booked = step_books old.flags mid.flags (books_of old) (books_of mid) (books_of new) done r before.settings.same_flags before.booked step.booked;
-      between = text (emitter_of new);
-      printed = step_prints (shows (emitter_of old)) (shows (emitter_of mid)) old.flags mid.flags (books_of old) (books_of mid) done r (text (emitter_of old)) before.between (text (emitter_of new)) before.settings.same_pages before.settings.same_flags before.booked before.printed (subst (λ (t : Option Text). PrintsAll (shows (emitter_of mid) mid.flags) (news (books_of mid) r) t (text (emitter_of new))) before.quiet step.printed);
-      quiet = refl;
-      prefix = tt;
-      cause = tt;
-      asked = tt;
-      settings = settings_trans old mid new before.settings step.settings
-    }
+    whole = refl;
+    booked = step_books old.flags mid.flags (books_of old) (books_of mid) (books_of new) done r before.settings.same_flags before.booked step.booked;
+    between = text (emitter_of new);
+    printed = step_prints (shows (emitter_of old)) (shows (emitter_of mid)) old.flags mid.flags (books_of old) (books_of mid) done r (text (emitter_of old)) before.between (text (emitter_of new)) before.settings.same_pages before.settings.same_flags before.booked before.printed (subst (λ (t : Option Text). PrintsAll (shows (emitter_of mid) mid.flags) (news (books_of mid) r) t (text (emitter_of new))) before.quiet step.printed);
+    quiet = refl;
+    prefix = tt;
+    cause = tt;
+    asked = tt;
+    settings = settings_trans old mid new before.settings step.settings;
+  }
 
   -- the next report shows a bug
   bug_ended : (e : HandlerError) (done : List Report) (r : Report) (later : List Report) (old mid new : Handler E) → HandsSome text faults explains shows {T = Unit {0}} (λ b. b) done [] old mid (Ok tt) → (books_of new ≡ booked mid.flags (books_of mid) r) → PrintsAll (shows (emitter_of mid) mid.flags) (news (books_of mid) r) (text (emitter_of mid)) (text (emitter_of new)) → (books_of new ≡ booked_all old.flags (books_of old) (done ++ r ∷ [])) × PrintsAll (shows (emitter_of old) old.flags) (news_all old.flags (books_of old) (done ++ r ∷ [])) (text (emitter_of old)) (text (emitter_of new))
-  bug_ended e done r later old mid new before books pages =
-      (step_books old.flags mid.flags (books_of old) (books_of mid) (books_of new) done r before.settings.same_flags before.booked books,
-       step_prints (shows (emitter_of old)) (shows (emitter_of mid)) old.flags mid.flags (books_of old) (books_of mid) done r (text (emitter_of old)) before.between (text (emitter_of new)) before.settings.same_pages before.settings.same_flags before.booked before.printed (subst (λ (t : Option Text). PrintsAll (shows (emitter_of mid) mid.flags) (news (books_of mid) r) t (text (emitter_of new))) before.quiet pages))
+  bug_ended e done r later old mid new before books pages = (
+    step_books old.flags mid.flags (books_of old) (books_of mid) (books_of new) done r before.settings.same_flags before.booked books,
+    step_prints (shows (emitter_of old)) (shows (emitter_of mid)) old.flags mid.flags (books_of old) (books_of mid) done r (text (emitter_of old)) before.between (text (emitter_of new)) before.settings.same_pages before.settings.same_flags before.booked before.printed (subst (λ (t : Option Text). PrintsAll (shows (emitter_of mid) mid.flags) (news (books_of mid) r) t (text (emitter_of new))) before.quiet pages),
+  )
 
   -- the emitter was asked for the next report
   asked_at : (done : List Report) (r : Report) (f : HandlerFlags) (b m : Books) → m ≡ booked_all f b done → IsTrue (not (is_empty (news m r))) → IsTrue (not (is_empty (news_all f (booked_all f b done) (r ∷ []))))
@@ -177,7 +178,7 @@ module _ {E : Type 0} (text : E → Option Text) (faults : E → ℕ) (explains 
         prefix = front_at (shows (emitter_of old)) (shows (emitter_of mid)) old.flags mid.flags (books_of mid) r later before.between (text (emitter_of mid)) (text (emitter_of new)) before.settings.same_pages before.settings.same_flags before.quiet step.asked step.prefix;
         cause = grind (arith, low, rose);
         asked = asked_at done r old.flags (books_of old) (books_of mid) before.booked step.asked;
-        settings = settings_trans old mid new before.settings step.settings
+        settings = settings_trans old mid new before.settings step.settings;
       }
   ended (Emit NoRoom) done r later old mid new before step =
       record { whole = tt; booked = step.kept ∙ before.booked; between = before.between; printed = before.printed; quiet = step.unprinted ∙ before.quiet; prefix = tt; cause = tt; asked = asked_at done r old.flags (books_of old) (books_of mid) before.booked step.asked; settings = settings_trans old mid new before.settings step.settings }

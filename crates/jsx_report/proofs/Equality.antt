@@ -1,7 +1,7 @@
 -- The tests of `specs/Same.antt` decide equality, and the code's `==` gives the same answers.
-use Rattle.std.proofs.Common.{◌≡◌, ℕ, Bool, true, false, ◌&&◌, List, [], ◌∷◌, map, Option, Some, None, nat_eq, zero, suc, refl, sym, ap, true≢false, ◌∙◌, rules, arith}
+use Rattle.std.proofs.Common.{◌≡◌, ℕ, Bool, true, false, ◌&&◌, List, [], ◌∷◌, map, Option, Some, None, nat_eq, zero, suc, refl, sym, ap, true≢false, ◌∙◌, rules}
 use Rattle.std.specs.Bool.{Decides}
-use Rattle.std.specs.Option.{option_map, option_eq}
+use Rattle.std.specs.Option.{option_eq}
 use Rattle.std.specs.List.{list_any}
 use Rattle.std.specs.Cmp.Lexicographic.{pointwise, pointwise_decides}
 use Rattle.std.proofs.lemmas.Option.{same_Some}

@@ -4,3 +4,4 @@ pub mod Ending
 pub mod Waiting
 pub mod Order
 pub mod Texts
+mod Examples

@@ -1,5 +1,5 @@
 -- Which bugs wait changes nothing of what is entered and printed.
-use Rattle.std.proofs.Common.{◌≡◌, ℕ, Bool, true, false, not, List, [], ◌∷◌, ◌++◌, map, Option, Result, Ok, Err, IsTrue, refl, sym, ap, subst, ◌∙◌}
+use Rattle.std.proofs.Common.{◌≡◌, ℕ, Bool, true, false, not, List, [], ◌∷◌, ◌++◌, map, Option, Result, Ok, IsTrue, refl, ap, subst, ◌∙◌}
 use Rattle.std.specs.Prelude.{if◌then◌else◌, Vec}
 use Rattle.std.specs.declared.alloc.Global.{Global}
 use Rattle.jsx_diag.specs.declared.flags.HandlerFlags.{HandlerFlags}
@@ -52,8 +52,8 @@ module _ {E : Type 0} (text : E → Option Text) (faults : E → ℕ) (explains 
           same_will = h.settings.same_will;
           same_explains = h.settings.same_explains;
           same_pages = h.settings.same_pages;
-          never_falls = h.settings.never_falls
-        }
+          never_falls = h.settings.never_falls;
+        };
       }
 
   -- none is left

@@ -1,5 +1,5 @@
 -- The books of a handler: which reports were printed, and what was counted.
-use Rattle.std.specs.Prelude.{ℕ, Bool, true, not, ◌&&◌, if◌then◌else◌, List, [], ◌∷◌, ◌++◌, Option, Some, None}
+use Rattle.std.specs.Prelude.{ℕ, Bool, not, ◌&&◌, if◌then◌else◌, List, [], ◌∷◌, ◌++◌, Option, Some, None}
 use Rattle.std.specs.List.{list_any}
 use Rattle.jsx_base.specs.Faults.{one_more}
 use Rattle.jsx_diag.specs.declared.flags.HandlerFlags.{HandlerFlags}

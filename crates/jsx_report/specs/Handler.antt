@@ -1,5 +1,5 @@
 -- What clients see of a handler, and what a call leaves.
-use Rattle.std.specs.Prelude.{◌≡◌, ℕ, ◌≤◌, Bool, List, [], Option, Result, Ok, Err, IsTrue, map, if◌then◌else◌, ◌&&◌, not, nat_eq, ⊤}
+use Rattle.std.specs.Prelude.{◌≡◌, ℕ, ◌≤◌, Bool, List, Option, Result, Ok, Err, IsTrue, map, if◌then◌else◌, ◌&&◌, not, nat_eq, ⊤}
 use Rattle.jsx_base.specs.Faults.{Rose}
 use Rattle.jsx_diag.specs.declared.flags.HandlerFlags.{HandlerFlags}
 use Rattle.jsx_diag.specs.Data.{Text, Report, code_of, report_of}

@@ -16,3 +16,6 @@ pub use jsx_diag::{
     FatalError, FatalErrorMarker, HandlerFlags, Level, Message, StringPart, Style, SubDiagnostic,
     Substitution, SubstitutionPart,
 };
+
+#[cfg(test)]
+mod tests;

@@ -1,9 +1,8 @@
-use Rattle.std.proofs.Common.{◌≡◌, List, [], map, take, drop, append-nil, Result, Ok, Err, refl, sym, ap, subst, ◌∙◌}
+use Rattle.std.proofs.Common.{◌≡◌, [], map, take, drop, append-nil, Result, Err, sym, ap, subst, ◌∙◌}
 use Rattle.std.proofs.lemmas.List.{take-append-drop, drop-map}
-use Rattle.jsx_diag.specs.Data.{Report, report_of}
+use Rattle.jsx_diag.specs.Data.{report_of}
 use Rattle.jsx_report.specs.declared.error.HandlerError.{HandlerError}
 use Rattle.jsx_report.specs.Handler.{OnWent, books_of}
-use Rattle.jsx_report.specs.Ending.{answer_all}
 use Rattle.jsx_report.proofs.Waiting.{put_back, none_left, answer_all_waiting}
 use Rattle.jsx_report.proofs.handler.Handler.report_delayed.Goals as goal
 
@@ -16,7 +15,7 @@ returns-in-Ok-clause-hands g c =
       done = rs;
       rest = [];
       split = sym (append-nil rs);
-      hands = none_left g.E.Emitter.text g.E.Emitter.faults g.E.Emitter.explains g.E.Emitter.shows rs c.args.self.now c.report_each.new.self c.replace-bugs.new.dest none (rw taken at c.in-Ok.ensures.hands)
+      hands = none_left g.E.Emitter.text g.E.Emitter.faults g.E.Emitter.explains g.E.Emitter.shows rs c.args.self.now c.report_each.new.self c.replace-bugs.new.dest none (rw taken at c.in-Ok.ensures.hands);
     }
 
 pub returns-in-Ok-clause-answer : goal.returns-in-Ok-clause-answer
@@ -35,7 +34,7 @@ returns-in-Err-clause-hands g c =
       done = take n rs;
       rest = drop n rs;
       split = sym (take-append-drop n rs);
-      hands = put_back g.E.Emitter.text g.E.Emitter.faults g.E.Emitter.explains g.E.Emitter.shows (take n rs) (drop n rs) c.args.self.now c.report_each.new.self c.replace-bugs.new.dest c.drop_front.new.reports (Err c.in-Err.stop.error) put (rw taken at c.in-Err.ensures.hands)
+      hands = put_back g.E.Emitter.text g.E.Emitter.faults g.E.Emitter.explains g.E.Emitter.shows (take n rs) (drop n rs) c.args.self.now c.report_each.new.self c.replace-bugs.new.dest c.drop_front.new.reports (Err c.in-Err.stop.error) put (rw taken at c.in-Err.ensures.hands);
     }
 
 pub returns-in-Err-clause-answer : goal.returns-in-Err-clause-answer
