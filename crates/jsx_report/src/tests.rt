@@ -9,7 +9,7 @@ ghost use Rattle.std.specs.Prelude.{◌≡◌, ◌++◌, codes, string_bytes, If
 ghost use Rattle.std.specs.List.{flat_map};
 ghost use Rattle.jsx_diag.specs.Data.{report_of};
 
-use crate::{Diagnostic, EmitError, Emitter, Handler, HandlerFlags};
+use crate::{Diagnostic, EmitError, Emitter, Handler, HandlerError, HandlerFlags};
 use jsx_base::{BytePos, MultiSpan, Span};
 use std::alloc::{AllocError, Global};
 
@@ -91,6 +91,16 @@ fn line_of(alloc: Global, db: &Diagnostic) -> Result<String, AllocError>
     let mut line = db.message(alloc)?;
     line.push_str("\n")?;
     Ok(line)
+}
+
+/// Whether the handler's emitter holds this text.
+fn holds(handler: Handler<Lines>, want: &str) -> bool {
+    handler.into_emitter().text.as_str() == want
+}
+
+/// Whether all of the calls went well.
+fn all_went(answers: &[Result<(), HandlerError>]) -> bool {
+    answers.iter().all(|answer| answer.is_ok())
 }
 
 /// A handler that prints all, over an emitter that refuses nothing.

@@ -1,20 +1,22 @@
-use super::{Lines, loud, spans};
+use super::{Lines, all_went, holds, loud, spans};
 use crate::{DiagnosticId, Handler, HandlerError};
-use std::alloc::Global;
+use std::alloc::{AllocError, Global};
 use std::test::Fail;
 
+fn two_errors(alloc: Global) -> bool {
+    let mut handler = loud(alloc);
+    let answers = [
+        handler.print_error_count(),
+        handler.err("a"),
+        handler.err("b"),
+        handler.print_error_count(),
+    ];
+    all_went(&answers) && holds(handler, "a\nb\naborting due to 2 previous errors\n")
+}
+
 #[test]
-fn two_errors_are_counted_at_the_end(rt: HostRuntime) -> Result<(), Fail> {
-    let mut handler = loud(rt.alloc());
-    assert_eq!(rt; handler.print_error_count(), Ok(()));
-    assert_eq!(rt; handler.err("a"), Ok(()));
-    assert_eq!(rt; handler.err("b"), Ok(()));
-    assert_eq!(rt; handler.print_error_count(), Ok(()));
-    assert_eq!(rt;
-        handler.into_emitter().text.as_str(),
-        "a\nb\naborting due to 2 previous errors\n"
-    );
-    Ok(())
+fn two_errors_are_counted_at_the_end(rt: HostRuntime) {
+    assert!(rt; two_errors(rt.alloc()));
 }
 
 /// Reports errors with codes of these digits.
@@ -30,8 +32,20 @@ fn report_codes(
     Ok(())
 }
 
+/// Whether a run with errors of these digits ends so.
+fn ends_with(alloc: Global, explains: bool, digits: &str, want: &str) -> bool {
+    let mut lines = Lines::new(alloc);
+    lines.explains = explains;
+    let mut handler = Handler::with_emitter(alloc, true, false, lines);
+    let answers = [
+        report_codes(alloc, &mut handler, digits),
+        handler.print_error_count(),
+    ];
+    all_went(&answers) && handler.into_emitter().text.as_str().ends_with(want)
+}
+
 #[test]
-fn errors_with_codes_are_explained(rt: HostRuntime) -> Result<(), Fail> {
+fn errors_with_codes_are_explained(rt: HostRuntime) {
     let table = [
         (
             "1",
@@ -51,66 +65,53 @@ fn errors_with_codes_are_explained(rt: HostRuntime) -> Result<(), Fail> {
         ),
     ];
     for (digits, want) in table {
-        let mut handler = loud(rt.alloc());
-        assert_eq!(rt; report_codes(rt.alloc(), &mut handler, digits), Ok(()));
-        assert_eq!(rt; handler.print_error_count(), Ok(()));
-        assert!(rt; handler.into_emitter().text.as_str().ends_with(want));
+        assert!(rt; ends_with(rt.alloc(), true, digits, want));
     }
-    Ok(())
+    assert!(rt;
+        ends_with(
+            rt.alloc(),
+            false,
+            "12",
+            "aborting due to 2 previous errors\n"
+        )
+    );
 }
 
-#[test]
-fn nothing_is_explained_where_the_emitter_does_not(rt: HostRuntime) -> Result<(), Fail> {
-    let alloc = rt.alloc();
-    let mut lines = Lines::new(alloc);
-    lines.explains = false;
-    let mut handler = Handler::with_emitter(alloc, true, false, lines);
-    assert_eq!(rt; report_codes(alloc, &mut handler, "12"), Ok(()));
-    assert_eq!(rt; handler.print_error_count(), Ok(()));
-    assert!(rt;
-        handler
-            .into_emitter()
-            .text
-            .as_str()
-            .ends_with("2 previous errors\n")
-    );
-    Ok(())
+fn bugs_waited(alloc: Global) -> Result<bool, AllocError> {
+    let (a, b) = (spans(alloc)?, spans(alloc)?);
+    let mut handler = loud(alloc);
+    let answers = [
+        handler.delay_span_bug(a, "a"),
+        handler.delay_span_bug(b, "b"),
+    ];
+    let first = handler.finish() == Ok(true) && handler.finish() == Ok(false);
+    Ok(all_went(&answers) && first && holds(handler, "a\nb\n"))
+}
+
+fn bug_is_printed_at_once(alloc: Global) -> Result<bool, AllocError> {
+    let a = spans(alloc)?;
+    let mut handler = loud(alloc);
+    handler.flags.report_delayed_bugs = true;
+    let answer = handler.delay_span_bug(a, "a").is_ok() && handler.err_count() == 1;
+    Ok(answer && handler.finish() == Ok(true) && holds(handler, "a\n"))
 }
 
 #[test]
 fn bugs_that_waited_are_printed_at_the_end(rt: HostRuntime) -> Result<(), Fail> {
-    let alloc = rt.alloc();
-    let mut handler = loud(alloc);
-    assert_eq!(rt; handler.finish(), Ok(false));
-    assert_eq!(rt; handler.delay_span_bug(spans(alloc)?, "a"), Ok(()));
-    assert_eq!(rt; handler.delay_span_bug(spans(alloc)?, "b"), Ok(()));
-    assert_eq!(rt; handler.finish(), Ok(true));
-    assert_eq!(rt; handler.finish(), Ok(false));
-    assert_eq!(rt; handler.into_emitter().text.as_str(), "a\nb\n");
+    assert!(rt; bugs_waited(rt.alloc())?);
+    assert!(rt; bug_is_printed_at_once(rt.alloc())?);
     Ok(())
 }
 
-#[test]
-fn an_error_keeps_bugs_waiting(rt: HostRuntime) -> Result<(), Fail> {
-    let alloc = rt.alloc();
+fn count_is_a_bug(alloc: Global) -> bool {
     let mut handler = loud(alloc);
-    handler.flags.report_delayed_bugs = true;
-    assert_eq!(rt; handler.delay_span_bug(spans(alloc)?, "a"), Ok(()));
-    assert_eq!(rt; handler.err_count(), 1);
-    assert_eq!(rt; handler.finish(), Ok(true));
-    assert_eq!(rt; handler.into_emitter().text.as_str(), "a\n");
-    Ok(())
-}
-
-#[test]
-fn the_count_is_a_bug_where_errors_are(rt: HostRuntime) -> Result<(), Fail> {
-    let mut handler = loud(rt.alloc());
-    assert_eq!(rt; handler.err("a"), Ok(()));
+    let error = handler.err("a").is_ok();
     handler.flags.treat_err_as_bug = true;
-    assert_eq!(rt; handler.print_error_count(), Err(HandlerError::ExplicitBug));
-    assert_eq!(rt;
-        handler.into_emitter().text.as_str(),
-        "a\naborting due to previous error\n"
-    );
-    Ok(())
+    let bug = handler.print_error_count() == Err(HandlerError::ExplicitBug);
+    error && bug && holds(handler, "a\naborting due to previous error\n")
+}
+
+#[test]
+fn the_count_is_a_bug_where_errors_are(rt: HostRuntime) {
+    assert!(rt; count_is_a_bug(rt.alloc()));
 }
