@@ -2,12 +2,14 @@
 #![tactic(auto)]
 
 mod builder;
+mod context;
 mod emitter;
 mod error;
 mod handler;
 mod known;
 
 pub use builder::DiagnosticBuilder;
+pub use context::Cx;
 pub use emitter::Emitter;
 pub use error::{EmitError, HandlerError};
 pub use handler::Handler;

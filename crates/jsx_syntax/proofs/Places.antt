@@ -1,11 +1,6 @@
 -- Places in bytes, and the spans of what the parser builds.
 use Rattle.std.proofs.Common.{◌≡◌, ℕ, ◌+◌, ◌-◌, ◌++◌, List, [], ◌∷◌, Option, None, Some, Box, Vec, Global, length, length-append, sym, refl, ap, ◌∙◌, subst, arith}
-use Rattle.std.specs.Str.{chars, IsUtf8}
-use Rattle.std.specs.Char.{len_utf8}
-use Rattle.std.proofs.Math.Utf8.{encode, encodes}
 use Rattle.std.proofs.lemmas.Option.{same_Some}
-use Rattle.std.proofs.lemmas.Str.{encodes-chars, length-encode}
-use Rattle.jsx_base.specs.Token.{Text}
 use Rattle.jsx_base.specs.declared.place.Span.{Span}
 use Rattle.jsx_base.specs.declared.place.BytePos.{BytePos}
 use Rattle.jsx_tree.specs.declared.text.Text.{Text as TreeText}
@@ -22,18 +17,7 @@ use Rattle.jsx_tree.specs.declared.tree.Pat.{Pat}
 use Rattle.jsx_tree.specs.declared.tree.Pat.TheVariants as pat
 use Rattle.jsx_tree.specs.declared.tree.Pat.TheOpen.{Pat-F}
 use Rattle.jsx_tree.specs.declared.tree.Pat.TheFolds.{fold-roll-Pat}
-use Rattle.jsx_syntax.specs.Spans.{bytes, expr_at, expr_at_step, access_at_step, jsx_at, pat_at, pat_at_step, Spans, Extends, Starts}
-
-pub bytes-append : (s t : Text) → bytes (s ++ t) ≡ bytes s + bytes t
-bytes-append [] t = omega (arith)
-bytes-append (c ∷ s) t = let h = bytes-append s t in omega (arith, h)
-
-bytes-encodes : (t : Text) → length (encodes t) ≡ bytes t
-bytes-encodes [] = refl
-bytes-encodes (c ∷ t) = let h = bytes-encodes t in omega (arith, length-append (encode c) (encodes t), length-encode c, h)
-
-pub bytes-chars : (s : List ℕ) → IsUtf8 s → bytes (chars s) ≡ length s
-bytes-chars s u = sym (bytes-encodes (chars s)) ∙ ap length (encodes-chars s u)
+use Rattle.jsx_syntax.specs.Spans.{expr_at, expr_at_step, access_at_step, jsx_at, pat_at, pat_at_step, Spans, Extends, Starts}
 
 -- the span of each kind of node
 

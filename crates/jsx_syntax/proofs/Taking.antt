@@ -5,6 +5,7 @@ use Rattle.std.specs.Str.{chars}
 use Rattle.std.specs.Bool.{Decides}
 use Rattle.std.proofs.lemmas.Bool.{false≢true, and_parts, and_left, eqb-true}
 use Rattle.jsx_base.specs.Token.{Text, Mode, Operator, Tag, TokenKind as Kind, IdentifierName, Punctuator, NumericLiteral, StringLiteral, JsxName, NoToken, Lexeme, Blank, same, is_kind, kind_number, is_token, skips, skip, breaks, at_front, token}
+use Rattle.jsx_base.specs.Lines.{size}
 use Rattle.jsx_tree.specs.Signs.{Tok, AfterExpr}
 use Rattle.jsx_tree.specs.Reading.{Place, Lost, At, forth, go_if}
 use Rattle.jsx_tree.specs.Form.{is_leaf}
@@ -15,7 +16,7 @@ use Rattle.jsx_lex.specs.Kinds.{kind_of as kind_read, is_punctuator, spelling}
 use Rattle.jsx_lex.specs.Stand.{rest_of}
 use Rattle.jsx_syntax.specs.Here.{Here, place_of, left, kind_of, sign_of}
 use Rattle.jsx_syntax.specs.Seen.{IsNext, NoNext, here_of, next_token, is_it}
-use Rattle.jsx_syntax.specs.Spans.{begin_of, next_of, bytes}
+use Rattle.jsx_syntax.specs.Spans.{begin_of, next_of}
 use Rattle.jsx_syntax.specs.Spelled.{IsMarkOf, fixed_mode, fixed_kind, fixed_text, leaf_mode}
 use Rattle.jsx_syntax.specs.declared.lexer.Fixed.{Fixed}
 use Rattle.jsx_syntax.specs.declared.lexer.Fixed.TheVariants as fixed
@@ -58,7 +59,7 @@ parted {m} {h} n s e =
     ∙ (λ i. (sym (n.raw ∙ ap (λ x. x.raw) (skipped m h s)) i) ++ (sym (n.rest ∙ ap (λ x. x.rest) (skipped m h s)) i))
 
 pub begins_by : {m : Mode} {h : Here} {t : Token} {b : Tokens} → IsNext m h t b → skips m ≡ true → is_kind (kind_read t.kind) NoToken ≡ false → begin_of (here_of t.raw.now b) ≡ next_of h
-begins_by n s e = (λ i. n.whole i - bytes (sym (parted n s e) i))
+begins_by n s e = (λ i. n.whole i - size (sym (parted n s e) i))
 
 full : (raw : Text) → same raw [] ≡ false → 0 < length raw
 full [] e = absurd (false≢true (sym e))

@@ -1,7 +1,7 @@
 -- The places of tokens, in bytes from the text's begin, and the spans of nodes that were read.
-use Rattle.std.specs.Prelude.{◌≡◌, ◌+◌, ◌-◌, ◌++◌, ℕ, [], ◌∷◌, Option, None, Some}
-use Rattle.std.specs.Char.{len_utf8}
-use Rattle.jsx_base.specs.Token.{Text, skip}
+use Rattle.std.specs.Prelude.{◌≡◌, ◌-◌, ◌++◌, ℕ, Option, Some}
+use Rattle.jsx_base.specs.Token.{skip}
+use Rattle.jsx_base.specs.Lines.{size}
 use Rattle.jsx_base.specs.declared.place.BytePos.{BytePos}
 use Rattle.jsx_base.specs.declared.place.Span.{Span}
 use Rattle.jsx_tree.specs.declared.text.Text.{Text as TreeText}
@@ -22,20 +22,15 @@ use Rattle.jsx_syntax.specs.declared.error.ParseError.{ParseError}
 use Rattle.jsx_syntax.specs.declared.error.ParseError.TheVariants.{Syntax}
 use Rattle.jsx_syntax.specs.Here.{Here}
 
--- how many bytes a text takes in UTF-8
-abbrev pub bytes : Text → ℕ
-bytes [] = 0
-bytes (c ∷ text) = len_utf8 c + bytes text
-
 -- where the token that was taken last begins and ends, and where the next one begins
 abbrev pub begin_of : Here → ℕ
-begin_of h = h.end - bytes (h.last ++ h.rest)
+begin_of h = h.end - size (h.last ++ h.rest)
 
 abbrev pub end_of : Here → ℕ
-end_of h = h.end - bytes h.rest
+end_of h = h.end - size h.rest
 
 abbrev pub next_of : Here → ℕ
-next_of h = h.end - bytes (skip h.rest)
+next_of h = h.end - size (skip h.rest)
 
 -- from one place to another
 pub record Spans (at : Option Span) (lo hi : ℕ) : Type 0 where

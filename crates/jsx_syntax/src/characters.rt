@@ -3,12 +3,12 @@
 ghost use Rattle.std.specs.Prelude.{◌≡◌, codes};
 ghost use Rattle.std.specs.Str.{chars};
 ghost use Rattle.jsx_base.specs.Token.{same};
-ghost use Rattle.jsx_syntax.specs.Spans.{bytes};
+ghost use Rattle.jsx_base.specs.Lines.{size};
 
 /// How many bytes the text has.
 #[inline]
 pub fn bytes(text: &str) -> usize
-    ensures { result ≡ bytes (chars text.now) }
+    ensures { result ≡ size (chars text.now) }
 {
     text.len()
 }
