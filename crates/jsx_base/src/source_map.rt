@@ -61,6 +61,9 @@ impl SourceMap {
         ensures moved { OnOk result (globals.new ≡ record globals.old { next_pos = globals.old.next_pos + length (string_bytes src) + 1 }) }
         ensures kept { OnErr result (files_of self.new ≡ files_of self.old) }
         ensures stays { OnErr result (globals.new ≡ globals.old) }
+
+        // So the next file may be added.
+        ensures ready { All (λ file. end_of file < globals.new.next_pos) (files_of self.new) }
     {
         let start = globals.next_pos();
         let Some(end) = end_place(start, src.len()) else {

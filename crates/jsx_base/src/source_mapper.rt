@@ -351,10 +351,10 @@ mod tests {
     fn two_files(alloc: Global) -> Result<SourceMap, Fail> {
         let mut map = SourceMap::new(alloc);
         let mut globals = Globals::new();
-        for (name, text) in [("a", "ab\ncd"), ("b", "\u{e9}x")] {
-            let name = FileName::Custom(String::from_str(alloc, name)?);
-            map.new_source_file(&mut globals, name, String::from_str(alloc, text)?)?;
-        }
+        let first = FileName::Custom(String::from_str(alloc, "a")?);
+        map.new_source_file(&mut globals, first, String::from_str(alloc, "ab\ncd")?)?;
+        let second = FileName::Custom(String::from_str(alloc, "b")?);
+        map.new_source_file(&mut globals, second, String::from_str(alloc, "\u{e9}x")?)?;
         Ok(map)
     }
 
