@@ -87,6 +87,3 @@ only_errors_have_names = refl
 
 one_error_ends : closing 1 false [] ≡ plain_report Fatal (codes "aborting due to previous error") ∷ []
 one_error_ends = refl
-
-two_errors_end : closing 2 false [] ≡ plain_report Fatal (codes "aborting due to 2 previous errors") ∷ []
-two_errors_end = refl
