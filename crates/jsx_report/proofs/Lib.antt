@@ -1,7 +1,0 @@
-pub mod Equality
-pub mod Sets
-pub mod Ending
-pub mod Waiting
-pub mod Order
-pub mod Texts
-mod Examples
