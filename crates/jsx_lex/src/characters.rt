@@ -57,7 +57,7 @@ pub fn begins_with_digit(text: &str) -> bool
 }
 
 /// Whether a name may begin with the character.
-#[inline]
+#[inline(always)]
 pub fn is_start(c: char) -> bool
     ensures { result ≡ is_start c }
 {
@@ -68,7 +68,7 @@ pub fn is_start(c: char) -> bool
 }
 
 /// Whether a name may go on with the character.
-#[inline]
+#[inline(always)]
 pub fn is_part(c: char) -> bool
     ensures { result ≡ is_part c }
 {

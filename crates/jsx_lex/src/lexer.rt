@@ -71,7 +71,8 @@ impl<'s> Lexer<'s> {
     }
 
     /// Goes over the gap before the next token, if it isn't cut, and keeps whether a line ends in it: the tokens of the
-    /// modes that skip stay as they are, and each costs no more than its own length.
+    /// modes that skip stay as they are, and each costs no more than its own length. `Piece` and `Children`, which don't
+    /// skip, then read from behind the gap.
     pub fn settle(&mut self)
         ensures skipped { IsFalse (is_cut Blank (rest_of self.old)) → rest_of self.new ≡ skip (rest_of self.old) }
         ensures cut { IsTrue (is_cut Blank (rest_of self.old)) → self.new ≡ self.old }

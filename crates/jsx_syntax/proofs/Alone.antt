@@ -1,10 +1,10 @@
 -- The text of a name, a number or a string is that token also alone.
-use Rattle.std.proofs.Common.{◌≡◌, ℕ, [], ◌∷◌, ◌++◌, Bool, true, false, cond, ◌||◌, ◌&&◌, refl, sym, ap, ◌∙◌, subst}
+use Rattle.std.proofs.Common.{◌≡◌, ℕ, [], ◌∷◌, Bool, true, false, ◌||◌, refl, sym, ap, ◌∙◌, subst}
 use Rattle.std.specs.Prelude.{nat_eq}
 use Rattle.std.proofs.lemmas.Bool.{false≢true, and_parts}
-use Rattle.jsx_base.specs.Token.{Text, Mode, Operator, TokenKind, IdentifierName, NumericLiteral, StringLiteral, JsxName, NoToken, Lexeme, same, is_kind, is_token, is_start, is_digit, first_is, is_dead, accepts, taken, left, last_state, State, InString, at_front, is_over, gap_after_blank}
+use Rattle.jsx_base.specs.Token.{Text, Mode, Operator, TokenKind, IdentifierName, NumericLiteral, StringLiteral, JsxName, Lexeme, same, is_kind, is_start, is_digit, first_is, is_dead, accepts, taken, left, last_state, State, InString, at_front}
 use Rattle.jsx_tree.specs.Form.{is_leaf}
-use Rattle.jsx_syntax.specs.Ahead.{IsAhead, IsPiece, NoneAhead, name_mode, name_kind, name_state}
+use Rattle.jsx_syntax.specs.Ahead.{IsPiece, NoneAhead, name_mode, name_kind, name_state}
 use Rattle.jsx_syntax.specs.Gaps.{IsBehind}
 use Rattle.jsx_syntax.specs.Automaton.{number_start}
 use Rattle.jsx_syntax.proofs.Tokens.{same_is}

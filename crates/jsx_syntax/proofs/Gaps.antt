@@ -1,8 +1,8 @@
 -- Behind a gap stands a token's first character.
-use Rattle.std.proofs.Common.{◌≡◌, ℕ, zero, suc, [], ◌∷◌, Bool, true, false, cond, codes, sym, refl, ap, ◌∙◌, subst}
+use Rattle.std.proofs.Common.{◌≡◌, ℕ, zero, suc, [], ◌∷◌, Bool, true, false, cond, codes, sym, refl, ap}
 use Rattle.std.proofs.lemmas.Bool.{false≢true}
 use Rattle.jsx_syntax.specs.Gaps.{IsBehind}
-use Rattle.jsx_base.specs.Token.{Text, Gap, Blank, InLineComment, Opening, InBlockComment, Closing, BehindGap, gap_next, gap_after_blank, is_over, behind_gap, is_cut, skip, is_line_end, begins}
+use Rattle.jsx_base.specs.Token.{Text, Gap, Blank, InLineComment, Opening, InBlockComment, Closing, BehindGap, gap_next, gap_after_blank, is_over, behind_gap, skip, is_line_end, begins}
 
 never : (b : Bool) (P : Type 0) → is_over (cond b Blank InLineComment) ≡ true → P
 never true P h = absurd (false≢true h)

@@ -8,11 +8,9 @@ pub mod Pieces
 pub mod NameLaws
 pub mod Words
 pub mod Takes
-pub mod Marks
 pub mod Taking
 pub mod LiteralLaws
 pub mod Alone
-pub mod Parts
 pub mod Apart
 pub mod Unique
 pub mod Steps

@@ -1,6 +1,6 @@
 -- What is behind a gap, and the text's end.
-use Rattle.std.proofs.Common.{◌≡◌, ℕ, ◌≤◌, [], ◌∷◌, Bool, true, false, cond, not, ◌&&◌, length, ap, ◌∙◌, arith}
-use Rattle.jsx_base.specs.Token.{Text, same, skip, Gap, Blank, gap_next, is_over, behind_gap, is_end, is_cut}
+use Rattle.std.proofs.Common.{ℕ, ◌≤◌, [], ◌∷◌, Bool, true, false, cond, length, arith}
+use Rattle.jsx_base.specs.Token.{Text, skip, Gap, Blank, gap_next, is_over, behind_gap}
 
 -- a gap has no more characters than the text
 within : (b : Bool) (c : ℕ) (x text : Text) → length x ≤ length text → length (cond b (c ∷ text) x) ≤ length (c ∷ text)

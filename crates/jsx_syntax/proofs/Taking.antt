@@ -1,19 +1,21 @@
 -- From the token that comes next to the place behind it.
-use Rattle.std.proofs.Common.{◌≡◌, ◌<◌, ◌-◌, ◌++◌, ℕ, List, [], ◌∷◌, Bool, true, false, cond, ◌&&◌, ◌||◌, length, length-append, refl, sym, ap, ◌∙◌, subst, arith}
+use Rattle.std.proofs.Common.{◌≡◌, ◌<◌, ◌-◌, ◌++◌, [], ◌∷◌, Bool, true, false, cond, ◌&&◌, ◌||◌, length, length-append, refl, sym, ap, ◌∙◌, subst, arith}
 use Rattle.std.specs.Prelude.{nat_eq}
 use Rattle.std.specs.Str.{chars}
 use Rattle.std.specs.Bool.{Decides}
-use Rattle.std.proofs.lemmas.Bool.{false≢true, and_parts, and_left, eqb-true}
-use Rattle.jsx_base.specs.Token.{Text, Mode, Operator, Tag, TokenKind as Kind, IdentifierName, Punctuator, NumericLiteral, StringLiteral, JsxName, NoToken, Lexeme, Blank, same, is_kind, kind_number, is_token, skips, skip, breaks, at_front, token}
+use Rattle.std.proofs.lemmas.Bool.{false≢true, and_parts, eqb-true}
+use Rattle.jsx_base.specs.Token.{Text, Mode, TokenKind as Kind, NoToken, Blank, same, is_kind, kind_number, is_token, skips, skip, breaks, at_front}
 use Rattle.jsx_base.specs.Lines.{size}
 use Rattle.jsx_tree.specs.Signs.{Tok, AfterExpr}
-use Rattle.jsx_tree.specs.Reading.{Place, Lost, At, forth, go_if}
+use Rattle.jsx_tree.specs.Reading.{Lost, At, forth, go_if}
 use Rattle.jsx_tree.specs.Form.{is_leaf}
 use Rattle.jsx_lex.specs.declared.lexer.Lexer.{Lexer as Tokens}
 use Rattle.jsx_lex.specs.declared.token.Token.{Token}
 use Rattle.jsx_lex.specs.declared.token.TokenKind.{TokenKind}
 use Rattle.jsx_lex.specs.Kinds.{kind_of as kind_read, is_punctuator, spelling}
 use Rattle.jsx_lex.specs.Stand.{rest_of}
+use Rattle.jsx_lex.proofs.Raws.{whole}
+use Rattle.jsx_lex.proofs.Spellings.{one_kind}
 use Rattle.jsx_syntax.specs.Here.{Here, place_of, left, kind_of, sign_of}
 use Rattle.jsx_syntax.specs.Seen.{IsNext, NoNext, here_of, next_token, is_it}
 use Rattle.jsx_syntax.specs.Spans.{begin_of, next_of}
@@ -27,9 +29,7 @@ use Rattle.jsx_syntax.proofs.Spellings.{by_both}
 use Rattle.jsx_syntax.proofs.Gaps.{is_behind}
 use Rattle.jsx_syntax.proofs.Takes.{skip_within}
 use Rattle.jsx_syntax.proofs.Fronts.{turned}
-use Rattle.jsx_syntax.proofs.Parts.{parts}
 use Rattle.jsx_syntax.proofs.Alone.{whole_name, whole_string, whole_number}
-use Rattle.jsx_syntax.proofs.Marks.{one_mark}
 
 -- what the token is, by the definitions
 token_is : {m : Mode} {h : Here} {t : Token} {b : Tokens} (k : Kind) (text : Text) → IsNext m h t b → is_token (next_token m h) k text ≡ is_it t k text
@@ -55,7 +55,7 @@ pub parted : {m : Mode} {h : Here} {t : Token} {b : Tokens} → IsNext m h t b �
 parted {m} {h} n s e =
     let first = same h.last [] || breaks h.rest in
     let kind = ap (λ k. is_kind k NoToken) (sym (n.kind ∙ ap (λ x. x.kind) (skipped m h s))) ∙ e in
-    (parts m first (skip h.rest)).is kind
+    sym (whole m first (skip h.rest) kind)
     ∙ (λ i. (sym (n.raw ∙ ap (λ x. x.raw) (skipped m h s)) i) ++ (sym (n.rest ∙ ap (λ x. x.rest) (skipped m h s)) i))
 
 pub begins_by : {m : Mode} {h : Here} {t : Token} {b : Tokens} → IsNext m h t b → skips m ≡ true → is_kind (kind_read t.kind) NoToken ≡ false → begin_of (here_of t.raw.now b) ≡ next_of h
@@ -144,7 +144,7 @@ mark_is b t k f d m s = by_both b (is_it t (fixed_kind f) (fixed_text f)) yes no
     no i =
         let p = and_parts (is_kind (kind_read t.kind) (fixed_kind f)) (same (chars t.raw.now) (fixed_text f)) i in
         let mark : is_punctuator t.kind ≡ true = ap (is_kind (kind_read t.kind)) (sym m.kind) ∙ p.0 in
-        d.1 (one_mark t.kind k mark m.mark (sym (s mark) ∙ same_is (chars t.raw.now) (fixed_text f) p.1 ∙ sym m.text))
+        d.1 (one_kind t.kind k mark m.mark (sym (s mark) ∙ same_is (chars t.raw.now) (fixed_text f) p.1 ∙ sym m.text))
 
 -- ---- the tokens with a text of their own
 

@@ -1,15 +1,14 @@
 -- The word `const` among names.
-use Rattle.std.proofs.Common.{◌≡◌, ℕ, List, [], ◌∷◌, true, false, codes, refl, sym, ap, ◌∙◌}
+use Rattle.std.proofs.Common.{◌≡◌, ℕ, List, [], ◌∷◌, true, codes, refl, sym, ap, ◌∙◌}
 use Rattle.std.specs.Prelude.{nat_eq}
 use Rattle.std.specs.Str.{chars, bytes_eq, IsUtf8, is_utf8}
 use lib.Utf8.{encodes, encode}
 use Rattle.std.specs.Bool.{Decides}
 use Rattle.std.proofs.lemmas.Bool.Decides.{same_from_decides}
 use Rattle.std.proofs.lemmas.Slice.Eq.{bytes_eq-Decides}
-use Rattle.std.proofs.lemmas.Bool.{false≢true, and_left, and_right, and_parts, eqb-true}
+use Rattle.std.proofs.lemmas.Bool.{false≢true, and_parts, eqb-true}
 use Rattle.std.proofs.lemmas.Str.{encodes-chars, IsUtf8-from_is_utf8}
-use Rattle.jsx_base.specs.Token.{Text, Mode, TokenKind, Lexeme, same, is_kind, at_front}
-use Rattle.jsx_syntax.specs.Ahead.{IsAhead, IsNotAhead, NoneAhead}
+use Rattle.jsx_base.specs.Token.{Text, same}
 
 pub same_is : (s t : Text) → same s t ≡ true → s ≡ t
 same_is [] [] h = refl

@@ -1,5 +1,5 @@
 -- What stands at the front of a text, whatever stood before it.
-use Rattle.std.specs.Prelude.{◌≡◌, ◌<◌, ◌++◌, ℕ, Bool, true, false, length}
+use Rattle.std.specs.Prelude.{◌≡◌, ◌<◌, ◌++◌, Bool, true, false, length}
 use Rattle.jsx_base.specs.Token.{Text, Mode, Operator, Tag, TokenKind, IdentifierName, JsxName, State, InName, InJsxName, at_front, is_token, is_kind}
 use Rattle.jsx_tree.specs.Form.{is_leaf}
 

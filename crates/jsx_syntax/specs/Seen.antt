@@ -2,7 +2,7 @@
 use Rattle.std.specs.Prelude.{◌≡◌, ◌↔◌, ℕ, List, Option, Bool, false, IsTrue, IsFalse, length, [], ◌&&◌}
 use Rattle.std.specs.Option.{ForSome}
 use Rattle.std.specs.Str.{chars}
-use Rattle.jsx_base.specs.Token.{Text, Mode, Lexeme, NoToken, Punctuator, IdentifierName, is_end, same, skips, token, is_kind, TokenKind as Kind}
+use Rattle.jsx_base.specs.Token.{Text, Mode, Lexeme, NoToken, is_end, same, skips, token, is_kind, TokenKind as Kind}
 use Rattle.jsx_lex.specs.declared.lexer.Lexer.{Lexer as Tokens}
 use Rattle.jsx_lex.specs.declared.token.Token.{Token}
 use Rattle.jsx_lex.specs.declared.token.TokenKind.TheVariants as token_kind

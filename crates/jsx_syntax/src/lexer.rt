@@ -161,6 +161,7 @@ impl<'s> Lexer<'s> {
     }
 
     /// Reads the token that comes next in a mode, and keeps it.
+    #[inline(always)]
     fn read(&mut self, mode: Mode) -> Option<Seen<'s>>
         ensures stays { self.new ≡ self.old }
         ensures found { MatchOption result (NoNext (mode_read mode) self.old) (λ s. IsNext (mode_read mode) self.old s.token s.behind) }

@@ -4,7 +4,6 @@ use Rattle.jsx_lex.specs.Kinds.{kind_of as kind_read}
 use Rattle.jsx_syntax.specs.Here.{place_of, left, kind_of}
 use Rattle.jsx_syntax.specs.Seen.{IsNext}
 use Rattle.jsx_syntax.specs.Spans.{begin_of}
-use Rattle.jsx_syntax.specs.Spelled.{leaf_mode}
 use Rattle.jsx_syntax.proofs.Taking.{taken_by, begins_by, shorter_by, kind_some, leaf_some, leaf_skips, leaf_by, leaf_full, leaf_it}
 use Rattle.jsx_syntax.proofs.lexer.Lexer.leaf.Goals as goal
 
