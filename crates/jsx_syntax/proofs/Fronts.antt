@@ -78,9 +78,6 @@ none_ahead k m c text n p h = record {
       either (NotKind k) (is_code m && (begins (codes "<!--") (c ∷ text) || (f && begins (codes "-->") (c ∷ text)))) _ _ n (lexed_kind k m (state m c text) c text n p h);
 }
 
-pub none_at_end : (k : TokenKind) (m : Mode) → is_kind NoToken k ≡ false → NoneAhead m k []
-none_at_end k m n = record { none = λ f. n }
-
 -- no token that begins with the character d
 
 abbrev NotFirst : ℕ → Text → Lexeme → Type 0

@@ -4,12 +4,9 @@ pub mod Gaps
 pub mod Places
 pub mod Families
 pub mod Fronts
-pub mod Pieces
-pub mod NameLaws
 pub mod Words
 pub mod Takes
 pub mod Taking
-pub mod LiteralLaws
 pub mod Alone
 pub mod Apart
 pub mod Unique

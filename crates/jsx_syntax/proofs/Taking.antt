@@ -4,7 +4,7 @@ use Rattle.std.specs.Prelude.{nat_eq}
 use Rattle.std.specs.Str.{chars}
 use Rattle.std.specs.Bool.{Decides}
 use Rattle.std.proofs.lemmas.Bool.{false≢true, and_parts, eqb-true}
-use Rattle.jsx_base.specs.Token.{Text, Mode, TokenKind as Kind, NoToken, Blank, same, is_kind, kind_number, is_token, skips, skip, breaks, at_front}
+use Rattle.jsx_base.specs.Token.{Text, Mode, TokenKind as Kind, NoToken, Blank, same, is_kind, kind_number, is_token, skips, skip, breaks, at_front, Punctuator, Operator, Tag, NumericLiteral, StringLiteral, JsxName, IdentifierName}
 use Rattle.jsx_base.specs.Lines.{size}
 use Rattle.jsx_tree.specs.Signs.{Tok, AfterExpr}
 use Rattle.jsx_tree.specs.Reading.{Lost, At, forth, go_if}
@@ -29,7 +29,7 @@ use Rattle.jsx_syntax.proofs.Spellings.{by_both}
 use Rattle.jsx_syntax.proofs.Gaps.{is_behind}
 use Rattle.jsx_syntax.proofs.Takes.{skip_within}
 use Rattle.jsx_syntax.proofs.Fronts.{turned}
-use Rattle.jsx_syntax.proofs.Alone.{whole_name, whole_string, whole_number}
+use Rattle.jsx_syntax.proofs.Alone.{IsAlone, alone}
 
 -- what the token is, by the definitions
 token_is : {m : Mode} {h : Here} {t : Token} {b : Tokens} (k : Kind) (text : Text) → IsNext m h t b → is_token (next_token m h) k text ≡ is_it t k text
@@ -160,11 +160,14 @@ leaf_skips leaf.Num = refl
 leaf_skips leaf.Str = refl
 leaf_skips leaf.JsxName = refl
 
+whole_leaf : (m : Mode) (k : Kind) (h : Here) → skips m ≡ true → is_kind NoToken k ≡ false → is_kind Punctuator k ≡ false → is_kind (at_front m (same h.last [] || breaks h.rest) (skip h.rest)).kind k ≡ true → IsAlone m k (at_front m (same h.last [] || breaks h.rest) (skip h.rest)).raw
+whole_leaf m k h q n p e = alone m k (same h.last [] || breaks h.rest) (skip h.rest) q n p (is_behind Blank h.rest refl) e
+
 leaf_whole : (l : Leaf) (h : Here) → is_kind (next_token (leaf_mode l) h).kind (kind_of l) ≡ true → is_leaf (kind_of l) (next_token (leaf_mode l) h).raw ≡ true
-leaf_whole leaf.Name h e = (whole_name false (same h.last [] || breaks h.rest) (skip h.rest) (is_behind Blank h.rest refl)).leaf e
-leaf_whole leaf.Num h e = (whole_number (same h.last [] || breaks h.rest) (skip h.rest) (is_behind Blank h.rest refl)).leaf e
-leaf_whole leaf.Str h e = (whole_string (same h.last [] || breaks h.rest) (skip h.rest) (is_behind Blank h.rest refl)).leaf e
-leaf_whole leaf.JsxName h e = (whole_name true (same h.last [] || breaks h.rest) (skip h.rest) (is_behind Blank h.rest refl)).leaf e
+leaf_whole leaf.Name h e = let w = whole_leaf Operator IdentifierName h refl refl refl e in and_both _ _ w.it w.ends
+leaf_whole leaf.Num h e = let w = whole_leaf Operator NumericLiteral h refl refl refl e in and_both _ _ w.it w.ends
+leaf_whole leaf.Str h e = let w = whole_leaf Operator StringLiteral h refl refl refl e in and_both _ _ w.it w.ends
+leaf_whole leaf.JsxName h e = let w = whole_leaf Tag JsxName h refl refl refl e in and_both _ _ w.it w.ends
 
 pub leaf_by : (l : Leaf) {h : Here} {t : Token} {b : Tokens} → IsNext (leaf_mode l) h t b → is_kind (kind_read t.kind) (kind_of l) ≡ true → is_leaf (kind_of l) (chars t.raw.now) ≡ true
 leaf_by l {h} n e = subst (λ x. is_leaf (kind_of l) x ≡ true) (sym n.raw) (leaf_whole l h (ap (λ k. is_kind k (kind_of l)) (sym n.kind) ∙ e))

@@ -6,4 +6,3 @@ pub mod Pieces
 pub mod Ahead
 pub mod Gaps
 pub mod Spelled
-pub mod Automaton
