@@ -108,10 +108,10 @@ state_alone Children c text n = refl
 
 -- ---- the token that a state makes
 
-abbrev made : State → ℕ → Text → Lexeme
+abbrev pub made : State → ℕ → Text → Lexeme
 made s c text = ended (accepts (last_state s text)) (c ∷ taken s text) (left s text)
 
-lexed_by : (P : Lexeme → Type 0) (m : Mode) (s : State) (c : ℕ) (text : Text) → (is_dead s ≡ true → P (lexed m Dead c text)) → (is_dead s ≡ false → P (made s c text)) → P (lexed m s c text)
+pub lexed_by : (P : Lexeme → Type 0) (m : Mode) (s : State) (c : ℕ) (text : Text) → (is_dead s ≡ true → P (lexed m Dead c text)) → (is_dead s ≡ false → P (made s c text)) → P (lexed m s c text)
 lexed_by P m Dead c text p q = p refl
 lexed_by P m (Done j) c text p q = q refl
 lexed_by P m InName c text p q = q refl
@@ -142,7 +142,7 @@ lexed_by P m InJsxName c text p q = q refl
 lexed_by P m (InJsxString d) c text p q = q refl
 lexed_by P m InJsxText c text p q = q refl
 
-alive : (m : Mode) (s : State) (c : ℕ) (text : Text) → is_dead s ≡ false → lexed m s c text ≡ made s c text
+pub alive : (m : Mode) (s : State) (c : ℕ) (text : Text) → is_dead s ≡ false → lexed m s c text ≡ made s c text
 alive m s c text n = lexed_by (λ x. x ≡ made s c text) m s c text (λ d. absurd (false≢true (sym n ∙ d))) (λ _. refl)
 
 -- a punctuator, or none, is of no other kind

@@ -8,6 +8,7 @@ pub mod Words
 pub mod Takes
 pub mod Taking
 pub mod Alone
+pub mod Codes
 pub mod Apart
 pub mod Unique
 pub mod Steps

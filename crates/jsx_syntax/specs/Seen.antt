@@ -42,3 +42,7 @@ pub record NoNext (m : Mode) (h : Here) : Type 0 where
 -- the token is of this kind and has this text
 abbrev pub is_it : Token → Kind → Text → Bool
 is_it t k text = is_kind (kind_of t.kind) k && same (chars t.raw.now) text
+
+-- what was looked at is also what comes next in this mode, wherever it was looked at
+pub record Serves (s : Seen) (m : Mode) : Type 0 where
+  pub on : (h : Here) → IsNext (mode_of s.mode) h s.token s.behind → IsNext m h s.token s.behind

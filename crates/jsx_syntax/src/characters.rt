@@ -1,8 +1,8 @@
 //! A text, character by character.
 
-ghost use Rattle.std.specs.Prelude.{◌≡◌, codes};
+ghost use Rattle.std.specs.Prelude.{◌≡◌, [], codes, nat_eq, true, MatchOption};
 ghost use Rattle.std.specs.Str.{chars};
-ghost use Rattle.jsx_base.specs.Token.{same};
+ghost use Rattle.jsx_base.specs.Token.{same, first_is};
 ghost use Rattle.jsx_base.specs.Lines.{size};
 
 /// How many bytes the text has.
@@ -11,6 +11,18 @@ pub fn bytes(text: &str) -> usize
     ensures { result ≡ size (chars text.now) }
 {
     text.len()
+}
+
+/// The first character.
+#[inline(always)]
+pub fn first(text: &str) -> Option<char>
+    ensures { MatchOption result (chars text.now ≡ []) (λ c. first_is (nat_eq c) (chars text.now) ≡ true) }
+{
+    let mut chars = text.chars();
+    match chars.next() {
+        Some(c) => Some(c),
+        None => None,
+    }
 }
 
 /// Whether the word is `const`.

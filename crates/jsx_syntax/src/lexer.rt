@@ -12,7 +12,7 @@ ghost use Rattle.jsx_syntax.specs.Spans.{begin_of, end_of, next_of};
 ghost use Rattle.jsx_syntax.specs.Spelled.{IsMarkOf, fixed_mode, fixed_kind, fixed_text, leaf_mode};
 
 use crate::characters::{bytes, is_const};
-use crate::seen::Seen;
+use crate::seen::{Seen, serves};
 use jsx_base::BytePos;
 use jsx_lex::{Lexer as Tokens, Mode, Token, TokenKind};
 use std::marker::Model;
@@ -186,7 +186,7 @@ impl<'s> Lexer<'s> {
         ensures found { MatchOption result (NoNext (mode_read mode) self.old) (λ s. IsNext (mode_read mode) self.old s.token s.behind) }
     {
         if let Some(seen) = self.seen {
-            if seen.mode == mode {
+            if serves(&seen, mode) {
                 return Some(seen);
             }
         }
@@ -343,6 +343,29 @@ mod tests {
             ("'a\nb'", Leaf::Str, ""),
         ] {
             assert_eq!(rt; leaf(text, kind), want, "at {text}");
+        }
+    }
+
+    /// Whether `<` is taken, after a name was looked for in its place.
+    fn takes_less(text: &str) -> bool {
+        if text.len() >= 100 {
+            return false;
+        }
+        let mut lexer = Lexer::new(text);
+        lexer.leaf(Leaf::Name).is_none() && lexer.take(Fixed::Less)
+    }
+
+    #[test]
+    fn takes_less_where_no_name_is(rt: HostRuntime) {
+        for (text, want) in [
+            (" <a", true),
+            ("<=a", true),
+            ("<<a", true),
+            ("<!-- a", false),
+            ("/a/", false),
+            ("'a'", false),
+        ] {
+            assert_eq!(rt; takes_less(text), want, "at {text}");
         }
     }
 
