@@ -48,7 +48,7 @@ fn assert_runs(
 
 #[test]
 fn code_of_sources(rt: HostRuntime) -> Result<(), Fail> {
-    let rows = [
+    for (source, code) in &[
         ("", ""),
         (" \t\r\n// only a comment\u{2028}/* and\nanother */", ""),
         (
@@ -79,8 +79,7 @@ fn code_of_sources(rt: HostRuntime) -> Result<(), Fail> {
             "const \u{e9}$_1 = <a1_$\u{e9}/>;",
             "const \u{e9}$_1 = /*#__PURE__*/ React.createElement(\"a1_$\u{e9}\", null);\n",
         ),
-    ];
-    for (source, code) in rows {
+    ] {
         assert_runs(&rt, &plain(source.as_bytes()), (Status::Done, code, ""))?;
     }
     Ok(())
@@ -88,7 +87,7 @@ fn code_of_sources(rt: HostRuntime) -> Result<(), Fail> {
 
 #[test]
 fn sources_that_do_not_read(rt: HostRuntime) -> Result<(), Fail> {
-    let rows: [&[u8]; 46] = [
+    let rows: &[&[u8]] = &[
         b"c",
         b"const",
         b"const x",
@@ -142,45 +141,60 @@ fn sources_that_do_not_read(rt: HostRuntime) -> Result<(), Fail> {
     Ok(())
 }
 
+const CODE: &str = "const x = /*#__PURE__*/ React.createElement(\"a\", null);\n";
+
+/// A run in which nothing fails.
+const WELL: Given<'static> = Given {
+    word: None,
+    source: b"const x = <a/>;",
+    bad_reads: &[],
+    bad_writes: &[],
+    bad_lines: &[],
+};
+
 #[test]
 fn faults_from_outside(rt: HostRuntime) -> Result<(), Fail> {
-    let source = b"const x = <a/>;";
-    let code = "const x = /*#__PURE__*/ React.createElement(\"a\", null);\n";
     let word = Given {
         word: Some("--map"),
-        ..plain(source)
+        ..WELL
     };
     assert_runs(&rt, &word, (Status::Usage, "", BAD_WORDS))?;
     let first_read = Given {
         bad_reads: &[0],
-        ..plain(source)
+        ..WELL
     };
     assert_runs(&rt, &first_read, (Status::Read, "", READ_FAULT))?;
     let second_read = Given {
         bad_reads: &[1],
-        ..plain(source)
+        ..WELL
     };
-    assert_runs(&rt, &second_read, (Status::Read, "", READ_FAULT))?;
+    assert_runs(&rt, &second_read, (Status::Read, "", READ_FAULT))
+}
+
+#[test]
+fn faults_of_sinks(rt: HostRuntime) -> Result<(), Fail> {
     let code_write = Given {
         bad_writes: &[0],
-        ..plain(source)
+        ..WELL
     };
     assert_runs(&rt, &code_write, (Status::Write, "", ""))?;
     let later_write = Given {
         bad_writes: &[1],
         bad_lines: &[0],
-        ..plain(source)
+        ..WELL
     };
-    assert_runs(&rt, &later_write, (Status::Done, code, ""))?;
+    assert_runs(&rt, &later_write, (Status::Done, CODE, ""))?;
     let line_write = Given {
+        source: b"c",
         bad_lines: &[0],
-        ..plain(b"c")
+        ..WELL
     };
     assert_runs(&rt, &line_write, (Status::Write, "", ""))?;
     // Nothing is written of an empty code, so no write can fail.
     let no_write = Given {
+        source: b"",
         bad_writes: &[0],
-        ..plain(b"")
+        ..WELL
     };
     assert_runs(&rt, &no_write, (Status::Done, "", ""))
 }
