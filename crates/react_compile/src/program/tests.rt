@@ -2,6 +2,7 @@
 
 use super::*;
 use jsx_base::{MemSink, MemSource};
+use std::alloc::AllocError;
 use std::process::Abort;
 use std::test::Fail;
 
@@ -25,24 +26,45 @@ fn plain(source: &[u8]) -> Given<'_> {
     }
 }
 
+fn words_of(alloc: Global, word: Option<&str>) -> Result<Vec<String>, AllocError> {
+    let mut words = Vec::new(alloc);
+    if let Some(word) = word {
+        words.push(String::from_str(alloc, word)?)?;
+    }
+    Ok(words)
+}
+
+fn run_into(
+    alloc: Global,
+    given: &Given<'_>,
+    out: &mut MemSink,
+    err: &mut MemSink,
+) -> Result<Status, AllocError> {
+    let words = words_of(alloc, given.word)?;
+    let mut input = MemSource::new(alloc, given.source, given.bad_reads)?;
+    err.reserve(64)?;
+    Ok(run(alloc, &words, &mut input, out, err))
+}
+
+/// Whether a run ends with this status, and leaves these texts in its sinks.
+fn runs(alloc: Global, given: &Given<'_>, want: (Status, &str, &str)) -> Result<bool, AllocError> {
+    let mut out = MemSink::new(alloc, given.bad_writes)?;
+    let mut err = MemSink::new(alloc, given.bad_lines)?;
+    let status = run_into(alloc, given, &mut out, &mut err)?;
+    Ok(status == want.0 && has(&out, want.1) && has(&err, want.2))
+}
+
+fn has(sink: &MemSink, want: &str) -> bool {
+    sink.bytes() == want.as_bytes()
+}
+
 fn assert_runs(
     rt: &(impl Abort + AllocGlobal),
     given: &Given<'_>,
     want: (Status, &str, &str),
 ) -> Result<(), Fail> {
-    let alloc = rt.alloc();
-    let mut words = Vec::new(alloc);
-    if let Some(word) = given.word {
-        words.push(String::from_str(alloc, word)?)?;
-    }
-    let mut input = MemSource::new(alloc, given.source, given.bad_reads)?;
-    let mut out = MemSink::new(alloc, given.bad_writes)?;
-    let mut err = MemSink::new(alloc, given.bad_lines)?;
-    err.reserve(64)?;
-    let status = run(alloc, &words, &mut input, &mut out, &mut err);
-    assert_eq!(rt; status, want.0);
-    assert_eq!(rt; out.bytes(), want.1.as_bytes());
-    assert_eq!(rt; err.bytes(), want.2.as_bytes());
+    let went = runs(rt.alloc(), given, want)?;
+    assert!(rt; went, "the bytes {:?}", given.source);
     Ok(())
 }
 
