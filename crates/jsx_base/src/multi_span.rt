@@ -217,28 +217,55 @@ fn replace_one(span: &mut Span, before: Span, after: Span) -> bool
 mod tests {
     use super::*;
     use crate::BytePos;
-    use std::test::Fail;
 
     fn span(lo: u32, hi: u32) -> Span {
         Span::new(BytePos(lo), BytePos(hi))
     }
 
+    fn primary_span_is_given(alloc: Global) -> Result<bool, AllocError> {
+        let spans = MultiSpan::from_span(alloc, span(1, 4))?;
+        Ok(spans.primary_span() == Some(span(1, 4)))
+    }
+
+    fn primary_and_label(alloc: Global) -> Result<MultiSpan, AllocError> {
+        let mut spans = MultiSpan::from_span(alloc, span(1, 4))?;
+        spans.push_span_label(span(5, 6), String::from_str(alloc, "here")?)?;
+        Ok(spans)
+    }
+
+    fn is_label_alone(shown: &SpanLabel, span: Span) -> bool {
+        shown.span == span && !shown.is_primary && shown.label.is_some()
+    }
+
+    fn is_primary_alone(shown: &SpanLabel, span: Span) -> bool {
+        shown.span == span && shown.is_primary && shown.label.is_none()
+    }
+
+    fn label_comes_first(alloc: Global) -> Result<bool, AllocError> {
+        let spans = primary_and_label(alloc)?;
+        let shown = spans.span_labels(alloc)?;
+        Ok(match shown.as_slice() {
+            [first, second] => {
+                is_label_alone(first, span(5, 6)) && is_primary_alone(second, span(1, 4))
+            }
+            _ => false,
+        })
+    }
+
+    fn is_replaced_once(spans: &mut MultiSpan) -> bool {
+        spans.replace(span(5, 6), span(7, 8)) && !spans.replace(span(5, 6), span(7, 8))
+    }
+
+    fn copy_is_apart(alloc: Global) -> Result<bool, AllocError> {
+        let spans = primary_and_label(alloc)?;
+        let mut copy = spans.try_clone(alloc)?;
+        Ok(copy == spans && is_replaced_once(&mut copy) && copy != spans)
+    }
+
     #[test]
-    fn labels_come_first_and_then_bare_primary_spans(rt: HostRuntime) -> Result<(), Fail> {
-        let mut spans = MultiSpan::from_span(rt.alloc(), span(1, 4))?;
-        assert_eq!(rt; spans.primary_span(), Some(span(1, 4)));
-        spans.push_span_label(span(5, 6), String::from_str(rt.alloc(), "here")?)?;
-        let shown = spans.span_labels(rt.alloc())?;
-        assert_eq!(rt; shown.len(), 2);
-        assert!(rt;
-            shown[0].span == span(5, 6) && !shown[0].is_primary && shown[0].label.is_some()
-        );
-        assert!(rt; shown[1].span == span(1, 4) && shown[1].is_primary && shown[1].label.is_none());
-        let mut copy = spans.try_clone(rt.alloc())?;
-        assert!(rt; copy == spans);
-        assert!(rt; copy.replace(span(5, 6), span(7, 8)));
-        assert!(rt; !copy.replace(span(5, 6), span(7, 8)));
-        assert!(rt; copy != spans);
-        Ok(())
+    fn labels_come_first_and_then_bare_primary_spans(rt: HostRuntime) {
+        assert!(rt; primary_span_is_given(rt.alloc()) == Ok(true));
+        assert!(rt; label_comes_first(rt.alloc()) == Ok(true));
+        assert!(rt; copy_is_apart(rt.alloc()) == Ok(true));
     }
 }
