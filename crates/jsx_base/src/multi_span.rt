@@ -1,9 +1,9 @@
 //! Spans with labels, to which a report points.
 
-ghost use Rattle.std.specs.Prelude.{◌≡◌, ◌+◌, [], ◌∷◌, ◌++◌, Bool, false, ◌||◌, slice_get, string_bytes, length, map, IfOk, IfErr, OnOk, OnErr};
+ghost use Rattle.std.specs.Prelude.{◌≡◌, ◌+◌, [], ◌∷◌, ◌++◌, Bool, false, ◌||◌, slice_get, string_bytes, length, map, filter, not, IfOk, IfErr, OnOk, OnErr};
 ghost use Rattle.std.specs.Option.{option_map};
 ghost use Rattle.std.specs.List.{list_any};
-ghost use Rattle.jsx_base.specs.MultiSpan.{spans_of, label_of, label_data, labelled, shown_labels, is_span, relabelled, replaced, replaced_label};
+ghost use Rattle.jsx_base.specs.MultiSpan.{spans_of, label_of, label_data, labelled, unlabelled, shown_labels, is_span, relabelled, replaced, replaced_label};
 
 use crate::Span;
 use std::alloc::{AllocError, Global};
@@ -87,19 +87,8 @@ impl MultiSpan {
     pub fn span_labels(&self, alloc: Global) -> Result<Vec<SpanLabel>, AllocError>
         ensures { IfOk result (λ shown. map label_data shown.items ≡ shown_labels (spans_of self.now)) }
     {
-        let mut shown = Vec::with_capacity(alloc, self.span_labels.len())?;
-        for label in &self.span_labels {
-            shown.push(with_label(alloc, &self.primary_spans, label)?)?;
-        }
-        for span in &self.primary_spans {
-            if !has_label(&self.span_labels, *span) {
-                shown.push(SpanLabel {
-                    span: *span,
-                    is_primary: true,
-                    label: None,
-                })?;
-            }
-        }
+        let mut shown = with_labels(alloc, &self.primary_spans, &self.span_labels)?;
+        push_bare(&mut shown, &self.primary_spans, &self.span_labels)?;
         Ok(shown)
     }
 
@@ -124,11 +113,12 @@ impl MultiSpan {
     pub fn moved_to(&self, alloc: Global, after: Span) -> Result<MultiSpan, AllocError>
         ensures { IfOk result (λ moved. spans_of moved ≡ relabelled (spans_of self.now) after) }
     {
-        let mut moved = MultiSpan::from_span(alloc, after)?;
-        for (_, label) in &self.span_labels {
-            moved.push_span_label(after, String::from_str(alloc, label.as_str())?)?;
-        }
-        Ok(moved)
+        let mut labels = copy_labels(alloc, &self.span_labels)?;
+        put_at(&mut labels, after);
+        Ok(MultiSpan {
+            primary_spans: vec![in alloc; after]?,
+            span_labels: labels,
+        })
     }
 
     /// An equal one.
@@ -139,15 +129,64 @@ impl MultiSpan {
     pub fn try_clone(&self, alloc: Global) -> Result<MultiSpan, AllocError>
         ensures { IfOk result (λ copy. spans_of copy ≡ spans_of self.now) }
     {
-        let mut span_labels = Vec::with_capacity(alloc, self.span_labels.len())?;
-        for (span, label) in &self.span_labels {
-            span_labels.push((*span, String::from_str(alloc, label.as_str())?))?;
-        }
         Ok(MultiSpan {
+            span_labels: copy_labels(alloc, &self.span_labels)?,
             primary_spans: Vec::from_slice(alloc, &self.primary_spans)?,
-            span_labels,
         })
     }
+}
+
+// Equal labels.
+fn copy_labels(alloc: Global, labels: &[(Span, String)]) -> Result<Vec<(Span, String)>, AllocError>
+    ensures { IfOk result (λ copies. map label_of copies.items ≡ map label_of labels.now) }
+{
+    let copies = Vec::from_clones(alloc, labels)?;
+    Ok(copies)
+}
+
+// Puts each label at this span.
+fn put_at(labels: &mut [(Span, String)], span: Span)
+    ensures { map label_of labels.new ≡ map (λ label. (span, label.1)) (map label_of labels.old) }
+{
+    for label in labels.iter_mut() {
+        label.0 = span;
+    }
+}
+
+// What the labels show.
+fn with_labels(
+    alloc: Global,
+    primary: &[Span],
+    labels: &[(Span, String)],
+) -> Result<Vec<SpanLabel>, AllocError>
+    ensures { IfOk result (λ shown. map label_data shown.items ≡ map (labelled primary.now) (map label_of labels.now)) }
+{
+    let mut shown = Vec::with_capacity(alloc, labels.len())?;
+    for label in labels {
+        shown.push(with_label(alloc, primary, label)?)?;
+    }
+    Ok(shown)
+}
+
+// Adds what the primary spans show at which no label stands.
+fn push_bare(
+    shown: &mut Vec<SpanLabel>,
+    primary: &[Span],
+    labels: &[(Span, String)],
+) -> Result<(), AllocError>
+    ensures { OnOk result (map label_data shown.new.items ≡ map label_data shown.old.items
+        ++ map unlabelled (filter (λ span. not (list_any (λ label. is_span span label.0) (map label_of labels.now))) primary.now)) }
+{
+    for span in primary {
+        if !has_label(labels, *span) {
+            shown.push(SpanLabel {
+                span: *span,
+                is_primary: true,
+                label: None,
+            })?;
+        }
+    }
+    Ok(())
 }
 
 // What a label shows.
