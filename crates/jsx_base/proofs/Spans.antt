@@ -87,3 +87,6 @@ viewed_clones g R alike [] [] each = refl
 viewed_clones g R alike [] (y ∷ ys) each = absurd each
 viewed_clones g R alike (x ∷ xs) [] each = absurd each
 viewed_clones g R alike (x ∷ xs) (y ∷ ys) each = ap (λ z. z ∷ map g ys) (alike x y each.0) ∙ ap (λ zs. g x ∷ zs) (viewed_clones g R alike xs ys each.1)
+
+pub viewed_after_all : {X Y Z : Type 0} (front : List Z) (p : X → Bool) (f : X → Z) (g : Y → Z) (old : List X) (new : List Y) (i : ℕ) → length old ≤ i → ViewedAfter front p f g i old new → map g new ≡ front ++ map f (filter p old)
+viewed_after_all front p f g old new i all viewed = viewed ∙ ap (λ xs. front ++ map f (filter p xs)) (take_all i old all)

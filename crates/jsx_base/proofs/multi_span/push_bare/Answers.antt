@@ -1,7 +1,7 @@
 use Rattle.std.proofs.Common.{rules, ap, ◌∙◌, refl}
 use Rattle.jsx_base.specs.declared.place.Span.{Span}
 use Rattle.jsx_base.specs.MultiSpan.{label_data, unlabelled}
-use Rattle.jsx_base.proofs.Spans.{viewed_kept, viewed_skipped}
+use Rattle.jsx_base.proofs.Spans.{viewed_kept, viewed_skipped, viewed_after_all}
 use Rattle.jsx_base.proofs.multi_span.push_bare.Goals.{then-not-has_label+in_ok-push, else-not-has_label}
 use Rattle.jsx_base.proofs.multi_span.push_bare.Goals as goal
 
@@ -15,3 +15,6 @@ loop-span-preserved c = elim c.if-not-has_label.branch [
   | else-not-has_label w ↦
       viewed_skipped _ _ unlabelled label_data _ c.loop-span.shown.items _ _ zero_span c.loop-span-test.true c.loop-span.invariant (search rules) (ap (λ v. v.items) w.shown-is)
 ]
+
+pub returns : goal.returns
+returns c = viewed_after_all _ _ unlabelled label_data _ c.loop-span.shown.items _ c.loop-span-test.false c.loop-span.invariant
