@@ -24,9 +24,9 @@ impl fmt::Display for FileName {
 
     fn fmt<W: fmt::Write>(&self, f: &mut fmt::Formatter<W>) -> fmt::Result {
         match self {
-            FileName::Real(text) => write!(f, "{text}"),
+            FileName::Real(text) => f.write_str(text.as_str()),
             FileName::Internal(text) | FileName::Custom(text) => write!(f, "<{text}>"),
-            FileName::Anon => write!(f, "<anon>"),
+            FileName::Anon => f.write_str("<anon>"),
         }
     }
 }

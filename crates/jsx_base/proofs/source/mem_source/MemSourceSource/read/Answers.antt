@@ -9,9 +9,3 @@ returns-clause-count c = search rules
 
 pub returns-clause-bytes : goal.returns-clause-bytes
 returns-clause-bytes c = search rules
-
-pub returns-clause-fault : goal.returns-clause-fault
-returns-clause-fault c = search rules
-
-pub returns-clause-next : goal.returns-clause-next
-returns-clause-next c = search rules
