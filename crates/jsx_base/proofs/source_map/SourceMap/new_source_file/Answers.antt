@@ -1,4 +1,4 @@
-use Rattle.std.proofs.Common.{rules, ◌<◌, ap, sym, subst, string_bytes, arith}
+use Rattle.std.proofs.Common.{◌<◌, ap, sym, subst, string_bytes, arith}
 use Rattle.std.specs.List.{All}
 use Rattle.std.proofs.lemmas.Str.{IsUtf8-string_bytes}
 use Rattle.jsx_base.specs.FileName.{name_of}
@@ -13,15 +13,3 @@ returns-clause-ready c =
     let before = subst (λ n. All (λ file. end_of file < n) (files_of c.args.self.now)) (sym c.next_pos-start.ensures) c.requires in
     let moved = ap (λ it. it.next_pos) c.move_to.ensures in
     before_next (files_of c.args.self.now) (files_of c.add.new.self) (name_of c.args.name) (string_bytes c.args.src) c.next_pos-start.result c.move_to.new.self.next_pos (shared_file c.in-Ok.file) (IsUtf8-string_bytes c.args.src) before c.in-Ok.ensures.file c.in-Ok.ensures.added (omega (arith, moved, c.in-Some.ensures.0, c.len.ensures))
-
-pub returns-clause-too_long : goal.returns-clause-too_long
-returns-clause-too_long c = search rules
-
-pub returns-clause-file : goal.returns-clause-file
-returns-clause-file c = search rules
-
-pub returns-clause-added : goal.returns-clause-added
-returns-clause-added c = search rules
-
-pub returns-clause-moved : goal.returns-clause-moved
-returns-clause-moved c = search rules
