@@ -1,6 +1,6 @@
 -- Loops that write over a list in place, or copy it.
 use Rattle.std.proofs.Common.{◌≡◌, ℕ, ◌+◌, ◌-◌, ◌<◌, ◌≤◌, Bool, true, false, cond, ◌||◌, List, [], ◌∷◌, ◌++◌, map, filter, length, get_or, set, take, drop, arith, ap, sym, ◌∙◌, refl}
-use Rattle.std.specs.List.{list_any}
+use Rattle.std.specs.List.{list_any, AllZip}
 use Rattle.std.proofs.lemmas.List.{take_more, map-append, get_or-drop, get_or-append_right, length-take-le, length-map, get_or_default, take_all, drop_all, append-nil, append_assoc}
 use Rattle.std.proofs.lemmas.List.Elements.{filter_more}
 use Rattle.std.proofs.lemmas.List.Folds.{list_any_more}
@@ -13,6 +13,11 @@ MappedTo f i old new = new ≡ map f (take i old) ++ drop i old
 -- the element at i becomes its f
 pub mapped_more : {X : Type 0} (f : X → X) (old new : List X) (i : ℕ) (x y : X) → i < length old → MappedTo f i old new → x ≡ get_or new i x → f x ≡ y → MappedTo f (i + 1) old (set new i y)
 mapped_more f old new i x y within mapped read is = ap (λ z. set new i z) (sym is) ∙ map_over_more f old new i x within mapped read
+
+-- the element at i, as it was read, becomes its f
+pub mapped_next : {X : Type 0} (f : X → X) (old new : List X) (i : ℕ) (d : X) → i < length old → length new ≡ length old → MappedTo f i old new → MappedTo f (i + 1) old (set new i (f (get_or new i d)))
+mapped_next f old new i d within same mapped =
+    mapped_more f old new i (get_or new i d) _ within mapped (get_or_default new i d (get_or new i d) (omega arith)) refl
 
 -- the element at i is still the old one
 pub unmapped : {X : Type 0} (f : X → X) (old new : List X) (i : ℕ) (d : X) → i < length old → MappedTo f i old new → get_or new i d ≡ get_or old i d
@@ -75,3 +80,13 @@ viewed_skipped front p f g old new more i d within viewed fails stays =
     let same : filter p (take (i + 1) old) ≡ filter p (take i old) =
     filter_more p old i d within ∙ ap (λ b. filter p (take i old) ++ cond b (get_or old i d ∷ []) []) fails ∙ append-nil (filter p (take i old)) in
     ap (map g) stays ∙ viewed ∙ ap (λ z. front ++ map f z) (sym same)
+
+-- clones that are viewed alike
+pub viewed_clones : {X Z : Type 0} (g : X → Z) (R : X → X → Type 0) → ((x y : X) → R x y → g y ≡ g x) → (xs ys : List X) → AllZip R xs ys → map g ys ≡ map g xs
+viewed_clones g R alike [] [] each = refl
+viewed_clones g R alike [] (y ∷ ys) each = absurd each
+viewed_clones g R alike (x ∷ xs) [] each = absurd each
+viewed_clones g R alike (x ∷ xs) (y ∷ ys) each = ap (λ z. z ∷ map g ys) (alike x y each.0) ∙ ap (λ zs. g x ∷ zs) (viewed_clones g R alike xs ys each.1)
+
+pub viewed_after_all : {X Y Z : Type 0} (front : List Z) (p : X → Bool) (f : X → Z) (g : Y → Z) (old : List X) (new : List Y) (i : ℕ) → length old ≤ i → ViewedAfter front p f g i old new → map g new ≡ front ++ map f (filter p old)
+viewed_after_all front p f g old new i all viewed = viewed ∙ ap (λ xs. front ++ map f (filter p xs)) (take_all i old all)

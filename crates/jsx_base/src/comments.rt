@@ -92,7 +92,6 @@ pub trait Comments {
 mod tests {
     use super::*;
     use crate::DUMMY_SP;
-    use std::test::Fail;
 
     fn block(alloc: Global, text: &str) -> Result<Comment, AllocError> {
         Ok(Comment {
@@ -102,49 +101,88 @@ mod tests {
         })
     }
 
-    // The first and the last text that lead a place.
-    fn ends<C: Comments>(comments: &C, pos: u32) -> Option<(&str, &str)> {
+    // Adds a copy of a comment of this text.
+    fn lead<C: Comments>(
+        comments: &mut C,
+        alloc: Global,
+        pos: u32,
+        text: &str,
+    ) -> Result<(), AllocError> {
+        let comment = block(alloc, text)?;
+        comments.add_leading(BytePos(pos), comment.try_clone(alloc)?)
+    }
+
+    fn has_text(comment: Option<&Comment>, text: &str) -> bool {
+        match comment {
+            Some(comment) => comment.text.as_str() == text,
+            None => false,
+        }
+    }
+
+    // Whether these are the first and the last text that lead a place.
+    fn ends_are<C: Comments>(comments: &C, pos: u32, first: &str, last: &str) -> bool {
         let list = comments.leading(BytePos(pos));
-        let (first, last) = (list.first()?, list.last()?);
-        Some((first.text.as_str(), last.text.as_str()))
+        has_text(list.first(), first) && has_text(list.last(), last)
+    }
+
+    fn lead_in_order<C: Comments>(comments: &mut C, alloc: Global) -> Result<(), AllocError> {
+        lead(comments, alloc, 7, "one")?;
+        lead(comments, alloc, 3, "two")?;
+        lead(comments, alloc, 7, "three")
+    }
+
+    fn are_in_order<C: Comments>(comments: &C) -> bool {
+        ends_are(comments, 7, "one", "three")
+            && ends_are(comments, 3, "two", "two")
+            && comments.leading(BytePos(4)).is_empty()
+    }
+
+    fn order_is_kept(alloc: Global) -> Result<bool, AllocError> {
+        let mut comments = SingleThreadedComments::new(alloc);
+        lead_in_order(&mut comments, alloc)?;
+        Ok(are_in_order(&comments))
     }
 
     #[test]
-    fn comments_lead_their_place_in_order(rt: HostRuntime) -> Result<(), Fail> {
-        let mut comments = SingleThreadedComments::new(rt.alloc());
-        for (pos, text) in [(7, "one"), (3, "two"), (7, "three")] {
-            let comment = block(rt.alloc(), text)?;
-            comments.add_leading(BytePos(pos), comment.try_clone(rt.alloc())?)?;
-        }
-        assert_eq!(rt; ends(&comments, 7), Some(("one", "three")));
-        assert_eq!(rt; ends(&comments, 3), Some(("two", "two")));
-        assert_eq!(rt; ends(&comments, 4), None);
-        Ok(())
+    fn comments_lead_their_place_in_order(rt: HostRuntime) {
+        assert!(rt; order_is_kept(rt.alloc()) == Ok(true));
+    }
+
+    fn has_each_text<C: Comments>(comments: &C) -> bool {
+        comments.any_contains("@refresh reset")
+            && comments.any_contains("b")
+            && comments.any_contains("")
+            && !comments.any_contains("reset b")
+    }
+
+    fn each_text_is_found(alloc: Global) -> Result<bool, AllocError> {
+        let mut comments = SingleThreadedComments::new(alloc);
+        lead(&mut comments, alloc, 9, "a @refresh reset")?;
+        lead(&mut comments, alloc, 2, "b")?;
+        Ok(has_each_text(&comments))
     }
 
     #[test]
-    fn a_text_is_looked_for_in_every_comment(rt: HostRuntime) -> Result<(), Fail> {
-        let mut comments = SingleThreadedComments::new(rt.alloc());
-        comments.add_leading(BytePos(9), block(rt.alloc(), "a @refresh reset")?)?;
-        comments.add_leading(BytePos(2), block(rt.alloc(), "b")?)?;
-        for (text, want) in [
-            ("@refresh reset", true),
-            ("b", true),
-            ("", true),
-            ("reset b", false),
-        ] {
-            assert_eq!(rt; comments.any_contains(text), want, "{text}");
-        }
-        Ok(())
+    fn a_text_is_looked_for_in_every_comment(rt: HostRuntime) {
+        assert!(rt; each_text_is_found(rt.alloc()) == Ok(true));
     }
 
-    #[test]
-    fn a_mark_is_no_comment(rt: HostRuntime) -> Result<(), Fail> {
-        let mut comments = SingleThreadedComments::new(rt.alloc());
+    fn is_marked_alone<C: Comments>(comments: &C) -> bool {
+        comments.has_pure(BytePos(5))
+            && !comments.has_pure(BytePos(6))
+            && comments.leading(BytePos(5)).is_empty()
+            && !comments.any_contains("")
+    }
+
+    fn mark_stands_alone(alloc: Global) -> Result<bool, AllocError> {
+        let mut comments = SingleThreadedComments::new(alloc);
         comments.add_pure_comment(BytePos(5))?;
         comments.add_pure_comment(BytePos(5))?;
-        assert!(rt; comments.has_pure(BytePos(5)) && !comments.has_pure(BytePos(6)));
-        assert!(rt; comments.leading(BytePos(5)).is_empty() && !comments.any_contains(""));
-        Ok(())
+        Ok(is_marked_alone(&comments))
+    }
+
+    #[test]
+    fn a_mark_is_no_comment(rt: HostRuntime) {
+        assert!(rt; mark_stands_alone(rt.alloc()) == Ok(true));
     }
 }

@@ -24,9 +24,9 @@ impl fmt::Display for FileName {
 
     fn fmt<W: fmt::Write>(&self, f: &mut fmt::Formatter<W>) -> fmt::Result {
         match self {
-            FileName::Real(text) => write!(f, "{text}"),
+            FileName::Real(text) => f.write_str(text.as_str()),
             FileName::Internal(text) | FileName::Custom(text) => write!(f, "<{text}>"),
-            FileName::Anon => write!(f, "<anon>"),
+            FileName::Anon => f.write_str("<anon>"),
         }
     }
 }
@@ -52,19 +52,27 @@ impl FileName {
 #[cfg(test)]
 mod tests {
     use super::*;
-    use std::test::Fail;
+
+    fn is_shown(alloc: Global, name: &FileName, want: &str) -> Result<bool, AllocError> {
+        let shown = name.to_string(alloc)?;
+        Ok(shown.as_str() == want)
+    }
+
+    fn copy_of_a_file_is_bare(alloc: Global) -> Result<bool, AllocError> {
+        let real = FileName::Real(String::from_str(alloc, "a.js")?);
+        let copy = real.try_clone(alloc)?;
+        is_shown(alloc, &copy, "a.js")
+    }
+
+    fn made_name_stands_in_brackets(alloc: Global) -> Result<bool, AllocError> {
+        let made = FileName::Internal(String::from_str(alloc, "made")?);
+        is_shown(alloc, &made, "<made>")
+    }
 
     #[test]
-    fn names_that_are_no_files_stand_in_angle_brackets(rt: HostRuntime) -> Result<(), Fail> {
-        let text = String::from_str(rt.alloc(), "a.js")?;
-        let real = FileName::Real(text);
-        assert_eq!(rt;
-            real.try_clone(rt.alloc())?.to_string(rt.alloc())?.as_str(),
-            "a.js"
-        );
-        let made = FileName::Internal(String::from_str(rt.alloc(), "made")?);
-        assert_eq!(rt; made.to_string(rt.alloc())?.as_str(), "<made>");
-        assert_eq!(rt; FileName::Anon.to_string(rt.alloc())?.as_str(), "<anon>");
-        Ok(())
+    fn names_that_are_no_files_stand_in_angle_brackets(rt: HostRuntime) {
+        assert!(rt; copy_of_a_file_is_bare(rt.alloc()) == Ok(true));
+        assert!(rt; made_name_stands_in_brackets(rt.alloc()) == Ok(true));
+        assert!(rt; is_shown(rt.alloc(), &FileName::Anon, "<anon>") == Ok(true));
     }
 }

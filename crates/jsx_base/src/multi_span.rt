@@ -1,9 +1,9 @@
 //! Spans with labels, to which a report points.
 
-ghost use Rattle.std.specs.Prelude.{◌≡◌, ◌+◌, [], ◌∷◌, ◌++◌, Bool, false, ◌||◌, slice_get, string_bytes, length, map, IfOk, IfErr, OnOk, OnErr};
+ghost use Rattle.std.specs.Prelude.{◌≡◌, ◌+◌, [], ◌∷◌, ◌++◌, Bool, false, ◌||◌, slice_get, string_bytes, length, map, filter, not, IfOk, IfErr, OnOk, OnErr};
 ghost use Rattle.std.specs.Option.{option_map};
 ghost use Rattle.std.specs.List.{list_any};
-ghost use Rattle.jsx_base.specs.MultiSpan.{spans_of, label_of, label_data, labelled, shown_labels, is_span, relabelled, replaced, replaced_label};
+ghost use Rattle.jsx_base.specs.MultiSpan.{spans_of, label_of, label_data, labelled, unlabelled, shown_labels, is_span, relabelled, replaced, replaced_label};
 
 use crate::Span;
 use std::alloc::{AllocError, Global};
@@ -87,19 +87,8 @@ impl MultiSpan {
     pub fn span_labels(&self, alloc: Global) -> Result<Vec<SpanLabel>, AllocError>
         ensures { IfOk result (λ shown. map label_data shown.items ≡ shown_labels (spans_of self.now)) }
     {
-        let mut shown = Vec::with_capacity(alloc, self.span_labels.len())?;
-        for label in &self.span_labels {
-            shown.push(with_label(alloc, &self.primary_spans, label)?)?;
-        }
-        for span in &self.primary_spans {
-            if !has_label(&self.span_labels, *span) {
-                shown.push(SpanLabel {
-                    span: *span,
-                    is_primary: true,
-                    label: None,
-                })?;
-            }
-        }
+        let mut shown = with_labels(alloc, &self.primary_spans, &self.span_labels)?;
+        push_bare(&mut shown, &self.primary_spans, &self.span_labels)?;
         Ok(shown)
     }
 
@@ -124,11 +113,12 @@ impl MultiSpan {
     pub fn moved_to(&self, alloc: Global, after: Span) -> Result<MultiSpan, AllocError>
         ensures { IfOk result (λ moved. spans_of moved ≡ relabelled (spans_of self.now) after) }
     {
-        let mut moved = MultiSpan::from_span(alloc, after)?;
-        for (_, label) in &self.span_labels {
-            moved.push_span_label(after, String::from_str(alloc, label.as_str())?)?;
-        }
-        Ok(moved)
+        let mut labels = copy_labels(alloc, &self.span_labels)?;
+        put_at(&mut labels, after);
+        Ok(MultiSpan {
+            primary_spans: vec![in alloc; after]?,
+            span_labels: labels,
+        })
     }
 
     /// An equal one.
@@ -139,15 +129,64 @@ impl MultiSpan {
     pub fn try_clone(&self, alloc: Global) -> Result<MultiSpan, AllocError>
         ensures { IfOk result (λ copy. spans_of copy ≡ spans_of self.now) }
     {
-        let mut span_labels = Vec::with_capacity(alloc, self.span_labels.len())?;
-        for (span, label) in &self.span_labels {
-            span_labels.push((*span, String::from_str(alloc, label.as_str())?))?;
-        }
         Ok(MultiSpan {
+            span_labels: copy_labels(alloc, &self.span_labels)?,
             primary_spans: Vec::from_slice(alloc, &self.primary_spans)?,
-            span_labels,
         })
     }
+}
+
+// Equal labels.
+fn copy_labels(alloc: Global, labels: &[(Span, String)]) -> Result<Vec<(Span, String)>, AllocError>
+    ensures { IfOk result (λ copies. map label_of copies.items ≡ map label_of labels.now) }
+{
+    let copies = Vec::from_clones(alloc, labels)?;
+    Ok(copies)
+}
+
+// Puts each label at this span.
+fn put_at(labels: &mut [(Span, String)], span: Span)
+    ensures { map label_of labels.new ≡ map (λ label. (span, label.1)) (map label_of labels.old) }
+{
+    for label in labels.iter_mut() {
+        label.0 = span;
+    }
+}
+
+// What the labels show.
+fn with_labels(
+    alloc: Global,
+    primary: &[Span],
+    labels: &[(Span, String)],
+) -> Result<Vec<SpanLabel>, AllocError>
+    ensures { IfOk result (λ shown. map label_data shown.items ≡ map (labelled primary.now) (map label_of labels.now)) }
+{
+    let mut shown = Vec::with_capacity(alloc, labels.len())?;
+    for label in labels {
+        shown.push(with_label(alloc, primary, label)?)?;
+    }
+    Ok(shown)
+}
+
+// Adds what the primary spans show at which no label stands.
+fn push_bare(
+    shown: &mut Vec<SpanLabel>,
+    primary: &[Span],
+    labels: &[(Span, String)],
+) -> Result<(), AllocError>
+    ensures { OnOk result (map label_data shown.new.items ≡ map label_data shown.old.items
+        ++ map unlabelled (filter (λ span. not (list_any (λ label. is_span span label.0) (map label_of labels.now))) primary.now)) }
+{
+    for span in primary {
+        if !has_label(labels, *span) {
+            shown.push(SpanLabel {
+                span: *span,
+                is_primary: true,
+                label: None,
+            })?;
+        }
+    }
+    Ok(())
 }
 
 // What a label shows.
@@ -217,28 +256,55 @@ fn replace_one(span: &mut Span, before: Span, after: Span) -> bool
 mod tests {
     use super::*;
     use crate::BytePos;
-    use std::test::Fail;
 
     fn span(lo: u32, hi: u32) -> Span {
         Span::new(BytePos(lo), BytePos(hi))
     }
 
+    fn primary_span_is_given(alloc: Global) -> Result<bool, AllocError> {
+        let spans = MultiSpan::from_span(alloc, span(1, 4))?;
+        Ok(spans.primary_span() == Some(span(1, 4)))
+    }
+
+    fn primary_and_label(alloc: Global) -> Result<MultiSpan, AllocError> {
+        let mut spans = MultiSpan::from_span(alloc, span(1, 4))?;
+        spans.push_span_label(span(5, 6), String::from_str(alloc, "here")?)?;
+        Ok(spans)
+    }
+
+    fn is_label_alone(shown: &SpanLabel, span: Span) -> bool {
+        shown.span == span && !shown.is_primary && shown.label.is_some()
+    }
+
+    fn is_primary_alone(shown: &SpanLabel, span: Span) -> bool {
+        shown.span == span && shown.is_primary && shown.label.is_none()
+    }
+
+    fn label_comes_first(alloc: Global) -> Result<bool, AllocError> {
+        let spans = primary_and_label(alloc)?;
+        let shown = spans.span_labels(alloc)?;
+        Ok(match shown.as_slice() {
+            [first, second] => {
+                is_label_alone(first, span(5, 6)) && is_primary_alone(second, span(1, 4))
+            }
+            _ => false,
+        })
+    }
+
+    fn is_replaced_once(spans: &mut MultiSpan) -> bool {
+        spans.replace(span(5, 6), span(7, 8)) && !spans.replace(span(5, 6), span(7, 8))
+    }
+
+    fn copy_is_apart(alloc: Global) -> Result<bool, AllocError> {
+        let spans = primary_and_label(alloc)?;
+        let mut copy = spans.try_clone(alloc)?;
+        Ok(copy == spans && is_replaced_once(&mut copy) && copy != spans)
+    }
+
     #[test]
-    fn labels_come_first_and_then_bare_primary_spans(rt: HostRuntime) -> Result<(), Fail> {
-        let mut spans = MultiSpan::from_span(rt.alloc(), span(1, 4))?;
-        assert_eq!(rt; spans.primary_span(), Some(span(1, 4)));
-        spans.push_span_label(span(5, 6), String::from_str(rt.alloc(), "here")?)?;
-        let shown = spans.span_labels(rt.alloc())?;
-        assert_eq!(rt; shown.len(), 2);
-        assert!(rt;
-            shown[0].span == span(5, 6) && !shown[0].is_primary && shown[0].label.is_some()
-        );
-        assert!(rt; shown[1].span == span(1, 4) && shown[1].is_primary && shown[1].label.is_none());
-        let mut copy = spans.try_clone(rt.alloc())?;
-        assert!(rt; copy == spans);
-        assert!(rt; copy.replace(span(5, 6), span(7, 8)));
-        assert!(rt; !copy.replace(span(5, 6), span(7, 8)));
-        assert!(rt; copy != spans);
-        Ok(())
+    fn labels_come_first_and_then_bare_primary_spans(rt: HostRuntime) {
+        assert!(rt; primary_span_is_given(rt.alloc()) == Ok(true));
+        assert!(rt; label_comes_first(rt.alloc()) == Ok(true));
+        assert!(rt; copy_is_apart(rt.alloc()) == Ok(true));
     }
 }

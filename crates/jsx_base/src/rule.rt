@@ -92,6 +92,6 @@ mod tests {
 
     #[test]
     fn a_rule_answers_by_its_closure(rt: HostRuntime) {
-        assert_eq!(rt; half_of_ten(), 5);
+        assert!(rt; half_of_ten() == 5);
     }
 }

@@ -54,9 +54,9 @@ pub trait Sink {
 #[cfg(test)]
 mod tests {
     use super::*;
+    use std::alloc::Global;
     use std::io;
     use std::io::Write;
-    use std::test::Fail;
 
     /// Takes two bytes in each call, and none when it is full.
     #[derive(Drop)]
@@ -80,54 +80,81 @@ mod tests {
         }
     }
 
-    #[test]
-    fn listed_writes_fail_and_add_nothing(rt: HostRuntime) -> Result<(), Fail> {
-        let mut sink = MemSink::new(rt.alloc(), &[1])?;
-        let steps = [
-            (b"ab", Ok(()), 2),
-            (b"cd", Err(Failed), 2),
-            (b"ef", Ok(()), 4),
-        ];
-        for (bytes, want, held) in steps {
-            sink.reserve(2)?;
-            assert_eq!(rt; sink.write(bytes), want);
-            assert_eq!(rt; sink.bytes().len(), held);
-        }
-        assert_eq!(rt; sink.bytes(), b"abef".as_slice());
-        Ok(())
+    // Whether a write answers this, and the sink holds so many bytes then.
+    fn writes(
+        sink: &mut MemSink,
+        bytes: &[u8; 2],
+        want: Result<(), Failed>,
+        held: usize,
+    ) -> Result<bool, AllocError> {
+        sink.reserve(2)?;
+        Ok(sink.write(bytes) == want && sink.bytes().len() == held)
+    }
+
+    fn second_write_fails(sink: &mut MemSink) -> Result<bool, AllocError> {
+        Ok(
+            writes(sink, b"ab", Ok(()), 2)?
+                && writes(sink, b"cd", Err(Failed), 2)?
+                && writes(sink, b"ef", Ok(()), 4)?,
+        )
+    }
+
+    fn failed_write_adds_nothing(alloc: Global) -> Result<bool, AllocError> {
+        let mut sink = MemSink::new(alloc, &[1])?;
+        Ok(second_write_fails(&mut sink)? && sink.bytes() == b"abef".as_slice())
     }
 
     #[test]
-    fn a_quiet_sink_holds_what_was_written(rt: HostRuntime) -> Result<(), Fail> {
-        let mut sink = QuietSink::new(rt.alloc());
+    fn listed_writes_fail_and_add_nothing(rt: HostRuntime) {
+        assert!(rt; failed_write_adds_nothing(rt.alloc()) == Ok(true));
+    }
+
+    fn quiet_sink_holds_all(alloc: Global) -> Result<bool, AllocError> {
+        let mut sink = QuietSink::new(alloc);
         sink.reserve(4)?;
-        assert_eq!(rt; sink.write(b"ab"), Ok(()));
-        assert_eq!(rt; sink.write(b"cd"), Ok(()));
-        assert_eq!(rt; sink.bytes(), b"abcd".as_slice());
-        Ok(())
+        Ok(
+            sink.write(b"ab") == Ok(())
+                && sink.write(b"cd") == Ok(())
+                && sink.bytes() == b"abcd".as_slice(),
+        )
     }
 
     #[test]
-    fn std_writers_take_all(rt: HostRuntime) -> Result<(), Fail> {
-        let mut taken = Vec::new(rt.alloc());
-        let mut sink = StdSink::new(&mut taken);
+    fn a_quiet_sink_holds_what_was_written(rt: HostRuntime) {
+        assert!(rt; quiet_sink_holds_all(rt.alloc()) == Ok(true));
+    }
+
+    fn takes_all<W: Write>(sink: &mut StdSink<W>) -> Result<bool, AllocError> {
         sink.reserve(6)?;
-        assert_eq!(rt; sink.write(b"abc"), Ok(()));
-        assert_eq!(rt; sink.write(b""), Ok(()));
-        assert_eq!(rt; sink.write(b"def"), Ok(()));
-        assert_eq!(rt; taken.as_slice(), b"abcdef".as_slice());
-        Ok(())
+        Ok(
+            sink.write(b"abc") == Ok(())
+                && sink.write(b"") == Ok(())
+                && sink.write(b"def") == Ok(()),
+        )
+    }
+
+    fn std_writer_takes_all(alloc: Global) -> Result<bool, AllocError> {
+        let mut taken = Vec::new(alloc);
+        Ok(takes_all(&mut StdSink::new(&mut taken))? && taken.as_slice() == b"abcdef".as_slice())
     }
 
     #[test]
-    fn a_std_write_that_takes_nothing_is_a_fault(rt: HostRuntime) -> Result<(), Fail> {
-        let mut writer = Narrow {
+    fn std_writers_take_all(rt: HostRuntime) {
+        assert!(rt; std_writer_takes_all(rt.alloc()) == Ok(true));
+    }
+
+    fn full_writer_is_a_fault(mut writer: Narrow) -> bool {
+        StdSink::new(&mut writer).write(b"abc") == Ok(())
+            && StdSink::new(&mut writer).write(b"defg") == Err(Failed)
+            && writer.taken.as_slice() == b"abcde".as_slice()
+    }
+
+    #[test]
+    fn a_std_write_that_takes_nothing_is_a_fault(rt: HostRuntime) {
+        let writer = Narrow {
             taken: Vec::new(rt.alloc()),
             most: 4,
         };
-        assert_eq!(rt; StdSink::new(&mut writer).write(b"abc"), Ok(()));
-        assert_eq!(rt; StdSink::new(&mut writer).write(b"defg"), Err(Failed));
-        assert_eq!(rt; writer.taken.as_slice(), b"abcde".as_slice());
-        Ok(())
+        assert!(rt; full_writer_is_a_fault(writer));
     }
 }

@@ -44,10 +44,9 @@ pub trait Source {
 #[cfg(test)]
 mod tests {
     use super::*;
+    use std::alloc::{AllocError, Global};
     use std::io;
     use std::io::{ErrorKind, Read};
-    use std::process::Abort;
-    use std::test::Fail;
 
     /// Gives one byte, fails, and then ends.
     #[derive(Drop)]
@@ -69,41 +68,42 @@ mod tests {
         }
     }
 
-    fn assert_reads<S: Source>(rt: &impl Abort, source: &mut S, want: &[Result<&[u8], Failed>]) {
-        for (i, want) in want.iter().enumerate() {
-            let mut buf = [0; 4];
-            match (source.read(&mut buf), want) {
-                (Ok(n), Ok(bytes)) => assert_eq!(rt; &buf[..n], *bytes, "at read {i}"),
-                (got, want) => assert_eq!(rt; got.is_err(), want.is_err(), "at read {i}"),
-            }
+    // What is wanted of a read that fails.
+    const FAULT: &str = "!";
+
+    fn gives<S: Source>(source: &mut S, want: &str) -> bool {
+        let mut buf = [0; 4];
+        match source.read(&mut buf) {
+            Ok(n) => &buf[..n] == want.as_bytes(),
+            Err(Failed) => want == FAULT,
         }
     }
 
+    // Whether one read after another gives these bytes.
+    fn reads<S: Source>(source: &mut S, wanted: &[&str]) -> bool {
+        for want in wanted {
+            if !gives(source, want) {
+                return false;
+            }
+        }
+        true
+    }
+
+    fn listed_reads_lose_nothing(alloc: Global) -> Result<bool, AllocError> {
+        let mut source = MemSource::new(alloc, b"abcdef", &[1, 4])?;
+        Ok(reads(&mut source, &["abcd", FAULT, "ef", "", FAULT, ""]))
+    }
+
     #[test]
-    fn listed_reads_fail_and_lose_nothing(rt: HostRuntime) -> Result<(), Fail> {
-        let mut source = MemSource::new(rt.alloc(), b"abcdef", &[1, 4])?;
-        let (front, back, end): (&[u8], &[u8], &[u8]) = (b"abcd", b"ef", b"");
-        let want = [
-            Ok(front),
-            Err(Failed),
-            Ok(back),
-            Ok(end),
-            Err(Failed),
-            Ok(end),
-        ];
-        assert_reads(&rt, &mut source, &want);
-        Ok(())
+    fn listed_reads_fail_and_lose_nothing(rt: HostRuntime) {
+        assert!(rt; listed_reads_lose_nothing(rt.alloc()) == Ok(true));
     }
 
     #[test]
     fn std_readers_give_their_bytes_and_faults(rt: HostRuntime) {
         let text: &[u8] = b"abcdef";
-        let (front, back, end): (&[u8], &[u8], &[u8]) = (b"abcd", b"ef", b"");
-        let want = [Ok(front), Ok(back), Ok(end)];
-        assert_reads(&rt, &mut StdSource::new(text), &want);
-
-        let one: &[u8] = b"x";
-        let want = [Ok(one), Err(Failed), Ok(end)];
-        assert_reads(&rt, &mut StdSource::new(Broken { reads: 0 }), &want);
+        assert!(rt; reads(&mut StdSource::new(text), &["abcd", "ef", ""]));
+        let broken = Broken { reads: 0 };
+        assert!(rt; reads(&mut StdSource::new(broken), &["x", FAULT, ""]));
     }
 }

@@ -239,8 +239,6 @@ fn end_place(start: u32, bytes: usize) -> Option<u32>
 #[cfg(test)]
 mod tests {
     use super::*;
-    use std::process::Abort;
-    use std::test::Fail;
 
     fn file_of_text(alloc: Global, text: &str) -> Result<Rc<SourceFile>, BaseError> {
         let src = match String::from_str(alloc, text) {
@@ -250,19 +248,14 @@ mod tests {
         SourceMap::new(alloc).new_source_file(&mut Globals::with(1, 10), FileName::Anon, src)
     }
 
-    // Line, column and display column, and the bytes before the character.
-    fn assert_spots(rt: &impl Abort, file: &SourceFile, want: &[(u32, [usize; 4])]) {
-        for (pos, want) in want {
-            let spot = file.spot(BytePos(*pos));
-            let got = [spot.line, spot.col, spot.col_display, spot.before];
-            assert_eq!(rt; got, *want, "at {pos}");
-        }
+    fn spot_is(file: &SourceFile, pos: u32, want: [usize; 4]) -> bool {
+        let spot = file.spot(BytePos(pos));
+        [spot.line, spot.col, spot.col_display, spot.before] == want
     }
 
-    #[test]
-    fn places_have_lines_and_columns(rt: HostRuntime) -> Result<(), Fail> {
-        let file = file_of_text(rt.alloc(), "\u{e9}\t\u{4e2d}x\r\n\u{1}z")?;
-        let want = [
+    // Line, column and display column, and the bytes before the character.
+    fn spots_are(file: &SourceFile) -> bool {
+        for (pos, want) in [
             (10, [1, 0, 0, 0]),
             (11, [1, 0, 0, 0]),
             (12, [1, 1, 1, 2]),
@@ -271,31 +264,58 @@ mod tests {
             (18, [1, 5, 8, 8]),
             (19, [2, 0, 0, 9]),
             (21, [2, 2, 1, 11]),
-        ];
-        assert_spots(&rt, &file, &want);
-        Ok(())
+        ] {
+            if !spot_is(file, pos, want) {
+                return false;
+            }
+        }
+        true
+    }
+
+    fn places_are_found(alloc: Global) -> Result<bool, BaseError> {
+        let file = file_of_text(alloc, "\u{e9}\t\u{4e2d}x\r\n\u{1}z")?;
+        Ok(spots_are(&file))
     }
 
     #[test]
-    fn lines_end_at_lf_alone(rt: HostRuntime) -> Result<(), Fail> {
-        let file = file_of_text(rt.alloc(), "a\rb\r\n\nc")?;
-        assert_eq!(rt; file.line_count(), 3);
-        assert_eq!(rt; file.get_line(0), Some("a\rb\r"));
-        assert_eq!(rt; file.get_line(1), Some(""));
-        assert_eq!(rt; file.get_line(2), Some("c"));
-        assert_eq!(rt; file.get_line(3), None);
-        Ok(())
+    fn places_have_lines_and_columns(rt: HostRuntime) {
+        assert!(rt; places_are_found(rt.alloc()) == Ok(true));
+    }
+
+    fn line_is(file: &SourceFile, index: usize, want: Option<&str>) -> bool {
+        file.get_line(index) == want
+    }
+
+    fn lines_are(file: &SourceFile) -> bool {
+        file.line_count() == 3
+            && line_is(file, 0, Some("a\rb\r"))
+            && line_is(file, 1, Some(""))
+            && line_is(file, 2, Some("c"))
+            && line_is(file, 3, None)
+    }
+
+    fn lines_are_found(alloc: Global) -> Result<bool, BaseError> {
+        let file = file_of_text(alloc, "a\rb\r\n\nc")?;
+        Ok(lines_are(&file))
+    }
+
+    #[test]
+    fn lines_end_at_lf_alone(rt: HostRuntime) {
+        assert!(rt; lines_are_found(rt.alloc()) == Ok(true));
+    }
+
+    // Whether an empty file can be added at this place, and moves the next one then, or none can be.
+    fn adds_at(alloc: Global, next: u32, fits: bool) -> bool {
+        let mut globals = Globals::with(1, next);
+        let empty = String::new(alloc);
+        let added = SourceMap::new(alloc).new_source_file(&mut globals, FileName::Anon, empty);
+        added.is_ok() == fits && (globals.next_pos() != next) == fits
     }
 
     #[test]
     fn a_file_ends_below_the_greatest_place(rt: HostRuntime) {
-        for (next, fits) in [(0xFFFE_FFFF, true), (0xFFFF_0000, false), (u32::MAX, false)] {
-            let mut globals = Globals::with(1, next);
-            let mut map = SourceMap::new(rt.alloc());
-            let empty = String::new(rt.alloc());
-            let added = map.new_source_file(&mut globals, FileName::Anon, empty);
-            assert_eq!(rt; added.is_ok(), fits, "at {next}");
-            assert_eq!(rt; globals.next_pos() != next, fits, "at {next}");
-        }
+        assert!(rt; adds_at(rt.alloc(), 0xFFFE_FFFF, true));
+        assert!(rt; adds_at(rt.alloc(), 0xFFFF_0000, false));
+        assert!(rt; adds_at(rt.alloc(), u32::MAX, false));
     }
 }

@@ -344,7 +344,6 @@ impl<M: SourceMapper> SourceMapper for Rc<M> {
 mod tests {
     use super::*;
     use crate::{Globals, SourceMap};
-    use std::process::Abort;
     use std::test::Fail;
 
     // `<a>` has the places from 1 to 6, and `<b>` those from 7 to 10.
@@ -365,65 +364,81 @@ mod tests {
         }
     }
 
-    fn assert_shown<M: SourceMapper>(
-        rt: &impl Abort,
+    fn is_shown<M: SourceMapper>(
         alloc: Global,
         map: &M,
-        (lo, hi): (u32, u32),
+        sp: Span,
         want: &str,
-    ) -> Result<(), Fail> {
-        let shown = map.span_to_string(alloc, span(lo, hi))?;
-        assert_eq!(rt; shown.as_str(), want);
-        Ok(())
+    ) -> Result<bool, AllocError> {
+        let shown = map.span_to_string(alloc, sp)?;
+        Ok(shown.as_str() == want)
+    }
+
+    fn are_shown(alloc: Global, map: &SourceMap) -> Result<bool, AllocError> {
+        Ok(
+            is_shown(alloc, map, span(1, 3), "<a>:1:1: 1:3")?
+                && is_shown(alloc, &map, span(6, 2), "<a>:1:2: 2:3")?
+                && is_shown(alloc, map, span(5, 8), "<a>:2:2: 1:1")?,
+        )
+    }
+
+    fn is_nowhere(alloc: Global, map: SourceMap) -> Result<bool, AllocError> {
+        is_shown(alloc, &Rc::new(alloc, map)?, span(0, 3), "no-location")
     }
 
     #[test]
     fn spans_are_shown_with_lines_and_columns(rt: HostRuntime) -> Result<(), Fail> {
         let map = two_files(rt.alloc())?;
-        assert_shown(&rt, rt.alloc(), &map, (1, 3), "<a>:1:1: 1:3")?;
-        assert_shown(&rt, rt.alloc(), &&map, (6, 2), "<a>:1:2: 2:3")?;
-        assert_shown(&rt, rt.alloc(), &map, (5, 8), "<a>:2:2: 1:1")?;
-        assert_shown(
-            &rt,
-            rt.alloc(),
-            &Rc::new(rt.alloc(), map)?,
-            (0, 3),
-            "no-location",
-        )?;
+        assert!(rt; are_shown(rt.alloc(), &map) == Ok(true));
+        assert!(rt; is_nowhere(rt.alloc(), map) == Ok(true));
         Ok(())
+    }
+
+    fn snippet_is(alloc: Global, map: &SourceMap, sp: Span, want: Option<&str>) -> bool {
+        match map.span_to_snippet(alloc, sp) {
+            Ok(text) => want == Some(text.as_str()),
+            Err(_) => want.is_none(),
+        }
+    }
+
+    fn snippets_are(alloc: Global, map: &SourceMap) -> bool {
+        snippet_is(alloc, map, span(2, 5), Some("b\nc"))
+            && snippet_is(alloc, map, span(8, 10), Some("\u{e9}x"))
+            && snippet_is(alloc, map, span(6, 7), None)
     }
 
     #[test]
     fn snippets_lie_in_one_file(rt: HostRuntime) -> Result<(), Fail> {
         let map = two_files(rt.alloc())?;
-        for (lo, hi, want) in [(2, 5, Some("b\nc")), (8, 10, Some("\u{e9}x")), (6, 7, None)] {
-            let snippet = map.span_to_snippet(rt.alloc(), span(lo, hi));
-            match (snippet, want) {
-                (Ok(text), Some(want)) => assert_eq!(rt; text.as_str(), want),
-                (got, want) => assert_eq!(rt; got.is_err(), want.is_none()),
-            }
-        }
+        assert!(rt; snippets_are(rt.alloc(), &map));
         Ok(())
+    }
+
+    fn line(index: usize, start: usize, end: usize) -> LineInfo {
+        LineInfo {
+            line_index: index,
+            start_col: CharPos(start),
+            end_col: CharPos(end),
+        }
+    }
+
+    fn lines_are(alloc: Global, map: &SourceMap, sp: Span, want: &[LineInfo]) -> bool {
+        match map.span_to_lines(alloc, sp) {
+            Ok(found) => found.lines.as_slice() == want,
+            Err(_) => false,
+        }
     }
 
     #[test]
     fn lines_of_a_span_have_columns(rt: HostRuntime) -> Result<(), Fail> {
         let map = two_files(rt.alloc())?;
-        let Ok(found) = map.span_to_lines(rt.alloc(), span(2, 5)) else {
-            return Err(Fail::from(AllocError));
-        };
-        let want = [(0, 1, 2), (1, 0, 1)];
-        assert_eq!(rt; found.lines.len(), want.len());
-        for (line, want) in found.lines.iter().zip(want) {
-            assert_eq!(rt; (line.line_index, line.start_col.0, line.end_col.0), want);
-        }
+        let want = [line(0, 1, 2), line(1, 0, 1)];
+        assert!(rt; lines_are(rt.alloc(), &map, span(2, 5), &want));
         assert!(rt; map.span_to_lines(rt.alloc(), span(6, 7)).is_err());
         Ok(())
     }
 
-    #[test]
-    fn spans_of_one_line_merge(rt: HostRuntime) -> Result<(), Fail> {
-        let map = two_files(rt.alloc())?;
+    fn merged_are(map: &SourceMap) -> bool {
         for (left, right, want) in [
             (span(1, 2), span(2, 5), Some(span(1, 5))),
             (span(1, 3), span(4, 5), None),
@@ -431,28 +446,52 @@ mod tests {
             (span(4, 6), span(7, 8), None),
             (span(7, 8), span(9, 10), Some(span(7, 10))),
         ] {
-            assert_eq!(rt; map.merge_spans(left, right), want);
+            if map.merge_spans(left, right) != want {
+                return false;
+            }
         }
+        true
+    }
+
+    #[test]
+    fn spans_of_one_line_merge(rt: HostRuntime) -> Result<(), Fail> {
+        let map = two_files(rt.alloc())?;
+        assert!(rt; merged_are(&map));
         Ok(())
+    }
+
+    fn is_named(alloc: Global, map: &SourceMap, pos: u32, want: &str) -> Result<bool, AllocError> {
+        let name = map.span_to_filename(alloc, span(pos, pos))?;
+        let shown = name.to_string(alloc)?;
+        Ok(shown.as_str() == want)
+    }
+
+    fn is_in(alloc: Global, map: &SourceMap, pos: u32, name: &str) -> Result<bool, AllocError> {
+        let found = map.lookup_char_pos(BytePos(pos)).is_some();
+        Ok(is_named(alloc, map, pos, name)? && found)
+    }
+
+    fn is_outside(alloc: Global, map: &SourceMap, pos: u32) -> Result<bool, AllocError> {
+        let found = map.lookup_char_pos(BytePos(pos)).is_some();
+        Ok(is_named(alloc, map, pos, "<anon>")? && !found)
+    }
+
+    fn places_have_files(alloc: Global, map: &SourceMap) -> Result<bool, AllocError> {
+        Ok(
+            is_outside(alloc, map, 0)?
+                && is_in(alloc, map, 6, "<a>")?
+                && is_in(alloc, map, 7, "<b>")?
+                && is_in(alloc, map, 10, "<b>")?
+                && is_outside(alloc, map, 11)?,
+        )
     }
 
     #[test]
     fn a_place_has_a_file(rt: HostRuntime) -> Result<(), Fail> {
         let map = two_files(rt.alloc())?;
-        for (pos, want) in [
-            (0, "<anon>"),
-            (6, "<a>"),
-            (7, "<b>"),
-            (10, "<b>"),
-            (11, "<anon>"),
-        ] {
-            let name = map.span_to_filename(rt.alloc(), span(pos, pos))?;
-            assert_eq!(rt; name.to_string(rt.alloc())?.as_str(), want);
-            let found = map.lookup_char_pos(BytePos(pos)).is_some();
-            assert_eq!(rt; found, want != "<anon>");
-        }
-        assert_eq!(rt; map.call_span_if_macro(span(1, 2)), span(1, 2));
-        assert_eq!(rt; map.doctest_offset_line(7), 7);
+        assert!(rt; places_have_files(rt.alloc(), &map) == Ok(true));
+        assert!(rt; map.call_span_if_macro(span(1, 2)) == span(1, 2));
+        assert!(rt; map.doctest_offset_line(7) == 7);
         Ok(())
     }
 }

@@ -43,6 +43,18 @@ impl MemSource {
             reads: Calls::new(alloc, fail)?,
         })
     }
+
+    // Fills a buffer, as far as there are bytes, and answers with how many.
+    fn give(&mut self, buf: &mut [u8]) -> usize
+        ensures count { result ≡ min (length self.old.left) (length buf.old) }
+        ensures bytes { buf.new ≡ take result self.old.left ++ drop result buf.old }
+        ensures left { self.new ≡ record self.old { left = drop result self.old.left } }
+    {
+        let rest = &self.bytes[self.given..];
+        let n = copy_front(rest, buf);
+        self.given += n;
+        n
+    }
 }
 
 impl Source for MemSource {
@@ -67,10 +79,7 @@ impl Source for MemSource {
         if self.reads.next_fails() {
             return Err(Failed);
         }
-        let rest = &self.bytes[self.given..];
-        let n = copy_front(rest, buf);
-        self.given += n;
-        Ok(n)
+        Ok(self.give(buf))
     }
 }
 
