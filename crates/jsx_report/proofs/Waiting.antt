@@ -16,7 +16,7 @@ waiting_if : (b : Bool) (x : List Report) (m n : Books) → (if b then waiting x
 waiting_if true x m n = refl
 waiting_if false x m n = refl
 
-booked_waiting : (f : HandlerFlags) (x : List Report) (b : Books) (r : Report) → booked f (waiting x b) r ≡ waiting x (booked f b r)
+pub booked_waiting : (f : HandlerFlags) (x : List Report) (b : Books) (r : Report) → booked f (waiting x b) r ≡ waiting x (booked f b r)
 booked_waiting f x b r = waiting_if (is_news b r) x (entered f b r) b
 
 pub booked_all_waiting : (f : HandlerFlags) (x : List Report) (b : Books) (rs : List Report) → booked_all f (waiting x b) rs ≡ waiting x (booked_all f b rs)

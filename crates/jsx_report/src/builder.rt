@@ -1,11 +1,11 @@
 //! A report that is being made. It has to be spent: there is no way to drop it.
 
-ghost use Rattle.std.specs.Prelude.{◌≡◌, [], ◌∷◌, ◌++◌, map, OnOk, OnErr};
-ghost use Rattle.jsx_diag.specs.Data.{report_of};
-
+// Most calls here and in `Handler` take an answer apart by `match` and not by `?`, which the proof of a
+// function pays for: a call, a branch and a conversion more, each with a borrow that ends.
 mod notes;
 mod suggestions;
 
+use crate::reports::push;
 use crate::{Emitter, Handler, HandlerError};
 use jsx_diag::{Diagnostic, DiagnosticId, Level};
 use std::alloc::AllocError;
@@ -49,7 +49,9 @@ impl<'a, E: Emitter> DiagnosticBuilder<'a, E> {
         ensures suggests { IfOk result (λ it. suggests it ≡ true) }
         ensures* refused { sem 𝓛 (RestsIfErr (the_row E.row) handler.entry (λ it. it.handler.ghost_name) result (λ last. last ≡ handler.old)) }
     {
-        let diagnostic = Diagnostic::new(handler.allocator(), level, message)?;
+        let Ok(diagnostic) = Diagnostic::new(handler.allocator(), level, message) else {
+            return Err(AllocError);
+        };
         Ok(DiagnosticBuilder {
             handler,
             diagnostic,
@@ -74,7 +76,10 @@ impl<'a, E: Emitter> DiagnosticBuilder<'a, E> {
         ensures suggests { IfOk result (λ it. suggests it ≡ true) }
         ensures* refused { sem 𝓛 (RestsIfErr (the_row E.row) handler.entry (λ it. it.handler.ghost_name) result (λ last. last ≡ handler.old)) }
     {
-        let diagnostic = Diagnostic::new_with_code(handler.allocator(), level, code, message)?;
+        let Ok(diagnostic) = Diagnostic::new_with_code(handler.allocator(), level, code, message)
+        else {
+            return Err(AllocError);
+        };
         Ok(DiagnosticBuilder {
             handler,
             diagnostic,
@@ -157,8 +162,10 @@ impl<'a, E: Emitter> DiagnosticBuilder<'a, E> {
         if handler.flags.dont_buffer_diagnostics || handler.flags.treat_err_as_bug {
             return handler.report(diagnostic);
         }
-        push(buffered_diagnostics, diagnostic)?;
-        Ok(())
+        match push(buffered_diagnostics, diagnostic) {
+            Ok(()) => Ok(()),
+            Err(_) => Err(HandlerError::Memory),
+        }
     }
 
     /// Enters the report as a bug that waits, as `delay_span_bug` does, also a cancelled one.
@@ -190,7 +197,9 @@ impl<'a, E: Emitter> DiagnosticBuilder<'a, E> {
             diagnostic,
             allow_suggestions: _,
         } = self;
-        handler.print(&diagnostic)
+        let answer = handler.print(&diagnostic);
+        drop(diagnostic);
+        answer
     }
 
     /// Lets the report go. Nothing is printed.
@@ -199,19 +208,11 @@ impl<'a, E: Emitter> DiagnosticBuilder<'a, E> {
     {
         let DiagnosticBuilder {
             handler: _,
-            diagnostic: _,
+            diagnostic,
             allow_suggestions: _,
         } = self;
+        drop(diagnostic);
     }
-}
-
-// Puts a report behind the others.
-fn push(reports: &mut Vec<Diagnostic>, report: Diagnostic) -> Result<(), AllocError>
-    ensures added { OnOk result (map report_of reports.new.items ≡ map report_of reports.old.items ++ report_of report ∷ []) }
-    ensures kept { OnErr result (map report_of reports.new.items ≡ map report_of reports.old.items) }
-{
-    reports.push(report)?;
-    Ok(())
 }
 
 impl<E: Emitter> Deref for DiagnosticBuilder<'_, E> {

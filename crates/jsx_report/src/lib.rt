@@ -7,6 +7,7 @@ mod emitter;
 mod error;
 mod handler;
 mod known;
+mod reports;
 
 pub use builder::DiagnosticBuilder;
 pub use context::Cx;

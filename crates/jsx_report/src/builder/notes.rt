@@ -50,8 +50,10 @@ impl<E: Emitter> DiagnosticBuilder<'_, E> {
         ensures added { IfOk result (λ it. report_of (diagnostic_of it.now) ≡ with_label (report_of (diagnostic_of self.old)) span (string_bytes label)) }
         ensures suggests { IfOk result (λ it. suggests it.now ≡ suggests self.old) }
     {
-        self.diagnostic.span_label(span, label)?;
-        Ok(self)
+        match self.diagnostic.span_label(span, label) {
+            Ok(_) => Ok(self),
+            Err(_) => Err(AllocError),
+        }
     }
 
     /// Adds a note that points nowhere.
@@ -66,8 +68,10 @@ impl<E: Emitter> DiagnosticBuilder<'_, E> {
         ensures added { IfOk result (λ it. report_of (diagnostic_of it.now) ≡ with_child (report_of (diagnostic_of self.old)) (plain_child Level.Note msg.now nowhere None)) }
         ensures suggests { IfOk result (λ it. suggests it.now ≡ suggests self.old) }
     {
-        self.diagnostic.note(msg)?;
-        Ok(self)
+        match self.diagnostic.note(msg) {
+            Ok(_) => Ok(self),
+            Err(_) => Err(AllocError),
+        }
     }
 
     /// Adds a note that points at these spans.
@@ -82,8 +86,10 @@ impl<E: Emitter> DiagnosticBuilder<'_, E> {
         ensures added { IfOk result (λ it. report_of (diagnostic_of it.now) ≡ with_child (report_of (diagnostic_of self.old)) (plain_child Level.Note msg.now (spans_of sp) None)) }
         ensures suggests { IfOk result (λ it. suggests it.now ≡ suggests self.old) }
     {
-        self.diagnostic.span_note(sp, msg)?;
-        Ok(self)
+        match self.diagnostic.span_note(sp, msg) {
+            Ok(_) => Ok(self),
+            Err(_) => Err(AllocError),
+        }
     }
 
     /// Adds a warning that points nowhere.
@@ -98,8 +104,10 @@ impl<E: Emitter> DiagnosticBuilder<'_, E> {
         ensures added { IfOk result (λ it. report_of (diagnostic_of it.now) ≡ with_child (report_of (diagnostic_of self.old)) (plain_child Level.Warning msg.now nowhere None)) }
         ensures suggests { IfOk result (λ it. suggests it.now ≡ suggests self.old) }
     {
-        self.diagnostic.warn(msg)?;
-        Ok(self)
+        match self.diagnostic.warn(msg) {
+            Ok(_) => Ok(self),
+            Err(_) => Err(AllocError),
+        }
     }
 
     /// Adds a warning that points at these spans.
@@ -114,8 +122,10 @@ impl<E: Emitter> DiagnosticBuilder<'_, E> {
         ensures added { IfOk result (λ it. report_of (diagnostic_of it.now) ≡ with_child (report_of (diagnostic_of self.old)) (plain_child Level.Warning msg.now (spans_of sp) None)) }
         ensures suggests { IfOk result (λ it. suggests it.now ≡ suggests self.old) }
     {
-        self.diagnostic.span_warn(sp, msg)?;
-        Ok(self)
+        match self.diagnostic.span_warn(sp, msg) {
+            Ok(_) => Ok(self),
+            Err(_) => Err(AllocError),
+        }
     }
 
     /// Adds a help that points nowhere.
@@ -130,8 +140,10 @@ impl<E: Emitter> DiagnosticBuilder<'_, E> {
         ensures added { IfOk result (λ it. report_of (diagnostic_of it.now) ≡ with_child (report_of (diagnostic_of self.old)) (plain_child Level.Help msg.now nowhere None)) }
         ensures suggests { IfOk result (λ it. suggests it.now ≡ suggests self.old) }
     {
-        self.diagnostic.help(msg)?;
-        Ok(self)
+        match self.diagnostic.help(msg) {
+            Ok(_) => Ok(self),
+            Err(_) => Err(AllocError),
+        }
     }
 
     /// Adds a help that points at these spans.
@@ -146,8 +158,10 @@ impl<E: Emitter> DiagnosticBuilder<'_, E> {
         ensures added { IfOk result (λ it. report_of (diagnostic_of it.now) ≡ with_child (report_of (diagnostic_of self.old)) (plain_child Level.Help msg.now (spans_of sp) None)) }
         ensures suggests { IfOk result (λ it. suggests it.now ≡ suggests self.old) }
     {
-        self.diagnostic.span_help(sp, msg)?;
-        Ok(self)
+        match self.diagnostic.span_help(sp, msg) {
+            Ok(_) => Ok(self),
+            Err(_) => Err(AllocError),
+        }
     }
 
     /// Adds a note that shows, on a line each, what was expected and what was found.
@@ -167,8 +181,10 @@ impl<E: Emitter> DiagnosticBuilder<'_, E> {
         ensures added { IfOk result (λ it. report_of (diagnostic_of it.now) ≡ with_child (report_of (diagnostic_of self.old)) (note_of (expected_found label.now (parts_of expected) (parts_of found) [] []))) }
         ensures suggests { IfOk result (λ it. suggests it.now ≡ suggests self.old) }
     {
-        self.diagnostic.note_expected_found(label, expected, found)?;
-        Ok(self)
+        match self.diagnostic.note_expected_found(label, expected, found) {
+            Ok(_) => Ok(self),
+            Err(_) => Err(AllocError),
+        }
     }
 
     /// The same, with a text behind each.
@@ -190,9 +206,13 @@ impl<E: Emitter> DiagnosticBuilder<'_, E> {
         ensures added { IfOk result (λ it. report_of (diagnostic_of it.now) ≡ with_child (report_of (diagnostic_of self.old)) (note_of (expected_found label.now (parts_of expected) (parts_of found) expected_extra.now found_extra.now))) }
         ensures suggests { IfOk result (λ it. suggests it.now ≡ suggests self.old) }
     {
-        self.diagnostic
-            .note_expected_found_extra(label, expected, found, expected_extra, found_extra)?;
-        Ok(self)
+        match self
+            .diagnostic
+            .note_expected_found_extra(label, expected, found, expected_extra, found_extra)
+        {
+            Ok(_) => Ok(self),
+            Err(_) => Err(AllocError),
+        }
     }
 
     /// Adds a note of this level and one plain message. Without spans it points nowhere.
@@ -213,7 +233,9 @@ impl<E: Emitter> DiagnosticBuilder<'_, E> {
         ensures suggests { IfOk result (λ it. suggests it.now ≡ suggests self.old) }
     {
         let span = span.unwrap_or(MultiSpan::new(self.handler.allocator()));
-        self.diagnostic.sub(level, message, span, None)?;
-        Ok(self)
+        match self.diagnostic.sub(level, message, span, None) {
+            Ok(_) => Ok(self),
+            Err(_) => Err(AllocError),
+        }
     }
 }

@@ -29,8 +29,10 @@ impl<E: Emitter> DiagnosticBuilder<'_, E> {
         ensures added { IfOk result (λ it. report_of (diagnostic_of it.now) ≡ with_suggestion (report_of (diagnostic_of self.old)) (edits_at sp suggestion ∷ []) msg.now true Applicability.Unspecified) }
         ensures suggests { IfOk result (λ it. suggests it.now ≡ suggests self.old) }
     {
-        self.diagnostic.span_suggestion(sp, msg, suggestion)?;
-        Ok(self)
+        match self.diagnostic.span_suggestion(sp, msg, suggestion) {
+            Ok(_) => Ok(self),
+            Err(_) => Err(AllocError),
+        }
     }
 
     /// The same, where the message alone is shown inline.
@@ -50,8 +52,10 @@ impl<E: Emitter> DiagnosticBuilder<'_, E> {
         ensures added { IfOk result (λ it. report_of (diagnostic_of it.now) ≡ with_suggestion (report_of (diagnostic_of self.old)) (edits_at sp suggestion ∷ []) msg.now false Applicability.Unspecified) }
         ensures suggests { IfOk result (λ it. suggests it.now ≡ suggests self.old) }
     {
-        self.diagnostic.span_suggestion_short(sp, msg, suggestion)?;
-        Ok(self)
+        match self.diagnostic.span_suggestion_short(sp, msg, suggestion) {
+            Ok(_) => Ok(self),
+            Err(_) => Err(AllocError),
+        }
     }
 
     /// Suggests several texts, any one of them in place of a span.
@@ -71,8 +75,10 @@ impl<E: Emitter> DiagnosticBuilder<'_, E> {
         ensures added { IfOk result (λ it. report_of (diagnostic_of it.now) ≡ with_suggestion (report_of (diagnostic_of self.old)) (map (edits_at sp) suggestions.items) msg.now true Applicability.Unspecified) }
         ensures suggests { IfOk result (λ it. suggests it.now ≡ suggests self.old) }
     {
-        self.diagnostic.span_suggestions(sp, msg, suggestions)?;
-        Ok(self)
+        match self.diagnostic.span_suggestions(sp, msg, suggestions) {
+            Ok(_) => Ok(self),
+            Err(_) => Err(AllocError),
+        }
     }
 
     /// Suggests texts in place of spans, all of them together.
@@ -91,8 +97,10 @@ impl<E: Emitter> DiagnosticBuilder<'_, E> {
         ensures added { IfOk result (λ it. report_of (diagnostic_of it.now) ≡ with_suggestion (report_of (diagnostic_of self.old)) (map edit_from suggestion.items ∷ []) msg.now true Applicability.Unspecified) }
         ensures suggests { IfOk result (λ it. suggests it.now ≡ suggests self.old) }
     {
-        self.diagnostic.multipart_suggestion(msg, suggestion)?;
-        Ok(self)
+        match self.diagnostic.multipart_suggestion(msg, suggestion) {
+            Ok(_) => Ok(self),
+            Err(_) => Err(AllocError),
+        }
     }
 
     /// Suggests a text in place of a span. It adds nothing where suggestions aren't allowed.
@@ -116,9 +124,13 @@ impl<E: Emitter> DiagnosticBuilder<'_, E> {
         if !self.allow_suggestions {
             return Ok(self);
         }
-        self.diagnostic
-            .span_suggestion_with_applicability(sp, msg, suggestion, applicability)?;
-        Ok(self)
+        match self
+            .diagnostic
+            .span_suggestion_with_applicability(sp, msg, suggestion, applicability)
+        {
+            Ok(_) => Ok(self),
+            Err(_) => Err(AllocError),
+        }
     }
 
     /// The same, where the message alone is shown inline. It adds nothing where suggestions aren't allowed.
@@ -142,9 +154,13 @@ impl<E: Emitter> DiagnosticBuilder<'_, E> {
         if !self.allow_suggestions {
             return Ok(self);
         }
-        self.diagnostic
-            .span_suggestion_short_with_applicability(sp, msg, suggestion, applicability)?;
-        Ok(self)
+        match self
+            .diagnostic
+            .span_suggestion_short_with_applicability(sp, msg, suggestion, applicability)
+        {
+            Ok(_) => Ok(self),
+            Err(_) => Err(AllocError),
+        }
     }
 
     /// Suggests several texts, any one of them in place of a span. It adds nothing where suggestions aren't allowed.
@@ -168,9 +184,13 @@ impl<E: Emitter> DiagnosticBuilder<'_, E> {
         if !self.allow_suggestions {
             return Ok(self);
         }
-        self.diagnostic
-            .span_suggestions_with_applicability(sp, msg, suggestions, applicability)?;
-        Ok(self)
+        match self
+            .diagnostic
+            .span_suggestions_with_applicability(sp, msg, suggestions, applicability)
+        {
+            Ok(_) => Ok(self),
+            Err(_) => Err(AllocError),
+        }
     }
 
     /// Suggests texts in place of spans, all of them together. It adds nothing where suggestions aren't allowed.
@@ -193,8 +213,12 @@ impl<E: Emitter> DiagnosticBuilder<'_, E> {
         if !self.allow_suggestions {
             return Ok(self);
         }
-        self.diagnostic
-            .multipart_suggestion_with_applicability(msg, suggestion, applicability)?;
-        Ok(self)
+        match self
+            .diagnostic
+            .multipart_suggestion_with_applicability(msg, suggestion, applicability)
+        {
+            Ok(_) => Ok(self),
+            Err(_) => Err(AllocError),
+        }
     }
 }

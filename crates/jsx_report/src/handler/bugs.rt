@@ -92,8 +92,10 @@ impl<E: Emitter> Handler<E> {
         if self.flags.treat_err_as_bug {
             return Err(self.bug(msg));
         }
-        self.report_plain(Level::Fatal, msg)?;
-        Ok(FatalError)
+        match self.report_plain(Level::Fatal, msg) {
+            Ok(()) => Ok(FatalError),
+            Err(error) => Err(error),
+        }
     }
 }
 

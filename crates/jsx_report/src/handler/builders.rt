@@ -1,8 +1,9 @@
 //! Reports to be made further, one call for each level.
 
+use crate::reports::made_at;
 use crate::{DiagnosticBuilder, Emitter, Handler, HandlerError};
 use jsx_base::{MultiSpan, Span};
-use jsx_diag::{Diagnostic, DiagnosticId, Level};
+use jsx_diag::{DiagnosticId, Level};
 use std::alloc::AllocError;
 
 impl<E: Emitter> Handler<E> {
@@ -255,7 +256,9 @@ impl<E: Emitter> Handler<E> {
         ensures suggests { IfOk result (λ it. suggests it ≡ true) }
         ensures* refused { sem 𝓛 (RestsIfErr (the_row E.row) self.entry (λ it. it.handler.ghost_name) result (λ last. last ≡ self.old)) }
     {
-        let span = MultiSpan::from_span(self.allocator(), sp)?;
+        let Ok(span) = MultiSpan::from_span(self.allocator(), sp) else {
+            return Err(AllocError);
+        };
         self.build(Level::Note, None, msg, span)
     }
 
@@ -303,8 +306,9 @@ impl<E: Emitter> Handler<E> {
         ensures suggests { IfOk result (λ it. suggests it ≡ true) }
         ensures* refused { sem 𝓛 (RestsIfErr (the_row E.row) self.entry (λ it. it.handler.ghost_name) result (λ last. last ≡ self.old)) }
     {
-        let mut diagnostic = Diagnostic::new_with_code(self.allocator(), level, code, msg)?;
-        diagnostic.set_span(span);
-        DiagnosticBuilder::new_diagnostic(self, diagnostic)
+        match made_at(self.allocator(), level, code, msg, span) {
+            Ok(diagnostic) => DiagnosticBuilder::new_diagnostic(self, diagnostic),
+            Err(error) => Err(error),
+        }
     }
 }

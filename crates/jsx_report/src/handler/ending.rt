@@ -8,7 +8,7 @@ use crate::{Emitter, Handler, HandlerError};
 use jsx_diag::{Diagnostic, Level};
 use std::alloc::AllocError;
 use std::mem;
-use texts::{count_text, error_names, push_explanations, push_plain};
+use texts::{count_text, error_names, push_count, push_explanations};
 
 // Why reports weren't all handed in, and how many were before.
 #[derive(Drop)]
@@ -18,9 +18,9 @@ struct Stop {
 }
 
 impl<E: Emitter> Handler<E> {
-    ghost use Rattle.std.specs.Prelude.{◌≡◌, ◌≢◌, ◌<◌, not, length, map, nat_eq, if◌then◌else◌, Ok, IsTrue, IsFalse, IsOk, IfOk, IfErr};
+    ghost use Rattle.std.specs.Prelude.{◌≡◌, ◌≢◌, ◌<◌, [], ◌∷◌, not, length, map, nat_eq, if◌then◌else◌, Ok, IsTrue, IsFalse, IsOk, IfOk, IfErr, OnOk};
     ghost use Rattle.jsx_diag.specs.Data.{report_of};
-    ghost use Rattle.jsx_report.specs.Handler.{OnWent, Reports, answer_to, books_of, bug_or_ok, emitter_of};
+    ghost use Rattle.jsx_report.specs.Handler.{OnWent, Reports, answer_to, books_of, bug_or_ok, emitter_of, refusal};
     ghost use Rattle.jsx_report.specs.Made.{plain_report};
     ghost use Rattle.jsx_report.specs.Emitter.{is_empty};
     ghost use Rattle.jsx_report.specs.Ending.{ClosesOrWants, HandsAll, HandsSome, IsClosing, answer_all, as_booked, count_text, waiting, without_value};
@@ -41,10 +41,13 @@ impl<E: Emitter> Handler<E> {
         ensures kept { (books_of self.old).count ≢ 0 → self.new ≡ self.old }
     {
         let any = !self.delayed.is_empty();
-        if self.err_count == 0 {
-            self.report_delayed()?;
+        if self.err_count > 0 {
+            return Ok(any);
         }
-        Ok(any)
+        match self.report_delayed() {
+            Ok(()) => Ok(any),
+            Err(error) => Err(error),
+        }
     }
 
     /// Says how many errors were counted, if there were any, and where the errors that have a code are
@@ -63,27 +66,57 @@ impl<E: Emitter> Handler<E> {
         if self.err_count == 0 {
             return Ok(());
         }
-        let message = count_text(self.allocator(), self.err_count)?;
         if self.flags.treat_err_as_bug {
-            return Err(self.bug(message.as_str()));
+            return Err(self.count_bug());
         }
-        let reports = self.closing_reports(message.as_str())?;
-        self.report_closing(&reports)
+        self.close()
+    }
+
+    // Reports as a bug how many errors were counted.
+    fn count_bug(&mut self) -> HandlerError
+        ensures reports { Reports E.text E.faults E.explains E.shows (plain_report Level.Bug (count_text (books_of self.old).count)) self.old self.new (refusal result) }
+        ensures answer { OnWent (refusal result) (result ≡ HandlerError.ExplicitBug) }
+    {
+        match count_text(self.allocator(), self.err_count) {
+            Ok(message) => self.bug(message.as_str()),
+            Err(_) => HandlerError::Memory,
+        }
+    }
+
+    // Hands in the reports that a run with errors ends with, where errors aren't bugs.
+    fn close(&mut self) -> Result<(), HandlerError>
+        requires { IsFalse self.old.flags.treat_err_as_bug }
+        ensures closes { ClosesOrWants E.text E.faults E.explains E.shows self.old self.new result }
+        ensures answer { OnWent result (result ≡ Ok tt) }
+    {
+        match self.closing_reports() {
+            Ok(reports) => self.report_closing(&reports),
+            Err(_) => Err(HandlerError::Memory),
+        }
     }
 
     // The reports that a run with errors ends with.
-    fn closing_reports(&self, message: &str) -> Result<Vec<Diagnostic>, AllocError>
-        requires { message.now ≡ count_text (books_of self.now).count }
+    fn closing_reports(&self) -> Result<Vec<Diagnostic>, AllocError>
         ensures { IfOk result (λ reports. IsClosing (books_of self.now).count (E.explains (emitter_of self.now)) (books_of self.now).seen (map report_of reports.items)) }
     {
         let alloc = self.allocator();
-        let names = error_names(alloc, self.seen.as_slice())?;
         let mut reports = Vec::new(alloc);
-        push_plain(alloc, &mut reports, Level::Fatal, message)?;
-        if self.emitter.should_show_explain() {
-            push_explanations(alloc, &mut reports, &names)?;
-        }
+        push_count(alloc, &mut reports, self.err_count)?;
+        self.push_explained(&mut reports)?;
         Ok(reports)
+    }
+
+    // Adds to the report of how many errors there were what is said of those that have a code.
+    fn push_explained(&self, reports: &mut Vec<Diagnostic>) -> Result<(), AllocError>
+        requires { map report_of reports.old.items ≡ plain_report Level.Fatal (count_text (books_of self.now).count) ∷ [] }
+        ensures { OnOk result (IsClosing (books_of self.now).count (E.explains (emitter_of self.now)) (books_of self.now).seen (map report_of reports.new.items)) }
+    {
+        let alloc = self.allocator();
+        let names = error_names(alloc, self.seen.as_slice())?;
+        if !self.emitter.should_show_explain() {
+            return Ok(());
+        }
+        push_explanations(alloc, reports, &names)
     }
 
     // Hands in these reports, where errors aren't bugs.
@@ -136,8 +169,10 @@ impl<E: Emitter> Handler<E> {
         ensures reports { Reports E.text E.faults E.explains E.shows (report_of report.now) self.old self.new result }
         ensures answer { OnWent result (result ≡ answer_to self.old.flags (books_of self.old) (report_of report.now)) }
     {
-        let copy = report.try_clone(self.allocator())?;
-        self.report(copy)
+        match report.try_clone(self.allocator()) {
+            Ok(copy) => self.report(copy),
+            Err(_) => Err(HandlerError::Memory),
+        }
     }
 }
 

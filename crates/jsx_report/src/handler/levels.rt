@@ -24,11 +24,7 @@ impl<E: Emitter> Handler<E> {
         ensures answer { OnWent result (result ≡ (if is_off self.old.flags lvl then Ok tt else answer_stopping self.old.flags (continues self.old) (books_of self.old) (report_at lvl None msg.now (spans_of msp.now)))) }
         ensures off { IsTrue (is_off self.old.flags lvl) → result ≡ Ok tt }
     {
-        if self.is_off(lvl) {
-            return Ok(());
-        }
-        let sp = msp.try_clone(self.allocator())?;
-        self.emit_at(sp, msg, None, lvl)
+        self.emit_copied(msp, msg, None, lvl)
     }
 
     /// The same, with a code.
@@ -49,11 +45,7 @@ impl<E: Emitter> Handler<E> {
         ensures answer { OnWent result (result ≡ (if is_off self.old.flags lvl then Ok tt else answer_stopping self.old.flags (continues self.old) (books_of self.old) (report_at lvl (Some (code_of code)) msg.now (spans_of msp.now)))) }
         ensures off { IsTrue (is_off self.old.flags lvl) → result ≡ Ok tt }
     {
-        if self.is_off(lvl) {
-            return Ok(());
-        }
-        let sp = msp.try_clone(self.allocator())?;
-        self.emit_at(sp, msg, Some(code), lvl)
+        self.emit_copied(msp, msg, Some(code), lvl)
     }
 
     /// Reports an error at these spans.
@@ -163,8 +155,10 @@ impl<E: Emitter> Handler<E> {
         ensures reports { Reports E.text E.faults E.explains E.shows (report_at Level.Fatal None msg.now (spans_of sp)) self.old self.new result }
         ensures answer { OnWent result (result ≡ as_fatal (answer_stopping self.old.flags (continues self.old) (books_of self.old) (report_at Level.Fatal None msg.now (spans_of sp)))) }
     {
-        self.emit_at(sp, msg, None, Level::Fatal)?;
-        Ok(FatalError)
+        match self.emit_at(sp, msg, None, Level::Fatal) {
+            Ok(()) => Ok(FatalError),
+            Err(error) => Err(error),
+        }
     }
 
     /// The same, with a code.
@@ -183,8 +177,10 @@ impl<E: Emitter> Handler<E> {
         ensures reports { Reports E.text E.faults E.explains E.shows (report_at Level.Fatal (Some (code_of code)) msg.now (spans_of sp)) self.old self.new result }
         ensures answer { OnWent result (result ≡ as_fatal (answer_stopping self.old.flags (continues self.old) (books_of self.old) (report_at Level.Fatal (Some (code_of code)) msg.now (spans_of sp)))) }
     {
-        self.emit_at(sp, msg, Some(code), Level::Fatal)?;
-        Ok(FatalError)
+        match self.emit_at(sp, msg, Some(code), Level::Fatal) {
+            Ok(()) => Ok(FatalError),
+            Err(error) => Err(error),
+        }
     }
 
     /// Reports what follows from earlier errors. It points nowhere.
@@ -227,6 +223,27 @@ impl<E: Emitter> Handler<E> {
     }
 
     // `emit` with or without a code.
+    fn emit_copied(
+        &mut self,
+        msp: &MultiSpan,
+        msg: &str,
+        code: Option<DiagnosticId>,
+        lvl: Level,
+    ) -> Result<(), HandlerError>
+        ensures reports { Reports E.text E.faults E.explains E.shows (report_at (heard self.old.flags lvl) (option_map code_of code) msg.now (spans_of msp.now)) self.old self.new result }
+        ensures answer { OnWent result (result ≡ (if is_off self.old.flags lvl then Ok tt else answer_stopping self.old.flags (continues self.old) (books_of self.old) (report_at lvl (option_map code_of code) msg.now (spans_of msp.now)))) }
+        ensures off { IsTrue (is_off self.old.flags lvl) → result ≡ Ok tt }
+    {
+        if self.is_off(lvl) {
+            return Ok(());
+        }
+        match msp.try_clone(self.allocator()) {
+            Ok(sp) => self.emit_heard(sp, msg, code, lvl),
+            Err(_) => Err(HandlerError::Memory),
+        }
+    }
+
+    // The same, at these spans themselves.
     fn emit_at(
         &mut self,
         sp: MultiSpan,
@@ -241,8 +258,24 @@ impl<E: Emitter> Handler<E> {
         if self.is_off(lvl) {
             return Ok(());
         }
-        self.report_at(lvl, code, msg, sp)?;
-        self.stop_if_asked()
+        self.emit_heard(sp, msg, code, lvl)
+    }
+
+    // The same, where it is no warning or warnings are on.
+    fn emit_heard(
+        &mut self,
+        sp: MultiSpan,
+        msg: &str,
+        code: Option<DiagnosticId>,
+        lvl: Level,
+    ) -> Result<(), HandlerError>
+        ensures reports { Reports E.text E.faults E.explains E.shows (report_at lvl (option_map code_of code) msg.now (spans_of sp)) self.old self.new result }
+        ensures answer { OnWent result (result ≡ answer_stopping self.old.flags (continues self.old) (books_of self.old) (report_at lvl (option_map code_of code) msg.now (spans_of sp))) }
+    {
+        match self.report_at(lvl, code, msg, sp) {
+            Ok(()) => self.stop_if_asked(),
+            Err(error) => Err(error),
+        }
     }
 
     // Whether it is a warning, and warnings are off.

@@ -58,8 +58,12 @@ impl<E: Emitter> Handler<E> {
         if has_code(&self.taught, code) {
             return Ok(false);
         }
-        let code = code.try_clone(self.allocator())?;
-        self.taught.reserve(1)?;
+        let Ok(code) = code.try_clone(self.allocator()) else {
+            return Err(AllocError);
+        };
+        let Ok(()) = self.taught.reserve(1) else {
+            return Err(AllocError);
+        };
         put_code(&mut self.taught, Some(code));
         Ok(true)
     }

@@ -1,4 +1,5 @@
-use Rattle.std.proofs.Common.{◌≡◌, map, Result, Err, subst}
+use Rattle.std.proofs.Common.{◌≡◌, [], map, take, drop, append-nil, Result, Err, sym, subst}
+use Rattle.std.proofs.lemmas.List.{take-append-drop}
 use Rattle.jsx_diag.specs.Data.{report_of}
 use Rattle.jsx_report.specs.declared.error.HandlerError.{HandlerError}
 use Rattle.jsx_report.specs.Handler.{OnWent, books_of}
@@ -9,3 +10,14 @@ pub returns-in-Err-clause-answer : goal.returns-in-Err-clause-answer
 returns-in-Err-clause-answer g c =
     let e = c.in-Err.stop.error in
     subst (λ (it : Result (Unit {0}) HandlerError). OnWent {T = Unit {0}} (Err e) (Err e ≡ it)) (answers_fine c.args.self.now.flags (books_of c.args.self.now) (map report_of c.args.reports.now) c.requires) c.in-Err.ensures.answer
+
+pub returns-in-Ok-clause-hands : goal.returns-in-Ok-clause-hands
+returns-in-Ok-clause-hands g c =
+    let rs = map report_of c.args.reports.now in
+    record { done = rs; rest = []; split = sym (append-nil rs); hands = c.in-Ok.ensures.hands }
+
+pub returns-in-Err-clause-hands : goal.returns-in-Err-clause-hands
+returns-in-Err-clause-hands g c =
+    let rs = map report_of c.args.reports.now in
+    let n = c.in-Err.stop.done in
+    record { done = take n rs; rest = drop n rs; split = sym (take-append-drop n rs); hands = c.in-Err.ensures.hands }
