@@ -9,7 +9,7 @@ ghost use Rattle.std.specs.Prelude.{◌≡◌, ◌++◌, codes, string_bytes, If
 ghost use Rattle.std.specs.List.{flat_map};
 ghost use Rattle.jsx_diag.specs.Data.{report_of};
 
-use crate::{Diagnostic, EmitError, Emitter, Handler, HandlerError, HandlerFlags};
+use crate::{Diagnostic, DiagnosticId, EmitError, Emitter, Handler, HandlerError, HandlerFlags};
 use jsx_base::{BytePos, MultiSpan, Span};
 use std::alloc::{AllocError, Global};
 
@@ -98,11 +98,6 @@ fn holds(handler: Handler<Lines>, want: &str) -> bool {
     handler.into_emitter().text.as_str() == want
 }
 
-/// Whether all of the calls went well.
-fn all_went(answers: &[Result<(), HandlerError>]) -> bool {
-    answers.iter().all(|answer| answer.is_ok())
-}
-
 /// A handler that prints all, over an emitter that refuses nothing.
 fn loud(alloc: Global) -> Handler<Lines> {
     Handler::with_emitter(alloc, true, false, Lines::new(alloc))
@@ -111,6 +106,24 @@ fn loud(alloc: Global) -> Handler<Lines> {
 /// A handler for which errors are bugs.
 fn strict(alloc: Global) -> Handler<Lines> {
     Handler::with_emitter(alloc, true, true, Lines::new(alloc))
+}
+
+/// An error at a span.
+fn span_err(
+    alloc: Global,
+    handler: &mut Handler<Lines>,
+    message: &str,
+) -> Result<(), HandlerError> {
+    handler.span_err(spans(alloc)?, message)
+}
+
+/// A bug at a span that waits.
+fn delay_bug(
+    alloc: Global,
+    handler: &mut Handler<Lines>,
+    message: &str,
+) -> Result<(), HandlerError> {
+    handler.delay_span_bug(spans(alloc)?, message)
 }
 
 fn span() -> Span {
@@ -123,4 +136,13 @@ fn spans(alloc: Global) -> Result<MultiSpan, AllocError> {
 
 fn text(alloc: Global, text: &str) -> Result<String, AllocError> {
     String::from_str(alloc, text)
+}
+
+fn code(alloc: Global) -> Result<DiagnosticId, AllocError> {
+    Ok(DiagnosticId::Error(text(alloc, "e")?))
+}
+
+fn spans_and_code(alloc: Global) -> Result<(MultiSpan, DiagnosticId), AllocError> {
+    let code = code(alloc)?;
+    Ok((spans(alloc)?, code))
 }
