@@ -169,6 +169,7 @@ fn notes_and_labels<E: Emitter>(alloc: Global, handler: &mut Handler<E>) -> bool
 fn notes_and_labels_are_added(rt: HostRuntime) {
     let mut handler = loud(rt.alloc());
     assert!(rt; notes_and_labels(rt.alloc(), &mut handler));
+    assert!(rt; holds(handler, ""));
 }
 
 fn add_expected<E: Emitter>(alloc: Global, report: &mut DiagnosticBuilder<'_, E>) -> bool {
@@ -202,6 +203,7 @@ fn expected_and_found<E: Emitter>(alloc: Global, handler: &mut Handler<E>) -> bo
 fn expected_and_found_are_added(rt: HostRuntime) {
     let mut handler = loud(rt.alloc());
     assert!(rt; expected_and_found(rt.alloc(), &mut handler));
+    assert!(rt; holds(handler, ""));
 }
 
 fn suggest_one<E: Emitter>(
@@ -279,7 +281,7 @@ fn suggest_surely<E: Emitter>(
     Ok(suggest_one_surely(alloc, report)? && suggest_several_surely(alloc, report))
 }
 
-/// Whether so many sure suggestions are there after four.
+/// Whether there are so many suggestions after four sure ones.
 fn sure_suggestions<E: Emitter>(
     alloc: Global,
     handler: &mut Handler<E>,
@@ -302,6 +304,7 @@ fn suggestions_are_added_where_they_are_allowed(rt: HostRuntime) {
     assert!(rt; suggestions(rt.alloc(), &mut handler));
     assert!(rt; sure_suggestions(rt.alloc(), &mut handler, true, 4));
     assert!(rt; sure_suggestions(rt.alloc(), &mut handler, false, 0));
+    assert!(rt; holds(handler, ""));
 }
 
 fn set_span_and_code<E: Emitter>(
@@ -330,6 +333,7 @@ fn span_and_code<E: Emitter>(alloc: Global, handler: &mut Handler<E>) -> bool {
 fn spans_and_codes_are_set(rt: HostRuntime) {
     let mut handler = loud(rt.alloc());
     assert!(rt; span_and_code(rt.alloc(), &mut handler));
+    assert!(rt; holds(handler, ""));
 }
 
 /// The answer of `buffer` to an error.
@@ -361,6 +365,7 @@ fn reports_wait_in_a_list(rt: HostRuntime) {
     assert!(rt; holds(handler, "b\n"));
     let mut handler = strict(rt.alloc());
     assert!(rt; bug_does_not_wait(rt.alloc(), &mut handler));
+    assert!(rt; holds(handler, "c\n"));
 }
 
 fn error_waits_as_a_bug<E: Emitter>(handler: &mut Handler<E>) -> Result<(), HandlerError> {

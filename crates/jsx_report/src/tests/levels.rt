@@ -117,6 +117,7 @@ fn errors_stop_where_they_are_told_to(rt: HostRuntime) {
     handler.set_continue_after_error(false);
     assert!(rt; errors_stop(rt.alloc(), &mut handler) == Ok(true));
     assert!(rt; fatal_errors_go(rt.alloc(), &mut handler) == Ok(true));
+    assert!(rt; holds(handler, "n\nm\no\nf\ng\n"));
 }
 
 fn is_taught_once(handler: &mut Handler<Lines>, code: &DiagnosticId) -> Result<bool, AllocError> {
@@ -126,6 +127,13 @@ fn is_taught_once(handler: &mut Handler<Lines>, code: &DiagnosticId) -> Result<b
 fn code_is_taught_once(alloc: Global, handler: &mut Handler<Lines>) -> Result<bool, AllocError> {
     let code = DiagnosticId::Lint(text(alloc, "l")?);
     is_taught_once(handler, &code)
+}
+
+#[test]
+fn a_code_is_taught_once(rt: HostRuntime) {
+    let mut handler = loud(rt.alloc());
+    assert!(rt; code_is_taught_once(rt.alloc(), &mut handler) == Ok(true));
+    assert!(rt; holds(handler, ""));
 }
 
 fn warning_with_code(alloc: Global, handler: &mut Handler<Lines>) -> Result<(), HandlerError> {
@@ -145,8 +153,6 @@ fn fatal_with_code(alloc: Global, handler: &mut Handler<Lines>) -> Result<bool, 
 
 #[test]
 fn codes_go_with_reports(rt: HostRuntime) {
-    let mut handler = loud(rt.alloc());
-    assert!(rt; code_is_taught_once(rt.alloc(), &mut handler) == Ok(true));
     let mut handler = loud(rt.alloc());
     assert!(rt; warning_with_code(rt.alloc(), &mut handler).is_ok());
     assert!(rt; note_with_code(rt.alloc(), &mut handler).is_ok());
