@@ -1,9 +1,9 @@
-use super::{Lines, code, holds, loud, span, spans, spans_and_code, strict, text};
+use super::{Lines, code, holds, loud, span, spans, strict, text};
 use crate::{
     Applicability, Diagnostic, DiagnosticBuilder, DiagnosticStyledString, Emitter, Handler,
     HandlerError, Level,
 };
-use std::alloc::{AllocError, Global};
+use std::alloc::Global;
 
 /// Whether a report went well.
 fn went<E: Emitter>(report: DiagnosticBuilder<'_, E>) -> bool {
@@ -32,85 +32,47 @@ fn reports_have_the_level_of_the_call(rt: HostRuntime) {
     assert!(rt; holds(handler, "a\nb\nc\nd\n"));
 }
 
-fn warning_and_error<E: Emitter>(
-    alloc: Global,
-    handler: &mut Handler<E>,
-) -> Result<bool, AllocError> {
-    let warning = handler.struct_span_warn(spans(alloc)?, "a").is_ok_and(went);
-    Ok(warning && handler.struct_span_err(spans(alloc)?, "b").is_ok_and(went))
+fn warning_and_error_at_spans<E: Emitter>(alloc: Global, handler: &mut Handler<E>) -> bool {
+    let warning = handler.struct_span_warn(spans(alloc), "a").is_ok_and(went);
+    warning && handler.struct_span_err(spans(alloc), "b").is_ok_and(went)
 }
 
-fn fatal_and_equal_error<E: Emitter>(
-    alloc: Global,
-    handler: &mut Handler<E>,
-) -> Result<bool, AllocError> {
-    let fatal = handler
-        .struct_span_fatal(spans(alloc)?, "c")
-        .is_ok_and(went);
-    Ok(fatal && handler.mut_span_err(spans(alloc)?, "b").is_ok_and(went))
+fn fatal_and_equal_error_at_spans<E: Emitter>(alloc: Global, handler: &mut Handler<E>) -> bool {
+    let fatal = handler.struct_span_fatal(spans(alloc), "c").is_ok_and(went);
+    fatal && handler.mut_span_err(spans(alloc), "b").is_ok_and(went)
 }
 
 #[test]
 fn reports_point_at_spans(rt: HostRuntime) {
     let mut handler = loud(rt.alloc());
-    assert!(rt; warning_and_error(rt.alloc(), &mut handler) == Ok(true));
-    assert!(rt; fatal_and_equal_error(rt.alloc(), &mut handler) == Ok(true));
+    assert!(rt; warning_and_error_at_spans(rt.alloc(), &mut handler));
+    assert!(rt; fatal_and_equal_error_at_spans(rt.alloc(), &mut handler));
     assert!(rt; holds(handler, "a\nb\nc\n"));
 }
 
-fn error_with_code<E: Emitter>(
-    alloc: Global,
-    handler: &mut Handler<E>,
-) -> Result<bool, AllocError> {
-    let code = code(alloc)?;
-    Ok(handler.struct_err_with_code("a", code).is_ok_and(went))
+fn errors_with_codes<E: Emitter>(alloc: Global, handler: &mut Handler<E>) -> bool {
+    let plain = handler.struct_err_with_code("a", code(alloc));
+    plain.is_ok_and(went)
+        && handler
+            .struct_span_err_with_code(spans(alloc), "b", code(alloc))
+            .is_ok_and(went)
 }
 
-fn error_at_spans_with_code<E: Emitter>(
-    alloc: Global,
-    handler: &mut Handler<E>,
-) -> Result<bool, AllocError> {
-    let (at, code) = spans_and_code(alloc)?;
-    Ok(
-        handler
-            .struct_span_err_with_code(at, "b", code)
-            .is_ok_and(went),
-    )
-}
-
-fn warning_with_code<E: Emitter>(
-    alloc: Global,
-    handler: &mut Handler<E>,
-) -> Result<bool, AllocError> {
-    let (at, code) = spans_and_code(alloc)?;
-    Ok(
-        handler
-            .struct_span_warn_with_code(at, "a", code)
-            .is_ok_and(went),
-    )
-}
-
-fn fatal_with_code<E: Emitter>(
-    alloc: Global,
-    handler: &mut Handler<E>,
-) -> Result<bool, AllocError> {
-    let (at, code) = spans_and_code(alloc)?;
-    Ok(
-        handler
-            .struct_span_fatal_with_code(at, "b", code)
-            .is_ok_and(went),
-    )
+fn warning_and_fatal_with_codes<E: Emitter>(alloc: Global, handler: &mut Handler<E>) -> bool {
+    let warning = handler.struct_span_warn_with_code(spans(alloc), "a", code(alloc));
+    warning.is_ok_and(went)
+        && handler
+            .struct_span_fatal_with_code(spans(alloc), "b", code(alloc))
+            .is_ok_and(went)
 }
 
 #[test]
 fn reports_have_codes(rt: HostRuntime) {
     let mut handler = loud(rt.alloc());
-    assert!(rt; error_with_code(rt.alloc(), &mut handler) == Ok(true));
-    assert!(rt; error_at_spans_with_code(rt.alloc(), &mut handler) == Ok(true));
+    assert!(rt; errors_with_codes(rt.alloc(), &mut handler));
     assert!(rt; holds(handler, "a\nb\n"));
     let mut handler = loud(rt.alloc());
-    assert!(rt; warning_with_code(rt.alloc(), &mut handler) == Ok(true));
-    assert!(rt; fatal_with_code(rt.alloc(), &mut handler) == Ok(true));
+    assert!(rt; warning_and_fatal_with_codes(rt.alloc(), &mut handler));
     assert!(rt; holds(handler, "a\nb\n"));
 }
 
@@ -130,37 +92,27 @@ fn add_notes<E: Emitter>(report: &mut DiagnosticBuilder<'_, E>) -> bool {
     report.note("a").is_ok() && report.warn("c").is_ok() && report.help("e").is_ok()
 }
 
-fn add_notes_at_spans<E: Emitter>(
-    alloc: Global,
-    report: &mut DiagnosticBuilder<'_, E>,
-) -> Result<bool, AllocError> {
-    let note = report.span_note(spans(alloc)?, "b").is_ok();
-    let warning = report.span_warn(spans(alloc)?, "d").is_ok();
-    Ok(note && warning && report.span_help(spans(alloc)?, "f").is_ok())
+fn add_notes_at_spans<E: Emitter>(alloc: Global, report: &mut DiagnosticBuilder<'_, E>) -> bool {
+    let note = report.span_note(spans(alloc), "b").is_ok();
+    let warning = report.span_warn(spans(alloc), "d").is_ok();
+    note && warning && report.span_help(spans(alloc), "f").is_ok()
 }
 
-fn add_label_and_note<E: Emitter>(
-    alloc: Global,
-    report: &mut DiagnosticBuilder<'_, E>,
-) -> Result<bool, AllocError> {
-    let label = report.span_label(span(), text(alloc, "l")?).is_ok();
-    Ok(label && report.sub(Level::Note, "g", None).is_ok())
+fn add_label_and_note<E: Emitter>(alloc: Global, report: &mut DiagnosticBuilder<'_, E>) -> bool {
+    let label = report.span_label(span(), text(alloc, "l")).is_ok();
+    label && report.sub(Level::Note, "g", None).is_ok()
 }
 
-fn seven_notes_are_added<E: Emitter>(
-    alloc: Global,
-    report: &mut DiagnosticBuilder<'_, E>,
-) -> Result<bool, AllocError> {
-    let label = add_label_and_note(alloc, report)?;
-    let spans = add_notes_at_spans(alloc, report)?;
-    Ok(label && spans && add_notes(report) && report.children.len() == 7)
+fn seven_notes_are_added<E: Emitter>(alloc: Global, report: &mut DiagnosticBuilder<'_, E>) -> bool {
+    let added = add_label_and_note(alloc, report) && add_notes_at_spans(alloc, report);
+    added && add_notes(report) && report.children.len() == 7
 }
 
 fn notes_and_labels<E: Emitter>(alloc: Global, handler: &mut Handler<E>) -> bool {
     let Ok(mut report) = handler.struct_err("m") else {
         return false;
     };
-    let added = seven_notes_are_added(alloc, &mut report) == Ok(true);
+    let added = seven_notes_are_added(alloc, &mut report);
     report.cancel();
     added
 }
@@ -206,19 +158,12 @@ fn expected_and_found_are_added(rt: HostRuntime) {
     assert!(rt; holds(handler, ""));
 }
 
-fn suggest_one<E: Emitter>(
-    alloc: Global,
-    report: &mut DiagnosticBuilder<'_, E>,
-) -> Result<bool, AllocError> {
+fn suggest_one<E: Emitter>(alloc: Global, report: &mut DiagnosticBuilder<'_, E>) -> bool {
     let plain = report
-        .span_suggestion(span(), "x", text(alloc, "a")?)
+        .span_suggestion(span(), "x", text(alloc, "a"))
         .is_ok();
-    Ok(
-        plain
-            && report
-                .span_suggestion_short(span(), "x", text(alloc, "b")?)
-                .is_ok(),
-    )
+    let short = report.span_suggestion_short(span(), "x", text(alloc, "b"));
+    plain && short.is_ok()
 }
 
 fn suggest_several<E: Emitter>(alloc: Global, report: &mut DiagnosticBuilder<'_, E>) -> bool {
@@ -228,36 +173,24 @@ fn suggest_several<E: Emitter>(alloc: Global, report: &mut DiagnosticBuilder<'_,
     several && report.multipart_suggestion("x", Vec::new(alloc)).is_ok()
 }
 
-fn suggest<E: Emitter>(
-    alloc: Global,
-    report: &mut DiagnosticBuilder<'_, E>,
-) -> Result<bool, AllocError> {
-    Ok(suggest_one(alloc, report)? && suggest_several(alloc, report))
-}
-
 fn suggestions<E: Emitter>(alloc: Global, handler: &mut Handler<E>) -> bool {
     let Ok(mut report) = handler.struct_err("m") else {
         return false;
     };
-    let added = suggest(alloc, &mut report) == Ok(true) && report.suggestions.len() == 4;
+    let added = suggest_one(alloc, &mut report) && suggest_several(alloc, &mut report);
+    let count = report.suggestions.len();
     report.cancel();
-    added
+    added && count == 4
 }
 
-fn suggest_one_surely<E: Emitter>(
-    alloc: Global,
-    report: &mut DiagnosticBuilder<'_, E>,
-) -> Result<bool, AllocError> {
+fn suggest_one_surely<E: Emitter>(alloc: Global, report: &mut DiagnosticBuilder<'_, E>) -> bool {
     let sure = Applicability::MachineApplicable;
+    let (a, b) = (text(alloc, "a"), text(alloc, "b"));
     let plain = report
-        .span_suggestion_with_applicability(span(), "x", text(alloc, "a")?, sure)
+        .span_suggestion_with_applicability(span(), "x", a, sure)
         .is_ok();
-    Ok(
-        plain
-            && report
-                .span_suggestion_short_with_applicability(span(), "x", text(alloc, "b")?, sure)
-                .is_ok(),
-    )
+    let short = report.span_suggestion_short_with_applicability(span(), "x", b, sure);
+    plain && short.is_ok()
 }
 
 fn suggest_several_surely<E: Emitter>(
@@ -268,17 +201,8 @@ fn suggest_several_surely<E: Emitter>(
     let several = report
         .span_suggestions_with_applicability(span(), "x", Vec::new(alloc), sure)
         .is_ok();
-    several
-        && report
-            .multipart_suggestion_with_applicability("x", Vec::new(alloc), sure)
-            .is_ok()
-}
-
-fn suggest_surely<E: Emitter>(
-    alloc: Global,
-    report: &mut DiagnosticBuilder<'_, E>,
-) -> Result<bool, AllocError> {
-    Ok(suggest_one_surely(alloc, report)? && suggest_several_surely(alloc, report))
+    let parts = report.multipart_suggestion_with_applicability("x", Vec::new(alloc), sure);
+    several && parts.is_ok()
 }
 
 /// Whether there are so many suggestions after four sure ones.
@@ -292,10 +216,11 @@ fn sure_suggestions<E: Emitter>(
         return false;
     };
     report.allow_suggestions(allowed);
-    let went = suggest_surely(alloc, &mut report) == Ok(true);
-    let added = went && report.suggestions.len() == want;
+    let one = suggest_one_surely(alloc, &mut report);
+    let several = suggest_several_surely(alloc, &mut report);
+    let count = report.suggestions.len();
     report.cancel();
-    added
+    one && several && count == want
 }
 
 #[test]
@@ -307,15 +232,6 @@ fn suggestions_are_added_where_they_are_allowed(rt: HostRuntime) {
     assert!(rt; holds(handler, ""));
 }
 
-fn set_span_and_code<E: Emitter>(
-    alloc: Global,
-    report: &mut DiagnosticBuilder<'_, E>,
-) -> Result<(), AllocError> {
-    let (at, code) = spans_and_code(alloc)?;
-    report.set_span(at).code(code);
-    Ok(())
-}
-
 fn has_span_and_code<E: Emitter>(report: &DiagnosticBuilder<'_, E>) -> bool {
     report.span.primary_span().is_some() && report.code.is_some()
 }
@@ -324,7 +240,8 @@ fn span_and_code<E: Emitter>(alloc: Global, handler: &mut Handler<E>) -> bool {
     let Ok(mut report) = DiagnosticBuilder::new(handler, Level::Error, "m") else {
         return false;
     };
-    let set = set_span_and_code(alloc, &mut report).is_ok() && has_span_and_code(&report);
+    report.set_span(spans(alloc)).code(code(alloc));
+    let set = has_span_and_code(&report);
     Handler::cancel(report);
     set
 }

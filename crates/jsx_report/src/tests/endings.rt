@@ -24,7 +24,7 @@ fn report_codes(
 ) -> Result<(), HandlerError> {
     for digit in digits.chars() {
         let code = DiagnosticId::Error(format!(in alloc; "E{digit}")?);
-        handler.span_err_with_code(spans(alloc)?, "m", code)?;
+        handler.span_err_with_code(spans(alloc), "m", code)?;
     }
     Ok(())
 }

@@ -1,4 +1,4 @@
-use super::{Lines, delay_bug, holds, loud, span_err, spans, spans_and_code, strict, text};
+use super::{Lines, code, delay_bug, holds, loud, span_err, spans, strict, text};
 use crate::{DiagnosticId, Handler, HandlerError, Level};
 use std::alloc::{AllocError, Global};
 
@@ -32,13 +32,13 @@ fn emit(
     message: &str,
     level: Level,
 ) -> Result<(), HandlerError> {
-    let at = spans(alloc)?;
+    let at = spans(alloc);
     handler.emit(&at, message, level)
 }
 
 fn warnings_while_off(alloc: Global, handler: &mut Handler<Lines>) -> Result<(), HandlerError> {
     handler.flags.can_emit_warnings = false;
-    handler.span_warn(spans(alloc)?, "m")?;
+    handler.span_warn(spans(alloc), "m")?;
     emit(alloc, handler, "m", Level::Warning)?;
     handler.warn("w")
 }
@@ -71,17 +71,17 @@ fn an_error_aborts_and_a_bug_is_explicit(rt: HostRuntime) {
     assert!(rt; holds(handler, "b\nunimplemented u\n"));
 }
 
-fn bugs_at_spans(alloc: Global, handler: &mut Handler<Lines>) -> Result<bool, AllocError> {
+fn bugs_at_spans(alloc: Global, handler: &mut Handler<Lines>) -> bool {
     let bug = HandlerError::ExplicitBug;
-    let one = handler.span_bug(spans(alloc)?, "a") == bug;
-    let two = handler.span_unimpl(spans(alloc)?, "b") == bug;
-    Ok(one && two && handler.span_bug_no_panic(spans(alloc)?, "c").is_ok())
+    let one = handler.span_bug(spans(alloc), "a") == bug;
+    let two = handler.span_unimpl(spans(alloc), "b") == bug;
+    one && two && handler.span_bug_no_panic(spans(alloc), "c").is_ok()
 }
 
 #[test]
 fn bugs_point_at_spans(rt: HostRuntime) {
     let mut handler = loud(rt.alloc());
-    assert!(rt; bugs_at_spans(rt.alloc(), &mut handler) == Ok(true));
+    assert!(rt; bugs_at_spans(rt.alloc(), &mut handler));
     assert!(rt; holds(handler, "a\nunimplemented b\nc\n"));
 }
 
@@ -100,23 +100,23 @@ fn errors_are_bugs_where_the_flags_say_so(rt: HostRuntime) {
     assert!(rt; holds(handler, "a\nb\nc\nd\n"));
 }
 
-fn errors_stop(alloc: Global, handler: &mut Handler<Lines>) -> Result<bool, AllocError> {
+fn errors_stop(alloc: Global, handler: &mut Handler<Lines>) -> bool {
     let stop = Err(HandlerError::FatalError);
-    let note = handler.span_note_without_error(spans(alloc)?, "n").is_ok();
+    let note = handler.span_note_without_error(spans(alloc), "n").is_ok();
     let error = span_err(alloc, handler, "m") == stop;
-    Ok(note && error && emit(alloc, handler, "o", Level::Note) == stop)
+    note && error && emit(alloc, handler, "o", Level::Note) == stop
 }
 
-fn fatal_errors_go(alloc: Global, handler: &mut Handler<Lines>) -> Result<bool, AllocError> {
-    Ok(handler.span_fatal(spans(alloc)?, "f").is_err() && handler.fatal("g").is_ok())
+fn fatal_errors_stop_at_spans(alloc: Global, handler: &mut Handler<Lines>) -> bool {
+    handler.span_fatal(spans(alloc), "f").is_err() && handler.fatal("g").is_ok()
 }
 
 #[test]
 fn errors_stop_where_they_are_told_to(rt: HostRuntime) {
     let mut handler = loud(rt.alloc());
     handler.set_continue_after_error(false);
-    assert!(rt; errors_stop(rt.alloc(), &mut handler) == Ok(true));
-    assert!(rt; fatal_errors_go(rt.alloc(), &mut handler) == Ok(true));
+    assert!(rt; errors_stop(rt.alloc(), &mut handler));
+    assert!(rt; fatal_errors_stop_at_spans(rt.alloc(), &mut handler));
     assert!(rt; holds(handler, "n\nm\no\nf\ng\n"));
 }
 
@@ -124,39 +124,45 @@ fn is_taught_once(handler: &mut Handler<Lines>, code: &DiagnosticId) -> Result<b
     Ok(handler.must_teach(code)? && !handler.must_teach(code)?)
 }
 
-fn code_is_taught_once(alloc: Global, handler: &mut Handler<Lines>) -> Result<bool, AllocError> {
-    let code = DiagnosticId::Lint(text(alloc, "l")?);
-    is_taught_once(handler, &code)
+fn lint(alloc: Global) -> DiagnosticId {
+    DiagnosticId::Lint(text(alloc, "l"))
+}
+
+fn code_is_taught_once(alloc: Global, handler: &mut Handler<Lines>) -> bool {
+    let code = lint(alloc);
+    is_taught_once(handler, &code) == Ok(true)
 }
 
 #[test]
 fn a_code_is_taught_once(rt: HostRuntime) {
     let mut handler = loud(rt.alloc());
-    assert!(rt; code_is_taught_once(rt.alloc(), &mut handler) == Ok(true));
+    assert!(rt; code_is_taught_once(rt.alloc(), &mut handler));
     assert!(rt; holds(handler, ""));
 }
 
-fn warning_with_code(alloc: Global, handler: &mut Handler<Lines>) -> Result<(), HandlerError> {
-    let code = DiagnosticId::Lint(text(alloc, "l")?);
-    handler.span_warn_with_code(spans(alloc)?, "w", code)
+fn note_with_code(alloc: Global, handler: &mut Handler<Lines>) -> bool {
+    let at = spans(alloc);
+    handler
+        .emit_with_code(&at, "n", code(alloc), Level::Note)
+        .is_ok()
 }
 
-fn note_with_code(alloc: Global, handler: &mut Handler<Lines>) -> Result<(), HandlerError> {
-    let (at, code) = spans_and_code(alloc)?;
-    handler.emit_with_code(&at, "n", code, Level::Note)
-}
-
-fn fatal_with_code(alloc: Global, handler: &mut Handler<Lines>) -> Result<bool, AllocError> {
-    let (at, code) = spans_and_code(alloc)?;
-    Ok(handler.span_fatal_with_code(at, "f", code).is_ok())
+fn reports_with_codes(alloc: Global, handler: &mut Handler<Lines>) -> bool {
+    let warning = handler
+        .span_warn_with_code(spans(alloc), "w", lint(alloc))
+        .is_ok();
+    let note = note_with_code(alloc, handler);
+    warning
+        && note
+        && handler
+            .span_fatal_with_code(spans(alloc), "f", code(alloc))
+            .is_ok()
 }
 
 #[test]
 fn codes_go_with_reports(rt: HostRuntime) {
     let mut handler = loud(rt.alloc());
-    assert!(rt; warning_with_code(rt.alloc(), &mut handler).is_ok());
-    assert!(rt; note_with_code(rt.alloc(), &mut handler).is_ok());
-    assert!(rt; fatal_with_code(rt.alloc(), &mut handler) == Ok(true));
+    assert!(rt; reports_with_codes(rt.alloc(), &mut handler));
     assert!(rt; holds(handler, "w\nn\nf\n"));
 }
 
