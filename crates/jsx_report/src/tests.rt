@@ -130,8 +130,8 @@ fn span() -> Span {
     Span::new(BytePos(1), BytePos(2))
 }
 
-// What follows is made with ample memory. Where memory is short it is less than was asked for, so
-// that the functions that need it have one way out.
+// The next three are what they say with ample memory, which tests have. Where it is short, they are
+// empty, and no error: a test that may have to let go of a report on its way out takes long to prove.
 
 /// One span.
 fn spans(alloc: Global) -> MultiSpan {

@@ -16,6 +16,15 @@ fn two_errors_are_counted_at_the_end(rt: HostRuntime) {
     assert!(rt; holds(handler, "a\nb\naborting due to 2 previous errors\n"));
 }
 
+fn report_code(
+    alloc: Global,
+    handler: &mut Handler<Lines>,
+    digit: char,
+) -> Result<(), HandlerError> {
+    let code = DiagnosticId::Error(format!(in alloc; "E{digit}")?);
+    handler.span_err_with_code(spans(alloc), "m", code)
+}
+
 /// Reports errors with codes of these digits.
 fn report_codes(
     alloc: Global,
@@ -23,8 +32,7 @@ fn report_codes(
     digits: &str,
 ) -> Result<(), HandlerError> {
     for digit in digits.chars() {
-        let code = DiagnosticId::Error(format!(in alloc; "E{digit}")?);
-        handler.span_err_with_code(spans(alloc), "m", code)?;
+        report_code(alloc, handler, digit)?;
     }
     Ok(())
 }
