@@ -10,24 +10,21 @@ fn went<E: Emitter>(report: DiagnosticBuilder<'_, E>) -> bool {
     report.emit().is_ok()
 }
 
-fn lesser_levels<E: Emitter>(handler: &mut Handler<E>) -> bool {
+fn dummy_and_warning<E: Emitter>(handler: &mut Handler<E>) -> bool {
     handler.struct_dummy().is_ok_and(went) && handler.struct_warn("a").is_ok_and(went)
 }
 
-fn greater_levels<E: Emitter>(handler: &mut Handler<E>) -> bool {
-    handler.struct_err("b").is_ok_and(went) && handler.struct_fatal("c").is_ok_and(went)
-}
-
-fn note_at_span<E: Emitter>(handler: &mut Handler<E>) -> bool {
-    handler.span_note_diag(span(), "d").is_ok_and(went)
+fn errors_and_note<E: Emitter>(handler: &mut Handler<E>) -> bool {
+    let errors = handler.struct_err("b").is_ok_and(went)
+        && handler.struct_fatal("c").is_ok_and(went);
+    errors && handler.span_note_diag(span(), "d").is_ok_and(went)
 }
 
 #[test]
 fn reports_have_the_level_of_the_call(rt: HostRuntime) {
     let mut handler = loud(rt.alloc());
-    assert!(rt; lesser_levels(&mut handler));
-    assert!(rt; greater_levels(&mut handler));
-    assert!(rt; note_at_span(&mut handler));
+    assert!(rt; dummy_and_warning(&mut handler));
+    assert!(rt; errors_and_note(&mut handler));
     assert!(rt; handler.err_count() == 2);
     assert!(rt; holds(handler, "a\nb\nc\nd\n"));
 }
@@ -76,15 +73,11 @@ fn reports_have_codes(rt: HostRuntime) {
     assert!(rt; holds(handler, "a\nb\n"));
 }
 
-fn warning<E: Emitter>(handler: &mut Handler<E>) -> bool {
-    handler.struct_warn("a").is_ok_and(went)
-}
-
 #[test]
 fn warnings_are_cancelled_where_they_are_off(rt: HostRuntime) {
     let mut handler = loud(rt.alloc());
     handler.flags.can_emit_warnings = false;
-    assert!(rt; warning(&mut handler));
+    assert!(rt; dummy_and_warning(&mut handler));
     assert!(rt; holds(handler, ""));
 }
 
@@ -103,18 +96,15 @@ fn add_label_and_note<E: Emitter>(alloc: Global, report: &mut DiagnosticBuilder<
     label && report.sub(Level::Note, "g", None).is_ok()
 }
 
-fn seven_notes_are_added<E: Emitter>(alloc: Global, report: &mut DiagnosticBuilder<'_, E>) -> bool {
-    let added = add_label_and_note(alloc, report) && add_notes_at_spans(alloc, report);
-    added && add_notes(report) && report.children.len() == 7
-}
-
 fn notes_and_labels<E: Emitter>(alloc: Global, handler: &mut Handler<E>) -> bool {
     let Ok(mut report) = handler.struct_err("m") else {
         return false;
     };
-    let added = seven_notes_are_added(alloc, &mut report);
+    let plain = add_notes(&mut report) && add_label_and_note(alloc, &mut report);
+    let pointing = add_notes_at_spans(alloc, &mut report);
+    let notes = report.children.len();
     report.cancel();
-    added
+    plain && pointing && notes == 7
 }
 
 #[test]
@@ -124,31 +114,31 @@ fn notes_and_labels_are_added(rt: HostRuntime) {
     assert!(rt; holds(handler, ""));
 }
 
-fn add_expected<E: Emitter>(alloc: Global, report: &mut DiagnosticBuilder<'_, E>) -> bool {
-    let expected = DiagnosticStyledString::new(alloc);
-    let found = DiagnosticStyledString::new(alloc);
-    report.note_expected_found("x", expected, found).is_ok()
-}
-
-fn add_expected_extra<E: Emitter>(alloc: Global, report: &mut DiagnosticBuilder<'_, E>) -> bool {
-    let expected = DiagnosticStyledString::new(alloc);
-    let found = DiagnosticStyledString::new(alloc);
-    report
-        .note_expected_found_extra("x", expected, found, "1", "2")
-        .is_ok()
-}
-
-fn two_are_added<E: Emitter>(alloc: Global, report: &mut DiagnosticBuilder<'_, E>) -> bool {
-    add_expected(alloc, report) && add_expected_extra(alloc, report) && report.children.len() == 2
+fn add_expected_and_found<E: Emitter>(
+    alloc: Global,
+    report: &mut DiagnosticBuilder<'_, E>,
+) -> bool {
+    let (expected, found) = (
+        DiagnosticStyledString::new(alloc),
+        DiagnosticStyledString::new(alloc),
+    );
+    let plain = report.note_expected_found("x", expected, found).is_ok();
+    let (expected, found) = (
+        DiagnosticStyledString::new(alloc),
+        DiagnosticStyledString::new(alloc),
+    );
+    let extra = report.note_expected_found_extra("x", expected, found, "1", "2");
+    plain && extra.is_ok()
 }
 
 fn expected_and_found<E: Emitter>(alloc: Global, handler: &mut Handler<E>) -> bool {
     let Ok(mut report) = handler.struct_err("m") else {
         return false;
     };
-    let added = two_are_added(alloc, &mut report);
+    let added = add_expected_and_found(alloc, &mut report);
+    let notes = report.children.len();
     report.cancel();
-    added
+    added && notes == 2
 }
 
 #[test]
@@ -289,6 +279,14 @@ fn error_waits_as_a_bug<E: Emitter>(handler: &mut Handler<E>) -> Result<(), Hand
     handler.struct_err("a")?.delay_as_bug()
 }
 
+#[test]
+fn reports_wait_as_bugs(rt: HostRuntime) {
+    let mut handler = loud(rt.alloc());
+    assert!(rt; error_waits_as_a_bug(&mut handler).is_ok());
+    assert!(rt; handler.finish() == Ok(true));
+    assert!(rt; holds(handler, "a\n"));
+}
+
 fn bug_with_no_code<E: Emitter>(handler: &mut Handler<E>) -> bool {
     DiagnosticBuilder::new_with_code(handler, Level::Bug, None, "a").is_ok_and(went)
 }
@@ -299,11 +297,7 @@ fn bug_is_forced<E: Emitter>(alloc: Global, handler: &mut Handler<E>) -> Result<
 }
 
 #[test]
-fn reports_wait_as_bugs_or_are_forced(rt: HostRuntime) {
-    let mut handler = loud(rt.alloc());
-    assert!(rt; error_waits_as_a_bug(&mut handler).is_ok());
-    assert!(rt; handler.finish() == Ok(true));
-    assert!(rt; holds(handler, "a\n"));
+fn reports_are_forced(rt: HostRuntime) {
     let mut handler = loud(rt.alloc());
     assert!(rt; bug_with_no_code(&mut handler));
     assert!(rt; bug_is_forced(rt.alloc(), &mut handler).is_ok());
