@@ -9,7 +9,7 @@ ghost use Rattle.std.specs.Prelude.{◌≡◌, ◌++◌, codes, string_bytes, If
 ghost use Rattle.std.specs.List.{flat_map};
 ghost use Rattle.jsx_diag.specs.Data.{report_of};
 
-use crate::{Diagnostic, EmitError, Emitter, Handler, HandlerError, HandlerFlags};
+use crate::{Diagnostic, DiagnosticId, EmitError, Emitter, Handler, HandlerError, HandlerFlags};
 use jsx_base::{BytePos, MultiSpan, Span};
 use std::alloc::{AllocError, Global};
 
@@ -98,11 +98,6 @@ fn holds(handler: Handler<Lines>, want: &str) -> bool {
     handler.into_emitter().text.as_str() == want
 }
 
-/// Whether all of the calls went well.
-fn all_went(answers: &[Result<(), HandlerError>]) -> bool {
-    answers.iter().all(|answer| answer.is_ok())
-}
-
 /// A handler that prints all, over an emitter that refuses nothing.
 fn loud(alloc: Global) -> Handler<Lines> {
     Handler::with_emitter(alloc, true, false, Lines::new(alloc))
@@ -113,14 +108,47 @@ fn strict(alloc: Global) -> Handler<Lines> {
     Handler::with_emitter(alloc, true, true, Lines::new(alloc))
 }
 
+/// An error at a span.
+fn span_err(
+    alloc: Global,
+    handler: &mut Handler<Lines>,
+    message: &str,
+) -> Result<(), HandlerError> {
+    handler.span_err(spans(alloc), message)
+}
+
+/// A bug at a span that waits.
+fn delay_bug(
+    alloc: Global,
+    handler: &mut Handler<Lines>,
+    message: &str,
+) -> Result<(), HandlerError> {
+    handler.delay_span_bug(spans(alloc), message)
+}
+
 fn span() -> Span {
     Span::new(BytePos(1), BytePos(2))
 }
 
-fn spans(alloc: Global) -> Result<MultiSpan, AllocError> {
-    MultiSpan::from_span(alloc, span())
+// The next three are what they say with ample memory, which tests have. Where it is short, they are
+// empty, and no error: a test that may have to let go of a report on its way out takes long to prove.
+
+/// One span.
+fn spans(alloc: Global) -> MultiSpan {
+    match MultiSpan::from_span(alloc, span()) {
+        Ok(spans) => spans,
+        Err(_) => MultiSpan::new(alloc),
+    }
 }
 
-fn text(alloc: Global, text: &str) -> Result<String, AllocError> {
-    String::from_str(alloc, text)
+fn text(alloc: Global, text: &str) -> String {
+    match String::from_str(alloc, text) {
+        Ok(text) => text,
+        Err(_) => String::new(alloc),
+    }
+}
+
+/// The code of an error.
+fn code(alloc: Global) -> DiagnosticId {
+    DiagnosticId::Error(text(alloc, "e"))
 }

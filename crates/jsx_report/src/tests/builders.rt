@@ -1,136 +1,141 @@
-use super::{Lines, holds, loud, span, spans, strict, text};
+use super::{Lines, code, holds, loud, span, spans, strict, text};
 use crate::{
-    Applicability, Diagnostic, DiagnosticBuilder, DiagnosticId, DiagnosticStyledString, Handler,
+    Applicability, Diagnostic, DiagnosticBuilder, DiagnosticStyledString, Emitter, Handler,
     HandlerError, Level,
 };
-use jsx_base::MultiSpan;
-use std::alloc::{AllocError, Global};
-use std::test::Fail;
+use std::alloc::Global;
 
 /// Whether a report went well.
-fn went(report: DiagnosticBuilder<'_, Lines>) -> bool {
+fn went<E: Emitter>(report: DiagnosticBuilder<'_, E>) -> bool {
     report.emit().is_ok()
 }
 
-fn levels_of_calls(alloc: Global) -> bool {
-    let mut handler = loud(alloc);
-    let first = handler.struct_dummy().is_ok_and(went) && handler.struct_warn("a").is_ok_and(went);
-    let second = handler.struct_err("b").is_ok_and(went)
+fn dummy_and_warning<E: Emitter>(handler: &mut Handler<E>) -> bool {
+    handler.struct_dummy().is_ok_and(went) && handler.struct_warn("a").is_ok_and(went)
+}
+
+fn errors_and_note<E: Emitter>(handler: &mut Handler<E>) -> bool {
+    let errors = handler.struct_err("b").is_ok_and(went)
         && handler.struct_fatal("c").is_ok_and(went);
-    let third = handler.span_note_diag(span(), "d").is_ok_and(went) && handler.err_count() == 2;
-    first && second && third && holds(handler, "a\nb\nc\nd\n")
+    errors && handler.span_note_diag(span(), "d").is_ok_and(went)
 }
 
 #[test]
 fn reports_have_the_level_of_the_call(rt: HostRuntime) {
-    assert!(rt; levels_of_calls(rt.alloc()));
+    let mut handler = loud(rt.alloc());
+    assert!(rt; dummy_and_warning(&mut handler));
+    assert!(rt; errors_and_note(&mut handler));
+    assert!(rt; handler.err_count() == 2);
+    assert!(rt; holds(handler, "a\nb\nc\nd\n"));
 }
 
-fn spans_of_calls(alloc: Global) -> Result<bool, AllocError> {
-    let (a, b, c, d) = (spans(alloc)?, spans(alloc)?, spans(alloc)?, spans(alloc)?);
-    let mut handler = loud(alloc);
-    let warning = handler.struct_span_warn(a, "a").is_ok_and(went);
-    let error = handler.struct_span_err(b, "b").is_ok_and(went);
-    let fatal = handler.struct_span_fatal(c, "c").is_ok_and(went);
-    let first = warning && error && fatal;
-    let second = handler.mut_span_err(d, "b").is_ok_and(went);
-    Ok(first && second && holds(handler, "a\nb\nc\n"))
+fn warning_and_error_at_spans<E: Emitter>(alloc: Global, handler: &mut Handler<E>) -> bool {
+    let warning = handler.struct_span_warn(spans(alloc), "a").is_ok_and(went);
+    warning && handler.struct_span_err(spans(alloc), "b").is_ok_and(went)
 }
 
-#[test]
-fn reports_point_at_spans(rt: HostRuntime) -> Result<(), Fail> {
-    assert!(rt; spans_of_calls(rt.alloc())?);
-    Ok(())
-}
-
-fn error(alloc: Global) -> Result<DiagnosticId, AllocError> {
-    Ok(DiagnosticId::Error(text(alloc, "e")?))
-}
-
-fn codes_of_calls(alloc: Global) -> Result<bool, AllocError> {
-    let (a, b) = (error(alloc)?, error(alloc)?);
-    let at = spans(alloc)?;
-    let mut handler = loud(alloc);
-    let first = handler.struct_err_with_code("a", a).is_ok_and(went);
-    let second = handler
-        .struct_span_err_with_code(at, "b", b)
-        .is_ok_and(went);
-    Ok(first && second && holds(handler, "a\nb\n"))
-}
-
-fn more_codes_of_calls(alloc: Global) -> Result<bool, AllocError> {
-    let (a, b) = (error(alloc)?, error(alloc)?);
-    let (at, there) = (spans(alloc)?, spans(alloc)?);
-    let mut handler = loud(alloc);
-    let first = handler
-        .struct_span_warn_with_code(at, "a", a)
-        .is_ok_and(went);
-    let second = handler
-        .struct_span_fatal_with_code(there, "b", b)
-        .is_ok_and(went);
-    Ok(first && second && holds(handler, "a\nb\n"))
+fn fatal_and_equal_error_at_spans<E: Emitter>(alloc: Global, handler: &mut Handler<E>) -> bool {
+    let fatal = handler.struct_span_fatal(spans(alloc), "c").is_ok_and(went);
+    fatal && handler.mut_span_err(spans(alloc), "b").is_ok_and(went)
 }
 
 #[test]
-fn reports_have_codes(rt: HostRuntime) -> Result<(), Fail> {
-    assert!(rt; codes_of_calls(rt.alloc())?);
-    assert!(rt; more_codes_of_calls(rt.alloc())?);
-    Ok(())
+fn reports_point_at_spans(rt: HostRuntime) {
+    let mut handler = loud(rt.alloc());
+    assert!(rt; warning_and_error_at_spans(rt.alloc(), &mut handler));
+    assert!(rt; fatal_and_equal_error_at_spans(rt.alloc(), &mut handler));
+    assert!(rt; holds(handler, "a\nb\nc\n"));
 }
 
-fn warning_is_cancelled(alloc: Global) -> bool {
-    let mut handler = loud(alloc);
-    handler.flags.can_emit_warnings = false;
-    handler.struct_warn("a").is_ok_and(went) && holds(handler, "")
+fn errors_with_codes<E: Emitter>(alloc: Global, handler: &mut Handler<E>) -> bool {
+    let plain = handler.struct_err_with_code("a", code(alloc));
+    plain.is_ok_and(went)
+        && handler
+            .struct_span_err_with_code(spans(alloc), "b", code(alloc))
+            .is_ok_and(went)
+}
+
+fn warning_and_fatal_with_codes<E: Emitter>(alloc: Global, handler: &mut Handler<E>) -> bool {
+    let warning = handler.struct_span_warn_with_code(spans(alloc), "a", code(alloc));
+    warning.is_ok_and(went)
+        && handler
+            .struct_span_fatal_with_code(spans(alloc), "b", code(alloc))
+            .is_ok_and(went)
+}
+
+#[test]
+fn reports_have_codes(rt: HostRuntime) {
+    let mut handler = loud(rt.alloc());
+    assert!(rt; errors_with_codes(rt.alloc(), &mut handler));
+    assert!(rt; holds(handler, "a\nb\n"));
+    let mut handler = loud(rt.alloc());
+    assert!(rt; warning_and_fatal_with_codes(rt.alloc(), &mut handler));
+    assert!(rt; holds(handler, "a\nb\n"));
 }
 
 #[test]
 fn warnings_are_cancelled_where_they_are_off(rt: HostRuntime) {
-    assert!(rt; warning_is_cancelled(rt.alloc()));
+    let mut handler = loud(rt.alloc());
+    handler.flags.can_emit_warnings = false;
+    assert!(rt; dummy_and_warning(&mut handler));
+    assert!(rt; holds(handler, ""));
 }
 
-/// Whether the calls add as many notes to a report.
-fn notes_after(
-    mut report: DiagnosticBuilder<'_, Lines>,
-    spans: [MultiSpan; 3],
-    label: String,
-) -> usize {
-    let [one, two, three] = spans;
-    let mut added = report.span_label(span(), label).is_ok();
-    added &= report.note("a").is_ok() && report.warn("c").is_ok() && report.help("e").is_ok();
-    added &= report.span_note(one, "b").is_ok();
-    added &= report.span_warn(two, "d").is_ok();
-    added &= report.span_help(three, "f").is_ok();
-    added &= report.sub(Level::Note, "g", None).is_ok();
+fn add_notes<E: Emitter>(report: &mut DiagnosticBuilder<'_, E>) -> bool {
+    report.note("a").is_ok() && report.warn("c").is_ok() && report.help("e").is_ok()
+}
+
+fn add_notes_at_spans<E: Emitter>(alloc: Global, report: &mut DiagnosticBuilder<'_, E>) -> bool {
+    let note = report.span_note(spans(alloc), "b").is_ok();
+    let warning = report.span_warn(spans(alloc), "d").is_ok();
+    note && warning && report.span_help(spans(alloc), "f").is_ok()
+}
+
+fn add_label_and_note<E: Emitter>(alloc: Global, report: &mut DiagnosticBuilder<'_, E>) -> bool {
+    let label = report.span_label(span(), text(alloc, "l")).is_ok();
+    label && report.sub(Level::Note, "g", None).is_ok()
+}
+
+fn notes_and_labels<E: Emitter>(alloc: Global, handler: &mut Handler<E>) -> bool {
+    let Ok(mut report) = handler.struct_err("m") else {
+        return false;
+    };
+    let plain = add_notes(&mut report) && add_label_and_note(alloc, &mut report);
+    let pointing = add_notes_at_spans(alloc, &mut report);
     let notes = report.children.len();
     report.cancel();
-    if added { notes } else { 0 }
+    plain && pointing && notes == 7
 }
 
 #[test]
-fn notes_and_labels_are_added(rt: HostRuntime) -> Result<(), Fail> {
-    let alloc = rt.alloc();
-    let at = [spans(alloc)?, spans(alloc)?, spans(alloc)?];
-    let label = text(alloc, "l")?;
-    let mut handler = loud(alloc);
-    let notes = match handler.struct_err("m") {
-        Ok(report) => notes_after(report, at, label),
-        Err(_) => 0,
-    };
-    assert!(rt; notes == 7);
-    Ok(())
+fn notes_and_labels_are_added(rt: HostRuntime) {
+    let mut handler = loud(rt.alloc());
+    assert!(rt; notes_and_labels(rt.alloc(), &mut handler));
+    assert!(rt; holds(handler, ""));
 }
 
-fn expected_and_found(alloc: Global) -> bool {
-    let none = || DiagnosticStyledString::new(alloc);
-    let mut handler = loud(alloc);
+fn add_expected_and_found<E: Emitter>(
+    alloc: Global,
+    report: &mut DiagnosticBuilder<'_, E>,
+) -> bool {
+    let (expected, found) = (
+        DiagnosticStyledString::new(alloc),
+        DiagnosticStyledString::new(alloc),
+    );
+    let plain = report.note_expected_found("x", expected, found).is_ok();
+    let (expected, found) = (
+        DiagnosticStyledString::new(alloc),
+        DiagnosticStyledString::new(alloc),
+    );
+    let extra = report.note_expected_found_extra("x", expected, found, "1", "2");
+    plain && extra.is_ok()
+}
+
+fn expected_and_found<E: Emitter>(alloc: Global, handler: &mut Handler<E>) -> bool {
     let Ok(mut report) = handler.struct_err("m") else {
-        return false
+        return false;
     };
-    let mut added = report.note_expected_found("x", none(), none()).is_ok();
-    added &= report
-        .note_expected_found_extra("x", none(), none(), "1", "2")
-        .is_ok();
+    let added = add_expected_and_found(alloc, &mut report);
     let notes = report.children.len();
     report.cancel();
     added && notes == 2
@@ -138,132 +143,164 @@ fn expected_and_found(alloc: Global) -> bool {
 
 #[test]
 fn expected_and_found_are_added(rt: HostRuntime) {
-    assert!(rt; expected_and_found(rt.alloc()));
+    let mut handler = loud(rt.alloc());
+    assert!(rt; expected_and_found(rt.alloc(), &mut handler));
+    assert!(rt; holds(handler, ""));
 }
 
-fn suggestions(alloc: Global) -> Result<bool, AllocError> {
-    let (a, b) = (text(alloc, "a")?, text(alloc, "b")?);
-    let (several, parts) = (Vec::new(alloc), Vec::new(alloc));
-    let mut handler = loud(alloc);
+fn suggest_one<E: Emitter>(alloc: Global, report: &mut DiagnosticBuilder<'_, E>) -> bool {
+    let plain = report
+        .span_suggestion(span(), "x", text(alloc, "a"))
+        .is_ok();
+    let short = report.span_suggestion_short(span(), "x", text(alloc, "b"));
+    plain && short.is_ok()
+}
+
+fn suggest_several<E: Emitter>(alloc: Global, report: &mut DiagnosticBuilder<'_, E>) -> bool {
+    let several = report
+        .span_suggestions(span(), "x", Vec::new(alloc))
+        .is_ok();
+    several && report.multipart_suggestion("x", Vec::new(alloc)).is_ok()
+}
+
+fn suggestions<E: Emitter>(alloc: Global, handler: &mut Handler<E>) -> bool {
     let Ok(mut report) = handler.struct_err("m") else {
-        return Ok(false)
+        return false;
     };
-    let mut added = report.span_suggestion(span(), "x", a).is_ok();
-    added &= report.span_suggestion_short(span(), "x", b).is_ok();
-    added &= report.span_suggestions(span(), "x", several).is_ok();
-    added &= report.multipart_suggestion("x", parts).is_ok();
+    let added = suggest_one(alloc, &mut report) && suggest_several(alloc, &mut report);
     let count = report.suggestions.len();
     report.cancel();
-    Ok(added && count == 4)
+    added && count == 4
 }
 
-fn sure_suggestions(alloc: Global, allowed: bool) -> Result<usize, AllocError> {
+fn suggest_one_surely<E: Emitter>(alloc: Global, report: &mut DiagnosticBuilder<'_, E>) -> bool {
     let sure = Applicability::MachineApplicable;
-    let (a, b) = (text(alloc, "a")?, text(alloc, "b")?);
-    let (several, parts) = (Vec::new(alloc), Vec::new(alloc));
-    let mut handler = loud(alloc);
-    let Ok(mut report) = handler.struct_err("m") else {
-        return Ok(100)
-    };
-    report.allow_suggestions(allowed);
-    let mut added = report
+    let (a, b) = (text(alloc, "a"), text(alloc, "b"));
+    let plain = report
         .span_suggestion_with_applicability(span(), "x", a, sure)
         .is_ok();
-    added &= report
-        .span_suggestion_short_with_applicability(span(), "x", b, sure)
+    let short = report.span_suggestion_short_with_applicability(span(), "x", b, sure);
+    plain && short.is_ok()
+}
+
+fn suggest_several_surely<E: Emitter>(
+    alloc: Global,
+    report: &mut DiagnosticBuilder<'_, E>,
+) -> bool {
+    let sure = Applicability::MachineApplicable;
+    let several = report
+        .span_suggestions_with_applicability(span(), "x", Vec::new(alloc), sure)
         .is_ok();
-    added &= report
-        .span_suggestions_with_applicability(span(), "x", several, sure)
-        .is_ok();
-    added &= report
-        .multipart_suggestion_with_applicability("x", parts, sure)
-        .is_ok();
+    let parts = report.multipart_suggestion_with_applicability("x", Vec::new(alloc), sure);
+    several && parts.is_ok()
+}
+
+/// Whether there are so many suggestions after four sure ones.
+fn sure_suggestions<E: Emitter>(
+    alloc: Global,
+    handler: &mut Handler<E>,
+    allowed: bool,
+    want: usize,
+) -> bool {
+    let Ok(mut report) = handler.struct_err("m") else {
+        return false;
+    };
+    report.allow_suggestions(allowed);
+    let one = suggest_one_surely(alloc, &mut report);
+    let several = suggest_several_surely(alloc, &mut report);
     let count = report.suggestions.len();
     report.cancel();
-    Ok(if added { count } else { 100 })
+    one && several && count == want
 }
 
 #[test]
-fn suggestions_are_added_where_they_are_allowed(rt: HostRuntime) -> Result<(), Fail> {
-    assert!(rt; suggestions(rt.alloc())?);
-    assert!(rt; sure_suggestions(rt.alloc(), true)? == 4);
-    assert!(rt; sure_suggestions(rt.alloc(), false)? == 0);
-    Ok(())
+fn suggestions_are_added_where_they_are_allowed(rt: HostRuntime) {
+    let mut handler = loud(rt.alloc());
+    assert!(rt; suggestions(rt.alloc(), &mut handler));
+    assert!(rt; sure_suggestions(rt.alloc(), &mut handler, true, 4));
+    assert!(rt; sure_suggestions(rt.alloc(), &mut handler, false, 0));
+    assert!(rt; holds(handler, ""));
 }
 
-fn span_and_code(alloc: Global) -> Result<bool, AllocError> {
-    let (at, code) = (spans(alloc)?, error(alloc)?);
-    let mut handler = loud(alloc);
-    let Ok(mut report) = DiagnosticBuilder::new(&mut handler, Level::Error, "m") else {
-        return Ok(false);
+fn has_span_and_code<E: Emitter>(report: &DiagnosticBuilder<'_, E>) -> bool {
+    report.span.primary_span().is_some() && report.code.is_some()
+}
+
+fn span_and_code<E: Emitter>(alloc: Global, handler: &mut Handler<E>) -> bool {
+    let Ok(mut report) = DiagnosticBuilder::new(handler, Level::Error, "m") else {
+        return false;
     };
-    report.set_span(at).code(code);
-    let set = report.span.primary_span().is_some() && report.code.is_some();
+    report.set_span(spans(alloc)).code(code(alloc));
+    let set = has_span_and_code(&report);
     Handler::cancel(report);
-    Ok(set)
+    set
 }
 
 #[test]
-fn spans_and_codes_are_set(rt: HostRuntime) -> Result<(), Fail> {
-    assert!(rt; span_and_code(rt.alloc())?);
-    Ok(())
+fn spans_and_codes_are_set(rt: HostRuntime) {
+    let mut handler = loud(rt.alloc());
+    assert!(rt; span_and_code(rt.alloc(), &mut handler));
+    assert!(rt; holds(handler, ""));
 }
 
 /// The answer of `buffer` to an error.
-fn buffered(
-    handler: &mut Handler<Lines>,
+fn buffered<E: Emitter>(
+    handler: &mut Handler<E>,
     message: &str,
     list: &mut Vec<Diagnostic>,
 ) -> Result<(), HandlerError> {
     handler.struct_err(message)?.buffer(list)
 }
 
-fn waits_in_a_list(alloc: Global) -> bool {
+fn waits_in_a_list(alloc: Global, handler: &mut Handler<Lines>) -> bool {
     let mut list = Vec::new(alloc);
-    let mut handler = loud(alloc);
-    let waits = buffered(&mut handler, "a", &mut list).is_ok();
+    let waits = buffered(handler, "a", &mut list).is_ok();
     handler.flags.dont_buffer_diagnostics = true;
-    let goes = buffered(&mut handler, "b", &mut list).is_ok();
-    waits && goes && list.len() == 1 && holds(handler, "b\n")
+    let goes = buffered(handler, "b", &mut list).is_ok();
+    waits && goes && list.len() == 1
 }
 
-fn bug_does_not_wait(alloc: Global) -> bool {
+fn bug_does_not_wait(alloc: Global, handler: &mut Handler<Lines>) -> bool {
     let mut list = Vec::new(alloc);
-    let mut handler = strict(alloc);
-    buffered(&mut handler, "c", &mut list) == Err(HandlerError::ExplicitBug)
+    buffered(handler, "c", &mut list) == Err(HandlerError::ExplicitBug)
 }
 
 #[test]
 fn reports_wait_in_a_list(rt: HostRuntime) {
-    assert!(rt; waits_in_a_list(rt.alloc()));
-    assert!(rt; bug_does_not_wait(rt.alloc()));
+    let mut handler = loud(rt.alloc());
+    assert!(rt; waits_in_a_list(rt.alloc(), &mut handler));
+    assert!(rt; holds(handler, "b\n"));
+    let mut handler = strict(rt.alloc());
+    assert!(rt; bug_does_not_wait(rt.alloc(), &mut handler));
+    assert!(rt; holds(handler, "c\n"));
 }
 
-fn waits_as_a_bug(alloc: Global) -> bool {
-    let mut handler = loud(alloc);
-    let Ok(report) = handler.struct_err("a") else {
-        return false
-    };
-    let waits = report.delay_as_bug().is_ok();
-    waits && handler.finish() == Ok(true) && holds(handler, "a\n")
-}
-
-fn is_forced(alloc: Global) -> Result<bool, AllocError> {
-    let diagnostic = Diagnostic::new(alloc, Level::Bug, "a")?;
-    let mut handler = loud(alloc);
-    let first = DiagnosticBuilder::new_with_code(&mut handler, Level::Bug, None, "a").is_ok_and(
-        went,
-    );
-    let Ok(report) = DiagnosticBuilder::new_diagnostic(&mut handler, diagnostic) else {
-        return Ok(false);
-    };
-    let second = Handler::force_print_db(report).is_ok();
-    Ok(first && second && handler.err_count() == 1 && holds(handler, "a\na\n"))
+fn error_waits_as_a_bug<E: Emitter>(handler: &mut Handler<E>) -> Result<(), HandlerError> {
+    handler.struct_err("a")?.delay_as_bug()
 }
 
 #[test]
-fn reports_wait_as_bugs_or_are_forced(rt: HostRuntime) -> Result<(), Fail> {
-    assert!(rt; waits_as_a_bug(rt.alloc()));
-    assert!(rt; is_forced(rt.alloc())?);
-    Ok(())
+fn reports_wait_as_bugs(rt: HostRuntime) {
+    let mut handler = loud(rt.alloc());
+    assert!(rt; error_waits_as_a_bug(&mut handler).is_ok());
+    assert!(rt; handler.finish() == Ok(true));
+    assert!(rt; holds(handler, "a\n"));
+}
+
+fn bug_with_no_code<E: Emitter>(handler: &mut Handler<E>) -> bool {
+    DiagnosticBuilder::new_with_code(handler, Level::Bug, None, "a").is_ok_and(went)
+}
+
+fn bug_is_forced<E: Emitter>(alloc: Global, handler: &mut Handler<E>) -> Result<(), HandlerError> {
+    let diagnostic = Diagnostic::new(alloc, Level::Bug, "a")?;
+    Handler::force_print_db(DiagnosticBuilder::new_diagnostic(handler, diagnostic)?)
+}
+
+#[test]
+fn reports_are_forced(rt: HostRuntime) {
+    let mut handler = loud(rt.alloc());
+    assert!(rt; bug_with_no_code(&mut handler));
+    assert!(rt; bug_is_forced(rt.alloc(), &mut handler).is_ok());
+    assert!(rt; handler.err_count() == 1);
+    assert!(rt; holds(handler, "a\na\n"));
 }

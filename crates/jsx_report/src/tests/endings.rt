@@ -1,22 +1,28 @@
-use super::{Lines, all_went, holds, loud, spans};
+use super::{Lines, delay_bug, holds, loud, spans};
 use crate::{DiagnosticId, Handler, HandlerError};
-use std::alloc::{AllocError, Global};
-use std::test::Fail;
+use std::alloc::Global;
 
-fn two_errors(alloc: Global) -> bool {
-    let mut handler = loud(alloc);
-    let answers = [
-        handler.print_error_count(),
-        handler.err("a"),
-        handler.err("b"),
-        handler.print_error_count(),
-    ];
-    all_went(&answers) && holds(handler, "a\nb\naborting due to 2 previous errors\n")
+fn two_errors(handler: &mut Handler<Lines>) -> Result<(), HandlerError> {
+    handler.print_error_count()?;
+    handler.err("a")?;
+    handler.err("b")?;
+    handler.print_error_count()
 }
 
 #[test]
 fn two_errors_are_counted_at_the_end(rt: HostRuntime) {
-    assert!(rt; two_errors(rt.alloc()));
+    let mut handler = loud(rt.alloc());
+    assert!(rt; two_errors(&mut handler).is_ok());
+    assert!(rt; holds(handler, "a\nb\naborting due to 2 previous errors\n"));
+}
+
+fn report_code(
+    alloc: Global,
+    handler: &mut Handler<Lines>,
+    digit: char,
+) -> Result<(), HandlerError> {
+    let code = DiagnosticId::Error(format!(in alloc; "E{digit}")?);
+    handler.span_err_with_code(spans(alloc), "m", code)
 }
 
 /// Reports errors with codes of these digits.
@@ -26,10 +32,18 @@ fn report_codes(
     digits: &str,
 ) -> Result<(), HandlerError> {
     for digit in digits.chars() {
-        let code = DiagnosticId::Error(format!(in alloc; "E{digit}")?);
-        handler.span_err_with_code(spans(alloc)?, "m", code)?;
+        report_code(alloc, handler, digit)?;
     }
     Ok(())
+}
+
+fn ending_with_codes(
+    alloc: Global,
+    handler: &mut Handler<Lines>,
+    digits: &str,
+) -> Result<(), HandlerError> {
+    report_codes(alloc, handler, digits)?;
+    handler.print_error_count()
 }
 
 /// Whether a run with errors of these digits ends so.
@@ -37,11 +51,9 @@ fn ends_with(alloc: Global, explains: bool, digits: &str, want: &str) -> bool {
     let mut lines = Lines::new(alloc);
     lines.explains = explains;
     let mut handler = Handler::with_emitter(alloc, true, false, lines);
-    let answers = [
-        report_codes(alloc, &mut handler, digits),
-        handler.print_error_count(),
-    ];
-    all_went(&answers) && handler.into_emitter().text.as_str().ends_with(want)
+    let went = ending_with_codes(alloc, &mut handler, digits).is_ok();
+    let lines = handler.into_emitter();
+    went & lines.text.as_str().ends_with(want)
 }
 
 #[test]
@@ -77,41 +89,35 @@ fn errors_with_codes_are_explained(rt: HostRuntime) {
     );
 }
 
-fn bugs_waited(alloc: Global) -> Result<bool, AllocError> {
-    let (a, b) = (spans(alloc)?, spans(alloc)?);
-    let mut handler = loud(alloc);
-    let answers = [
-        handler.delay_span_bug(a, "a"),
-        handler.delay_span_bug(b, "b"),
-    ];
-    let first = handler.finish() == Ok(true) && handler.finish() == Ok(false);
-    Ok(all_went(&answers) && first && holds(handler, "a\nb\n"))
-}
-
-fn bug_is_printed_at_once(alloc: Global) -> Result<bool, AllocError> {
-    let a = spans(alloc)?;
-    let mut handler = loud(alloc);
-    handler.flags.report_delayed_bugs = true;
-    let answer = handler.delay_span_bug(a, "a").is_ok() && handler.err_count() == 1;
-    Ok(answer && handler.finish() == Ok(true) && holds(handler, "a\n"))
+#[test]
+fn bugs_that_waited_are_printed_at_the_end(rt: HostRuntime) {
+    let mut handler = loud(rt.alloc());
+    assert!(rt; delay_bug(rt.alloc(), &mut handler, "a").is_ok());
+    assert!(rt; delay_bug(rt.alloc(), &mut handler, "b").is_ok());
+    assert!(rt; handler.finish() == Ok(true));
+    assert!(rt; handler.finish() == Ok(false));
+    assert!(rt; holds(handler, "a\nb\n"));
 }
 
 #[test]
-fn bugs_that_waited_are_printed_at_the_end(rt: HostRuntime) -> Result<(), Fail> {
-    assert!(rt; bugs_waited(rt.alloc())?);
-    assert!(rt; bug_is_printed_at_once(rt.alloc())?);
-    Ok(())
+fn a_bug_is_printed_at_once_where_the_flags_say_so(rt: HostRuntime) {
+    let mut handler = loud(rt.alloc());
+    handler.flags.report_delayed_bugs = true;
+    assert!(rt; delay_bug(rt.alloc(), &mut handler, "a").is_ok());
+    assert!(rt; handler.err_count() == 1);
+    assert!(rt; handler.finish() == Ok(true));
+    assert!(rt; holds(handler, "a\n"));
 }
 
-fn count_is_a_bug(alloc: Global) -> bool {
-    let mut handler = loud(alloc);
+fn count_is_a_bug(handler: &mut Handler<Lines>) -> bool {
     let error = handler.err("a").is_ok();
     handler.flags.treat_err_as_bug = true;
-    let bug = handler.print_error_count() == Err(HandlerError::ExplicitBug);
-    error && bug && holds(handler, "a\naborting due to previous error\n")
+    error && handler.print_error_count() == Err(HandlerError::ExplicitBug)
 }
 
 #[test]
 fn the_count_is_a_bug_where_errors_are(rt: HostRuntime) {
-    assert!(rt; count_is_a_bug(rt.alloc()));
+    let mut handler = loud(rt.alloc());
+    assert!(rt; count_is_a_bug(&mut handler));
+    assert!(rt; holds(handler, "a\naborting due to previous error\n"));
 }

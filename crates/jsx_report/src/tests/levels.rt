@@ -1,157 +1,180 @@
-use super::{all_went, holds, loud, spans, strict, text};
-use crate::{DiagnosticId, HandlerError, Level};
+use super::{Lines, code, delay_bug, holds, loud, span_err, spans, strict, text};
+use crate::{DiagnosticId, Handler, HandlerError, Level};
 use std::alloc::{AllocError, Global};
-use std::test::Fail;
-
-fn two_equal_errors(alloc: Global) -> Result<bool, AllocError> {
-    let (one, two) = (spans(alloc)?, spans(alloc)?);
-    let mut handler = loud(alloc);
-    let answers = [handler.span_err(one, "m"), handler.span_err(two, "m")];
-    Ok(all_went(&answers) && handler.err_count() == 1 && holds(handler, "m\n"))
-}
 
 #[test]
-fn an_equal_error_is_printed_once(rt: HostRuntime) -> Result<(), Fail> {
-    assert!(rt; two_equal_errors(rt.alloc())?);
-    Ok(())
+fn an_equal_error_is_printed_once(rt: HostRuntime) {
+    let mut handler = loud(rt.alloc());
+    assert!(rt; span_err(rt.alloc(), &mut handler, "m").is_ok());
+    assert!(rt; span_err(rt.alloc(), &mut handler, "m").is_ok());
+    assert!(rt; handler.err_count() == 1);
+    assert!(rt; holds(handler, "m\n"));
 }
 
-fn two_with_a_reset(alloc: Global) -> bool {
-    let mut handler = loud(alloc);
-    let one = handler.err("m");
+fn two_with_a_reset(handler: &mut Handler<Lines>) -> bool {
+    let one = handler.err("m").is_ok();
     handler.reset_err_count();
     let forgotten = handler.err_count() == 0;
-    let answers = [one, handler.err("m")];
-    all_went(&answers) && forgotten && holds(handler, "m\nm\n")
+    one && forgotten && handler.err("m").is_ok()
 }
 
 #[test]
 fn after_a_reset_it_is_printed_again(rt: HostRuntime) {
-    assert!(rt; two_with_a_reset(rt.alloc()));
+    let mut handler = loud(rt.alloc());
+    assert!(rt; two_with_a_reset(&mut handler));
+    assert!(rt; holds(handler, "m\nm\n"));
 }
 
-fn warnings_while_off(alloc: Global) -> Result<bool, AllocError> {
-    let (one, two) = (spans(alloc)?, spans(alloc)?);
-    let mut handler = loud(alloc);
+/// A message at a span.
+fn emit(
+    alloc: Global,
+    handler: &mut Handler<Lines>,
+    message: &str,
+    level: Level,
+) -> Result<(), HandlerError> {
+    let at = spans(alloc);
+    handler.emit(&at, message, level)
+}
+
+fn warnings_while_off(alloc: Global, handler: &mut Handler<Lines>) -> Result<(), HandlerError> {
     handler.flags.can_emit_warnings = false;
-    let answers = [
-        handler.span_warn(one, "m"),
-        handler.emit(&two, "m", Level::Warning),
-        handler.warn("w"),
-    ];
-    Ok(all_went(&answers) && holds(handler, "w\n"))
+    handler.span_warn(spans(alloc), "m")?;
+    emit(alloc, handler, "m", Level::Warning)?;
+    handler.warn("w")
 }
 
 #[test]
-fn a_warning_is_nothing_where_warnings_are_off(rt: HostRuntime) -> Result<(), Fail> {
-    assert!(rt; warnings_while_off(rt.alloc())?);
-    Ok(())
+fn a_warning_is_nothing_where_warnings_are_off(rt: HostRuntime) {
+    let mut handler = loud(rt.alloc());
+    assert!(rt; warnings_while_off(rt.alloc(), &mut handler).is_ok());
+    assert!(rt; holds(handler, "w\n"));
 }
 
-fn aborts_after_an_error(alloc: Global) -> bool {
-    let mut handler = loud(alloc);
+fn aborts_after_an_error(handler: &mut Handler<Lines>) -> bool {
     let before = handler.abort_if_errors().is_ok() && !handler.has_errors();
-    let error = handler.err("m");
-    let after = handler.abort_if_errors().is_err() && handler.has_errors();
-    error == Ok(()) && before && after && holds(handler, "m\n")
+    let error = handler.err("m") == Ok(());
+    before && error && handler.abort_if_errors().is_err() && handler.has_errors()
 }
 
-fn bugs_are_explicit(alloc: Global) -> bool {
-    let mut handler = loud(alloc);
-    let (one, two) = (handler.bug("b"), handler.unimpl("u"));
+fn bugs_are_explicit(handler: &mut Handler<Lines>) -> bool {
     let bug = HandlerError::ExplicitBug;
-    one == bug && two == bug && holds(handler, "b\nunimplemented u\n")
+    handler.bug("b") == bug && handler.unimpl("u") == bug
 }
 
 #[test]
 fn an_error_aborts_and_a_bug_is_explicit(rt: HostRuntime) {
-    assert!(rt; aborts_after_an_error(rt.alloc()));
-    assert!(rt; bugs_are_explicit(rt.alloc()));
+    let mut handler = loud(rt.alloc());
+    assert!(rt; aborts_after_an_error(&mut handler));
+    assert!(rt; holds(handler, "m\n"));
+    let mut handler = loud(rt.alloc());
+    assert!(rt; bugs_are_explicit(&mut handler));
+    assert!(rt; holds(handler, "b\nunimplemented u\n"));
 }
 
-fn bugs_at_spans(alloc: Global) -> Result<bool, AllocError> {
-    let (a, b, c) = (spans(alloc)?, spans(alloc)?, spans(alloc)?);
-    let mut handler = loud(alloc);
-    let (one, two) = (handler.span_bug(a, "a"), handler.span_unimpl(b, "b"));
-    let three = handler.span_bug_no_panic(c, "c");
+fn bugs_at_spans(alloc: Global, handler: &mut Handler<Lines>) -> bool {
     let bug = HandlerError::ExplicitBug;
-    Ok(one == bug && two == bug && three.is_ok() && holds(handler, "a\nunimplemented b\nc\n"))
+    let one = handler.span_bug(spans(alloc), "a") == bug;
+    let two = handler.span_unimpl(spans(alloc), "b") == bug;
+    one && two && handler.span_bug_no_panic(spans(alloc), "c").is_ok()
 }
 
 #[test]
-fn bugs_point_at_spans(rt: HostRuntime) -> Result<(), Fail> {
-    assert!(rt; bugs_at_spans(rt.alloc())?);
-    Ok(())
+fn bugs_point_at_spans(rt: HostRuntime) {
+    let mut handler = loud(rt.alloc());
+    assert!(rt; bugs_at_spans(rt.alloc(), &mut handler));
+    assert!(rt; holds(handler, "a\nunimplemented b\nc\n"));
 }
 
-fn errors_as_bugs(alloc: Global) -> Result<bool, AllocError> {
-    let (a, b, c) = (spans(alloc)?, spans(alloc)?, spans(alloc)?);
-    let mut handler = strict(alloc);
+fn errors_are_bugs(alloc: Global, handler: &mut Handler<Lines>) -> bool {
     let bug = Err(HandlerError::ExplicitBug);
-    let first = handler.span_err(a, "a") == bug && handler.span_err(b, "a").is_ok();
+    let first = span_err(alloc, handler, "a") == bug && span_err(alloc, handler, "a").is_ok();
     let second = handler.err("b") == bug && handler.fatal("c").is_err();
-    let third = handler.delay_span_bug(c, "d") == bug && handler.err_count() == 0;
-    Ok(first && second && third && holds(handler, "a\nb\nc\nd\n"))
+    first && second && delay_bug(alloc, handler, "d") == bug
 }
 
 #[test]
-fn errors_are_bugs_where_the_flags_say_so(rt: HostRuntime) -> Result<(), Fail> {
-    assert!(rt; errors_as_bugs(rt.alloc())?);
-    Ok(())
+fn errors_are_bugs_where_the_flags_say_so(rt: HostRuntime) {
+    let mut handler = strict(rt.alloc());
+    assert!(rt; errors_are_bugs(rt.alloc(), &mut handler));
+    assert!(rt; handler.err_count() == 0);
+    assert!(rt; holds(handler, "a\nb\nc\nd\n"));
 }
 
-fn errors_stop(alloc: Global) -> Result<bool, AllocError> {
-    let (a, b, c, d) = (spans(alloc)?, spans(alloc)?, spans(alloc)?, spans(alloc)?);
-    let mut handler = loud(alloc);
-    handler.set_continue_after_error(false);
+fn errors_stop(alloc: Global, handler: &mut Handler<Lines>) -> bool {
     let stop = Err(HandlerError::FatalError);
-    let note = handler.span_note_without_error(a, "n").is_ok();
-    let first = handler.span_err(b, "m") == stop && handler.emit(&c, "o", Level::Note) == stop;
-    Ok(note && first && handler.span_fatal(d, "f").is_err() && handler.fatal("g").is_ok())
+    let note = handler.span_note_without_error(spans(alloc), "n").is_ok();
+    let error = span_err(alloc, handler, "m") == stop;
+    note && error && emit(alloc, handler, "o", Level::Note) == stop
+}
+
+fn fatal_errors_stop_at_spans(alloc: Global, handler: &mut Handler<Lines>) -> bool {
+    handler.span_fatal(spans(alloc), "f").is_err() && handler.fatal("g").is_ok()
 }
 
 #[test]
-fn errors_stop_where_they_are_told_to(rt: HostRuntime) -> Result<(), Fail> {
-    assert!(rt; errors_stop(rt.alloc())?);
-    Ok(())
+fn errors_stop_where_they_are_told_to(rt: HostRuntime) {
+    let mut handler = loud(rt.alloc());
+    handler.set_continue_after_error(false);
+    assert!(rt; errors_stop(rt.alloc(), &mut handler));
+    assert!(rt; fatal_errors_stop_at_spans(rt.alloc(), &mut handler));
+    assert!(rt; holds(handler, "n\nm\no\nf\ng\n"));
 }
 
-fn code_is_taught_once(alloc: Global) -> Result<bool, AllocError> {
-    let code = DiagnosticId::Lint(text(alloc, "l")?);
-    let mut handler = loud(alloc);
-    let first = handler.must_teach(&code)?;
-    Ok(first && !handler.must_teach(&code)?)
+fn is_taught_once(handler: &mut Handler<Lines>, code: &DiagnosticId) -> Result<bool, AllocError> {
+    Ok(handler.must_teach(code)? && !handler.must_teach(code)?)
 }
 
-fn codes_of_reports(alloc: Global) -> Result<bool, AllocError> {
-    let (a, b, c) = (spans(alloc)?, spans(alloc)?, spans(alloc)?);
-    let (d, e, f) = (text(alloc, "l")?, text(alloc, "e")?, text(alloc, "e")?);
-    let mut handler = loud(alloc);
-    let answers = [
-        handler.span_warn_with_code(a, "w", DiagnosticId::Lint(d)),
-        handler.emit_with_code(&b, "n", DiagnosticId::Error(e), Level::Note),
-    ];
-    let fatal = handler
-        .span_fatal_with_code(c, "f", DiagnosticId::Error(f))
+fn lint(alloc: Global) -> DiagnosticId {
+    DiagnosticId::Lint(text(alloc, "l"))
+}
+
+fn code_is_taught_once(alloc: Global, handler: &mut Handler<Lines>) -> bool {
+    let code = lint(alloc);
+    is_taught_once(handler, &code) == Ok(true)
+}
+
+#[test]
+fn a_code_is_taught_once(rt: HostRuntime) {
+    let mut handler = loud(rt.alloc());
+    assert!(rt; code_is_taught_once(rt.alloc(), &mut handler));
+    assert!(rt; holds(handler, ""));
+}
+
+fn note_with_code(alloc: Global, handler: &mut Handler<Lines>) -> bool {
+    let at = spans(alloc);
+    handler
+        .emit_with_code(&at, "n", code(alloc), Level::Note)
+        .is_ok()
+}
+
+fn reports_with_codes(alloc: Global, handler: &mut Handler<Lines>) -> bool {
+    let warning = handler
+        .span_warn_with_code(spans(alloc), "w", lint(alloc))
         .is_ok();
-    Ok(all_went(&answers) && fatal && holds(handler, "w\nn\nf\n"))
+    let note = note_with_code(alloc, handler);
+    warning
+        && note
+        && handler
+            .span_fatal_with_code(spans(alloc), "f", code(alloc))
+            .is_ok()
 }
 
 #[test]
-fn codes_go_with_reports(rt: HostRuntime) -> Result<(), Fail> {
-    assert!(rt; code_is_taught_once(rt.alloc())?);
-    assert!(rt; codes_of_reports(rt.alloc())?);
-    Ok(())
+fn codes_go_with_reports(rt: HostRuntime) {
+    let mut handler = loud(rt.alloc());
+    assert!(rt; reports_with_codes(rt.alloc(), &mut handler));
+    assert!(rt; holds(handler, "w\nn\nf\n"));
 }
 
-fn plain_reports(alloc: Global) -> bool {
-    let mut handler = loud(alloc);
-    let answers = [handler.failure("a"), handler.note_without_error("b")];
-    let fatal = handler.fatal("d").is_ok();
-    all_went(&answers) && fatal && handler.err_count() == 2 && holds(handler, "a\nb\nd\n")
+fn plain_reports(handler: &mut Handler<Lines>) -> bool {
+    let first = handler.failure("a").is_ok() && handler.note_without_error("b").is_ok();
+    first && handler.fatal("d").is_ok()
 }
 
 #[test]
 fn plain_reports_are_printed(rt: HostRuntime) {
-    assert!(rt; plain_reports(rt.alloc()));
+    let mut handler = loud(rt.alloc());
+    assert!(rt; plain_reports(&mut handler));
+    assert!(rt; handler.err_count() == 2);
+    assert!(rt; holds(handler, "a\nb\nd\n"));
 }

@@ -1,7 +1,6 @@
-use super::{Lines, holds, spans};
+use super::{Lines, delay_bug, holds};
 use crate::{EmitError, Handler, HandlerError};
-use std::alloc::{AllocError, Global};
-use std::test::Fail;
+use std::alloc::Global;
 
 /// A handler over an emitter that refuses after one report.
 fn refusing(alloc: Global, refusal: EmitError) -> Handler<Lines> {
@@ -11,33 +10,32 @@ fn refusing(alloc: Global, refusal: EmitError) -> Handler<Lines> {
     Handler::with_emitter(alloc, true, false, lines)
 }
 
-fn second_is_refused(alloc: Global, refusal: EmitError) -> bool {
-    let mut handler = refusing(alloc, refusal);
+fn second_is_refused(handler: &mut Handler<Lines>, refusal: EmitError) -> bool {
     let refused = HandlerError::Emit(refusal);
-    let first = handler.err("a").is_ok();
-    let second = handler.err("b") == Err(refused) && handler.bug("c") == refused;
-    first && second && handler.err_count() == 1 && holds(handler, "a\n")
+    let second = handler.err("a").is_ok() && handler.err("b") == Err(refused);
+    second && handler.bug("c") == refused && handler.err_count() == 1
 }
 
 #[test]
 fn a_refused_error_is_not_counted(rt: HostRuntime) {
-    assert!(rt; second_is_refused(rt.alloc(), EmitError::WriteFault));
-    assert!(rt; second_is_refused(rt.alloc(), EmitError::Memory));
+    for refusal in [EmitError::WriteFault, EmitError::Memory] {
+        let mut handler = refusing(rt.alloc(), refusal);
+        assert!(rt; second_is_refused(&mut handler, refusal));
+        assert!(rt; holds(handler, "a\n"));
+    }
 }
 
-fn bugs_wait_on(alloc: Global) -> Result<bool, AllocError> {
-    let (a, b) = (spans(alloc)?, spans(alloc)?);
-    let refusal = EmitError::WriteFault;
-    let mut handler = refusing(alloc, refusal);
-    let waits = handler.delay_span_bug(a, "a").is_ok() && handler.delay_span_bug(b, "b").is_ok();
-    let refused = Err(HandlerError::Emit(refusal));
-    let first = handler.finish() == refused;
+fn bugs_wait_on(alloc: Global, handler: &mut Handler<Lines>) -> bool {
+    let refused = Err(HandlerError::Emit(EmitError::WriteFault));
+    let first = delay_bug(alloc, handler, "a").is_ok() && delay_bug(alloc, handler, "b").is_ok();
+    let second = handler.finish() == refused;
     handler.reset_err_count();
-    Ok(waits && first && handler.finish() == refused && holds(handler, "a\n"))
+    first && second && handler.finish() == refused
 }
 
 #[test]
-fn bugs_wait_from_the_refused_one_on(rt: HostRuntime) -> Result<(), Fail> {
-    assert!(rt; bugs_wait_on(rt.alloc())?);
-    Ok(())
+fn bugs_wait_from_the_refused_one_on(rt: HostRuntime) {
+    let mut handler = refusing(rt.alloc(), EmitError::WriteFault);
+    assert!(rt; bugs_wait_on(rt.alloc(), &mut handler));
+    assert!(rt; holds(handler, "a\n"));
 }
