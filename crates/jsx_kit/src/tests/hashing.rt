@@ -272,29 +272,40 @@ fn of_all<T: Copy, H: Holder<T>>(alloc: Global, items: &[T]) -> Option<u128> {
     }
 }
 
-// Whether that is the hash.
-fn is_of_all<T: Copy, H: Holder<T>>(alloc: Global, items: &[T], hash: u128) -> bool {
-    of_all::<T, H>(alloc, items) == Some(hash)
-}
+// Both keys in either order, and fewer.
+const A_THEN_B: &[&str] = &["a", "b"];
+
+const B_THEN_A: &[&str] = &["b", "a"];
+
+const ONE_KEY: &[&str] = &["a"];
+
+const NO_KEY: &[&str] = &[];
 
 #[test]
 fn sets_hash_alike_in_every_order(rt: HostRuntime) {
-    let none = of_bytes(b"\0\0\0\0\0\0\0\0\0");
-    assert!(rt; is_of_all::<_, BTreeSet<String>>(rt.alloc(), &[], none));
-    assert!(rt; is_of_all::<_, HashSet<String>>(rt.alloc(), &[], none));
-    let one = of_bytes(b"\x01\0\0\0\0\0\0\0\x01\0\0\0\0\0\0\0\x01\0\0\0\0\0\0\0a");
-    assert!(rt; is_of_all::<_, HashSet<String>>(rt.alloc(), &["a"], one));
-    let both = of_two(KEY_A, KEY_B);
-    assert!(rt; is_of_all::<_, BTreeSet<String>>(rt.alloc(), &["b", "a"], both));
-    assert!(rt; is_of_all::<_, HashSet<String>>(rt.alloc(), &["a", "b"], both));
+    let none = Some(of_bytes(b"\0\0\0\0\0\0\0\0\0"));
+    assert!(rt; of_all::<_, BTreeSet<String>>(rt.alloc(), NO_KEY) == none);
+    assert!(rt; of_all::<_, HashSet<String>>(rt.alloc(), NO_KEY) == none);
+    let one = b"\x01\0\0\0\0\0\0\0\x01\0\0\0\0\0\0\0\x01\0\0\0\0\0\0\0a";
+    assert!(rt; of_all::<_, HashSet<String>>(rt.alloc(), ONE_KEY) == Some(of_bytes(one)));
+    let both = Some(of_two(KEY_A, KEY_B));
+    assert!(rt; of_all::<_, BTreeSet<String>>(rt.alloc(), B_THEN_A) == both);
+    assert!(rt; of_all::<_, HashSet<String>>(rt.alloc(), A_THEN_B) == both);
 }
+
+// The same with their values.
+const PAIRS_A_THEN_B: &[(&str, u8)] = &[("a", 5), ("b", 6)];
+
+const PAIRS_B_THEN_A: &[(&str, u8)] = &[("b", 6), ("a", 5)];
+
+const ONE_PAIR: &[(&str, u8)] = &[("a", 5)];
 
 #[test]
 fn maps_hash_alike_in_every_order(rt: HostRuntime) {
-    let one = of_bytes(b"\x01\0\0\0\0\0\0\0\x01\0\0\0\0\0\0\0\x01\0\0\0\0\0\0\0a\x05");
-    assert!(rt; is_of_all::<_, BTreeMap<String, u8>>(rt.alloc(), &[("a", 5)], one));
-    let both = of_two(PAIR_A, PAIR_B);
-    assert!(rt; is_of_all::<_, BTreeMap<String, u8>>(rt.alloc(), &[("a", 5), ("b", 6)], both));
-    assert!(rt; is_of_all::<_, HashMap<String, u8>>(rt.alloc(), &[("a", 5), ("b", 6)], both));
-    assert!(rt; is_of_all::<_, HashMap<String, u8>>(rt.alloc(), &[("b", 6), ("a", 5)], both));
+    let one = b"\x01\0\0\0\0\0\0\0\x01\0\0\0\0\0\0\0\x01\0\0\0\0\0\0\0a\x05";
+    assert!(rt; of_all::<_, BTreeMap<String, u8>>(rt.alloc(), ONE_PAIR) == Some(of_bytes(one)));
+    let both = Some(of_two(PAIR_A, PAIR_B));
+    assert!(rt; of_all::<_, BTreeMap<String, u8>>(rt.alloc(), PAIRS_A_THEN_B) == both);
+    assert!(rt; of_all::<_, HashMap<String, u8>>(rt.alloc(), PAIRS_A_THEN_B) == both);
+    assert!(rt; of_all::<_, HashMap<String, u8>>(rt.alloc(), PAIRS_B_THEN_A) == both);
 }
