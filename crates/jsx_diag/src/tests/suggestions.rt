@@ -1,7 +1,7 @@
 //! The calls that add a suggestion.
 
-use crate::tests::{report, span, text};
-use crate::{Applicability, Diagnostic};
+use crate::tests::{HERE, THERE, holds, report, text};
+use crate::{Applicability, CodeSuggestion, Diagnostic};
 use jsx_base::Span;
 use std::alloc::{AllocError, Global};
 
@@ -9,20 +9,39 @@ const SURE: Applicability = Applicability::MachineApplicable;
 
 const OPEN: Applicability = Applicability::Unspecified;
 
-// Whether each of its suggestions has so many ways, is shown like this and is so sure.
-fn has_suggestions(report: &Diagnostic, want: &[(usize, bool, Applicability)]) -> bool {
-    if report.suggestions.len() != want.len() {
-        return false;
+// Whether it has so many ways, is shown like this and is so sure.
+fn is_like(it: &CodeSuggestion, ways: usize, shown: bool, sure: Applicability) -> bool {
+    it.substitutions.len() == ways && it.show_code_when_inline == shown && it.applicability == sure
+}
+
+// Whether its suggestions are two, both so sure, with so many ways and shown like this.
+fn has_two(
+    report: &Diagnostic,
+    sure: Applicability,
+    first: (usize, bool),
+    second: (usize, bool),
+) -> bool {
+    match report.suggestions.as_slice() {
+        [one, two] => is_like(one, first.0, first.1, sure)
+            && is_like(two, second.0, second.1, sure),
+        _ => false,
     }
-    for (it, (ways, shown, sure)) in report.suggestions.iter().zip(want) {
-        if it.substitutions.len() != *ways
-            || it.show_code_when_inline != *shown
-            || it.applicability != *sure
-        {
-            return false;
-        }
+}
+
+// Whether a report has these when it was told this.
+fn gives_two<F: FnOnce(Global, &mut Diagnostic) -> Result<(), AllocError>>(
+    alloc: Global,
+    tell: F,
+    sure: Applicability,
+    first: (usize, bool),
+    second: (usize, bool),
+) -> bool
+    requires { F.IsAlwaysCallable tell }
+{
+    match report(alloc) {
+        Ok(mut report) => tell(alloc, &mut report).is_ok() && has_two(&report, sure, first, second),
+        Err(_) => false,
     }
-    true
 }
 
 fn two_texts(alloc: Global) -> Result<Vec<String>, AllocError> {
@@ -30,52 +49,49 @@ fn two_texts(alloc: Global) -> Result<Vec<String>, AllocError> {
 }
 
 fn two_edits(alloc: Global) -> Result<Vec<(Span, String)>, AllocError> {
-    Ok(vec![in alloc;
-        (span(1, 2), text(alloc, "a")?),
-        (span(3, 4), text(alloc, "b")?),
-    ]?)
+    Ok(vec![in alloc; (HERE, text(alloc, "a")?), (THERE, text(alloc, "b")?)]?)
 }
 
-fn one_text_is_one_way(alloc: Global) -> Result<bool, AllocError> {
-    let mut report = report(alloc)?;
-    report.span_suggestion(span(1, 2), "m", text(alloc, "a")?)?;
-    report.span_suggestion_short(span(1, 2), "m", text(alloc, "a")?)?;
-    Ok(has_suggestions(&report, &[(1, true, OPEN), (1, false, OPEN)]))
+fn one_text(alloc: Global, report: &mut Diagnostic) -> Result<(), AllocError> {
+    report.span_suggestion(HERE, "m", text(alloc, "a")?)?;
+    report.span_suggestion_short(HERE, "m", text(alloc, "a")?)?;
+    Ok(())
 }
 
-fn several_texts_are_several_ways(alloc: Global) -> Result<bool, AllocError> {
-    let mut report = report(alloc)?;
-    report.span_suggestions(span(1, 2), "m", two_texts(alloc)?)?;
+fn several_texts(alloc: Global, report: &mut Diagnostic) -> Result<(), AllocError> {
+    report.span_suggestions(HERE, "m", two_texts(alloc)?)?;
     report.multipart_suggestion("m", two_edits(alloc)?)?;
-    Ok(has_suggestions(&report, &[(2, true, OPEN), (1, true, OPEN)]))
+    Ok(())
 }
 
-fn one_text_is_sure(alloc: Global) -> Result<bool, AllocError> {
-    let mut report = report(alloc)?;
-    report.span_suggestion_with_applicability(span(1, 2), "m", text(alloc, "a")?, SURE)?;
-    report.span_suggestion_short_with_applicability(span(1, 2), "m", text(alloc, "a")?, SURE)?;
-    Ok(has_suggestions(&report, &[(1, true, SURE), (1, false, SURE)]))
+fn one_sure_text(alloc: Global, report: &mut Diagnostic) -> Result<(), AllocError> {
+    report.span_suggestion_with_applicability(HERE, "m", text(alloc, "a")?, SURE)?;
+    report.span_suggestion_short_with_applicability(HERE, "m", text(alloc, "a")?, SURE)?;
+    Ok(())
 }
 
-fn no_text_is_no_way(alloc: Global) -> Result<bool, AllocError> {
-    let mut report = report(alloc)?;
-    report.span_suggestions_with_applicability(span(1, 2), "m", Vec::new(alloc), SURE)?;
+fn no_text(alloc: Global, report: &mut Diagnostic) -> Result<(), AllocError> {
+    report.span_suggestions_with_applicability(HERE, "m", Vec::new(alloc), SURE)?;
     report.multipart_suggestion_with_applicability("m", Vec::new(alloc), SURE)?;
-    Ok(has_suggestions(&report, &[(0, true, SURE), (1, true, SURE)]))
+    Ok(())
 }
 
-fn suggestion_is_copied(alloc: Global) -> Result<bool, AllocError> {
-    let mut report = report(alloc)?;
-    report.span_suggestion(span(1, 2), "m", text(alloc, "a")?)?;
+fn add_one_text(alloc: Global, report: &mut Diagnostic) -> Result<(), AllocError> {
+    report.span_suggestion(HERE, "m", text(alloc, "a")?)?;
+    Ok(())
+}
+
+fn suggestion_is_copied(alloc: Global, report: &mut Diagnostic) -> Result<bool, AllocError> {
+    add_one_text(alloc, report)?;
     let copy = report.try_clone(alloc)?;
-    Ok(copy == report && copy.is_same(&report))
+    Ok(copy == *report && copy.is_same(report))
 }
 
 #[test]
 fn suggestions_follow_one_another(rt: HostRuntime) {
-    assert!(rt; one_text_is_one_way(rt.alloc()).unwrap_or(false));
-    assert!(rt; several_texts_are_several_ways(rt.alloc()).unwrap_or(false));
-    assert!(rt; one_text_is_sure(rt.alloc()).unwrap_or(false));
-    assert!(rt; no_text_is_no_way(rt.alloc()).unwrap_or(false));
-    assert!(rt; suggestion_is_copied(rt.alloc()).unwrap_or(false));
+    assert!(rt; gives_two(rt.alloc(), one_text, OPEN, (1, true), (1, false)));
+    assert!(rt; gives_two(rt.alloc(), several_texts, OPEN, (2, true), (1, true)));
+    assert!(rt; gives_two(rt.alloc(), one_sure_text, SURE, (1, true), (1, false)));
+    assert!(rt; gives_two(rt.alloc(), no_text, SURE, (0, true), (1, true)));
+    assert!(rt; holds(rt.alloc(), suggestion_is_copied));
 }

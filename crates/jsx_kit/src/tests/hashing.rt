@@ -24,27 +24,38 @@ const KNOWN_HASHES: [(usize, u64, u64); 8] = [
     (1000, 0x1236_f5c6_1e5f_ea33, 0x9f2e_089f_b8d3_ecbe),
 ];
 
+// 0, 1, 2, .. modulo 251.
+fn fill(bytes: &mut [u8; 1000]) {
+    for i in 0..1000 {
+        bytes[i] = (i % 251) as u8;
+    }
+}
+
+// The hash of these bytes, fed three at a time.
+fn of_pieces(bytes: &[u8]) -> u128 {
+    let mut hasher = StableHasher::new();
+    for piece in bytes.chunks(3) {
+        hasher.write(piece);
+    }
+    hasher.finish::<u128>()
+}
+
+// Whether these are the halves of the hash of these bytes, however they are fed.
+fn has_halves(bytes: &[u8], h1: u64, h2: u64) -> bool {
+    let mut hasher = StableHasher::new();
+    hasher.write(bytes);
+    let hash = hasher.finalize();
+    hash.h1 == h1 && hash.h2 == h2 && of_pieces(bytes) == h1 as u128 + ((h2 as u128) << 64)
+}
+
 #[test]
 fn hashes_are_those_of_other_implementations(rt: HostRuntime) {
     let mut message = [0u8; 1000];
-    for i in 0..1000 {
-        message[i] = (i % 251) as u8;
-    }
+    fill(&mut message);
     for (count, h1, h2) in KNOWN_HASHES {
-        let bytes = &message[..count.min(1000)];
-        let mut whole = StableHasher::new();
-        whole.write(bytes);
-        let hash = whole.finalize();
-        assert_eq!(rt; hash.h1, h1, "the first half at {count}");
-        assert_eq!(rt; hash.h2, h2, "the second half at {count}");
-        let mut pieces = StableHasher::new();
-        for piece in bytes.chunks(3) {
-            pieces.write(piece);
-        }
-        assert_eq!(rt;
-            pieces.finish::<u128>(),
-            h1 as u128 + ((h2 as u128) << 64),
-            "in pieces at {count}"
+        assert!(rt;
+            has_halves(&message[..count.min(1000)], h1, h2),
+            "at {count}"
         );
     }
 }
@@ -190,73 +201,111 @@ fn of_two(first: &[u8], second: &[u8]) -> u128 {
     hasher.finish::<u128>()
 }
 
-fn empty_sets_feed_their_number_of_items(alloc: Global) -> bool {
-    let tree: BTreeSet<String> = BTreeSet::new(alloc);
-    let hashed: HashSet<String> = HashSet::new(alloc);
-    feeds(alloc, &tree, b"\0\0\0\0\0\0\0\0\0") && feeds(alloc, &hashed, b"\0\0\0\0\0\0\0\0\0")
+// What items can be put into, one after another.
+trait Holder<T>: HashStable<()> + Drop + Sized {
+    fn empty(alloc: Global) -> Self;
+
+    fn put(&mut self, alloc: Global, item: T) -> Result<(), AllocError>;
 }
 
-fn set_of_one_feeds_its_item(alloc: Global) -> Result<bool, AllocError> {
-    let mut set = HashSet::new(alloc);
-    set.insert(text(alloc, "a")?)?;
-    let bytes = b"\x01\0\0\0\0\0\0\0\x01\0\0\0\0\0\0\0\x01\0\0\0\0\0\0\0a";
-    Ok(feeds(alloc, &set, bytes))
+impl<'a> Holder<&'a str> for BTreeSet<String> {
+    fn empty(alloc: Global) -> BTreeSet<String> {
+        BTreeSet::new(alloc)
+    }
+
+    fn put(&mut self, alloc: Global, item: &'a str) -> Result<(), AllocError> {
+        self.insert(text(alloc, item)?)?;
+        Ok(())
+    }
 }
 
-fn tree_of_keys(alloc: Global) -> Result<Option<u128>, AllocError> {
-    let mut set = BTreeSet::new(alloc);
-    set.insert(text(alloc, "b")?)?;
-    set.insert(text(alloc, "a")?)?;
-    Ok(of_value(alloc, &set))
+impl<'a> Holder<&'a str> for HashSet<String> {
+    fn empty(alloc: Global) -> HashSet<String> {
+        HashSet::new(alloc)
+    }
+
+    fn put(&mut self, alloc: Global, item: &'a str) -> Result<(), AllocError> {
+        self.insert(text(alloc, item)?)?;
+        Ok(())
+    }
 }
 
-fn set_of_keys(alloc: Global) -> Result<Option<u128>, AllocError> {
-    let mut set = HashSet::new(alloc);
-    set.insert(text(alloc, "a")?)?;
-    set.insert(text(alloc, "b")?)?;
-    Ok(of_value(alloc, &set))
+impl<'a> Holder<(&'a str, u8)> for BTreeMap<String, u8> {
+    fn empty(alloc: Global) -> BTreeMap<String, u8> {
+        BTreeMap::new(alloc)
+    }
+
+    fn put(&mut self, alloc: Global, item: (&'a str, u8)) -> Result<(), AllocError> {
+        self.insert(text(alloc, item.0)?, item.1)?;
+        Ok(())
+    }
 }
+
+impl<'a> Holder<(&'a str, u8)> for HashMap<String, u8> {
+    fn empty(alloc: Global) -> HashMap<String, u8> {
+        HashMap::new(alloc)
+    }
+
+    fn put(&mut self, alloc: Global, item: (&'a str, u8)) -> Result<(), AllocError> {
+        self.insert(text(alloc, item.0)?, item.1)?;
+        Ok(())
+    }
+}
+
+fn put_all<T: Copy, H: Holder<T>>(
+    alloc: Global,
+    holder: &mut H,
+    items: &[T],
+) -> Result<(), AllocError> {
+    for item in items {
+        holder.put(alloc, *item)?;
+    }
+    Ok(())
+}
+
+// The hash of what holds these, put in one after another.
+fn of_all<T: Copy, H: Holder<T>>(alloc: Global, items: &[T]) -> Option<u128> {
+    let mut holder = H::empty(alloc);
+    match put_all(alloc, &mut holder, items) {
+        Ok(()) => of_value(alloc, &holder),
+        Err(_) => None,
+    }
+}
+
+// Both keys in either order, and fewer.
+const A_THEN_B: &[&str] = &["a", "b"];
+
+const B_THEN_A: &[&str] = &["b", "a"];
+
+const ONE_KEY: &[&str] = &["a"];
+
+const NO_KEY: &[&str] = &[];
 
 #[test]
 fn sets_hash_alike_in_every_order(rt: HostRuntime) {
-    let both = Ok(Some(of_two(KEY_A, KEY_B)));
-    assert!(rt; empty_sets_feed_their_number_of_items(rt.alloc()));
-    assert!(rt; set_of_one_feeds_its_item(rt.alloc()).unwrap_or(false));
-    assert!(rt; tree_of_keys(rt.alloc()) == both);
-    assert!(rt; set_of_keys(rt.alloc()) == both);
+    let none = Some(of_bytes(b"\0\0\0\0\0\0\0\0\0"));
+    assert!(rt; of_all::<_, BTreeSet<String>>(rt.alloc(), NO_KEY) == none);
+    assert!(rt; of_all::<_, HashSet<String>>(rt.alloc(), NO_KEY) == none);
+    let one = b"\x01\0\0\0\0\0\0\0\x01\0\0\0\0\0\0\0\x01\0\0\0\0\0\0\0a";
+    assert!(rt; of_all::<_, HashSet<String>>(rt.alloc(), ONE_KEY) == Some(of_bytes(one)));
+    let both = Some(of_two(KEY_A, KEY_B));
+    assert!(rt; of_all::<_, BTreeSet<String>>(rt.alloc(), B_THEN_A) == both);
+    assert!(rt; of_all::<_, HashSet<String>>(rt.alloc(), A_THEN_B) == both);
 }
 
-fn tree_of_one_pair_feeds_it(alloc: Global) -> Result<bool, AllocError> {
-    let mut map = BTreeMap::new(alloc);
-    map.insert(text(alloc, "a")?, 5u8)?;
-    let bytes = b"\x01\0\0\0\0\0\0\0\x01\0\0\0\0\0\0\0\x01\0\0\0\0\0\0\0a\x05";
-    Ok(feeds(alloc, &map, bytes))
-}
+// The same with their values.
+const PAIRS_A_THEN_B: &[(&str, u8)] = &[("a", 5), ("b", 6)];
 
-fn tree_of_pairs(alloc: Global) -> Result<Option<u128>, AllocError> {
-    let mut map = BTreeMap::new(alloc);
-    map.insert(text(alloc, "a")?, 5u8)?;
-    map.insert(text(alloc, "b")?, 6)?;
-    Ok(of_value(alloc, &map))
-}
+const PAIRS_B_THEN_A: &[(&str, u8)] = &[("b", 6), ("a", 5)];
 
-// A map of two pairs, put in one after the other.
-fn map_of_pairs(
-    alloc: Global,
-    first: (&str, u8),
-    second: (&str, u8),
-) -> Result<Option<u128>, AllocError> {
-    let mut map = HashMap::new(alloc);
-    map.insert(text(alloc, first.0)?, first.1)?;
-    map.insert(text(alloc, second.0)?, second.1)?;
-    Ok(of_value(alloc, &map))
-}
+const ONE_PAIR: &[(&str, u8)] = &[("a", 5)];
 
 #[test]
 fn maps_hash_alike_in_every_order(rt: HostRuntime) {
-    let both = Ok(Some(of_two(PAIR_A, PAIR_B)));
-    assert!(rt; tree_of_one_pair_feeds_it(rt.alloc()).unwrap_or(false));
-    assert!(rt; tree_of_pairs(rt.alloc()) == both);
-    assert!(rt; map_of_pairs(rt.alloc(), ("a", 5), ("b", 6)) == both);
-    assert!(rt; map_of_pairs(rt.alloc(), ("b", 6), ("a", 5)) == both);
+    let one = b"\x01\0\0\0\0\0\0\0\x01\0\0\0\0\0\0\0\x01\0\0\0\0\0\0\0a\x05";
+    assert!(rt; of_all::<_, BTreeMap<String, u8>>(rt.alloc(), ONE_PAIR) == Some(of_bytes(one)));
+    let both = Some(of_two(PAIR_A, PAIR_B));
+    assert!(rt; of_all::<_, BTreeMap<String, u8>>(rt.alloc(), PAIRS_A_THEN_B) == both);
+    assert!(rt; of_all::<_, HashMap<String, u8>>(rt.alloc(), PAIRS_A_THEN_B) == both);
+    assert!(rt; of_all::<_, HashMap<String, u8>>(rt.alloc(), PAIRS_B_THEN_A) == both);
 }

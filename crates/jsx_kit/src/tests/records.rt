@@ -21,12 +21,18 @@ fn package(alloc: Global) -> Result<PluginCorePkgDiagnostics, AllocError> {
     })
 }
 
-fn package_is_written_as_json(alloc: Global) -> Result<bool, serde_json::Error> {
-    let json = serde_json::to_string(alloc, &package(alloc)?)?;
-    Ok(
-        json.as_str()
-            == "{\"pkg_version\":\"1.2\",\"git_sha\":\"ab\\\"c\",\"cargo_features\":\"\",\"ast_schema_version\":1}",
-    )
+const PACKAGE_AS_JSON: &str =
+    "{\"pkg_version\":\"1.2\",\"git_sha\":\"ab\\\"c\",\"cargo_features\":\"\",\"ast_schema_version\":1}";
+
+fn json(alloc: Global) -> Result<String, serde_json::Error> {
+    serde_json::to_string(alloc, &package(alloc)?)
+}
+
+fn package_is_written_as_json(alloc: Global) -> bool {
+    match json(alloc) {
+        Ok(json) => json.as_str() == PACKAGE_AS_JSON,
+        Err(_) => false,
+    }
 }
 
 fn package_is_copied(alloc: Global) -> Result<bool, AllocError> {
@@ -41,7 +47,7 @@ fn error_is_copied(alloc: Global) -> Result<bool, AllocError> {
 
 #[test]
 fn packages_and_errors_are_copied(rt: HostRuntime) {
-    assert!(rt; package_is_written_as_json(rt.alloc()).unwrap_or(false));
+    assert!(rt; package_is_written_as_json(rt.alloc()));
     assert!(rt; package_is_copied(rt.alloc()).unwrap_or(false));
     assert!(rt; error_is_copied(rt.alloc()).unwrap_or(false));
 }
@@ -59,34 +65,43 @@ fn gives(
     context: &TransformPluginMetadataContext,
     kind: TransformPluginMetadataContextKind,
     want: &str,
-) -> Result<bool, AllocError> {
-    match context.get(alloc, &kind)? {
-        Some(text) => Ok(text.as_str() == want),
-        None => Ok(false),
+) -> bool {
+    match context.get(alloc, &kind) {
+        Ok(Some(text)) => text.as_str() == want,
+        _ => false,
     }
 }
 
-fn context_gives_its_texts(alloc: Global) -> Result<bool, AllocError> {
-    let context = context(alloc)?;
-    Ok(
-        gives(
-            alloc,
-            &context,
-            TransformPluginMetadataContextKind::Filename,
-            "a.js",
-        )? && gives(
-            alloc,
-            &context,
-            TransformPluginMetadataContextKind::Env,
-            "test",
-        )?,
+// Whether the case holds of that context.
+fn holds<F: FnOnce(Global, &TransformPluginMetadataContext) -> bool>(alloc: Global, case: F) -> bool
+    requires { F.IsAlwaysCallable case }
+{
+    match context(alloc) {
+        Ok(context) => case(alloc, &context),
+        Err(_) => false,
+    }
+}
+
+fn context_gives_its_texts(alloc: Global, context: &TransformPluginMetadataContext) -> bool {
+    gives(
+        alloc,
+        context,
+        TransformPluginMetadataContextKind::Filename,
+        "a.js",
+    ) && gives(
+        alloc,
+        context,
+        TransformPluginMetadataContextKind::Env,
+        "test",
     )
 }
 
-fn context_lacks_what_it_was_not_given(alloc: Global) -> Result<bool, AllocError> {
-    let context = context(alloc)?;
-    let folder = context.get(alloc, &TransformPluginMetadataContextKind::Cwd)?;
-    Ok(folder.is_none() && context.experimental.is_empty())
+fn context_lacks_what_it_was_not_given(
+    alloc: Global,
+    context: &TransformPluginMetadataContext,
+) -> bool {
+    let folder = context.get(alloc, &TransformPluginMetadataContextKind::Cwd);
+    matches!(folder, Ok(None)) && context.experimental.is_empty()
 }
 
 fn empty_map_is_taken_as_it_is(alloc: Global) -> bool {
@@ -97,22 +112,23 @@ fn empty_map_is_taken_as_it_is(alloc: Global) -> bool {
 
 #[test]
 fn a_context_gives_its_texts(rt: HostRuntime) {
-    assert!(rt; context_gives_its_texts(rt.alloc()).unwrap_or(false));
-    assert!(rt; context_lacks_what_it_was_not_given(rt.alloc()).unwrap_or(false));
+    assert!(rt; holds(rt.alloc(), context_gives_its_texts));
+    assert!(rt; holds(rt.alloc(), context_lacks_what_it_was_not_given));
     assert!(rt; empty_map_is_taken_as_it_is(rt.alloc()));
+}
+
+fn key_is_kind(key: u32, want: Result<TransformPluginMetadataContextKind, UnknownKey>) -> bool {
+    TransformPluginMetadataContextKind::from_key(key) == want
+}
+
+fn wrapped_value_is_kept() -> bool {
+    let wrapped = VersionedSerializable::new(7u8);
+    *wrapped.inner() == 7 && wrapped.into_inner() == 7
 }
 
 #[test]
 fn kinds_and_wrapped_values_are_kept(rt: HostRuntime) {
-    assert_eq!(rt;
-        TransformPluginMetadataContextKind::from_key(1),
-        Ok(TransformPluginMetadataContextKind::Filename)
-    );
-    assert_eq!(rt;
-        TransformPluginMetadataContextKind::from_key(4),
-        Err(UnknownKey(4))
-    );
-    let wrapped = VersionedSerializable::new(7u8);
-    assert_eq!(rt; *wrapped.inner(), 7);
-    assert_eq!(rt; wrapped.into_inner(), 7);
+    assert!(rt; key_is_kind(1, Ok(TransformPluginMetadataContextKind::Filename)));
+    assert!(rt; key_is_kind(4, Err(UnknownKey(4))));
+    assert!(rt; wrapped_value_is_kept());
 }

@@ -15,12 +15,19 @@ const PLACE: Span = Span {
     hi: BytePos(5),
 };
 
+// Whether the place is taken out of it and a dummy is left.
+fn gives_place(alloc: Global, boxed: &mut Box<Span>) -> Result<bool, AllocError> {
+    let taken = boxed.take(alloc)?;
+    Ok(*taken == PLACE && **boxed == DUMMY_SP)
+}
+
 fn box_is_left_with_a_dummy(alloc: Global) -> Result<bool, AllocError> {
     let mut boxed = Box::new(alloc, PLACE)?;
-    let taken = *boxed.take(alloc)?;
-    let left = *boxed;
-    boxed.map_with_mut(alloc, |b| b)?;
-    Ok(taken == PLACE && left == DUMMY_SP && *boxed == DUMMY_SP)
+    Ok(
+        gives_place(alloc, &mut boxed)?
+            && boxed.map_with_mut(alloc, |b| b).is_ok()
+            && *boxed == DUMMY_SP,
+    )
 }
 
 fn dummy_box_holds_a_dummy(alloc: Global) -> Result<bool, AllocError> {
@@ -28,31 +35,36 @@ fn dummy_box_holds_a_dummy(alloc: Global) -> Result<bool, AllocError> {
     Ok(*dummy == DUMMY_SP)
 }
 
-fn option_is_left_with_none(alloc: Global) -> Result<bool, AllocError> {
+fn option_is_left_with_none(alloc: Global) -> bool {
     let mut three = Some(3);
-    let taken = Take::take(&mut three, alloc)?;
-    Ok(taken == Some(3) && three.is_none())
+    Take::take(&mut three, alloc) == Ok(Some(3)) && three.is_none()
+}
+
+fn gives_one_and_two(alloc: Global, items: &mut Vec<u8>) -> Result<bool, AllocError> {
+    let taken = Take::take(items, alloc)?;
+    Ok(matches!(taken.as_slice(), [1, 2]))
 }
 
 fn vec_is_left_empty(alloc: Global) -> Result<bool, AllocError> {
     let mut items = vec![in alloc; 1u8, 2]?;
-    let taken = Take::take(&mut items, alloc)?;
-    Ok(taken.as_slice() == [1, 2].as_slice() && items.is_empty())
+    Ok(gives_one_and_two(alloc, &mut items)? && items.is_empty())
 }
 
-fn span_is_mapped_in_place(alloc: Global) -> Result<bool, AllocError> {
+fn span_is_mapped_in_place(alloc: Global) -> bool {
     let mut placed = PLACE;
-    placed.map_with_mut(alloc, |s| Span::new(s.lo, BytePos(9)))?;
-    Ok(placed == Span::new(BytePos(3), BytePos(9)))
+    placed
+        .map_with_mut(alloc, |s| Span::new(s.lo, BytePos(9)))
+        .is_ok()
+        && placed == Span::new(BytePos(3), BytePos(9))
 }
 
 #[test]
 fn taking_leaves_a_dummy(rt: HostRuntime) {
     assert!(rt; box_is_left_with_a_dummy(rt.alloc()).unwrap_or(false));
     assert!(rt; dummy_box_holds_a_dummy(rt.alloc()).unwrap_or(false));
-    assert!(rt; option_is_left_with_none(rt.alloc()).unwrap_or(false));
+    assert!(rt; option_is_left_with_none(rt.alloc()));
     assert!(rt; vec_is_left_empty(rt.alloc()).unwrap_or(false));
-    assert!(rt; span_is_mapped_in_place(rt.alloc()).unwrap_or(false));
+    assert!(rt; span_is_mapped_in_place(rt.alloc()));
 }
 
 struct A;
@@ -75,10 +87,11 @@ impl CompilerPass for B {
     }
 }
 
-fn passes_are_named_by_their_parts(alloc: Global) -> Result<bool, AllocError> {
-    let both = AndThen::<A, B>::name(alloc)?;
-    let again = Repeat::<AndThen<A, B>>::name(alloc)?;
-    Ok(both.as_str() == "a -> b" && again.as_str() == "repeat(a -> b)")
+fn is_named<P: CompilerPass>(alloc: Global, want: &str) -> bool {
+    match P::name(alloc) {
+        Ok(name) => name.as_str() == want,
+        Err(_) => false,
+    }
 }
 
 fn lock_shows_what_was_written() -> bool {
@@ -109,7 +122,8 @@ fn shared_lock_is_copied(alloc: Global) -> Result<bool, AllocError> {
 
 #[test]
 fn passes_are_named_and_locks_show_what_was_written(rt: HostRuntime) {
-    assert!(rt; passes_are_named_by_their_parts(rt.alloc()).unwrap_or(false));
+    assert!(rt; is_named::<AndThen<A, B>>(rt.alloc(), "a -> b"));
+    assert!(rt; is_named::<Repeat<AndThen<A, B>>>(rt.alloc(), "repeat(a -> b)"));
     assert!(rt; lock_shows_what_was_written());
     assert!(rt; shared_lock_shows_what_was_written());
     assert!(rt; shared_lock_is_copied(rt.alloc()).unwrap_or(false));
@@ -129,23 +143,32 @@ fn cells_are_equal<T: PartialEq + Copy>(a: &LockCell<T>, b: &LockCell<T>) -> boo
     *a == *b
 }
 
-fn key_keeps_its_value(alloc: Global) -> bool {
-    let mut map = HashMap::new(alloc);
-    map.insert_same(1u8, 2u8) == Ok(())
-        && map.insert_same(1, 2) == Ok(())
-        && map.insert_same(1, 3) == Err(InsertError::Different)
+fn cells_compare_by_value() -> bool {
+    let mut cell = LockCell::new(1u8);
+    let other = LockCell::new(2u8);
+    let before = order_of_cells(&cell, &other);
+    cell.set(2);
+    before == Ordering::Less && cell.get() == 2 && cells_are_equal(&cell, &other) && cell >= other
+}
+
+fn is_refused(map: &mut HashMap<u8, u8>, key: u8, value: u8) -> bool {
+    map.insert_same(key, value) == Err(InsertError::Different)
+}
+
+fn keeps_its_value(map: &mut HashMap<u8, u8>) -> bool {
+    map.insert_same(1, 2).is_ok()
+        && map.insert_same(1, 2).is_ok()
+        && is_refused(map, 1, 3)
         && map.get(&1) == Some(&2)
         && map.len() == 1
 }
 
+fn key_keeps_its_value(alloc: Global) -> bool {
+    keeps_its_value(&mut HashMap::new(alloc))
+}
+
 #[test]
 fn cells_compare_and_keys_keep_their_values(rt: HostRuntime) {
-    let mut cell = LockCell::new(1u8);
-    let other = LockCell::new(2u8);
-    assert_eq!(rt; order_of_cells(&cell, &other), Ordering::Less);
-    cell.set(2);
-    assert_eq!(rt; cell.get(), 2);
-    assert!(rt; cells_are_equal(&cell, &other));
-    assert!(rt; cell >= other);
+    assert!(rt; cells_compare_by_value());
     assert!(rt; key_keeps_its_value(rt.alloc()));
 }
