@@ -11,7 +11,7 @@ ghost use Rattle.jsx_diag.specs.Adds.{plain_piece, nowhere, new_report};
 mod notes;
 mod suggestions;
 
-use crate::message::{clone_messages, joined};
+use crate::message::{clone_messages, joined, one_plain};
 use crate::sub_diagnostic::clone_children;
 use crate::suggestion::clone_suggestions;
 use crate::{CodeSuggestion, Level, Message, SubDiagnostic};
@@ -80,11 +80,9 @@ impl Diagnostic {
     ) -> Result<Diagnostic, AllocError>
         ensures { IfOk result (λ it. report_of it ≡ new_report level (option_map code_of code) message.now) }
     {
-        let mut pieces = Vec::new(alloc);
-        pieces.push(Message::plain(alloc, message)?)?;
         Ok(Diagnostic {
             level,
-            message: pieces,
+            message: one_plain(alloc, message)?,
             code,
             span: MultiSpan::new(alloc),
             children: Vec::new(alloc),

@@ -32,6 +32,15 @@ impl Message {
     }
 }
 
+// One piece without a look of its own.
+pub(crate) fn one_plain(alloc: Global, text: &str) -> Result<Vec<Message>, AllocError>
+    ensures { IfOk result (λ pieces. map piece_of pieces.items ≡ plain_piece text.now ∷ []) }
+{
+    let mut pieces = Vec::new(alloc);
+    pieces.push(Message::plain(alloc, text)?)?;
+    Ok(pieces)
+}
+
 // Equal pieces.
 pub(crate) fn clone_messages(
     alloc: Global,

@@ -7,6 +7,7 @@ ghost use Rattle.jsx_diag.specs.Data.{child_of, part_of, parts_of, piece_of, rep
 ghost use Rattle.jsx_diag.specs.Adds.{plain_child, nowhere, note_of, part_piece, plain_piece, trait_signature, expected_found, with_child, with_details, with_label};
 
 use super::clone_code;
+use crate::message::one_plain;
 use crate::sub_diagnostic::clone_children;
 use crate::{Diagnostic, DiagnosticStyledString, Level, Message, StringPart, Style, SubDiagnostic};
 use jsx_base::{MultiSpan, Span};
@@ -188,16 +189,7 @@ impl Diagnostic {
         ensures same_reference { IfOk result (λ it. it.ghost_name ≡ self.entry.ghost_name) }
         ensures added { IfOk result (λ it. report_of it.now ≡ with_child (report_of self.old) (note_of (expected_found label.now (parts_of expected) (parts_of found) [] []))) }
     {
-        let pieces = expected_and_found(
-            *self.children.allocator(),
-            label,
-            &expected,
-            &found,
-            "",
-            "",
-        )?;
-        self.push_note(pieces)?;
-        Ok(self)
+        self.note_expected_found_extra(label, expected, found, "", "")
     }
 
     /// The same, with a text behind each.
@@ -311,11 +303,10 @@ impl Diagnostic {
         ensures kept { OnErr result (report_of self.new ≡ report_of self.old) }
     {
         let alloc = *self.children.allocator();
-        let mut pieces = Vec::new(alloc);
-        pieces.push(Message::plain(alloc, message)?)?;
+        let message = one_plain(alloc, message)?;
         self.push_child(SubDiagnostic {
             level,
-            message: pieces,
+            message,
             span,
             render_span,
         })

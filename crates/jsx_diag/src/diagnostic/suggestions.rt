@@ -59,9 +59,7 @@ impl Diagnostic {
         ensures same_reference { IfOk result (λ it. it.ghost_name ≡ self.entry.ghost_name) }
         ensures added { IfOk result (λ it. report_of it.now ≡ with_suggestion (report_of self.old) (map (edits_at sp) suggestions.items) msg.now true Applicability.Unspecified) }
     {
-        let substitutions = one_each(*self.children.allocator(), sp, &suggestions)?;
-        self.push_ways(substitutions, msg, true, Applicability::Unspecified)?;
-        Ok(self)
+        self.span_suggestions_with_applicability(sp, msg, suggestions, Applicability::Unspecified)
     }
 
     /// Suggests texts in place of spans, all of them together.
@@ -77,9 +75,7 @@ impl Diagnostic {
         ensures same_reference { IfOk result (λ it. it.ghost_name ≡ self.entry.ghost_name) }
         ensures added { IfOk result (λ it. report_of it.now ≡ with_suggestion (report_of self.old) (map edit_from suggestion.items ∷ []) msg.now true Applicability.Unspecified) }
     {
-        let substitutions = all_together(*self.children.allocator(), &suggestion)?;
-        self.push_ways(substitutions, msg, true, Applicability::Unspecified)?;
-        Ok(self)
+        self.multipart_suggestion_with_applicability(msg, suggestion, Applicability::Unspecified)
     }
 
     /// Suggests a text in place of a span.
