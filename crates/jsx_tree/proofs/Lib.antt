@@ -16,3 +16,4 @@ mod Layouts
 mod SoFar
 mod Programs
 mod Corners
+mod Places

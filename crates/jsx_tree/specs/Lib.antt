@@ -11,5 +11,7 @@ pub mod Normal
 pub mod Parentheses
 pub mod StaticRules
 pub mod View
+pub mod Spans
+pub mod Told
 pub mod Program
 pub mod Stage
