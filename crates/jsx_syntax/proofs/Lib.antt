@@ -19,3 +19,5 @@ pub mod Meaning
 pub mod Whole
 pub mod Runs
 pub mod Modules
+pub mod Placing
+pub mod PlacedNodes

@@ -1,12 +1,18 @@
 //! Expressions.
 
-ghost use Rattle.std.specs.Prelude.{◌≡◌, ◌<◌, ◌≤◌, IfOk, OnOk, map};
-ghost use Rattle.jsx_tree.specs.View.{view_jsx, view_expr};
-ghost use Rattle.jsx_syntax.specs.Here.{place_of, left};
+ghost use Rattle.std.specs.Prelude.{◌≡◌, ◌<◌, ◌≤◌, [], ◌∷◌, IfOk, OnOk, map};
+ghost use Rattle.jsx_tree.specs.Kinds.{list, none, part};
+ghost use Rattle.jsx_tree.specs.Nonterminals as grammar;
+ghost use Rattle.jsx_tree.specs.Grammar.{Commas, Many, p};
+ghost use Rattle.jsx_tree.specs.View.{forest, view_jsx, view_expr};
+ghost use Rattle.jsx_tree.specs.Spans.{no_tales, tale};
+ghost use Rattle.jsx_tree.specs.Told.{told_expr, told_jsx, told_list};
+ghost use Rattle.jsx_syntax.specs.Here.{place_of, left, sign_of};
+ghost use Rattle.jsx_syntax.specs.declared.lexer.Fixed.TheVariants as fixed;
 ghost use Rattle.jsx_syntax.specs.Pieces.{Past, Primary, Dotted, Called, Arguments, one, template, kind_of};
 ghost use Rattle.jsx_syntax.specs.Pieces as piece;
 ghost use Rattle.jsx_syntax.specs.Answers.{Barred, NoWalk, NoPrimary, NoDotted, NoArguments, Refused, Built};
-ghost use Rattle.jsx_syntax.specs.Spans.{Extends, Spans, Starts, end_of, expr_at, jsx_at, next_of};
+ghost use Rattle.jsx_syntax.specs.Spans.{Extends, IsPlaced, IsPlacedOn, IsPlacedRow, Spans, Starts, end_of, expr_at, jsx_at, next_of};
 
 use crate::error::ParseError;
 use crate::identifiers::{is_all_digits, is_reserved};
@@ -20,6 +26,7 @@ use std::alloc::Global;
 fn element<'s>(lexer: &mut Lexer<'s>) -> Result<Jsx<'s>, ParseError>
     ensures read { IfOk result (λ j. Built (template piece.Empty) (kind_of piece.Empty) (view_jsx j) (place_of lexer.old) (place_of lexer.new)) }
     ensures span { IfOk result (λ j. Spans (jsx_at j) (next_of lexer.old) (end_of lexer.new)) }
+    ensures placed { IfOk result (λ j. IsPlaced (told_jsx j) (view_jsx j) lexer.old lexer.new) }
     ensures shorter { OnOk result (left lexer.new < left lexer.old) }
     ensures refused { Refused result (NoWalk (template piece.Empty) (place_of lexer.old)) }
 {
@@ -35,6 +42,7 @@ fn element<'s>(lexer: &mut Lexer<'s>) -> Result<Jsx<'s>, ParseError>
 fn primary<'s>(lexer: &mut Lexer<'s>) -> Result<Expr<'s>, ParseError>
     ensures read { IfOk result (λ e. Primary (place_of lexer.old) (view_expr e) (place_of lexer.new)) }
     ensures span { IfOk result (λ e. Spans (expr_at e) (next_of lexer.old) (end_of lexer.new)) }
+    ensures placed { IfOk result (λ e. IsPlaced (told_expr e) (view_expr e) lexer.old lexer.new) }
     ensures shorter { OnOk result (left lexer.new < left lexer.old) }
     ensures refused { Refused result (NoPrimary (place_of lexer.old)) }
 {
@@ -91,6 +99,7 @@ fn member<'s>(
 ) -> Result<Expr<'s>, ParseError>
     ensures read { IfOk result (λ e. Dotted (place_of lexer.old) (view_expr object.entry) (place_of lexer.new) (view_expr e)) }
     ensures span { IfOk result (λ e. Extends (expr_at object.entry) (expr_at e) (end_of lexer.new)) }
+    ensures placed { IfOk result (λ e. IsPlacedOn (sign_of fixed.Dot) object.entry lexer.old e lexer.new) }
     ensures shorter { OnOk result (left lexer.new < left lexer.old) }
     ensures refused { Refused result (NoDotted (place_of lexer.old) (view_expr object.entry)) }
 {
@@ -107,6 +116,7 @@ fn member<'s>(
 #[cycle(expression)]
 fn arguments<'s>(alloc: Global, lexer: &mut Lexer<'s>) -> Result<Vec<Expr<'s>>, ParseError>
     ensures read { IfOk result (λ v. Arguments (place_of lexer.old) (map view_expr v.items) (place_of lexer.new)) }
+    ensures placed { IfOk result (λ v. IsPlacedRow (Many Commas grammar.Argument ∷ p ")" ∷ []) (tale (told_list (map told_expr v.items)) no_tales) (part (list (forest (map view_expr v.items))) none) lexer.old lexer.new) }
     ensures shorter { OnOk result (left lexer.new < left lexer.old) }
     ensures refused { Refused result (NoArguments (place_of lexer.old)) }
 {
@@ -127,6 +137,7 @@ fn arguments<'s>(alloc: Global, lexer: &mut Lexer<'s>) -> Result<Vec<Expr<'s>>, 
 fn call<'s>(alloc: Global, lexer: &mut Lexer<'s>, callee: Expr<'s>) -> Result<Expr<'s>, ParseError>
     ensures read { IfOk result (λ e. Called (place_of lexer.old) (view_expr callee.entry) (place_of lexer.new) (view_expr e)) }
     ensures span { IfOk result (λ e. Extends (expr_at callee.entry) (expr_at e) (end_of lexer.new)) }
+    ensures placed { IfOk result (λ e. IsPlacedOn (sign_of fixed.Open) callee.entry lexer.old e lexer.new) }
     ensures shorter { OnOk result (left lexer.new < left lexer.old) }
     ensures refused { Refused result (NoArguments (place_of lexer.old)) }
 {
@@ -140,6 +151,7 @@ fn call<'s>(alloc: Global, lexer: &mut Lexer<'s>, callee: Expr<'s>) -> Result<Ex
 pub fn expression<'s>(alloc: Global, lexer: &mut Lexer<'s>) -> Result<Expr<'s>, ParseError>
     ensures read { IfOk result (λ e. Past piece.Whole (place_of lexer.old) (one (view_expr e)) (place_of lexer.new)) }
     ensures span { IfOk result (λ e. Spans (expr_at e) (next_of lexer.old) (end_of lexer.new)) }
+    ensures placed { IfOk result (λ e. IsPlaced (told_expr e) (view_expr e) lexer.old lexer.new) }
     ensures shorter { OnOk result (left lexer.new < left lexer.old) }
     ensures refused { Refused result (Barred piece.Whole (place_of lexer.old)) }
 {

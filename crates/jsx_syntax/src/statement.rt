@@ -2,12 +2,15 @@
 
 ghost use Rattle.std.specs.Prelude.{◌≡◌, ◌<◌, IfOk, OnOk, map};
 ghost use Rattle.jsx_tree.specs.Stage.{is_string};
-ghost use Rattle.jsx_tree.specs.View.{view_expr, view_pat, view_stmt};
-ghost use Rattle.jsx_syntax.specs.Here.{place_of, left};
+ghost use Rattle.jsx_tree.specs.Grammar.{NoTrailing};
+ghost use Rattle.jsx_tree.specs.View.{forest, view_expr, view_pat, view_stmt};
+ghost use Rattle.jsx_tree.specs.Told.{tales, told_expr, told_pat, told_stmt};
+ghost use Rattle.jsx_syntax.specs.Here.{place_of, left, sign_of};
+ghost use Rattle.jsx_syntax.specs.declared.lexer.Fixed.TheVariants as fixed;
 ghost use Rattle.jsx_syntax.specs.Pieces.{Past, Bindings, one, template, kind_of, behind_const};
 ghost use Rattle.jsx_syntax.specs.Pieces as piece;
 ghost use Rattle.jsx_syntax.specs.Answers.{Barred, NoWalk, Refused, Built};
-ghost use Rattle.jsx_syntax.specs.Spans.{Spans, begin_of, end_of, expr_at, next_of, pat_at, stmt_at};
+ghost use Rattle.jsx_syntax.specs.Spans.{IsPlaced, IsPlacedBehind, IsPlacedList, Spans, begin_of, end_of, expr_at, next_of, pat_at, stmt_at};
 
 use crate::error::ParseError;
 use crate::expression::{expression, start_of};
@@ -20,6 +23,7 @@ use std::alloc::Global;
 fn declarator<'s>(alloc: Global, lexer: &mut Lexer<'s>) -> Result<Pat<'s>, ParseError>
     ensures read { IfOk result (λ p. Built (template piece.Bound) (kind_of piece.Bound) (view_pat p) (place_of lexer.old) (place_of lexer.new)) }
     ensures span { IfOk result (λ p. Spans (pat_at p) (next_of lexer.old) (end_of lexer.new)) }
+    ensures placed { IfOk result (λ p. IsPlaced (told_pat p) (view_pat p) lexer.old lexer.new) }
     ensures shorter { OnOk result (left lexer.new < left lexer.old) }
     ensures refused { Refused result (NoWalk (template piece.Bound) (place_of lexer.old)) }
 {
@@ -37,6 +41,7 @@ fn declarator<'s>(alloc: Global, lexer: &mut Lexer<'s>) -> Result<Pat<'s>, Parse
 /// One declarator or more, with commas between: `a = b, c = d`.
 fn declarators<'s>(alloc: Global, lexer: &mut Lexer<'s>) -> Result<Vec<Pat<'s>>, ParseError>
     ensures read { IfOk result (λ v. Bindings (place_of lexer.old) (map view_pat v.items) (place_of lexer.new)) }
+    ensures placed { IfOk result (λ v. IsPlacedList NoTrailing (tales (map told_pat v.items)) (forest (map view_pat v.items)) lexer.old lexer.new) }
     ensures shorter { OnOk result (left lexer.new < left lexer.old) }
     ensures refused { Refused result (Barred piece.Declarators (place_of lexer.old)) }
 {
@@ -54,6 +59,7 @@ fn declarators<'s>(alloc: Global, lexer: &mut Lexer<'s>) -> Result<Vec<Pat<'s>>,
 fn lexical_declaration<'s>(alloc: Global, lexer: &mut Lexer<'s>) -> Result<Stmt<'s>, ParseError>
     ensures read { IfOk result (λ s. Built behind_const (kind_of piece.Constant) (view_stmt s) (place_of lexer.old) (place_of lexer.new)) }
     ensures span { IfOk result (λ s. Spans (stmt_at s) (begin_of lexer.old) (end_of lexer.new)) }
+    ensures placed { IfOk result (λ s. IsPlacedBehind (sign_of fixed.Const) lexer.old (told_stmt s) (view_stmt s) lexer.new) }
     ensures shorter { OnOk result (left lexer.new < left lexer.old) }
     ensures refused { Refused result (NoWalk behind_const (place_of lexer.old)) }
 {
@@ -73,6 +79,7 @@ fn is_string(expr: &Expr) -> bool
 fn value<'s>(alloc: Global, lexer: &mut Lexer<'s>) -> Result<Expr<'s>, ParseError>
     ensures read { IfOk result (λ e. Past piece.NoString (place_of lexer.old) (one (view_expr e)) (place_of lexer.new)) }
     ensures span { IfOk result (λ e. Spans (expr_at e) (next_of lexer.old) (end_of lexer.new)) }
+    ensures placed { IfOk result (λ e. IsPlaced (told_expr e) (view_expr e) lexer.old lexer.new) }
     ensures shorter { OnOk result (left lexer.new < left lexer.old) }
     ensures refused { Refused result (Barred piece.NoString (place_of lexer.old)) }
 {
@@ -87,6 +94,7 @@ fn value<'s>(alloc: Global, lexer: &mut Lexer<'s>) -> Result<Expr<'s>, ParseErro
 fn expression_statement<'s>(alloc: Global, lexer: &mut Lexer<'s>) -> Result<Stmt<'s>, ParseError>
     ensures read { IfOk result (λ s. Built (template piece.Evaluation) (kind_of piece.Evaluation) (view_stmt s) (place_of lexer.old) (place_of lexer.new)) }
     ensures span { IfOk result (λ s. Spans (stmt_at s) (next_of lexer.old) (end_of lexer.new)) }
+    ensures placed { IfOk result (λ s. IsPlaced (told_stmt s) (view_stmt s) lexer.old lexer.new) }
     ensures shorter { OnOk result (left lexer.new < left lexer.old) }
     ensures refused { Refused result (NoWalk (template piece.Evaluation) (place_of lexer.old)) }
 {
@@ -100,6 +108,7 @@ fn expression_statement<'s>(alloc: Global, lexer: &mut Lexer<'s>) -> Result<Stmt
 pub fn statement<'s>(alloc: Global, lexer: &mut Lexer<'s>) -> Result<Stmt<'s>, ParseError>
     ensures read { IfOk result (λ s. Past (piece.Part piece.Statement) (place_of lexer.old) (one (view_stmt s)) (place_of lexer.new)) }
     ensures span { IfOk result (λ s. Spans (stmt_at s) (next_of lexer.old) (end_of lexer.new)) }
+    ensures placed { IfOk result (λ s. IsPlaced (told_stmt s) (view_stmt s) lexer.old lexer.new) }
     ensures shorter { OnOk result (left lexer.new < left lexer.old) }
     ensures refused { Refused result (Barred (piece.Part piece.Statement) (place_of lexer.old)) }
 {

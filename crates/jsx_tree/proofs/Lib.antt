@@ -4,6 +4,7 @@ mod Rules
 mod Legality
 pub mod Laws
 pub mod Views
+pub mod Telling
 mod Patterns
 mod Classes
 mod Expressions

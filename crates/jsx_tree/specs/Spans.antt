@@ -140,11 +140,15 @@ mutual
     no_tales : Tales
     tale : Told → Tales → Tales
 
+-- a text that was read, and begins at the place
+abbrev pub Comes : TreeText → ℕ → Type 0
+Comes (Read t place) at = place.0 ≡ at
+Comes (Made t origin) at = ⊥
+
 abbrev pub Holds : Extent → ℕ → Claim → Type 0
 Holds (extent lo hi) at (spans (Some s)) = (s.lo.0 ≡ lo) × (s.hi.0 ≡ hi)
 Holds e at (spans None) = ⊥
-Holds e at (comes (Read t place)) = place.0 ≡ at
-Holds e at (comes (Made t origin)) = ⊥
+Holds e at (comes t) = Comes t at
 
 abbrev pub AllHold : Extent → ℕ → List Claim → Type 0
 AllHold e at [] = ⊤
@@ -153,10 +157,9 @@ AllHold e at (c ∷ cs) = (Holds e at c) × (AllHold e at cs)
 abbrev mutual
   -- all that is told is so
   pub IsTold : Told → Placed → Type 0
-  IsTold (tells cs no_tales) (leaf_at at e k t) = AllHold e at cs
+  IsTold (tells cs ds) (leaf_at at e k t) = (AllHold e at cs) × (ds ≡ no_tales)
   IsTold (tells cs ds) (node_at e k ps) = (AllHold e (first_byte e) cs) × (AreTold ds ps)
-  IsTold (tells [] ds) (list_at ps) = AreTold ds ps
-  IsTold d p = ⊥
+  IsTold (tells cs ds) (list_at ps) = (cs ≡ []) × (AreTold ds ps)
 
   pub AreTold : Tales → Places → Type 0
   AreTold no_tales end = ⊤

@@ -1,9 +1,12 @@
 use Rattle.std.proofs.Common.{◌+◌, ◌*◌, ◌<◌, ◌≤◌, map}
-use Rattle.jsx_tree.specs.View.{view_expr}
+use Rattle.jsx_tree.specs.Grammar.{Commas}
+use Rattle.jsx_tree.specs.View.{forest, view_expr}
+use Rattle.jsx_tree.specs.Told.{tales, told_expr}
 use Rattle.jsx_syntax.specs.Here.{place_of, left}
 use Rattle.jsx_syntax.specs.Pieces.{Reads}
-use Rattle.jsx_syntax.specs.Spans.{Spans, end_of, expr_at, next_of}
+use Rattle.jsx_syntax.specs.Spans.{IsPlaced, IsPlacedList, Spans, end_of, expr_at, next_of}
 use Rattle.jsx_syntax.proofs.Steps.{MoreArguments}
+use Rattle.jsx_syntax.proofs.Placing.{PlacedFront}
 use Rattle.jsx_syntax.proofs.expression.+expression.Given as goal
 
 abbrev pub decreases-expression : goal.decreases-expression
@@ -18,6 +21,8 @@ decreases-arguments l = 3 * left l.lexer.now + 1
 abbrev pub invariant-arguments-arguments : goal.invariant-arguments-arguments
 invariant-arguments-arguments l = record {
   so_far : MoreArguments (place_of l.fn.lexer) (map view_expr l.all.items) (place_of l.lexer);
+  placed : PlacedFront Commas (map told_expr l.all.items) (map view_expr l.all.items) l.fn.lexer l.lexer;
+  closed : IsPlacedList Commas (tales (map told_expr l.all.items)) (forest (map view_expr l.all.items)) l.fn.lexer l.lexer;
   within : left l.lexer ≤ left l.fn.lexer;
 }
 
@@ -28,6 +33,7 @@ abbrev pub invariant-expression-steps : goal.invariant-expression-steps
 invariant-expression-steps l = record {
   so_far : Reads (place_of l.fn.lexer) (view_expr l.expr) (place_of l.lexer);
   span : Spans (expr_at l.expr) (next_of l.fn.lexer) (end_of l.lexer);
+  placed : IsPlaced (told_expr l.expr) (view_expr l.expr) l.fn.lexer l.lexer;
   within : left l.lexer < left l.fn.lexer;
 }
 
