@@ -16,3 +16,5 @@ mod Layouts
 mod SoFar
 mod Programs
 mod Corners
+pub mod ReadBack
+pub mod Parentheses

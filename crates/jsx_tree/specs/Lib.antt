@@ -13,3 +13,6 @@ pub mod StaticRules
 pub mod View
 pub mod Program
 pub mod Stage
+pub mod Fits
+pub mod Sound
+pub mod Notes

@@ -1,0 +1,76 @@
+-- What `parenthesise` gives has the form that the productions ask, and each part begins as it may: a tree that is formed fits, where the static rules hold.
+use Rattle.std.proofs.Common.{◌≡◌, [], true, false, refl, ⊎_elim}
+use Rattle.std.proofs.lemmas.Bool.{and_parts, and_from, or_cases, both_ways, false≢true}
+use Rattle.jsx_tree.proofs.ReadBack.Basics.{not_true}
+use Rattle.jsx_tree.proofs.Parentheses.EmptyStatements.{only_programs}
+use Rattle.jsx_base.specs.Token.{IdentifierName, JsxName}
+use Rattle.std.specs.Prelude.{not}
+use Rattle.jsx_tree.specs.Kinds.{Kind, Tree, leaf, node, list}
+use Rattle.jsx_tree.specs.Nonterminals.{WholeProgram, in_homes, homes}
+use Rattle.jsx_tree.specs.Layout.{printed}
+use Rattle.jsx_tree.specs.Reading.{reads}
+use Rattle.jsx_tree.specs.Normal.{laid_tree, remade}
+use Rattle.jsx_tree.specs.Form.{is, admits, fits_below}
+use Rattle.jsx_tree.specs.Parentheses.{dress, special, parenthesise}
+use Rattle.jsx_tree.specs.StaticRules.{outside}
+use Rattle.jsx_tree.specs.Fits.{held, fits}
+use Rattle.jsx_tree.proofs.ReadBack.RowChecks.{is_program}
+use Rattle.jsx_tree.proofs.ReadBack.Programs.{is_program_tree, printed_reads}
+use Rattle.jsx_tree.specs.Sound.{may_stand, loose, formed, lawful}
+use Rattle.jsx_tree.proofs.Parentheses.MendedRules.{mended, legal_of, special_calm, shield_ready, laid_mended, placed_of}
+use Rattle.jsx_tree.proofs.Parentheses.FirstPass.{home, fine, dress_fine}
+use Rattle.jsx_tree.proofs.Parentheses.SecondPass.{special_at}
+use Rattle.jsx_tree.proofs.Parentheses.ThirdPass.{shield_at}
+use Rattle.jsx_tree.proofs.Parentheses.Laying.{laid_is}
+use Rattle.jsx_tree.proofs.Parentheses.Begins.{begun, dress_begun}
+use Rattle.jsx_tree.proofs.Parentheses.BeginsKept.{special_begun, shield_begun}
+use Rattle.jsx_tree.proofs.Parentheses.Held.{laid_held}
+
+dressed_fine : (t : Tree) → formed t ≡ true → (home false WholeProgram (parenthesise t) ≡ true) × (fine false WholeProgram (parenthesise t) ≡ true)
+dressed_fine t h =
+    let p = and_parts (may_stand WholeProgram t) (loose WholeProgram t) h in
+    let u : Tree = dress WholeProgram [] t in
+    let d = dress_fine WholeProgram [] t refl p.0 p.1 in
+    let s = special_at WholeProgram u refl d.0 d.1 in
+    shield_at false WholeProgram (remade special u) s.0 s.1
+
+dressed_begun : (t : Tree) → formed t ≡ true → begun (parenthesise t) ≡ true
+dressed_begun t h =
+    let p = and_parts (may_stand WholeProgram t) (loose WholeProgram t) h in
+    let u : Tree = dress WholeProgram [] t in
+    shield_begun false (remade special u) (special_begun u (dress_begun WholeProgram [] t refl refl p.0 p.1).1)
+
+pub dressed_is : (t : Tree) → formed t ≡ true → is WholeProgram (laid_tree (parenthesise t)) ≡ true
+dressed_is t h = let d = dressed_fine t h in laid_is WholeProgram (parenthesise t) d.0 d.1
+
+pub dressed_held : (t : Tree) → formed t ≡ true → held WholeProgram [] (laid_tree (parenthesise t)) ≡ true
+dressed_held t h = let d = dressed_fine t h in laid_held WholeProgram [] (parenthesise t) d.0 d.1 refl refl (dressed_begun t h)
+
+dressed_mended : (t : Tree) → formed t ≡ true → mended (laid_tree (parenthesise t)) ≡ true
+dressed_mended t h =
+    let p = and_parts (may_stand WholeProgram t) (loose WholeProgram t) h in
+    let u : Tree = dress WholeProgram [] t in
+    let d = dress_fine WholeProgram [] t refl p.0 p.1 in
+    let s = special_at WholeProgram u refl d.0 d.1 in
+    laid_mended WholeProgram (parenthesise t) (dressed_fine t h).1 (shield_ready false (remade special u) (placed_of WholeProgram (remade special u) s.1) (special_calm u))
+
+-- so a tree that is formed fits, once the static rules that no pair mends hold of what is written
+pub dressed_fits : (t : Tree) → formed t ≡ true → lawful outside (laid_tree (parenthesise t)) ≡ true → fits (parenthesise t) ≡ true
+dressed_fits t h l = and_from _ _ (dressed_is t h) (and_from _ _ (legal_of outside (laid_tree (parenthesise t)) l (dressed_mended t h)) (dressed_held t h))
+
+-- ---- and what is printed of it reads back
+
+program_kind : (k : Kind) → in_homes WholeProgram (homes k) ≡ true → is_program k ≡ true
+program_kind k h = ⊎_elim (λ p. absurd (both_ways (in_homes WholeProgram (homes k)) (not_true (in_homes WholeProgram (homes k)) p) h)) (λ p. p) (or_cases (not (in_homes WholeProgram (homes k))) (is_program k) (only_programs k))
+
+program_tree : (u : Tree) → admits WholeProgram u ≡ true → is_program_tree u ≡ true
+program_tree (leaf IdentifierName x) h = absurd (false≢true h)
+program_tree (leaf JsxName x) h = absurd (false≢true h)
+program_tree (leaf s x) h = absurd (false≢true h)
+program_tree (node k cs) h = program_kind k h
+program_tree (list ts) h = absurd (false≢true h)
+
+pub dressed_reads : (t : Tree) → formed t ≡ true → lawful outside (laid_tree (parenthesise t)) ≡ true → reads (printed (parenthesise t)) (laid_tree (parenthesise t)) ≡ true
+dressed_reads t h l =
+    let u : Tree = laid_tree (parenthesise t) in
+    printed_reads (parenthesise t) (program_tree u (and_parts (admits WholeProgram u) (fits_below WholeProgram u) (dressed_is t h)).0) (dressed_fits t h l)
