@@ -15,3 +15,9 @@ pub mod NormalForms
 pub mod MendedRules
 pub mod Programs
 pub mod Needed
+pub mod Bare
+pub mod Seen
+pub mod Names
+pub mod PlaceTests
+pub mod PlaceTable
+pub mod OpenEnds
