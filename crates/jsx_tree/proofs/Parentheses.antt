@@ -21,3 +21,4 @@ pub mod Names
 pub mod PlaceTests
 pub mod PlaceTable
 pub mod OpenEnds
+pub mod RulesKept

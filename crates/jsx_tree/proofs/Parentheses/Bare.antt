@@ -2,8 +2,8 @@
 use Rattle.std.proofs.Common.{◌≡◌, List, [], ◌∷◌, Bool, true, false, sym, refl, ap, ◌∙◌, ⊎_elim}
 use Rattle.std.proofs.lemmas.Bool.{and_parts, or_cases, both_ways, true≢false, false≢true}
 use Rattle.std.specs.Prelude.{not, ◌&&◌, ◌||◌}
-use Rattle.jsx_tree.specs.Kinds.{Binds, Assigns, Imported, Exported, From, Kind, program, statement, function, expression, FunctionBody, Empty, Do, While, For, ForIn, ForOf, Label, Method, Getter, Setter, Field, InObject, InClass, Static, ParenTarget, BareArrow, BareArrowBlock, NewWithoutArguments, Parenthesized, Tree, leaf, node, list, Forest, none, part}
-use Rattle.jsx_tree.specs.Nonterminals.{Nonterminal, Expr, SubStmt, Stmt, Item, Body, ObjectMember, ClassMember, TemplatePart, TemplateSpans, Specifiers, Pat, PatElement, PatProp, Slot, in_homes, homes}
+use Rattle.jsx_tree.specs.Kinds.{Binds, Assigns, Imported, Exported, From, Kind, program, statement, function, expression, FunctionBody, Empty, Default, FunctionDecl, Declarator, Property, Do, While, For, ForIn, ForOf, Label, Method, Getter, Setter, Field, InObject, InClass, Static, ParenTarget, BareArrow, BareArrowBlock, NewWithoutArguments, Parenthesized, Tree, leaf, node, list, Forest, none, part}
+use Rattle.jsx_tree.specs.Nonterminals.{Nonterminal, Expr, SubStmt, Stmt, Item, Body, ObjectMember, ClassMember, CaseClause, Declaration, Declarators, TemplatePart, TemplateSpans, Specifiers, Pat, PatElement, PatProp, Slot, in_homes, homes}
 use Rattle.jsx_base.specs.Token.{NoSubstitution, TemplateHead, TemplateMiddle, TemplateTail}
 use Rattle.jsx_tree.specs.Normal.{laid_node, made, mades, laid_tree}
 use Rattle.jsx_tree.specs.Form.{Single, Position, position, positions}
@@ -91,7 +91,7 @@ no_turn c (expression NewWithoutArguments) cs f m =
     neither (asks c) (in_homes (lax c) (homes (expression NewWithoutArguments))) true p.0 s.1 m
 no_turn c k cs f m = refl
 
--- ---- what stands at the other places: no body, no loop, no label, no member, no empty statement
+-- ---- what stands at the other places: nothing that the rules of what is around it look into, as bodies, members, declarators or loops
 
 abbrev pub odd : Kind → Bool
 odd (program FunctionBody) = true
@@ -102,10 +102,14 @@ odd (statement For) = true
 odd (statement ForIn) = true
 odd (statement ForOf) = true
 odd (statement Label) = true
+odd (statement Default) = true
+odd (statement FunctionDecl) = true
+odd (statement Declarator) = true
 odd (function (Method h)) = true
 odd (function (Getter h)) = true
 odd (function (Setter h)) = true
 odd (function (Field h)) = true
+odd (expression Property) = true
 odd k = false
 
 -- an expression or a target
@@ -116,7 +120,8 @@ even (list ts) = false
 
 abbrev pub clear : Nonterminal → Bool
 clear c =
-    not (in_homes (lax c) (Body ∷ [])) && (not (in_homes (lax c) (SubStmt ∷ Stmt ∷ Item ∷ [])) && (not (in_homes (lax c) (ObjectMember ∷ [])) && (not (in_homes (lax c) (ClassMember ∷ [])) && not (in_homes (lax c) []))))
+    not (in_homes (lax c) (SubStmt ∷ Stmt ∷ Item ∷ [])) && (not (in_homes (lax c) (Body ∷ [])) && (not (in_homes (lax c) (ObjectMember ∷ [])) && (not (in_homes (lax c) (ClassMember ∷ []))
+    && (not (in_homes (lax c) []) && (not (in_homes (lax c) (CaseClause ∷ [])) && (not (in_homes (lax c) (Declaration ∷ Stmt ∷ Item ∷ [])) && not (in_homes (lax c) (Declarators ∷ []))))))))
 
 pub all_clear : (c : Nonterminal) → (firm c || clear c) ≡ true
 all_clear (TemplatePart NoSubstitution) = refl
@@ -149,19 +154,25 @@ nowhere false true n m = absurd (false≢true n)
 nowhere false false n m = absurd (false≢true m)
 
 record Clear (c : Nonterminal) : Type 0 where
-  pub body : not (in_homes (lax c) (Body ∷ [])) ≡ true
   pub statements : not (in_homes (lax c) (SubStmt ∷ Stmt ∷ Item ∷ [])) ≡ true
+  pub body : not (in_homes (lax c) (Body ∷ [])) ≡ true
   pub members : not (in_homes (lax c) (ObjectMember ∷ [])) ≡ true
   pub class_members : not (in_homes (lax c) (ClassMember ∷ [])) ≡ true
   pub homeless : not (in_homes (lax c) []) ≡ true
+  pub cases : not (in_homes (lax c) (CaseClause ∷ [])) ≡ true
+  pub declarations : not (in_homes (lax c) (Declaration ∷ Stmt ∷ Item ∷ [])) ≡ true
+  pub declarators : not (in_homes (lax c) (Declarators ∷ [])) ≡ true
 
 clear_of : (c : Nonterminal) → firm c ≡ false → Clear c
 clear_of c n =
-    let p = and_parts (not (in_homes (lax c) (Body ∷ []))) _ (cleared c n) in
-    let q = and_parts (not (in_homes (lax c) (SubStmt ∷ Stmt ∷ Item ∷ []))) _ p.1 in
+    let p = and_parts (not (in_homes (lax c) (SubStmt ∷ Stmt ∷ Item ∷ []))) _ (cleared c n) in
+    let q = and_parts (not (in_homes (lax c) (Body ∷ []))) _ p.1 in
     let r = and_parts (not (in_homes (lax c) (ObjectMember ∷ []))) _ q.1 in
     let s = and_parts (not (in_homes (lax c) (ClassMember ∷ []))) _ r.1 in
-    record { body = p.0; statements = q.0; members = r.0; class_members = s.0; homeless = s.1 }
+    let u = and_parts (not (in_homes (lax c) [])) _ s.1 in
+    let w = and_parts (not (in_homes (lax c) (CaseClause ∷ []))) _ u.1 in
+    let x = and_parts (not (in_homes (lax c) (Declaration ∷ Stmt ∷ Item ∷ []))) _ w.1 in
+    record { statements = p.0; body = q.0; members = r.0; class_members = s.0; homeless = u.0; cases = w.0; declarations = x.0; declarators = x.1 }
 
 pub soft_even : (c : Nonterminal) (k : Kind) (cs : Forest) → firm c ≡ false → may_stand c (node k cs) ≡ true → odd k ≡ false
 soft_even c (program FunctionBody) cs n m = nowhere (asks c) _ (clear_of c n).body m
@@ -184,6 +195,10 @@ soft_even c (function (Setter Static)) cs n m = nowhere (asks c) _ (clear_of c n
 soft_even c (function (Field InObject)) cs n m = nowhere (asks c) _ (clear_of c n).homeless m
 soft_even c (function (Field InClass)) cs n m = nowhere (asks c) _ (clear_of c n).class_members m
 soft_even c (function (Field Static)) cs n m = nowhere (asks c) _ (clear_of c n).class_members m
+soft_even c (statement Default) cs n m = nowhere (asks c) _ (clear_of c n).cases m
+soft_even c (statement FunctionDecl) cs n m = nowhere (asks c) _ (clear_of c n).declarations m
+soft_even c (statement Declarator) cs n m = nowhere (asks c) _ (clear_of c n).declarators m
+soft_even c (expression Property) cs n m = nowhere (asks c) _ (clear_of c n).members m
 soft_even c k cs n m = refl
 
 pub no_list : {A : Type 0} (c : Nonterminal) (ts : Forest) → may_stand c (list ts) ≡ true → A

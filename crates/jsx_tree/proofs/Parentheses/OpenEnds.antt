@@ -106,7 +106,7 @@ mutual
 
 firm_where : (c : Nonterminal) → shut c ≡ false → firm c ≡ true
 firm_where c n =
-    ⊎_elim (λ p. p) (λ p. clash (shut c) (and_parts (shut c) _ (and_parts (not (in_homes (lax c) (Body ∷ []))) _ p).1).0 n) (or_cases (firm c) (clear c) (all_clear c))
+    ⊎_elim (λ p. p) (λ p. clash (shut c) (and_parts (shut c) _ p).0 n) (or_cases (firm c) (clear c) (all_clear c))
 
 same_end : (b l i : Bool) (ds es : Forest) → (not b || l) ≡ true → (l ≡ true → last_open i ds ≡ last_open i es) → (b && last_open i ds) ≡ (b && last_open i es)
 same_end false l i ds es h f = refl

@@ -51,19 +51,16 @@ empty_same c (list ts) a = refl
 empty_same c (node k cs) a = by_kind is_empty false c k cs a even_empty (empty_node k _ _)
 
 -- what a fold over a list makes of a test
-pub Step : {A : Type 0} → (Forest → A) → (Tree → Bool) → Type 0
+abbrev pub Step : {A : Type 0} → (Forest → A) → (Tree → Bool) → Type 0
 Step F f = (t u : Tree) (ts us : Forest) → f t ≡ f u → F ts ≡ F us → F (part t ts) ≡ F (part u us)
 
 pub counts : (f : Tree → Bool) → Step (count_of f) f
-unfolding Step
 counts f t u ts us p q = ap (λ b. cond b (suc (count_of f ts)) (count_of f ts)) p ∙ ap (λ n. cond (f u) (suc n) n) q
 
 pub alls : (f : Tree → Bool) → Step (all_of f) f
-unfolding Step
 alls f t u ts us p q = ap (λ b. b && all_of f ts) p ∙ ap (λ b. f u && b) q
 
 pub firsts : (f : Tree → Bool) → Step (first_of_list f) f
-unfolding Step
 firsts f t u ts us p q = p
 
 pub one_of : (c : Nonterminal) (t : Tree) (ts : Forest) → loose_each c (part t ts) ≡ true → At c t
@@ -73,12 +70,10 @@ pub rest_of : (c : Nonterminal) (t : Tree) (ts : Forest) → loose_each c (part 
 rest_of c t ts h = (and_parts (loose c t) (loose_each c ts) (and_parts (may_stand c t) (loose c t && loose_each c ts) h).1).1
 
 pub fold_all : {A : Type 0} (F : Forest → A) (f : Tree → Bool) → Step F f → (c : Nonterminal) → ((t : Tree) → At c t → Same f t) → (ts : Forest) → loose_each c ts ≡ true → F (each_made laid_node ts) ≡ F (each_made bare_node ts)
-unfolding Step
 fold_all F f s c g none h = refl
 fold_all F f s c g (part t ts) h = s _ _ _ _ (g t (one_of c t ts h)) (fold_all F f s c g ts (rest_of c t ts h))
 
 fold_drop : {A : Type 0} (F : Forest → A) (f : Tree → Bool) → Step F f → (v : Bool) (t u : Tree) (ts us : Forest) → f t ≡ f u → F ts ≡ F us → F (unless_empty v t ts) ≡ F (unless_empty v u us)
-unfolding Step
 fold_drop F f s true t u ts us p q = q
 fold_drop F f s false t u ts us p q = s t u ts us p q
 
@@ -143,10 +138,16 @@ proto_node _ cs h = refl
 pub slots_of : (c : Nonterminal) (k : Kind) (cs : Forest) → At c (node k cs) → loose_slots (positions k) cs ≡ true
 slots_of c k cs a = (and_parts (is_no_jsx k) (loose_slots (positions k) cs) a.below).1
 
-pub proto_same : (t : Tree) → At ObjectMember t → Same is_proto t
-proto_same (leaf s x) a = refl
-proto_same (list ts) a = refl
-proto_same (node k cs) a = firm_by is_proto ObjectMember k cs refl a.may (proto_node k cs (slots_of ObjectMember k cs a))
+even_proto : (u : Tree) → even u ≡ true → is_proto u ≡ false
+even_proto (leaf s x) h = refl
+even_proto (node (expression Property) cs) h = absurd (false≢true h)
+even_proto (node k cs) h = refl
+even_proto (list ts) h = refl
+
+pub proto_same : (c : Nonterminal) (t : Tree) → At c t → Same is_proto t
+proto_same c (leaf s x) a = refl
+proto_same c (list ts) a = refl
+proto_same c (node k cs) a = by_kind is_proto false c k cs a even_proto (proto_node k cs (slots_of c k cs a))
 
 constructor_node : (k : Kind) (cs : Forest) → loose_slots (positions k) cs ≡ true → is_constructor (node k (lays k cs)) ≡ is_constructor (node k (bares k cs))
 constructor_node (function (Method InClass)) none h = refl
@@ -206,19 +207,31 @@ default_node : (k : Kind) (ds es : Forest) → is_default (node k ds) ≡ is_def
 default_node (statement Default) ds es = refl
 default_node _ ds es = refl
 
-pub default_same : (t : Tree) → At CaseClause t → Same is_default t
-default_same (leaf s x) a = refl
-default_same (list ts) a = refl
-default_same (node k cs) a = firm_by is_default CaseClause k cs refl a.may (default_node k _ _)
+even_default : (u : Tree) → even u ≡ true → is_default u ≡ false
+even_default (leaf s x) h = refl
+even_default (node (statement Default) cs) h = absurd (false≢true h)
+even_default (node k cs) h = refl
+even_default (list ts) h = refl
+
+pub default_same : (c : Nonterminal) (t : Tree) → At c t → Same is_default t
+default_same c (leaf s x) a = refl
+default_same c (list ts) a = refl
+default_same c (node k cs) a = by_kind is_default false c k cs a even_default (default_node k _ _)
 
 function_node : (k : Kind) (ds es : Forest) → is_function (node k ds) ≡ is_function (node k es)
 function_node (statement FunctionDecl) ds es = refl
 function_node _ ds es = refl
 
-pub function_same : (t : Tree) → At Stmt t → Same is_function t
-function_same (leaf s x) a = refl
-function_same (list ts) a = refl
-function_same (node k cs) a = firm_by is_function Stmt k cs refl a.may (function_node k _ _)
+even_function : (u : Tree) → even u ≡ true → is_function u ≡ false
+even_function (leaf s x) h = refl
+even_function (node (statement FunctionDecl) cs) h = absurd (false≢true h)
+even_function (node k cs) h = refl
+even_function (list ts) h = refl
+
+pub function_same : (c : Nonterminal) (t : Tree) → At c t → Same is_function t
+function_same c (leaf s x) a = refl
+function_same c (list ts) a = refl
+function_same c (node k cs) a = by_kind is_function false c k cs a even_function (function_node k _ _)
 
 optional_node : (k : Kind) (ds es : Forest) → is_optional (node k ds) ≡ is_optional (node k es)
 optional_node (expression (NameLink q)) ds es = refl
@@ -261,12 +274,22 @@ init_node ConstWord _ cs h = refl
 init_node VarWord _ cs h = refl
 init_node LetWord _ cs h = refl
 
-pub init_same : (v : DeclareWord) (t : Tree) → At Declarators t → Same (has_init v) t
-init_same ConstWord (leaf s x) a = refl
-init_same VarWord (leaf s x) a = refl
-init_same LetWord (leaf s x) a = refl
-init_same v (list ts) a = no_list Declarators ts a.may
-init_same v (node k cs) a = firm_by (has_init v) Declarators k cs refl a.may (init_node v k cs (slots_of Declarators k cs a))
+even_init : (v : DeclareWord) (u : Tree) → even u ≡ true → has_init v u ≡ true
+even_init ConstWord (leaf s x) h = refl
+even_init VarWord (leaf s x) h = refl
+even_init LetWord (leaf s x) h = refl
+even_init v (node (statement Declarator) cs) h = absurd (false≢true h)
+even_init ConstWord (node k cs) h = refl
+even_init VarWord (node k cs) h = refl
+even_init LetWord (node k cs) h = refl
+even_init v (list ts) h = absurd (false≢true h)
+
+pub init_same : (v : DeclareWord) (c : Nonterminal) (t : Tree) → At c t → Same (has_init v) t
+init_same ConstWord c (leaf s x) a = refl
+init_same VarWord c (leaf s x) a = refl
+init_same LetWord c (leaf s x) a = refl
+init_same v c (list ts) a = no_list c ts a.may
+init_same v c (node k cs) a = by_kind (has_init v) true c k cs a (even_init v) (init_node v k cs (slots_of c k cs a))
 
 -- ---- directives, and bodies that are strict by their own
 
