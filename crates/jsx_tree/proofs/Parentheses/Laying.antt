@@ -147,7 +147,7 @@ without_enough s c ts d f h = ⊎_elim (λ p. free_enough s (without_empty ts) p
 
 -- ---- the kinds that are written in another form
 
-param_leaf : (s : TokenKind) (x : Text) → leaf_in BindingIdent s x ≡ true → leaf_in Param s x ≡ true
+pub param_leaf : (s : TokenKind) (x : Text) → leaf_in BindingIdent s x ≡ true → leaf_in Param s x ≡ true
 param_leaf IdentifierName x h = h
 param_leaf JsxName x h = absurd (false≢true h)
 param_leaf _ x h = absurd (false≢true h)

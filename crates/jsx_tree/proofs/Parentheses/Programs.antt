@@ -1,5 +1,5 @@
 -- What `parenthesise` gives has the form that the productions ask, and each part begins as it may: a tree that is formed fits, where the static rules hold.
-use Rattle.std.proofs.Common.{◌≡◌, [], true, false, refl, ⊎_elim}
+use Rattle.std.proofs.Common.{◌≡◌, [], true, false, sym, refl, ap, ◌∙◌}
 use Rattle.std.proofs.lemmas.Bool.{and_parts, and_from, or_cases, both_ways, false≢true}
 use Rattle.jsx_tree.proofs.ReadBack.Basics.{not_true}
 use Rattle.jsx_tree.proofs.Parentheses.EmptyStatements.{only_programs}
@@ -16,7 +16,7 @@ use Rattle.jsx_tree.specs.StaticRules.{outside}
 use Rattle.jsx_tree.specs.Fits.{held, fits}
 use Rattle.jsx_tree.proofs.ReadBack.RowChecks.{is_program}
 use Rattle.jsx_tree.proofs.ReadBack.Programs.{is_program_tree, printed_reads}
-use Rattle.jsx_tree.specs.Sound.{may_stand, loose, formed, lawful}
+use Rattle.jsx_tree.specs.Sound.{may_stand, loose, formed, lawful, is_sound}
 use Rattle.jsx_tree.proofs.Parentheses.MendedRules.{mended, legal_of, special_calm, shield_ready, laid_mended, placed_of}
 use Rattle.jsx_tree.proofs.Parentheses.FirstPass.{home, fine, dress_fine}
 use Rattle.jsx_tree.proofs.Parentheses.SecondPass.{special_at}
@@ -25,6 +25,10 @@ use Rattle.jsx_tree.proofs.Parentheses.Laying.{laid_is}
 use Rattle.jsx_tree.proofs.Parentheses.Begins.{begun, dress_begun}
 use Rattle.jsx_tree.proofs.Parentheses.BeginsKept.{special_begun, shield_begun}
 use Rattle.jsx_tree.proofs.Parentheses.Held.{laid_held}
+use Rattle.jsx_tree.proofs.Parentheses.Seen.{At}
+use Rattle.jsx_tree.proofs.Parentheses.NormalForms.{bare_same}
+use Rattle.jsx_tree.proofs.Parentheses.LawsKept.{lawful_same}
+use Rattle.jsx_tree.proofs.Parentheses.Loose.{may_of, loose_of}
 
 dressed_fine : (t : Tree) → formed t ≡ true → (home false WholeProgram (parenthesise t) ≡ true) × (fine false WholeProgram (parenthesise t) ≡ true)
 dressed_fine t h =
@@ -54,23 +58,17 @@ dressed_mended t h =
     let s = special_at WholeProgram u refl d.0 d.1 in
     laid_mended WholeProgram (parenthesise t) (dressed_fine t h).1 (shield_ready false (remade special u) (placed_of WholeProgram (remade special u) s.1) (special_calm u))
 
--- so a tree that is formed fits, once the static rules that no pair mends hold of what is written
-pub dressed_fits : (t : Tree) → formed t ≡ true → lawful outside (laid_tree (parenthesise t)) ≡ true → fits (parenthesise t) ≡ true
-dressed_fits t h l = and_from _ _ (dressed_is t h) (and_from _ _ (legal_of outside (laid_tree (parenthesise t)) l (dressed_mended t h)) (dressed_held t h))
+-- the static rules hold with the pairs where they hold without
+lawful_kept : (t : Tree) → formed t ≡ true → lawful outside (laid_tree t) ≡ true → lawful outside (laid_tree (parenthesise t)) ≡ true
+lawful_kept t h l =
+    let p = and_parts (may_stand WholeProgram t) (loose WholeProgram t) h in
+    let d = dressed_fine t h in
+    let u : Tree = parenthesise t in
+    lawful_same WholeProgram u (record { may = may_of WholeProgram u d.0; below = loose_of WholeProgram u d.1 }) outside
+    ∙ (ap (lawful outside) (bare_same t) ∙ (sym (lawful_same WholeProgram t (record { may = p.0; below = p.1 }) outside) ∙ l))
 
--- ---- and what is printed of it reads back
-
-program_kind : (k : Kind) → in_homes WholeProgram (homes k) ≡ true → is_program k ≡ true
-program_kind k h = ⊎_elim (λ p. absurd (both_ways (in_homes WholeProgram (homes k)) (not_true (in_homes WholeProgram (homes k)) p) h)) (λ p. p) (or_cases (not (in_homes WholeProgram (homes k))) (is_program k) (only_programs k))
-
-program_tree : (u : Tree) → admits WholeProgram u ≡ true → is_program_tree u ≡ true
-program_tree (leaf IdentifierName x) h = absurd (false≢true h)
-program_tree (leaf JsxName x) h = absurd (false≢true h)
-program_tree (leaf s x) h = absurd (false≢true h)
-program_tree (node k cs) h = program_kind k h
-program_tree (list ts) h = absurd (false≢true h)
-
-pub dressed_reads : (t : Tree) → formed t ≡ true → lawful outside (laid_tree (parenthesise t)) ≡ true → reads (printed (parenthesise t)) (laid_tree (parenthesise t)) ≡ true
-dressed_reads t h l =
-    let u : Tree = laid_tree (parenthesise t) in
-    printed_reads (parenthesise t) (program_tree u (and_parts (admits WholeProgram u) (fits_below WholeProgram u) (dressed_is t h)).0) (dressed_fits t h l)
+-- what `parenthesise` makes of a sound tree fits
+pub dressed_fits : (t : Tree) → is_sound t ≡ true → fits (parenthesise t) ≡ true
+dressed_fits t h =
+    let p = and_parts (formed t) (lawful outside (laid_tree t)) h in
+    and_from _ _ (dressed_is t p.0) (and_from _ _ (legal_of outside (laid_tree (parenthesise t)) (lawful_kept t p.0 p.1) (dressed_mended t p.0)) (dressed_held t p.0))
