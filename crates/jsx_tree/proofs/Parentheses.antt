@@ -23,4 +23,5 @@ pub mod OpenEnds
 pub mod RulesKept
 pub mod LawsKept
 pub mod Loose
+pub mod Idempotent
 pub mod Programs
