@@ -1,4 +1,4 @@
--- Which trees fit (04 section 3): what is asked beside the grammar's form and the static rules.
+-- Which trees fit: their layout reads back. Beside the grammar's form and the static rules it is asked that each part begins as it may at its place, and that nothing is JSX.
 use Rattle.std.specs.Prelude.{List, [], ◌∷◌, Bool, true, false, not, ◌&&◌}
 use Rattle.jsx_base.specs.Token.{Text, TokenKind, IdentifierName, NumericLiteral, BigIntLiteral, StringLiteral, RegExpLiteral, NoSubstitution, TemplateHead, TemplateMiddle, TemplateTail, Elision, among}
 use Rattle.jsx_tree.specs.Kinds.{InObject, Field, BareArrow, BareArrowBlock, NewWithoutArguments, OpAssign, Kind, function, expression, jsx, Tree, leaf, node, list, Forest, none, part}

@@ -1,4 +1,4 @@
--- Which trees are sound: parts of the kinds that the productions have, but for what parentheses mend (04 sections 2 and 3).
+-- Which trees are sound: those that fit once parentheses are put. Each part is of a kind that its place has, and the static rules hold, but for what parentheses mend.
 use Rattle.std.specs.Prelude.{List, [], ◌∷◌, Bool, true, false, ◌&&◌, ◌||◌}
 use Rattle.jsx_tree.specs.Kinds.{Module, Script, FunctionBody, For, Kind, program, statement, jsx, Tree, leaf, node, list, Forest, none, part}
 use Rattle.jsx_tree.specs.Nonterminals.{Nonterminal, ForHead, ForOfHead, WholeProgram, in_homes, homes, leaf_in}

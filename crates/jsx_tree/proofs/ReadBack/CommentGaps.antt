@@ -3,14 +3,25 @@ use Rattle.std.proofs.Common.{suc}
 use Rattle.std.proofs.Common.{◌≡◌, ℕ, List, [], ◌∷◌, ◌++◌, Bool, true, false, cond, not, ◌||◌, codes, refl, sym, ap, ◌∙◌}
 use Rattle.std.specs.Prelude.{nat_eq}
 use Rattle.std.proofs.lemmas.Bool.{false≢true, and_parts, and_from, or_parts}
-use Rattle.jsx_base.specs.Token.{Text, Blank, same, skip, breaks, is_cut, is_end}
+use Rattle.jsx_base.specs.Token.{Text, Blank, first_is, same, skip, breaks, is_cut, is_end}
 use Rattle.jsx_tree.specs.Layout.{Note, Beside, notes_text}
 use Rattle.jsx_tree.proofs.ReadBack.Joins.{pad, has_line}
-use Rattle.jsx_tree.specs.Notes.{Gap, Comments, no_note, all_beside}
+use Rattle.jsx_tree.specs.Notes.{no_note, all_beside}
 use Rattle.jsx_base.specs.Token.{skips}
 use Rattle.jsx_tree.specs.Signs.{Sign, Tok, Semicolon, TrailingComma, Unless, SameLine, Ends, Space, Pad, Line, Indent, Outdent, Unindent, Apart, Begin, Count, One, End}
-use Rattle.jsx_tree.specs.Notes.{noted, at_code}
+use Rattle.jsx_tree.specs.Notes.{noted, at_code, marks}
 use Rattle.jsx_tree.proofs.ReadBack.Signs.{append, append_nil, by_pad, skip_pad, breaks_pad}
+
+-- a text that is skipped as a gap is, with a line end in it or, where not l, without
+pub record Gap (l : Bool) (g : Text) : Type 0 where
+  pub skipped : (y : Text) → skip (g ++ y) ≡ skip y
+  pub cuts : (y : Text) → is_cut Blank (g ++ y) ≡ is_cut Blank y
+  pub unbroken : l ≡ false → (y : Text) → breaks (g ++ y) ≡ breaks y
+
+-- notes are whole comments, which begin with a slash; those beside a token have no line end
+pub record Comments (f : ℕ → List Note) : Type 0 where
+  pub gap : (i : ℕ) (n : List Bool) → Gap (not (all_beside (f i))) (notes_text n (f i))
+  pub slash : (i : ℕ) (n : List Bool) (y : Text) → no_note (f i) ≡ false → first_is (nat_eq 47) (notes_text n (f i) ++ y) ≡ true
 
 cut_pad : (g y : Text) → pad g ≡ true → is_cut Blank (g ++ y) ≡ is_cut Blank y
 cut_pad [] y h = refl
@@ -46,17 +57,13 @@ pure_mark = codes "/*#__PURE__*/ "
 gap_mark : Gap false pure_mark
 gap_mark = record { skipped = λ y. refl; cuts = λ y. refl; unbroken = λ n y. refl }
 
--- marks at the tokens of a list
-abbrev pub marks : (ℕ → Bool) → ℕ → List Note
-marks at i = cond (at i) (Beside (codes "/*#__PURE__*/") ∷ []) []
-
 pub marks_are : (at : ℕ → Bool) → Comments (marks at)
 marks_are at = record { gap = λ i n. one (at i) n; slash = λ i n y. front (at i) n y }
   where
     one : (b : Bool) (n : List Bool) → Gap (not (all_beside (cond b (Beside (codes "/*#__PURE__*/") ∷ []) []))) (notes_text n (cond b (Beside (codes "/*#__PURE__*/") ∷ []) []))
     one true n = gap_mark
     one false n = gap_nil
-    front : (b : Bool) (n : List Bool) (y : Text) → no_note (cond b (Beside (codes "/*#__PURE__*/") ∷ []) []) ≡ false → Rattle.jsx_base.specs.Token.first_is (nat_eq 47) (notes_text n (cond b (Beside (codes "/*#__PURE__*/") ∷ []) []) ++ y) ≡ true
+    front : (b : Bool) (n : List Bool) (y : Text) → no_note (cond b (Beside (codes "/*#__PURE__*/") ∷ []) []) ≡ false → first_is (nat_eq 47) (notes_text n (cond b (Beside (codes "/*#__PURE__*/") ∷ []) []) ++ y) ≡ true
     front true n y h = refl
     front false n y h = absurd (false≢true (sym h))
 

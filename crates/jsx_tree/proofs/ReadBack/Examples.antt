@@ -19,7 +19,7 @@ use Rattle.jsx_base.specs.Token.{same}
 use Rattle.jsx_tree.specs.Kinds.{Tree}
 use Rattle.jsx_tree.specs.Layout.{laid}
 use Rattle.jsx_tree.specs.Notes.{at_code}
-use Rattle.jsx_tree.proofs.ReadBack.CommentGaps.{marks}
+use Rattle.jsx_tree.specs.Notes.{marks}
 use Rattle.jsx_tree.specs.Fits.{fits}
 
 if_joins : joins (spelled sample_if) ≡ true

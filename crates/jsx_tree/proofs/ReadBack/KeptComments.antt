@@ -6,7 +6,8 @@ use Rattle.jsx_base.specs.Token.{Text, same, first_is, is_line_end, Gap as At, B
 use Rattle.jsx_tree.proofs.ReadBack.Longest.{same_is}
 use Rattle.jsx_tree.specs.Layout.{Note, Own, Beside, notes_text, line, indent}
 use Rattle.jsx_tree.proofs.ReadBack.Joins.{has_line}
-use Rattle.jsx_tree.specs.Notes.{Gap, Comments, no_note, all_beside, no_ends, closes, is_line_comment, is_block_comment, all_notes}
+use Rattle.jsx_tree.specs.Notes.{no_note, all_beside, no_ends, closes, is_line_comment, is_block_comment, all_notes}
+use Rattle.jsx_tree.proofs.ReadBack.CommentGaps.{Gap, Comments}
 use Rattle.jsx_tree.proofs.ReadBack.Basics.{not_true}
 use Rattle.jsx_tree.proofs.ReadBack.Signs.{append, indent_pad}
 use Rattle.jsx_tree.proofs.ReadBack.CommentGaps.{gap_pad, gap_nil, gap_blank, gap_more}

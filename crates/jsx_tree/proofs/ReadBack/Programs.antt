@@ -20,9 +20,10 @@ use Rattle.std.specs.Prelude.{IsTrue}
 use Rattle.jsx_tree.specs.declared.text.Goal.{Goal}
 use Rattle.jsx_tree.specs.Program.{is_goal, Reads}
 use Rattle.jsx_tree.specs.Fits.{may_begin, held, helds, held_each, fits_laid, fits}
-use Rattle.jsx_tree.specs.Notes.{Comments, noted}
-use Rattle.jsx_tree.specs.Notes.{at_code}
-use Rattle.jsx_tree.proofs.ReadBack.CommentGaps.{marks, marks_are, marks_noted}
+use Rattle.jsx_tree.specs.Notes.{noted}
+use Rattle.jsx_tree.proofs.ReadBack.CommentGaps.{Comments}
+use Rattle.jsx_tree.specs.Notes.{at_code, marks}
+use Rattle.jsx_tree.proofs.ReadBack.CommentGaps.{marks_are, marks_noted}
 use Rattle.jsx_tree.proofs.ReadBack.WithComments.{scans_noted}
 use Rattle.jsx_tree.proofs.ReadBack.Signs.{scans_layout}
 use Rattle.jsx_tree.proofs.ReadBack.NextTokens.{even_gap, Outside}
