@@ -1,14 +1,14 @@
 -- A tree as it is laid with its pairs off: the same whether pairs were put or not. What stands in place of a pair is an expression or a target.
-use Rattle.std.proofs.Common.{◌≡◌, List, [], ◌∷◌, Bool, true, false, sym, refl, ap, ◌∙◌, ⊎_elim}
-use Rattle.std.proofs.lemmas.Bool.{and_parts, or_cases, both_ways, true≢false, false≢true}
+use Rattle.std.proofs.Common.{◌≡◌, List, [], ◌∷◌, Bool, true, false, refl, ap, ⊎_elim}
+use Rattle.std.proofs.lemmas.Bool.{and_parts, or_cases, true≢false, false≢true}
 use Rattle.std.specs.Prelude.{not, ◌&&◌, ◌||◌}
 use Rattle.jsx_tree.specs.Kinds.{Binds, Assigns, Imported, Exported, From, Kind, program, statement, function, expression, FunctionBody, Empty, Default, FunctionDecl, Declarator, Property, Do, While, For, ForIn, ForOf, Label, Method, Getter, Setter, Field, InObject, InClass, Static, ParenTarget, BareArrow, BareArrowBlock, NewWithoutArguments, Parenthesized, Tree, leaf, node, list, Forest, none, part}
-use Rattle.jsx_tree.specs.Nonterminals.{Nonterminal, Expr, SubStmt, Stmt, Item, Body, ObjectMember, ClassMember, CaseClause, Declaration, Declarators, TemplatePart, TemplateSpans, Specifiers, Pat, PatElement, PatProp, Slot, in_homes, homes}
+use Rattle.jsx_tree.specs.Nonterminals.{Nonterminal, SubStmt, Stmt, Item, Body, ObjectMember, ClassMember, CaseClause, Declaration, Declarators, TemplatePart, TemplateSpans, Specifiers, Pat, PatElement, PatProp, Slot, in_homes, homes}
 use Rattle.jsx_base.specs.Token.{NoSubstitution, TemplateHead, TemplateMiddle, TemplateTail}
 use Rattle.jsx_tree.specs.Normal.{laid_node, made, mades, laid_tree}
 use Rattle.jsx_tree.specs.Form.{Single, Position, position, positions}
 use Rattle.jsx_tree.specs.Parentheses.{asks}
-use Rattle.jsx_tree.specs.Sound.{lax, may_stand, may_shape, is_no_jsx, loose, loose_slots}
+use Rattle.jsx_tree.specs.Sound.{lax, may_stand, is_no_jsx, loose, loose_slots}
 use Rattle.jsx_tree.proofs.ReadBack.Basics.{not_true, clash}
 
 abbrev pub bare_node : Kind → Forest → Tree

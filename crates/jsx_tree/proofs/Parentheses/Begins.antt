@@ -182,19 +182,19 @@ begins_where : (c : Nonterminal) (g : List Text) (t : Tree) → guarded_at c g �
 begins_where c g t d w m h =
     ⊎_elim (λ p. or_left (is_none g) _ p)
     (λ p.
-      let q = and_parts (is_level c) (safe (lax c) && not (among (codes "(") g)) p in
-      let r = and_parts (safe (lax c)) (not (among (codes "(") g)) q.1 in
-      let l : led t ≡ true = led_of t c r.0 (home_where c g t w m) h in
-      or_right (is_none g) _ (and_from (led t) _ l (ap (λ x. not (among x g)) (sym (starts_are t l)) ∙ guard_where c g t (among (first_token (spelled t)) g) refl (level_asks c q.0) (level_expression c t q.0 m) w)))
+    let q = and_parts (is_level c) (safe (lax c) && not (among (codes "(") g)) p in
+    let r = and_parts (safe (lax c)) (not (among (codes "(") g)) q.1 in
+    let l : led t ≡ true = led_of t c r.0 (home_where c g t w m) h in
+    or_right (is_none g) _ (and_from (led t) _ l (ap (λ x. not (among x g)) (sym (starts_are t l)) ∙ guard_where c g t (among (first_token (spelled t)) g) refl (level_asks c q.0) (level_expression c t q.0 m) w)))
     (or_cases (is_none g) _ d)
 
 pub begins_paren : (c : Nonterminal) (g : List Text) (t : Tree) → guarded_at c g ≡ true → led t ≡ true → starts t ≡ codes "(" → begins g t ≡ true
 begins_paren c g t d l e =
     ⊎_elim (λ p. or_left (is_none g) _ p)
     (λ p.
-      let q = and_parts (is_level c) (safe (lax c) && not (among (codes "(") g)) p in
-      let r = and_parts (safe (lax c)) (not (among (codes "(") g)) q.1 in
-      or_right (is_none g) _ (and_from (led t) _ l (ap (λ x. not (among x g)) e ∙ r.1)))
+    let q = and_parts (is_level c) (safe (lax c) && not (among (codes "(") g)) p in
+    let r = and_parts (safe (lax c)) (not (among (codes "(") g)) q.1 in
+    or_right (is_none g) _ (and_from (led t) _ l (ap (λ x. not (among x g)) e ∙ r.1)))
     (or_cases (is_none g) _ d)
 
 wrap_begun : (c : Nonterminal) (g : List Text) (t : Tree) (v : Bool) → wants c g t ≡ v → guarded_at c g ≡ true → may_stand c t ≡ true → fine true c t ≡ true → begun t ≡ true

@@ -128,7 +128,7 @@ pub begins_kept : (c : Nonterminal) (g : List Text) (t u : Tree) → guarded_at 
 begins_kept c g t u d f r h =
     ⊎_elim (λ p. or_left (is_none g) _ p)
     (λ p. let q = and_parts (led t) (not (among (starts t) g)) p in
-      ⊎_elim (λ e. or_right (is_none g) _ (and_from (led u) _ (f q.0) (ap (λ x. not (among x g)) e ∙ q.1))) (λ e. begins_paren c g u d (f q.0) e) r)
+    ⊎_elim (λ e. or_right (is_none g) _ (and_from (led u) _ (f q.0) (ap (λ x. not (among x g)) e ∙ q.1))) (λ e. begins_paren c g u d (f q.0) e) r)
     (or_cases (is_none g) (led t && not (among (starts t) g)) h)
 
 wrap_dotted : (c : Nonterminal) (k : Kind) (ds : Forest) (v : Bool) → not (is_dotted_number c (cond v (parens_of (node k ds)) (node k ds))) ≡ true

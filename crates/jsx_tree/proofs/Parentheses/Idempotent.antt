@@ -1,13 +1,12 @@
 -- The normal form of a normal form is itself, where the parameter of an arrow without parentheses is a name.
-use Rattle.std.proofs.Common.{◌≡◌, List, [], ◌∷◌, Bool, true, false, cond, sym, refl, ap, ◌∙◌}
+use Rattle.std.proofs.Common.{◌≡◌, List, [], ◌∷◌, Bool, true, false, cond, refl, ap, ◌∙◌}
 use Rattle.std.proofs.lemmas.Bool.{and_parts, and_from, both_ways, false≢true}
 use Rattle.std.specs.Prelude.{codes, not, ◌&&◌}
 use Rattle.jsx_base.specs.Token.{Text, IdentifierName, StringLiteral, same}
-use Rattle.jsx_tree.specs.Kinds.{Specifier, SpecifierAs, Empty, Role, ComputedKey, ObjectPat, PropertyPat, ShorthandPat, ShorthandInit, WithInit, ParenTarget, Arrow, ArrowBlock, BareArrow, BareArrowBlock, New, NewWithoutArguments, Object, Property, Shorthand, Parenthesized, Kind, program, statement, function, expression, Tree, leaf, node, list, Forest, none, part}
+use Rattle.jsx_tree.specs.Kinds.{Specifier, SpecifierAs, Role, ComputedKey, ObjectPat, PropertyPat, ShorthandPat, ShorthandInit, WithInit, ParenTarget, Arrow, ArrowBlock, BareArrow, BareArrowBlock, New, NewWithoutArguments, Object, Property, Shorthand, Parenthesized, Kind, program, function, expression, Tree, leaf, node, list, Forest, none, part}
 use Rattle.jsx_tree.specs.Nonterminals.{Nonterminal, BindingIdent, in_homes, homes}
-use Rattle.jsx_tree.specs.Grammar.{Context}
-use Rattle.jsx_tree.specs.Normal.{pair, long_prop, long_pat, each, is_empty, unless_empty, without_empty, plain_node, of_list, made, mades, each_made, nf}
-use Rattle.jsx_tree.specs.Form.{Form, Single, Maybe, Several, Position, position, positions, at_most_one, enough, last_only, shaped, admits, fits_below, fit_slots, fit_each}
+use Rattle.jsx_tree.specs.Normal.{pair, long_prop, long_pat, each, is_empty, unless_empty, without_empty, plain_node, of_list, mades, each_made, nf}
+use Rattle.jsx_tree.specs.Form.{Form, Single, Maybe, Several, Position, position, positions, shaped, admits, fits_below, fit_slots, fit_each}
 use Rattle.jsx_tree.specs.Sound.{may_stand, may_shape, is_no_jsx, loose, loose_slots, loose_each}
 use Rattle.jsx_tree.proofs.ReadBack.Basics.{not_true}
 use Rattle.jsx_tree.proofs.Parentheses.EmptyStatements.{drops, all_drops}
@@ -168,9 +167,11 @@ each_again f n e g ts h i = ap (λ us. each f (without_empty us)) (normal ts h) 
     normal : (ts : Forest) → each_made plain_node ts ≡ ts → each_made plain_node (each f ts) ≡ each f ts
     normal none h = refl
     normal (part t ts) h = ap (λ u. part u (each_made plain_node (each f ts))) (n t (head_is _ _ _ _ h)) ∙ ap (part (f t)) (normal ts (tail_is _ _ _ _ h))
+
     full_each : (ts : Forest) → filled ts ≡ true → filled (each f ts) ≡ true
     full_each none i = refl
     full_each (part t ts) i = let p = and_parts (not (is_empty t)) (filled ts) i in and_from _ _ (ap not (e t) ∙ p.0) (full_each ts p.1)
+
     twice : (ts : Forest) → each f (each f ts) ≡ each f ts
     twice none = refl
     twice (part t ts) = ap (λ u. part u (each f (each f ts))) (g t) ∙ ap (part (f t)) (twice ts)

@@ -1,21 +1,21 @@
 -- The static rules, but for those that pairs mend, hold of a tree with pairs where they hold of it without.
-use Rattle.std.proofs.Common.{◌≡◌, List, [], ◌∷◌, Bool, true, false, cond, suc, sym, refl, ap, ◌∙◌, ⊎_elim}
-use Rattle.std.proofs.lemmas.Bool.{and_parts, and_from, or_left, or_right, both_ways, false≢true}
+use Rattle.std.proofs.Common.{◌≡◌, List, [], ◌∷◌, Bool, true, false, cond, suc, sym, refl, ap, ◌∙◌}
+use Rattle.std.proofs.lemmas.Bool.{and_parts, and_from, both_ways, false≢true}
 use Rattle.std.specs.Prelude.{not, ◌&&◌, ◌||◌, nat_eq}
 use Rattle.jsx_base.specs.Token.{Text, TokenKind}
 use Rattle.jsx_tree.specs.Kinds.{Kind, function, expression, Arrow, ArrowBlock, BareArrow, BareArrowBlock, New, NewWithoutArguments, ParenTarget, Parenthesized, Tree, leaf, node, list, Forest, none, part}
-use Rattle.jsx_tree.specs.Nonterminals.{Nonterminal, Expr, SimpleTarget, BindingIdent, Param, NewCallee, Body, in_homes, homes, leaf_in}
+use Rattle.jsx_tree.specs.Nonterminals.{Nonterminal, Expr, SimpleTarget, BindingIdent, Param, NewCallee, Body, in_homes, homes}
 use Rattle.jsx_tree.specs.Grammar.{Context, InFunction, InArrow, InMethod, InField, InClassCode, InMembers, InLoop, InSwitch, InLabel, InCode, InModuleCode, production}
-use Rattle.jsx_tree.specs.Normal.{is_empty, unless_empty, without_empty, laid_node, mades, each_made, of_list, laid_tree}
-use Rattle.jsx_tree.specs.Form.{Form, Single, Maybe, Several, Position, position, positions, at_most_one, enough, last_only}
+use Rattle.jsx_tree.specs.Normal.{is_empty, unless_empty, without_empty, laid_node, mades, each_made, laid_tree}
+use Rattle.jsx_tree.specs.Form.{Single, Maybe, Several, Position, position, positions, at_most_one, enough, last_only}
 use Rattle.jsx_tree.specs.StaticRules.{Surroundings, trails, rule, stands, enters, is_strict_body, has_plain_params, all_of, is_plain_list}
-use Rattle.jsx_tree.specs.Sound.{may_stand, may_shape, is_no_jsx, is_mended, loose, loose_slots, loose_each, lawful, lawfuls, each_lawful}
+use Rattle.jsx_tree.specs.Sound.{may_stand, is_no_jsx, is_mended, loose, loose_slots, loose_each, lawful, lawfuls, each_lawful}
 use Rattle.jsx_tree.proofs.ReadBack.Basics.{not_true}
 use Rattle.jsx_tree.proofs.Parentheses.EmptyStatements.{drops, all_drops}
 use Rattle.jsx_tree.proofs.Parentheses.Laying.{param_leaf}
 use Rattle.jsx_tree.proofs.Parentheses.Bare.{bare_node, bare, lays, bares, no_list}
 use Rattle.jsx_tree.proofs.Parentheses.Seen.{At, one_of, rest_of, empty_same, no_more, slots_of, rest_at}
-use Rattle.jsx_tree.proofs.Parentheses.PlaceTests.{ends_open, last_shut, last_one, no_bodies, all_firm, is_method, is_class, is_label, is_code_kind, known, all_known, knowns, row_kept}
+use Rattle.jsx_tree.proofs.Parentheses.PlaceTests.{ends_open, last_shut, no_bodies, all_firm, is_method, is_class, is_label, is_code_kind, known, all_known, knowns}
 use Rattle.jsx_tree.proofs.Parentheses.PlaceTable.{all_kept}
 use Rattle.jsx_tree.proofs.Parentheses.RulesKept.{no_body, rule_same, stands_same, enters_same}
 

@@ -1,13 +1,13 @@
 -- A tree whose parts are at home as they are laid is loose: each part may stand where it does.
-use Rattle.std.proofs.Common.{◌≡◌, List, [], ◌∷◌, Bool, true, false, refl, ⊎_elim}
+use Rattle.std.proofs.Common.{◌≡◌, List, [], ◌∷◌, true, false, refl, ⊎_elim}
 use Rattle.std.proofs.lemmas.Bool.{and_parts, and_from, or_cases, or_left, or_right, both_ways, false≢true}
 use Rattle.std.specs.Prelude.{not, ◌&&◌, ◌||◌}
-use Rattle.jsx_base.specs.Token.{Text, TokenKind, IdentifierName, JsxName, NoSubstitution, TemplateHead, TemplateMiddle, TemplateTail, same}
+use Rattle.jsx_base.specs.Token.{Text, TokenKind, IdentifierName, JsxName, NoSubstitution, TemplateHead, TemplateMiddle, TemplateTail}
 use Rattle.jsx_tree.specs.Kinds.{Binds, Assigns, Imported, Exported, From, Kind, expression, New, BareArrow, BareArrowBlock, Arrow, ArrowBlock, NewWithoutArguments, Tree, leaf, node, list, Forest, none, part}
 use Rattle.jsx_tree.specs.Nonterminals.{Nonterminal, ForOfHead, TemplatePart, TemplateSpans, Specifiers, Pat, PatElement, PatProp, Slot, in_homes, homes, object, leaf_in, is_bound}
 use Rattle.jsx_tree.specs.Normal.{laid_node}
 use Rattle.jsx_tree.specs.Form.{Single, Maybe, Several, Position, position, positions, at_most_one, enough, last_only, admits}
-use Rattle.jsx_tree.specs.Parentheses.{asks, as_laid}
+use Rattle.jsx_tree.specs.Parentheses.{asks}
 use Rattle.jsx_tree.specs.Sound.{lax, may_stand, is_no_jsx, loose, loose_slots, loose_each}
 use Rattle.jsx_tree.proofs.ReadBack.Basics.{not_true}
 use Rattle.jsx_tree.proofs.Parentheses.FirstPass.{home, fine, fine_slots, fine_each}

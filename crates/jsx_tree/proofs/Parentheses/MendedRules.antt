@@ -325,6 +325,7 @@ of_list_open (Several s) (list ts) h = without_open ts h
     dropped : (v : Bool) (t : Tree) (ts ws : Forest) → (any_open ws ≡ true → any_open ts ≡ true) → any_open (unless_empty v t ws) ≡ true → any_open (part t ts) ≡ true
     dropped true t ts ws f h = or_right (open_in t) _ (f h)
     dropped false t ts ws f h = ⊎_elim (λ p. or_left (open_in t) _ p) (λ p. or_right (open_in t) _ (f p)) (or_cases (open_in t) (any_open ws) h)
+
     without_open : (ts : Forest) → any_open (without_empty ts) ≡ true → any_open ts ≡ true
     without_open none h = h
     without_open (part t ts) h = dropped (is_empty t) t ts (without_empty ts) (without_open ts) h

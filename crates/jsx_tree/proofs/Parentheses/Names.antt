@@ -1,16 +1,15 @@
 -- A name in parentheses is one without them, and what is made of an expression is no piece of a template.
 use Rattle.std.proofs.Common.{◌≡◌, ℕ, List, [], ◌∷◌, Bool, true, false, sym, refl, ◌∙◌}
-use Rattle.std.proofs.lemmas.Bool.{and_parts, false≢true}
-use Rattle.std.specs.Prelude.{◌&&◌, ◌||◌}
+use Rattle.std.proofs.lemmas.Bool.{false≢true}
 use Rattle.jsx_base.specs.Token.{Text, TokenKind, NoSubstitution, TemplateHead, TemplateMiddle, TemplateTail}
 use Rattle.jsx_tree.specs.Kinds.{Kind, function, expression, ParenTarget, BareArrow, BareArrowBlock, NewWithoutArguments, Parenthesized, Tree, leaf, node, list, Forest, none, part}
-use Rattle.jsx_tree.specs.Nonterminals.{Nonterminal, Expr, leaf_in}
-use Rattle.jsx_tree.specs.Normal.{laid_node, mades, laid_tree}
+use Rattle.jsx_tree.specs.Nonterminals.{Nonterminal, Expr}
+use Rattle.jsx_tree.specs.Normal.{laid_node, mades}
 use Rattle.jsx_tree.specs.Form.{Single, Position, position, positions}
-use Rattle.jsx_tree.specs.StaticRules.{all_of, is_name, is_names, is_cooked}
-use Rattle.jsx_tree.specs.Sound.{may_stand, loose, loose_slots}
-use Rattle.jsx_tree.proofs.Parentheses.Bare.{bare_node, bare, lays, bares, firm, no_list}
-use Rattle.jsx_tree.proofs.Parentheses.Seen.{At, Same, firm_by, alls, first_at, rest_at, slots_of}
+use Rattle.jsx_tree.specs.StaticRules.{is_name, is_names, is_cooked}
+use Rattle.jsx_tree.specs.Sound.{may_stand, loose_slots}
+use Rattle.jsx_tree.proofs.Parentheses.Bare.{bare_node, bare, lays, bares, firm}
+use Rattle.jsx_tree.proofs.Parentheses.Seen.{At, Same, firm_by, first_at, slots_of}
 
 abbrev expr_first : List Position → Bool
 expr_first (position Single (Expr n) g b a ∷ ss) = true

@@ -3,17 +3,17 @@ use Rattle.std.proofs.Common.{◌≡◌, List, [], ◌∷◌, Bool, true, false,
 use Rattle.std.proofs.lemmas.Bool.{and_parts, or_cases, true≢false, false≢true}
 use Rattle.std.specs.Prelude.{not, ◌&&◌, ◌||◌}
 use Rattle.jsx_tree.specs.Kinds.{Kind, statement, function, expression, If, While, For, ForIn, ForOf, Label, ParenTarget, BareArrow, BareArrowBlock, NewWithoutArguments, Parenthesized, Tree, leaf, node, list, Forest, none, part}
-use Rattle.jsx_tree.specs.Nonterminals.{Nonterminal, SubStmt, Stmt, Item, Body, ObjectMember, ClassMember, in_homes}
+use Rattle.jsx_tree.specs.Nonterminals.{Nonterminal}
 use Rattle.jsx_tree.specs.Grammar.{production}
 use Rattle.jsx_tree.specs.Normal.{laid_node, made, mades, each_made, laid_tree}
-use Rattle.jsx_tree.specs.Form.{Form, Single, Maybe, Several, Position, position, positions, at_most_one}
+use Rattle.jsx_tree.specs.Form.{Single, Maybe, Several, Position, position, positions, at_most_one}
 use Rattle.jsx_tree.specs.Parentheses.{asks}
 use Rattle.jsx_tree.specs.StaticRules.{is_here, trails, is_if, open_if, last_open}
-use Rattle.jsx_tree.specs.Sound.{lax, may_stand, may_shape, loose, loose_slots, loose_each}
-use Rattle.jsx_tree.proofs.ReadBack.Basics.{clash, not_true}
+use Rattle.jsx_tree.specs.Sound.{may_stand, may_shape, loose, loose_slots, loose_each}
+use Rattle.jsx_tree.proofs.ReadBack.Basics.{clash}
 use Rattle.jsx_tree.proofs.Parentheses.Bare.{bare_node, bare, lays, bares, turns, laid_stays, bare_stays, firm, clear, all_clear, nowhere, no_list}
 use Rattle.jsx_tree.proofs.Parentheses.Seen.{At, Same, firm_by, first_at, rest_at, each_at, no_more, slots_of, one_of, rest_of, here_same, here_list}
-use Rattle.jsx_tree.proofs.Parentheses.PlaceTests.{ends_open, shut, is_one, last_one, last_shut, row_kept}
+use Rattle.jsx_tree.proofs.Parentheses.PlaceTests.{ends_open, shut, last_one, last_shut}
 use Rattle.jsx_tree.proofs.Parentheses.PlaceTable.{all_kept}
 
 -- laid, or with the pairs off

@@ -1,5 +1,5 @@
 -- Each row passes the tests of its places: the table, by computation.
-use Rattle.std.proofs.Common.{◌≡◌, Bool, true, false, refl}
+use Rattle.std.proofs.Common.{◌≡◌, true, false, refl}
 use Rattle.jsx_tree.specs.Kinds.{Kind, program, statement, function, expression, jsx, Add, And, Array, ArrayPat, Arrow, ArrowBlock, Assign, Assigns, AtLeast, AtMost, Attribute, BareArrow, BareArrowBlock, Binary, Binds, BitAnd, BitOr, BitXor, Block, Break, Call, CallLink, Case, Catch, Chain, ClassDecl, ClassExpr, Complement, ComputedKey, Cond, ConstWord, Container, Continue, Debugger, Declarator, Decrement, Default, Delete, Directive, Divide, Do, Element, ElementWithChildren, Empty, EmptyContainer, Equal, Exponentiate, ExportAll, ExportAllAs, ExportDecl, ExportDefaultClass, ExportDefaultExpr, ExportDefaultFn, ExportFrom, ExportNames, Exported, ExprStmt, Field, For, ForBinding, ForDeclaration, ForIn, ForOf, Fragment, From, FunctionBody, FunctionDecl, FunctionExpr, Getter, Greater, If, Import, ImportAll, ImportBare, ImportBoth, ImportCall, ImportList, ImportMeta, Imported, InClass, InObject, InOp, Increment, Index, IndexLink, InstanceOf, JsxSpread, Label, Less, LetWord, Member, MemberName, Method, Module, Multiply, NameLink, NamespacedName, Negative, New, NewTarget, NewWithoutArguments, Not, Nullish, Object, ObjectPat, OpAssign, Or, ParenTarget, Parenthesized, PlainTemplate, Positive, PostfixUpdate, PrefixUpdate, Property, PropertyPat, Remainder, RestPat, RestProperty, Return, Script, Seq, Setter, ShiftLeft, ShiftOut, ShiftRight, Shorthand, ShorthandInit, ShorthandPat, Specifier, SpecifierAs, Spread, Static, StrictEqual, StrictUnequal, SubstitutedTemplate, Subtract, SuperCall, SuperIndex, SuperMember, Switch, Tagged, TemplateSpan, Throw, Try, TypeOf, Unary, Unequal, Var, VarWord, Void, While, WithInit}
 use Rattle.jsx_tree.proofs.Parentheses.PlaceTests.{row_kept}
 

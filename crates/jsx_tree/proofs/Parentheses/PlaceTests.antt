@@ -1,10 +1,10 @@
 -- What each row is asked, so that pairs change nothing that its static rules look at.
 use Rattle.std.proofs.Common.{List, [], ◌∷◌, Bool, true, false}
 use Rattle.std.specs.Prelude.{not, ◌&&◌, ◌||◌}
-use Rattle.jsx_tree.specs.Kinds.{Kind, program, statement, function, expression, Script, FunctionBody, If, While, For, ForIn, ForOf, Label, ClassDecl, ClassExpr, Method, Getter, Setter}
+use Rattle.jsx_tree.specs.Kinds.{Kind, program, statement, function, Script, FunctionBody, If, While, For, ForIn, ForOf, Label, ClassDecl, ClassExpr, Method, Getter, Setter}
 use Rattle.jsx_tree.specs.Nonterminals.{Nonterminal, SubStmt, Stmt, Item, Body, in_homes}
-use Rattle.jsx_tree.specs.Grammar.{Context, InFunction, InArrow, InMethod, InField, InClassCode, InMembers, InLoop, InSwitch, InLabel, InCode, InModuleCode, production}
-use Rattle.jsx_tree.specs.Form.{Form, Single, Maybe, Several, Position, position, positions}
+use Rattle.jsx_tree.specs.Grammar.{Context, InMethod, InMembers, InLabel, InCode, production}
+use Rattle.jsx_tree.specs.Form.{Form, Several, Position, position, positions}
 use Rattle.jsx_tree.specs.StaticRules.{trails}
 use Rattle.jsx_tree.specs.Sound.{lax}
 use Rattle.jsx_tree.proofs.Parentheses.Bare.{firm}

@@ -1,21 +1,13 @@
 -- What `parenthesise` gives has the form that the productions ask, and each part begins as it may: a tree that is formed fits, where the static rules hold.
 use Rattle.std.proofs.Common.{◌≡◌, [], true, false, sym, refl, ap, ◌∙◌}
-use Rattle.std.proofs.lemmas.Bool.{and_parts, and_from, or_cases, both_ways, false≢true}
-use Rattle.jsx_tree.proofs.ReadBack.Basics.{not_true}
-use Rattle.jsx_tree.proofs.Parentheses.EmptyStatements.{only_programs}
-use Rattle.jsx_base.specs.Token.{IdentifierName, JsxName}
-use Rattle.std.specs.Prelude.{not}
-use Rattle.jsx_tree.specs.Kinds.{Kind, Tree, leaf, node, list}
-use Rattle.jsx_tree.specs.Nonterminals.{WholeProgram, in_homes, homes}
-use Rattle.jsx_tree.specs.Layout.{printed}
-use Rattle.jsx_tree.specs.Reading.{reads}
+use Rattle.std.proofs.lemmas.Bool.{and_parts, and_from}
+use Rattle.jsx_tree.specs.Kinds.{Tree}
+use Rattle.jsx_tree.specs.Nonterminals.{WholeProgram}
 use Rattle.jsx_tree.specs.Normal.{laid_tree, remade}
-use Rattle.jsx_tree.specs.Form.{is, admits, fits_below}
+use Rattle.jsx_tree.specs.Form.{is}
 use Rattle.jsx_tree.specs.Parentheses.{dress, special, parenthesise}
 use Rattle.jsx_tree.specs.StaticRules.{outside}
 use Rattle.jsx_tree.specs.Fits.{held, fits}
-use Rattle.jsx_tree.proofs.ReadBack.RowChecks.{is_program}
-use Rattle.jsx_tree.proofs.ReadBack.Programs.{is_program_tree, printed_reads}
 use Rattle.jsx_tree.specs.Sound.{may_stand, loose, formed, lawful, is_sound}
 use Rattle.jsx_tree.proofs.Parentheses.MendedRules.{mended, legal_of, special_calm, shield_ready, laid_mended, placed_of}
 use Rattle.jsx_tree.proofs.Parentheses.FirstPass.{home, fine, dress_fine}
@@ -25,7 +17,6 @@ use Rattle.jsx_tree.proofs.Parentheses.Laying.{laid_is}
 use Rattle.jsx_tree.proofs.Parentheses.Begins.{begun, dress_begun}
 use Rattle.jsx_tree.proofs.Parentheses.BeginsKept.{special_begun, shield_begun}
 use Rattle.jsx_tree.proofs.Parentheses.Held.{laid_held}
-use Rattle.jsx_tree.proofs.Parentheses.Seen.{At}
 use Rattle.jsx_tree.proofs.Parentheses.NormalForms.{bare_same}
 use Rattle.jsx_tree.proofs.Parentheses.LawsKept.{lawful_same}
 use Rattle.jsx_tree.proofs.Parentheses.Loose.{may_of, loose_of}

@@ -7,16 +7,15 @@ use Rattle.jsx_tree.specs.Kinds.{Kind, program, statement, function, expression,
 use Rattle.jsx_tree.specs.Nonterminals.{Nonterminal, Expr, MemberObject, SubStmt, Ident, Key, ChainLink, SetterParam, BlockOnly, CatchClause, DirectiveOnly, Body, in_homes}
 use Rattle.jsx_tree.specs.Grammar.{OneOrMore, Context, InFunction, InArrow, InMethod, InField, InClassCode, InMembers, InLoop, InSwitch, InLabel, InCode, InModuleCode}
 use Rattle.jsx_tree.specs.Normal.{without_empty, laid_node, mades, each_made, of_list, laid_tree}
-use Rattle.jsx_tree.specs.Form.{Form, Single, Maybe, Several, Position, position, positions, at_most_one, enough, last_only}
+use Rattle.jsx_tree.specs.Form.{Form, Single, Maybe, Several, Position, position, positions, enough, last_only}
 use Rattle.jsx_tree.specs.Parentheses.{asks}
-use Rattle.jsx_tree.specs.StaticRules.{Surroundings, Jump, jump, rule, stands, enter, enters, all_of, count_of, at_most, is_here, is_key, is_proto, is_constructor, is_good_member, is_default, is_function, is_strict_directive, is_strict_body, is_word, is_plain_list, has_plain_params, has_init, is_name, first_of_list, open_if, is_cooked, is_optional, list_rule, members_rule, label_in, is_fresh_label, label_of, labels_loop, first_is_constructor, has_strict, third}
+use Rattle.jsx_tree.specs.StaticRules.{Surroundings, Jump, jump, rule, stands, enter, enters, all_of, count_of, at_most, is_here, is_proto, is_constructor, is_good_member, is_default, is_function, is_strict_body, is_word, is_plain_list, has_plain_params, has_init, first_of_list, open_if, is_cooked, is_optional, list_rule, members_rule, label_in, is_fresh_label, label_of, first_is_constructor, has_strict, third}
 use Rattle.jsx_tree.specs.Sound.{lax, may_stand, may_shape, is_no_jsx, is_mended, loose, loose_slots, loose_each}
-use Rattle.jsx_tree.proofs.ReadBack.Basics.{if_true}
 use Rattle.jsx_tree.proofs.Parentheses.Bare.{bare_node, bare, lays, bares, laid_stays, bare_stays, firm, no_turn, nowhere, no_list, even}
-use Rattle.jsx_tree.proofs.Parentheses.Seen.{At, Same, firm_by, by_kind, Step, counts, alls, firsts, fold_all, fold_some, first_at, rest_at, each_at, no_more, key_same, word_same, here_same, here_list, proto_same, constructor_same, good_same, default_same, function_same, optional_same, init_same, directives_same, body_same, loop_same, slots_of}
+use Rattle.jsx_tree.proofs.Parentheses.Seen.{At, Same, firm_by, by_kind, Step, counts, alls, firsts, fold_all, fold_some, first_at, rest_at, each_at, no_more, key_same, word_same, here_same, here_list, proto_same, constructor_same, good_same, default_same, function_same, optional_same, init_same, directives_same, body_same, loop_same}
 use Rattle.jsx_tree.proofs.Parentheses.Names.{name_same, expr_cooked, piece_cooked}
 use Rattle.jsx_tree.proofs.Parentheses.OpenEnds.{open_same}
-use Rattle.jsx_tree.proofs.Parentheses.PlaceTests.{ends_open, last_shut, last_one, no_bodies, all_firm, is_method, is_class, is_label, is_code_kind, known, all_known, knowns, row_kept}
+use Rattle.jsx_tree.proofs.Parentheses.PlaceTests.{ends_open, no_bodies, all_firm, is_method, is_class, is_label, is_code_kind, known, all_known, knowns}
 use Rattle.jsx_tree.proofs.Parentheses.PlaceTable.{all_kept}
 
 -- ---- the parts of a node, one by one

@@ -1,17 +1,15 @@
 -- What the static rules look at is the same in a tree as it is laid and with its pairs off.
-use Rattle.std.proofs.Common.{◌≡◌, ℕ, suc, List, [], ◌∷◌, Bool, true, false, cond, sym, refl, ap, ◌∙◌, ⊎_elim}
-use Rattle.std.proofs.lemmas.Bool.{and_parts, and_from, or_cases, false≢true, true≢false}
-use Rattle.std.specs.Prelude.{codes, not, ◌&&◌, ◌||◌, nat_le}
-use Rattle.jsx_base.specs.Token.{Text, TokenKind, IdentifierName, NumericLiteral, BigIntLiteral, StringLiteral, RegExpLiteral, NoSubstitution, TemplateHead, TemplateMiddle, TemplateTail, JsxName, JsxString, JsxText, Elision, NoToken}
-use Rattle.jsx_tree.specs.Kinds.{DeclareWord, ConstWord, VarWord, LetWord, Kind, program, statement, function, expression, FunctionBody, Directive, Empty, Declarator, Do, While, For, ForIn, ForOf, Label, Default, FunctionDecl, Method, Getter, Setter, Field, InObject, InClass, Static, ParenTarget, BareArrow, BareArrowBlock, NewWithoutArguments, Property, NameLink, IndexLink, CallLink, Parenthesized, Binds, Tree, leaf, node, list, Forest, none, part}
-use Rattle.jsx_tree.specs.Nonterminals.{Nonterminal, Expr, Key, StringOnly, DirectiveOnly, ObjectMember, ClassMember, CaseClause, ChainLink, Stmt, Pat, Declarators, in_homes, homes}
-use Rattle.jsx_tree.specs.Normal.{is_empty, unless_empty, without_empty, laid_node, made, mades, each_made, of_list, laid_tree}
-use Rattle.jsx_tree.specs.Form.{Form, Single, Maybe, Several, Position, position, positions, at_most_one, enough, last_only}
-use Rattle.jsx_tree.specs.Parentheses.{asks}
-use Rattle.jsx_tree.specs.StaticRules.{all_of, count_of, first_of_list, is_here, is_key, is_proto, is_constructor, is_good_member, is_default, is_strict_directive, is_strict_body, is_word, has_init, is_name, is_names, is_cooked, is_optional, is_function, is_loop, labels_loop, second_loop}
+use Rattle.std.proofs.Common.{◌≡◌, suc, List, [], ◌∷◌, Bool, true, false, cond, sym, refl, ap, ◌∙◌}
+use Rattle.std.proofs.lemmas.Bool.{and_parts, false≢true}
+use Rattle.std.specs.Prelude.{codes, not, ◌&&◌, nat_le}
+use Rattle.jsx_base.specs.Token.{Text, IdentifierName}
+use Rattle.jsx_tree.specs.Kinds.{DeclareWord, ConstWord, VarWord, LetWord, Kind, program, statement, function, expression, FunctionBody, Directive, Empty, Declarator, Do, While, For, ForIn, ForOf, Label, Default, FunctionDecl, Method, Getter, Setter, Field, InClass, Static, Property, NameLink, IndexLink, CallLink, Binds, Tree, leaf, node, list, Forest, none, part}
+use Rattle.jsx_tree.specs.Nonterminals.{Nonterminal, Expr, Key, StringOnly, DirectiveOnly, ChainLink, Pat}
+use Rattle.jsx_tree.specs.Normal.{is_empty, unless_empty, without_empty, laid_node, mades, each_made, of_list, laid_tree}
+use Rattle.jsx_tree.specs.Form.{Form, Single, Maybe, Several, Position, position, positions, at_most_one, last_only}
+use Rattle.jsx_tree.specs.StaticRules.{all_of, count_of, first_of_list, is_here, is_key, is_proto, is_constructor, is_good_member, is_default, is_strict_directive, is_strict_body, is_word, has_init, is_optional, is_function, labels_loop, second_loop}
 use Rattle.jsx_tree.specs.Sound.{may_stand, may_shape, is_no_jsx, loose, loose_slots, loose_each}
-use Rattle.jsx_tree.proofs.ReadBack.Basics.{clash}
-use Rattle.jsx_tree.proofs.Parentheses.Bare.{bare_node, bare, lays, bares, turns, laid_stays, bare_stays, firm, no_turn, no_list, odd, even, even_laid, even_bare}
+use Rattle.jsx_tree.proofs.Parentheses.Bare.{bare_node, bare, lays, bares, laid_stays, bare_stays, firm, no_turn, no_list, even, even_laid, even_bare}
 
 -- what stands at a place may stand there and is loose
 pub record At (c : Nonterminal) (t : Tree) : Type 0 where

@@ -63,6 +63,7 @@ marks_are at = record { gap = λ i n. one (at i) n; slash = λ i n y. front (at 
     one : (b : Bool) (n : List Bool) → Gap (not (all_beside (cond b (Beside (codes "/*#__PURE__*/") ∷ []) []))) (notes_text n (cond b (Beside (codes "/*#__PURE__*/") ∷ []) []))
     one true n = gap_mark
     one false n = gap_nil
+
     front : (b : Bool) (n : List Bool) (y : Text) → no_note (cond b (Beside (codes "/*#__PURE__*/") ∷ []) []) ≡ false → first_is (nat_eq 47) (notes_text n (cond b (Beside (codes "/*#__PURE__*/") ∷ []) []) ++ y) ≡ true
     front true n y h = refl
     front false n y h = absurd (false≢true (sym h))

@@ -407,6 +407,7 @@ front_of c k cs n fs l =
     no_named : (c : Nonterminal) (k : Kind) → Facts k → in_homes c (homes k) ≡ true → is_name_place c ≡ true → ⊥
     no_named Name k f h i = clash _ h f.no_name
     no_named _ k f h i = false≢true i
+
     no_quoted : (c : Nonterminal) (k : Kind) → Facts k → in_homes c (homes k) ≡ true → is_quoted c ≡ true → ⊥
     no_quoted (TemplatePart NoSubstitution) k f h i = clash _ h f.no_whole
     no_quoted (TemplatePart TemplateHead) k f h i = clash _ h f.no_head

@@ -324,6 +324,7 @@ slash_first (c ∷ t) w = go (nat_eq c 47) refl
   where
     b : Behind Operand RegExpLiteral c t
     b = behind_of Operand RegExpLiteral c t (λ e. cc) (λ e. cc) refl (whole_of Operand RegExpLiteral (c ∷ t) w)
+
     go : (x : Bool) → nat_eq c 47 ≡ x → x ≡ true
     go true e = refl
     go false e =
@@ -364,6 +365,7 @@ name_starts (c ∷ t) w = go (is_start c) refl
   where
     k : Core Operator IdentifierName c t
     k = operator_core IdentifierName c t (λ e. cc) (λ e. cc) w
+
     go : (b : Bool) → is_start c ≡ b → b ≡ true
     go true e = refl
     go false e = never_core IdentifierName c t refl refl k (no_name c t e)
@@ -375,6 +377,7 @@ piece_starts s (c ∷ t) n p i y a b d e w = go (nat_eq c 96) refl
   where
     k : Core Operator s c t
     k = operator_core s c t n p w
+
     go : (x : Bool) → nat_eq c 96 ≡ x → x ≡ true
     go true f = refl
     go false f = never_core s c t i y k (no_piece s c t a b d e f)

@@ -81,6 +81,7 @@ seen_after s t d c m k x o h =
         ⊎_elim (λ (e : (not (is_pointed t) && no_starter y t (goes_on t)) ≡ true). let r = and_parts (not (is_pointed t)) (no_starter y t (goes_on t)) e in punct_joint y t (first_char x) (not_true _ r.0) r.1 o.starter)
         (λ (e : (is_name_place c && is_pointed t) ≡ true). let r = and_parts (is_name_place c) (is_pointed t) e in let n = o.named r.0 in or_right (y && nat_eq (last t) (first_char x)) (follows Punctuator t (first_char x)) (pointed_joint t (first_char x) r.1 n.1 n.0))
         (or_cases (not (is_pointed t) && no_starter y t (goes_on t)) (is_name_place c && is_pointed t) h)
+
     go : (z y : Bool) → (z || (is_punct s && ((not (is_pointed t) && no_starter y t (goes_on t)) || (is_name_place c && is_pointed t)))) ≡ true → (z || ((y && nat_eq (last t) (first_char x)) || follows s t (first_char x))) ≡ true
     go true y h = refl
     go false y h =
@@ -284,6 +285,7 @@ part_case n pre c t k v y p f h r = ap (λ x. holds n (ahead pre x)) (ahead_appe
   where
     w : Ahead
     w = ahead k v
+
     go : (b : Bool) → is_body c ≡ b → cond b (seen n (ahead (pre ++ Line ∷ []) (at_once Nothing)) Stmt && y) (seen_part n pre c) ≡ true → holds n (ahead pre (ahead (joined (said t)) (ahead k v))) ≡ true
     go false e h = part_holds n pre c t (ahead k v) p f h
     go true e h =

@@ -79,6 +79,7 @@ calm_weaker b e c f v hb he h =
     sure_or : (s x y : Bool) → (x ≡ true → y ≡ true) → (s || x) ≡ true → (s || y) ≡ true
     sure_or true x y f h = refl
     sure_or false x y f h = f h
+
     els : (e f n : Bool) → (not e || f) ≡ true → (e || n) ≡ true → (f || n) ≡ true
     els true true n h k = refl
     els true false n h k = absurd (false≢true h)
@@ -134,6 +135,7 @@ outside_holds o (NoneOf ts) v w h = go (o.known && is_one_text ts (codes "=>")) 
   where
     by : (u : Text) → is_one_text ts u ≡ true → is_none_of v.next (u ∷ []) ≡ true → is_none_of v.next ts ≡ true
     by u e x = subst (λ y. is_none_of v.next y ≡ true) (sym (one_text ts u e)) x
+
     go : (a b : Bool) → (o.known && is_one_text ts (codes "=>")) ≡ a → (o.known && (not o.els && is_one_text ts (codes "else"))) ≡ b → (a || (b || (o.no_comma && is_one_text ts (codes ",")))) ≡ true → is_none_of v.next ts ≡ true
     go true b e f h = let p = and_parts o.known (is_one_text ts (codes "=>")) e in by (codes "=>") p.1 (calm_arrow o.dot o.els v (w.calm_out p.0))
     go false true e f h =
@@ -272,6 +274,7 @@ pointed_joint t d p n g = go (same t (codes ".")) refl p
   where
     ends : (not (is_pointed t && is_digit d)) ≡ true
     ends = not_false _ (and_false_2 (is_pointed t) (is_digit d) g)
+
     go : (b : Bool) → same t (codes ".") ≡ b → (b || same t (codes "?.")) ≡ true → follows Punctuator t d ≡ true
     go true e h = and_from (not (is_one_of d (goes_on t))) _ (not_false _ (subst (λ x. is_one_of d (goes_on x) ≡ false) (sym (same_is t (codes ".") e)) (or_false (nat_eq d 46) false n refl))) ends
     go false e h = and_from (not (is_one_of d (goes_on t))) _ (not_false _ (subst (λ x. is_one_of d (goes_on x) ≡ false) (sym (same_is t (codes "?.") h)) refl)) ends

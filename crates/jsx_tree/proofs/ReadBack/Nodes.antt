@@ -298,6 +298,7 @@ outside_of c k cs e v f h b = record {
         dot : (z : Bool) → dots c ≡ z → (not z || is_dotted k) ≡ true
         dot true w = dotted_kind c k f h w
         dot false w = refl
+
         same : (z : Bool) → (not z || z) ≡ true
         same true = refl
         same false = refl
@@ -323,9 +324,11 @@ may_else_of c k cs e v h b q = opened (is_opened c) refl q
     by_else : (x : Bool) → elsed c ≡ x → e ≡ true → is_member c ≡ false → is_opened c ≡ false → MayElse c k cs
     by_else true w z m o = record { kind = elsed_kind c k h w; closed = λ _. b.no_open z w }
     by_else false w z m o = clash _ (b.els z) (or_false (elsed c) (is_member c || is_opened c) w (or_false (is_member c) (is_opened c) m o))
+
     member : (x : Bool) → is_member c ≡ x → is_opened c ≡ false → (x || e) ≡ true → MayElse c k cs
     member true w o z = record { kind = member_kind c k h w; closed = λ t. absurd (member_tail c k t w h) }
     member false w o z = by_else (elsed c) refl z w o
+
     opened : (x : Bool) → is_opened c ≡ x → cond x false (is_member c || e) ≡ true → MayElse c k cs
     opened true w z = absurd (false≢true z)
     opened false w z = member (is_member c) refl w z

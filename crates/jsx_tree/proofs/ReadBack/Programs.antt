@@ -18,6 +18,9 @@ use Rattle.jsx_tree.proofs.ReadBack.RowChecks.{Even, outs, is_program, link_ok, 
 use Rattle.jsx_tree.specs.Fits.{is_plain, is_solid}
 use Rattle.std.specs.Prelude.{IsTrue}
 use Rattle.jsx_tree.specs.declared.text.Goal.{Goal}
+use Rattle.jsx_tree.specs.declared.text.Goal.TheVariants as goals
+use Rattle.jsx_tree.proofs.ReadBack.KeptComments.{comments_are}
+use Rattle.jsx_tree.specs.Notes.{all_notes, noted_layout}
 use Rattle.jsx_tree.specs.Program.{is_goal, Reads}
 use Rattle.jsx_tree.specs.Fits.{may_begin, held, helds, held_each, fits_laid, fits}
 use Rattle.jsx_tree.specs.Notes.{noted}
@@ -164,33 +167,44 @@ laid_reads (node k cs) p h =
     let s : sound WholeProgram [] t ≡ true = sound_of WholeProgram [] outside t (one_taken WholeProgram t b.0) b.1 d.0 d.1 in
     and_from (is WholeProgram t) (ended_at (scan (At [] AfterExpr (layout t)) (spelled t))) a.0 (scans_layout t (sound_joins k cs p s))
 
+-- ---- under the goal of the tree
+
+goal_program : (goal : Goal) (t : Tree) → IsTrue (is_goal goal t) → (is_program_tree (laid_tree t) ≡ true) × IsTrue (is_goal goal (laid_tree t))
+goal_program goals.Module (node (program Module) cs) g = (refl, refl)
+goal_program goals.Script (node (program Script) cs) g = (refl, refl)
+goal_program goals.Module _ g = absurd (false≢true g)
+goal_program goals.Script _ g = absurd (false≢true g)
+
 -- the text that is printed of a tree that fits reads as its laid tree
-pub printed_reads : (t : Tree) → is_program_tree (laid_tree t) ≡ true → fits t ≡ true → reads (printed t) (laid_tree t) ≡ true
-printed_reads t p h = laid_reads (laid_tree t) p h
-
--- and the printed text is a program under the goal of the tree
-pub printed_is : (goal : Goal) (t : Tree) → IsTrue (is_goal goal (laid_tree t)) → is_program_tree (laid_tree t) ≡ true → fits t ≡ true → Reads goal (printed t) (laid_tree t)
-printed_is goal t g p h =
+pub printed_is : (goal : Goal) (t : Tree) → IsTrue (is_goal goal t) → IsTrue (fits t) → Reads goal (printed t) (laid_tree t)
+printed_is goal t g h =
     let u : Tree = laid_tree t in
+    let p = goal_program goal t g in
     let a = and_parts (is WholeProgram u) (legal outside u && held WholeProgram [] u) h in
+    record { of_goal = p.1; read = laid_reads u p.0 h; is_legal = (and_parts (legal outside u) (held WholeProgram [] u) a.1).0 }
+
+noted_reads : (f : ℕ → List Note) → Comments f → (u : Tree) → is_program_tree u ≡ true → fits_laid u ≡ true → noted f 0 (spelled u) ≡ true → reads (laid f 0 [] [] false (spelled u)) u ≡ true
+noted_reads f c (leaf s x) p h w = absurd (false≢true p)
+noted_reads f c (list us) p h w = absurd (false≢true p)
+noted_reads f c (node k cs) p h w =
+    let u : Tree = node k cs in
+    let a = and_parts (is WholeProgram u) (legal outside u && held WholeProgram [] u) h in
+    let b = and_parts (admits WholeProgram u) (fits_below WholeProgram u) a.0 in
     let d = and_parts (legal outside u) (held WholeProgram [] u) a.1 in
-    record { of_goal = g; read = printed_reads t p h; is_legal = d.0 }
+    let s : sound WholeProgram [] u ≡ true = sound_of WholeProgram [] outside u (one_taken WholeProgram u b.0) b.1 d.0 d.1 in
+    and_from (is WholeProgram u) (ended_at (scan (At [] AfterExpr (laid f 0 [] [] false (spelled u))) (spelled u))) a.0 (scans_noted f c u (sound_joins k cs p s) w)
 
--- the same with comments and marks before tokens
-pub noted_reads : (f : ℕ → List Note) → Comments f → (t : Tree) → is_program_tree (laid_tree t) ≡ true → fits t ≡ true → noted f 0 (spelled (laid_tree t)) ≡ true → reads (laid f 0 [] [] false (spelled (laid_tree t))) (laid_tree t) ≡ true
-noted_reads f c t p h w = go (laid_tree t) p h w
-  where
-    go : (u : Tree) → is_program_tree u ≡ true → fits_laid u ≡ true → noted f 0 (spelled u) ≡ true → reads (laid f 0 [] [] false (spelled u)) u ≡ true
-    go (leaf s x) p h w = absurd (false≢true p)
-    go (list us) p h w = absurd (false≢true p)
-    go (node k cs) p h w =
-        let u : Tree = node k cs in
-        let a = and_parts (is WholeProgram u) (legal outside u && held WholeProgram [] u) h in
-        let b = and_parts (admits WholeProgram u) (fits_below WholeProgram u) a.0 in
-        let d = and_parts (legal outside u) (held WholeProgram [] u) a.1 in
-        let s : sound WholeProgram [] u ≡ true = sound_of WholeProgram [] outside u (one_taken WholeProgram u b.0) b.1 d.0 d.1 in
-        and_from (is WholeProgram u) (ended_at (scan (At [] AfterExpr (laid f 0 [] [] false (spelled u))) (spelled u))) a.0 (scans_noted f c u (sound_joins k cs p s) w)
+noted_gaps : (f : ℕ → List Note) → Comments f → (goal : Goal) (t : Tree) → IsTrue (noted f 0 (spelled (laid_tree t))) → IsTrue (is_goal goal t) → IsTrue (fits t) → Reads goal (noted_layout f t) (laid_tree t)
+noted_gaps f c goal t w g h =
+    let u : Tree = laid_tree t in
+    let p = goal_program goal t g in
+    let a = and_parts (is WholeProgram u) (legal outside u && held WholeProgram [] u) h in
+    record { of_goal = p.1; read = noted_reads f c u p.0 h w; is_legal = (and_parts (legal outside u) (held WholeProgram [] u) a.1).0 }
 
--- with pure marks before tokens of code
-pub marked_reads : (at : ℕ → Bool) (t : Tree) → is_program_tree (laid_tree t) ≡ true → fits t ≡ true → at_code at 0 (spelled (laid_tree t)) ≡ true → reads (laid (marks at) 0 [] [] false (spelled (laid_tree t))) (laid_tree t) ≡ true
-marked_reads at t p h w = noted_reads (marks at) (marks_are at) t p h (marks_noted at (spelled (laid_tree t)) 0 w)
+-- the same with comments before tokens
+pub noted_is : (goal : Goal) (f : ℕ → List Note) (t : Tree) → ((i : ℕ) → IsTrue (all_notes (f i))) → IsTrue (noted f 0 (spelled (laid_tree t))) → IsTrue (is_goal goal t) → IsTrue (fits t) → Reads goal (noted_layout f t) (laid_tree t)
+noted_is goal f t n w g h = noted_gaps f (comments_are f n) goal t w g h
+
+-- and with pure marks before tokens of code
+pub marked_is : (goal : Goal) (at : ℕ → Bool) (t : Tree) → IsTrue (at_code at 0 (spelled (laid_tree t))) → IsTrue (is_goal goal t) → IsTrue (fits t) → Reads goal (noted_layout (marks at) t) (laid_tree t)
+marked_is goal at t w g h = noted_gaps (marks at) (marks_are at) goal t (marks_noted at (spelled (laid_tree t)) 0 w) g h

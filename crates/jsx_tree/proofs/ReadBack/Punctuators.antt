@@ -27,6 +27,7 @@ bars_of (d ∷ ds) (c ∷ rest) h =
   where
     self : (x : ℕ) → nat_eq x x ≡ true
     self x = eq-eqb x x refl
+
     go : (b : Bool) → b ≡ false → not b ≡ true
     go true e = absurd (false≢true (sym e))
     go false e = refl
@@ -83,12 +84,15 @@ point_state c p rest h n = go (nat_eq c 46) refl (subst (λ b. (not b || (is_poi
   where
     two : (d : ℕ) → nat_eq 46 d ≡ true → is_digit d ≡ false
     two d e = subst (λ x. is_digit x ≡ false) (eqb-true 46 d e) refl
+
     empty_tail : (p : Text) → is_pointed (46 ∷ p) ≡ true → p ≡ []
     empty_tail [] g = refl
     empty_tail (d ∷ p) g = absurd (false≢true g)
+
     at_dot : (p : Text) → (is_pointed (c ∷ p) || first_is (nat_eq 46) p) ≡ true → c ≡ 46 → (is_pointed (c ∷ p) ≡ true → first_is is_digit rest ≡ false) → first_is is_digit (p ++ rest) ≡ false
     at_dot [] g e n = n (subst (λ x. is_pointed (x ∷ []) ≡ true) (sym e) refl)
     at_dot (d ∷ p) g e n = two d (⊎_elim (λ (x : is_pointed (c ∷ d ∷ p) ≡ true). absurd (false≢true (subst (λ y. is_pointed (y ∷ d ∷ p) ≡ true) e x))) (λ (x : nat_eq 46 d ≡ true). x) (or_cases (is_pointed (c ∷ d ∷ p)) (nat_eq 46 d) g))
+
     go : (b : Bool) → nat_eq c 46 ≡ b → (not b || (is_pointed (c ∷ p) || first_is (nat_eq 46) p)) ≡ true → (b && first_is is_digit (p ++ rest)) ≡ false
     go true e g = at_dot p g (eqb-true c 46 e) n
     go false e g = refl
@@ -131,8 +135,8 @@ mark_reads (c ∷ p) rest h n =
     let arrow : begins (codes "-->") (t ++ rest) ≡ false = safe_begins (codes "-->") t rest ds html.1 off in
     let dead : code_state false c (p ++ rest) ≡ Dead = dead_by c _ _ _ _ _ _ pl.start pl.zero_ pl.digit (point_state c p rest h5.0 digits) pl.quote pl.back in
     let it : punctuator (t ++ rest) ≡ t =
-        if_false _ (codes "?") (longest punctuators (t ++ rest)) (question_safe t rest h4.0 off (λ i. digits (or_right_of (same t (codes ".")) i)))
-        ∙ longest_by punctuators t ds rest b.0 b.1 (bars_of ds rest off) in
+    if_false _ (codes "?") (longest punctuators (t ++ rest)) (question_safe t rest h4.0 off (λ i. digits (or_right_of (same t (codes ".")) i)))
+    ∙ longest_by punctuators t ds rest b.0 b.1 (bars_of ds rest off) in
     record {
       skipped = ap (λ x. cond x (c ∷ (p ++ rest)) (behind_gap (gap_after_blank c (p ++ rest)) (p ++ rest))) over;
       unbroken = ap (λ x. not x && (is_line_end c || breaks_in (gap_after_blank c (p ++ rest)) (p ++ rest))) over;
@@ -147,6 +151,7 @@ mark_reads (c ∷ p) rest h n =
     go_digit : (a b : Bool) → a ≡ true → not (a && b) ≡ true → b ≡ false
     go_digit true b e g = not_true b g
     go_digit false b e g = absurd (false≢true e)
+
     or_right_of : (a : Bool) {b : Bool} → b ≡ true → (a || b) ≡ true
     or_right_of true e = refl
     or_right_of false e = e

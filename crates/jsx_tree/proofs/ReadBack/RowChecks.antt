@@ -1,10 +1,10 @@
 -- Which rows of the grammar make lists of signs that join: a check of each row by itself.
 use Rattle.std.specs.Prelude.{ℕ, List, [], ◌∷◌, ◌++◌, codes, Bool, true, false, cond, not, ◌&&◌, ◌||◌, nat_eq}
-use Rattle.jsx_base.specs.Token.{Text, Mode, Operator, TokenKind, IdentifierName, Punctuator, NumericLiteral, NoSubstitution, TemplateHead, among, same, is_one_of, is_code}
+use Rattle.jsx_base.specs.Token.{Text, Mode, Operator, TokenKind, Punctuator, NoSubstitution, TemplateHead, among, same, is_one_of, is_code}
 use Rattle.jsx_tree.specs.Signs.{Sign, Tok, Semicolon, TrailingComma, Unless, SameLine, Ends, Space, Line, Indent, Unindent, Begin, Count, One, End}
-use Rattle.jsx_base.specs.Token.{Elision, TemplateMiddle, TemplateTail, BigIntLiteral, StringLiteral, RegExpLiteral}
-use Rattle.jsx_tree.specs.Kinds.{Specifier, SpecifierAs, Method, PropertyPat, Property, NameLink, While, For, ForIn, ForOf, Label, Catch, OpAssign, Module, Script, FunctionBody, Field, InObject, RestPat, RestProperty, Binds, Assigns, Kind, program, statement, function, expression, jsx, If, Chain, BareArrow, BareArrowBlock, NewWithoutArguments, TemplateSpan, Tree, leaf, node, list, Forest, none, part}
-use Rattle.jsx_tree.specs.Nonterminals.{Nonterminal, MemberObject, SimpleTarget, Ident, BindingIdent, StringOnly, Pat, NullishLeft, NewCallee, in_homes, leaf_in, assigns, homes, literal_homes, Expr, DotObject, ChainLink, TemplateOf, TemplatePart, TemplateSpans, Name, ArrayItem, Slot, Body, ClassMember, SubStmt, BlockOnly, CatchClause, Stmt, Item, DirectiveOnly, CaseClause}
+use Rattle.jsx_base.specs.Token.{Elision, TemplateMiddle, TemplateTail}
+use Rattle.jsx_tree.specs.Kinds.{Specifier, SpecifierAs, Method, PropertyPat, Property, NameLink, While, For, ForIn, ForOf, Label, Catch, Module, Script, FunctionBody, Field, RestPat, RestProperty, Binds, Assigns, Kind, program, statement, function, expression, If, Chain, TemplateSpan, Tree, leaf, node, list, Forest, none, part}
+use Rattle.jsx_tree.specs.Nonterminals.{Nonterminal, MemberObject, SimpleTarget, Ident, BindingIdent, StringOnly, Pat, NullishLeft, NewCallee, in_homes, leaf_in, homes, literal_homes, Expr, DotObject, ChainLink, TemplateOf, TemplatePart, TemplateSpans, Name, ArrayItem, Slot, Body, ClassMember, SubStmt, BlockOnly, CatchClause, Stmt, Item, DirectiveOnly, CaseClause}
 use Rattle.jsx_tree.specs.Grammar.{ListShape, Commas, Elisions, NoTrailing, TwoOrMore, Lines, TopLines, OneOrMore, Spaced, JsxChildren, Fixed, Part, Optional, Many, Within, Production, production, fixed, pun, key}
 use Rattle.jsx_tree.specs.Spelling.{spelled, between}
 use Rattle.jsx_tree.specs.Layout.{first_char, first_token, last}

@@ -135,7 +135,7 @@ guard_holds : (c : Nonterminal) (ts : List Text) (t : Tree) (k : List Sign) (v :
 guard_holds c ts t k v h f a n =
     let r : Front c t = f.front h in
     let e : first_token (spelled t) ≡ r.text =
-        first_next (spelled t) (ap (λ w. is_some w.next) (r.view at_end)) ∙ ap (λ w. text_of w.next) (r.view at_end) in
+    first_next (spelled t) (ap (λ w. is_some w.next) (r.view at_end)) ∙ ap (λ w. text_of w.next) (r.view at_end) in
     ap (λ w. is_none_of w.next ts) (ahead_append (joined (said t)) k v ∙ r.view (ahead k v)) ∙ none_code r.mode r.kind r.text ts r.opens.code (ap (λ x. among x ts) (sym e) ∙ a) n
 
 sound_guard : (c : Nonterminal) (g : List Text) (t : Tree) → is_formed Single t ≡ true → sound c g t ≡ true → among (first_token (spelled t)) g ≡ false
@@ -273,6 +273,7 @@ many_good o v s c ps k m f q (part t none) l h fs gs =
     hole_by : (b : Bool) → b ≡ true → (not b || signs_ok o (pun "," ∷ []) ps) ≡ true → signs_ok o (pun "," ∷ []) ps ≡ true
     hole_by true e h = h
     hole_by false e h = absurd (false≢true e)
+
     rest_comma : (b : Bool) → rests c ≡ b → is_last t ≡ true → sound c [] t ≡ true → (not b || sees o (NoneOf (codes "," ∷ [])) [] (fixed (behind_signs s) ++ ps)) ≡ true → is_none_of (ahead (behind_signs s ++ k) v).next (codes "," ∷ []) ≡ true
     rest_comma true e i j h = see_fixed (NoneOf (codes "," ∷ [])) o v ps k (f (NoneOf (codes "," ∷ []))) (behind_signs s) [] refl h
     rest_comma false e i j h = clash _ i (no_rest c [] t j e)

@@ -88,6 +88,7 @@ open_of g v h =
     go : (x y : Bool) → x ≡ true → not (x && y) ≡ true → y ≡ false
     go true y e f = not_true y f
     go false y e f = absurd (false≢true e)
+
     two : (x : Bool) → x ≡ false → (x || (same g [] && v.void)) ≡ true → (g ≡ []) × (v.void ≡ true)
     two true e f = absurd (false≢true (sym e))
     two false e f = let p = and_parts (same g []) v.void f in (same_is g [] p.0, p.1)
@@ -214,6 +215,7 @@ apart_head p q u y x f b h r = go (nat_eq (last q) (first_char u)) refl
         drop true k a h = absurd (false≢true (sym k))
         drop false k true h = h
         drop false k false h = h
+
     go : (e : Bool) → nat_eq (last q) (first_char u) ≡ e → all_first p (cond e (32 ∷ []) [] ++ y) ≡ true
     go true e = b
     go false e = r (to x.sure x.next x.apart f e h)

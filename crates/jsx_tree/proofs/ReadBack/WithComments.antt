@@ -235,6 +235,7 @@ open_nil v h =
     go : (x y : Bool) → x ≡ true → not (x && y) ≡ true → y ≡ false
     go true y e f = not_true y f
     go false y e f = absurd (false≢true e)
+
     two : (x : Bool) {y : Bool} → x ≡ false → (x || y) ≡ true → y ≡ true
     two true e f = absurd (false≢true (sym e))
     two false e f = f
