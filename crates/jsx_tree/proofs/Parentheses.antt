@@ -24,4 +24,5 @@ pub mod RulesKept
 pub mod LawsKept
 pub mod Loose
 pub mod Idempotent
+pub mod Unneeded
 pub mod Programs

@@ -39,6 +39,11 @@ pub fn parentheses_fit()
     ensures { (t : Tree) → IsTrue (is_sound t) → IsTrue (fits (parenthesise t)) }
 {}
 
+/// No pair is put where none is needed: a program that fits as it is laid stays as it is.
+pub fn parentheses_are_needed()
+    ensures { (t : Tree) → IsTrue (fits t) → parenthesise (laid_tree t) ≡ laid_tree t }
+{}
+
 /// Parentheses change nothing that a tree says.
 pub fn parentheses_say_nothing()
     ensures { (t : Tree) → nf (parenthesise t) ≡ nf t }

@@ -66,7 +66,7 @@ parts_are k cs ds h = ap in_node h
 
 -- ---- lists without empty statements
 
-abbrev filled : Forest → Bool
+abbrev pub filled : Forest → Bool
 filled none = true
 filled (part t ts) = not (is_empty t) && filled ts
 
@@ -74,7 +74,7 @@ filled_unless : (v : Bool) (t : Tree) (ts : Forest) → is_empty t ≡ v → fil
 filled_unless true t ts e h = h
 filled_unless false t ts e h = and_from _ _ (ap not e) h
 
-without_filled : (ts : Forest) → filled (without_empty ts) ≡ true
+pub without_filled : (ts : Forest) → filled (without_empty ts) ≡ true
 without_filled none = refl
 without_filled (part t ts) = filled_unless (is_empty t) t (without_empty ts) refl (without_filled ts)
 

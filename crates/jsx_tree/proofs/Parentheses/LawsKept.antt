@@ -5,18 +5,18 @@ use Rattle.std.specs.Prelude.{not, ◌&&◌, ◌||◌, nat_eq}
 use Rattle.jsx_base.specs.Token.{Text, TokenKind}
 use Rattle.jsx_tree.specs.Kinds.{Kind, function, expression, Arrow, ArrowBlock, BareArrow, BareArrowBlock, New, NewWithoutArguments, ParenTarget, Parenthesized, Tree, leaf, node, list, Forest, none, part}
 use Rattle.jsx_tree.specs.Nonterminals.{Nonterminal, Expr, SimpleTarget, BindingIdent, Param, NewCallee, Body, in_homes, homes}
-use Rattle.jsx_tree.specs.Grammar.{Context, InFunction, InArrow, InMethod, InField, InClassCode, InMembers, InLoop, InSwitch, InLabel, InCode, InModuleCode, production}
+use Rattle.jsx_tree.specs.Grammar.{Context, InFunction, InArrow, InMethod, InField, InClassCode, InMembers, InLoop, InSwitch, InLabel, InCode, InModuleCode}
 use Rattle.jsx_tree.specs.Normal.{is_empty, unless_empty, without_empty, laid_node, mades, each_made, laid_tree}
 use Rattle.jsx_tree.specs.Form.{Single, Maybe, Several, Position, position, positions, at_most_one, enough, last_only}
-use Rattle.jsx_tree.specs.StaticRules.{Surroundings, trails, rule, stands, enters, is_strict_body, has_plain_params, all_of, is_plain_list}
+use Rattle.jsx_tree.specs.StaticRules.{Surroundings, rule, stands, enters, is_strict_body, has_plain_params, all_of, is_plain_list}
 use Rattle.jsx_tree.specs.Sound.{may_stand, is_no_jsx, is_mended, loose, loose_slots, loose_each, lawful, lawfuls, each_lawful}
 use Rattle.jsx_tree.proofs.ReadBack.Basics.{not_true}
 use Rattle.jsx_tree.proofs.Parentheses.EmptyStatements.{drops, all_drops}
 use Rattle.jsx_tree.proofs.Parentheses.Laying.{param_leaf}
 use Rattle.jsx_tree.proofs.Parentheses.Bare.{bare_node, bare, lays, bares, no_list}
 use Rattle.jsx_tree.proofs.Parentheses.Seen.{At, one_of, rest_of, empty_same, no_more, slots_of, rest_at}
-use Rattle.jsx_tree.proofs.Parentheses.PlaceTests.{ends_open, last_shut, no_bodies, all_firm, is_method, is_class, is_label, is_code_kind, known, all_known, knowns}
-use Rattle.jsx_tree.proofs.Parentheses.PlaceTable.{all_kept}
+use Rattle.jsx_tree.proofs.Parentheses.PlaceTests.{is_method, is_class, is_label, is_code_kind, known, all_known, knowns}
+use Rattle.jsx_tree.proofs.Parentheses.PlaceTable.{row_facts}
 use Rattle.jsx_tree.proofs.Parentheses.RulesKept.{no_body, rule_same, stands_same, enters_same}
 
 -- the parts of a node stand in the same
@@ -131,10 +131,6 @@ node_kept k cs n h r v = kind_kept k cs n h r v
 
 -- ---- all trees
 
-knowns_of : (k : Kind) → knowns k (positions k) ≡ true
-knowns_of k =
-    (and_parts (no_bodies (positions k) || all_firm (positions k)) (knowns k (positions k)) (and_parts _ _ (and_parts (ends_open k || (not (trails (production k)) || last_shut (positions k))) _ (all_kept k)).1).1).1
-
 both : (a b c d : Bool) → a ≡ c → b ≡ d → (a && b) ≡ (c && d)
 both a b c d e f = ap (λ x. x && b) e ∙ ap (λ x. c && x) f
 
@@ -150,7 +146,7 @@ mutual
   lawful_same c (leaf s x) a v = refl
   lawful_same c (list ts) a v = no_list c ts a.may
   lawful_same c (node k cs) a v =
-      node_kept k cs (and_parts (is_no_jsx k) (loose_slots (positions k) cs) a.below).0 (slots_of c k cs a) (λ ds es h w. lawfuls_same k ds es h (positions k) cs (knowns_of k) (slots_of c k cs a) w) v
+      node_kept k cs (and_parts (is_no_jsx k) (loose_slots (positions k) cs) a.below).0 (slots_of c k cs a) (λ ds es h w. lawfuls_same k ds es h (positions k) cs (row_facts k).contexts (slots_of c k cs a) w) v
 
   lawfuls_same : (k : Kind) (ds es : Forest) → Enters k ds es → (ss : List Position) (cs : Forest) → knowns k ss ≡ true → loose_slots ss cs ≡ true → (v : Surroundings) → lawfuls ds v ss (mades laid_node ss cs) ≡ lawfuls es v ss (mades bare_node ss cs)
   lawfuls_same k ds es i [] none n h v = refl

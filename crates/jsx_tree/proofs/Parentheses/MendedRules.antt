@@ -151,7 +151,7 @@ mutual
 
 -- ---- an `in` that stands open
 
-in_kind : (k : Kind) (ds : Forest) → is_in (node k ds) ≡ is_in_op k
+pub in_kind : (k : Kind) (ds : Forest) → is_in (node k ds) ≡ is_in_op k
 in_kind (expression (Binary InOp)) ds = refl
 in_kind _ ds = refl
 

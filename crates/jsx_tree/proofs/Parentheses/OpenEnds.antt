@@ -14,7 +14,7 @@ use Rattle.jsx_tree.proofs.ReadBack.Basics.{clash}
 use Rattle.jsx_tree.proofs.Parentheses.Bare.{bare_node, bare, lays, bares, turns, laid_stays, bare_stays, firm, clear, all_clear, nowhere, no_list}
 use Rattle.jsx_tree.proofs.Parentheses.Seen.{At, Same, firm_by, first_at, rest_at, each_at, no_more, slots_of, one_of, rest_of, here_same, here_list}
 use Rattle.jsx_tree.proofs.Parentheses.PlaceTests.{ends_open, shut, last_one, last_shut}
-use Rattle.jsx_tree.proofs.Parentheses.PlaceTable.{all_kept}
+use Rattle.jsx_tree.proofs.Parentheses.PlaceTable.{row_facts}
 
 -- laid, or with the pairs off
 abbrev form : Bool → Kind → Forest → Tree
@@ -41,7 +41,7 @@ no_if k h = refl
 ends_shut : (k : Kind) → ends_open k ≡ false → (not (trails (production k)) || last_shut (positions k)) ≡ true
 ends_shut k e =
     ⊎_elim (λ p. clash (ends_open k) p e) (λ p. p)
-    (or_cases (ends_open k) (not (trails (production k)) || last_shut (positions k)) (and_parts (ends_open k || (not (trails (production k)) || last_shut (positions k))) _ (all_kept k)).0)
+    (or_cases (ends_open k) (not (trails (production k)) || last_shut (positions k)) (row_facts k).shut_end)
 
 trailing : (b l : Bool) (i : Bool) (ds : Forest) → (not b || l) ≡ true → i ≡ false → (l ≡ true → last_open false ds ≡ false) → (b && last_open i ds) ≡ false
 trailing false l i ds h e f = refl
@@ -112,9 +112,6 @@ same_end : (b l i : Bool) (ds es : Forest) → (not b || l) ≡ true → (l ≡ 
 same_end false l i ds es h f = refl
 same_end true l i ds es h f = f h
 
-ends_one : (k : Kind) → (not (trails (production k)) || last_one (positions k)) ≡ true
-ends_one k = (and_parts _ _ (and_parts (ends_open k || (not (trails (production k)) || last_shut (positions k))) _ (all_kept k)).1).0
-
 mutual
   pub open_same : (c : Nonterminal) (t : Tree) → At c t → Same open_if t
   open_same c (leaf s x) a = refl
@@ -123,7 +120,7 @@ mutual
     where
       at : (b : Bool) → shut c ≡ b → (last_one (positions k) ≡ true → last_open (is_if k) (lays k cs) ≡ last_open (is_if k) (bares k cs)) → Same open_if (node k cs)
       at true p f = closed false c (node k cs) p a ∙ sym (closed true c (node k cs) p a)
-      at false n f = firm_by open_if c k cs (firm_where c n) a.may (same_end (trails (production k)) (last_one (positions k)) (is_if k) (lays k cs) (bares k cs) (ends_one k) f)
+      at false n f = firm_by open_if c k cs (firm_where c n) a.may (same_end (trails (production k)) (last_one (positions k)) (is_if k) (lays k cs) (bares k cs) (row_facts k).one_end f)
 
   opens_same : (i : Bool) (ss : List Position) (cs : Forest) → last_one ss ≡ true → loose_slots ss cs ≡ true → last_open i (mades laid_node ss cs) ≡ last_open i (mades bare_node ss cs)
   opens_same i [] none l h = refl

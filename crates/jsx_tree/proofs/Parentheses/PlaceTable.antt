@@ -1,9 +1,14 @@
 -- Each row passes the tests of its places: the table, by computation.
 use Rattle.std.proofs.Common.{◌≡◌, true, false, refl}
 use Rattle.jsx_tree.specs.Kinds.{Kind, program, statement, function, expression, jsx, Add, And, Array, ArrayPat, Arrow, ArrowBlock, Assign, Assigns, AtLeast, AtMost, Attribute, BareArrow, BareArrowBlock, Binary, Binds, BitAnd, BitOr, BitXor, Block, Break, Call, CallLink, Case, Catch, Chain, ClassDecl, ClassExpr, Complement, ComputedKey, Cond, ConstWord, Container, Continue, Debugger, Declarator, Decrement, Default, Delete, Directive, Divide, Do, Element, ElementWithChildren, Empty, EmptyContainer, Equal, Exponentiate, ExportAll, ExportAllAs, ExportDecl, ExportDefaultClass, ExportDefaultExpr, ExportDefaultFn, ExportFrom, ExportNames, Exported, ExprStmt, Field, For, ForBinding, ForDeclaration, ForIn, ForOf, Fragment, From, FunctionBody, FunctionDecl, FunctionExpr, Getter, Greater, If, Import, ImportAll, ImportBare, ImportBoth, ImportCall, ImportList, ImportMeta, Imported, InClass, InObject, InOp, Increment, Index, IndexLink, InstanceOf, JsxSpread, Label, Less, LetWord, Member, MemberName, Method, Module, Multiply, NameLink, NamespacedName, Negative, New, NewTarget, NewWithoutArguments, Not, Nullish, Object, ObjectPat, OpAssign, Or, ParenTarget, Parenthesized, PlainTemplate, Positive, PostfixUpdate, PrefixUpdate, Property, PropertyPat, Remainder, RestPat, RestProperty, Return, Script, Seq, Setter, ShiftLeft, ShiftOut, ShiftRight, Shorthand, ShorthandInit, ShorthandPat, Specifier, SpecifierAs, Spread, Static, StrictEqual, StrictUnequal, SubstitutedTemplate, Subtract, SuperCall, SuperIndex, SuperMember, Switch, Tagged, TemplateSpan, Throw, Try, TypeOf, Unary, Unequal, Var, VarWord, Void, While, WithInit}
-use Rattle.jsx_tree.proofs.Parentheses.PlaceTests.{row_kept}
+use Rattle.jsx_tree.proofs.Parentheses.PlaceTests.{ends_open, last_shut, last_one, no_bodies, all_firm, knowns, is_for, no_inits, row_kept}
+use Rattle.std.proofs.lemmas.Bool.{and_parts}
+use Rattle.std.specs.Prelude.{not, ◌||◌}
+use Rattle.jsx_tree.specs.Grammar.{production}
+use Rattle.jsx_tree.specs.Form.{positions}
+use Rattle.jsx_tree.specs.StaticRules.{trails}
 
-pub all_kept : (k : Kind) → row_kept k ≡ true
+all_kept : (k : Kind) → row_kept k ≡ true
 all_kept (program Module) = refl
 all_kept (program Script) = refl
 all_kept (program FunctionBody) = refl
@@ -199,3 +204,18 @@ all_kept (jsx Attribute) = refl
 all_kept (jsx Container) = refl
 all_kept (jsx EmptyContainer) = refl
 all_kept (jsx JsxSpread) = refl
+
+pub record RowKept (k : Kind) : Type 0 where
+  pub shut_end : (ends_open k || (not (trails (production k)) || last_shut (positions k))) ≡ true
+  pub one_end : (not (trails (production k)) || last_one (positions k)) ≡ true
+  pub bodies : (no_bodies (positions k) || all_firm (positions k)) ≡ true
+  pub contexts : knowns k (positions k) ≡ true
+  pub inits : (is_for k || no_inits (positions k)) ≡ true
+
+pub row_facts : (k : Kind) → RowKept k
+row_facts k =
+    let a = and_parts (ends_open k || (not (trails (production k)) || last_shut (positions k))) _ (all_kept k) in
+    let b = and_parts (not (trails (production k)) || last_one (positions k)) _ a.1 in
+    let c = and_parts (no_bodies (positions k) || all_firm (positions k)) _ b.1 in
+    let d = and_parts (knowns k (positions k)) (is_for k || no_inits (positions k)) c.1 in
+    record { shut_end = a.0; one_end = b.0; bodies = c.0; contexts = d.0; inits = d.1 }

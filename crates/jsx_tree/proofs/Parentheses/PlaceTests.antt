@@ -5,6 +5,7 @@ use Rattle.jsx_tree.specs.Kinds.{Kind, program, statement, function, Script, Fun
 use Rattle.jsx_tree.specs.Nonterminals.{Nonterminal, SubStmt, Stmt, Item, Body, in_homes}
 use Rattle.jsx_tree.specs.Grammar.{Context, InMethod, InMembers, InLabel, InCode, production}
 use Rattle.jsx_tree.specs.Form.{Form, Several, Position, position, positions}
+use Rattle.jsx_tree.specs.Parentheses.{is_init}
 use Rattle.jsx_tree.specs.StaticRules.{trails}
 use Rattle.jsx_tree.specs.Sound.{lax}
 use Rattle.jsx_tree.proofs.Parentheses.Bare.{firm}
@@ -82,7 +83,16 @@ abbrev pub knowns : Kind → List Position → Bool
 knowns k [] = true
 knowns k (position f c g b a ∷ ss) = all_known k a && knowns k ss
 
+-- only a `for` has a head whose `in` is shielded
+abbrev pub is_for : Kind → Bool
+is_for (statement For) = true
+is_for k = false
+
+abbrev pub no_inits : List Position → Bool
+no_inits [] = true
+no_inits (position f c g b a ∷ ss) = not (is_init c) && no_inits ss
+
 abbrev pub row_kept : Kind → Bool
 row_kept k =
     (ends_open k || (not (trails (production k)) || last_shut (positions k))) && ((not (trails (production k)) || last_one (positions k))
-    && ((no_bodies (positions k) || all_firm (positions k)) && knowns k (positions k)))
+    && ((no_bodies (positions k) || all_firm (positions k)) && (knowns k (positions k) && (is_for k || no_inits (positions k)))))

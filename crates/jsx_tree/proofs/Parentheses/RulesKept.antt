@@ -15,8 +15,8 @@ use Rattle.jsx_tree.proofs.Parentheses.Bare.{bare_node, bare, lays, bares, laid_
 use Rattle.jsx_tree.proofs.Parentheses.Seen.{At, Same, firm_by, by_kind, Step, counts, alls, firsts, fold_all, fold_some, first_at, rest_at, each_at, no_more, key_same, word_same, here_same, here_list, proto_same, constructor_same, good_same, default_same, function_same, optional_same, init_same, directives_same, body_same, loop_same}
 use Rattle.jsx_tree.proofs.Parentheses.Names.{name_same, expr_cooked, piece_cooked}
 use Rattle.jsx_tree.proofs.Parentheses.OpenEnds.{open_same}
-use Rattle.jsx_tree.proofs.Parentheses.PlaceTests.{ends_open, no_bodies, all_firm, is_method, is_class, is_label, is_code_kind, known, all_known, knowns}
-use Rattle.jsx_tree.proofs.Parentheses.PlaceTable.{all_kept}
+use Rattle.jsx_tree.proofs.Parentheses.PlaceTests.{no_bodies, all_firm, is_method, is_class, is_label, is_code_kind, known, all_known}
+use Rattle.jsx_tree.proofs.Parentheses.PlaceTable.{row_facts}
 
 -- ---- the parts of a node, one by one
 
@@ -159,11 +159,9 @@ none_strict n m a b e z = ap (λ i. nat_eq i 0 || a) z ∙ sym (ap (λ i. nat_eq
 
 plain_same : (k : Kind) (cs : Forest) → loose_slots (positions k) cs ≡ true → has_plain_params (lays k cs) ≡ has_plain_params (bares k cs)
 plain_same k cs h =
-    let t = and_parts (ends_open k || _) _ (all_kept k) in
-    let p = (and_parts (no_bodies (positions k) || all_firm (positions k)) (knowns k (positions k)) (and_parts _ _ t.1).1).0 in
     ⊎_elim (λ n. none_strict (count_of is_strict_body (lays k cs)) (count_of is_strict_body (bares k cs)) (all_of is_plain_list (lays k cs)) (all_of is_plain_list (bares k cs)) (bodies_same k cs h) (none_counted (positions k) cs n h))
     (λ f. ap (λ n. nat_eq n 0 || all_of is_plain_list (lays k cs)) (bodies_same k cs h) ∙ ap (λ b. nat_eq (count_of is_strict_body (bares k cs)) 0 || b) (plains_same (positions k) cs f h))
-    (or_cases (no_bodies (positions k)) (all_firm (positions k)) p)
+    (or_cases (no_bodies (positions k)) (all_firm (positions k)) (row_facts k).bodies)
 
 -- ---- templates
 
