@@ -18,3 +18,5 @@ mod SoFar
 mod Programs
 mod Corners
 mod Places
+pub mod ReadBack
+pub mod Parentheses

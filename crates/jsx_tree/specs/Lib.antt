@@ -15,3 +15,6 @@ pub mod Spans
 pub mod Told
 pub mod Program
 pub mod Stage
+pub mod Fits
+pub mod Sound
+pub mod Notes

@@ -1,0 +1,221 @@
+-- Each row passes the tests of its places: the table, by computation.
+use Rattle.std.proofs.Common.{◌≡◌, true, false, refl}
+use Rattle.jsx_tree.specs.Kinds.{Kind, program, statement, function, expression, jsx, Add, And, Array, ArrayPat, Arrow, ArrowBlock, Assign, Assigns, AtLeast, AtMost, Attribute, BareArrow, BareArrowBlock, Binary, Binds, BitAnd, BitOr, BitXor, Block, Break, Call, CallLink, Case, Catch, Chain, ClassDecl, ClassExpr, Complement, ComputedKey, Cond, ConstWord, Container, Continue, Debugger, Declarator, Decrement, Default, Delete, Directive, Divide, Do, Element, ElementWithChildren, Empty, EmptyContainer, Equal, Exponentiate, ExportAll, ExportAllAs, ExportDecl, ExportDefaultClass, ExportDefaultExpr, ExportDefaultFn, ExportFrom, ExportNames, Exported, ExprStmt, Field, For, ForBinding, ForDeclaration, ForIn, ForOf, Fragment, From, FunctionBody, FunctionDecl, FunctionExpr, Getter, Greater, If, Import, ImportAll, ImportBare, ImportBoth, ImportCall, ImportList, ImportMeta, Imported, InClass, InObject, InOp, Increment, Index, IndexLink, InstanceOf, JsxSpread, Label, Less, LetWord, Member, MemberName, Method, Module, Multiply, NameLink, NamespacedName, Negative, New, NewTarget, NewWithoutArguments, Not, Nullish, Object, ObjectPat, OpAssign, Or, ParenTarget, Parenthesized, PlainTemplate, Positive, PostfixUpdate, PrefixUpdate, Property, PropertyPat, Remainder, RestPat, RestProperty, Return, Script, Seq, Setter, ShiftLeft, ShiftOut, ShiftRight, Shorthand, ShorthandInit, ShorthandPat, Specifier, SpecifierAs, Spread, Static, StrictEqual, StrictUnequal, SubstitutedTemplate, Subtract, SuperCall, SuperIndex, SuperMember, Switch, Tagged, TemplateSpan, Throw, Try, TypeOf, Unary, Unequal, Var, VarWord, Void, While, WithInit}
+use Rattle.jsx_tree.proofs.Parentheses.PlaceTests.{ends_open, last_shut, last_one, no_bodies, all_firm, knowns, is_for, no_inits, row_kept}
+use Rattle.std.proofs.lemmas.Bool.{and_parts}
+use Rattle.std.specs.Prelude.{not, ◌||◌}
+use Rattle.jsx_tree.specs.Grammar.{production}
+use Rattle.jsx_tree.specs.Form.{positions}
+use Rattle.jsx_tree.specs.StaticRules.{trails}
+
+all_kept : (k : Kind) → row_kept k ≡ true
+all_kept (program Module) = refl
+all_kept (program Script) = refl
+all_kept (program FunctionBody) = refl
+all_kept (program Directive) = refl
+all_kept (program ImportBare) = refl
+all_kept (program Import) = refl
+all_kept (program ImportAll) = refl
+all_kept (program ImportList) = refl
+all_kept (program ImportBoth) = refl
+all_kept (program ExportNames) = refl
+all_kept (program ExportFrom) = refl
+all_kept (program ExportAll) = refl
+all_kept (program ExportAllAs) = refl
+all_kept (program ExportDecl) = refl
+all_kept (program ExportDefaultFn) = refl
+all_kept (program ExportDefaultClass) = refl
+all_kept (program ExportDefaultExpr) = refl
+all_kept (program (Specifier Imported)) = refl
+all_kept (program (SpecifierAs Imported)) = refl
+all_kept (program (Specifier Exported)) = refl
+all_kept (program (SpecifierAs Exported)) = refl
+all_kept (program (Specifier From)) = refl
+all_kept (program (SpecifierAs From)) = refl
+all_kept (statement Block) = refl
+all_kept (statement Declarator) = refl
+all_kept (statement Empty) = refl
+all_kept (statement ExprStmt) = refl
+all_kept (statement If) = refl
+all_kept (statement Do) = refl
+all_kept (statement While) = refl
+all_kept (statement For) = refl
+all_kept (statement ForIn) = refl
+all_kept (statement ForOf) = refl
+all_kept (statement Continue) = refl
+all_kept (statement Break) = refl
+all_kept (statement Return) = refl
+all_kept (statement Throw) = refl
+all_kept (statement Debugger) = refl
+all_kept (statement Label) = refl
+all_kept (statement Switch) = refl
+all_kept (statement Case) = refl
+all_kept (statement Default) = refl
+all_kept (statement Try) = refl
+all_kept (statement Catch) = refl
+all_kept (statement FunctionDecl) = refl
+all_kept (statement ClassDecl) = refl
+all_kept (statement (Var VarWord)) = refl
+all_kept (statement (ForDeclaration VarWord)) = refl
+all_kept (statement (ForBinding VarWord)) = refl
+all_kept (statement (Var LetWord)) = refl
+all_kept (statement (ForDeclaration LetWord)) = refl
+all_kept (statement (ForBinding LetWord)) = refl
+all_kept (statement (Var ConstWord)) = refl
+all_kept (statement (ForDeclaration ConstWord)) = refl
+all_kept (statement (ForBinding ConstWord)) = refl
+all_kept (function FunctionExpr) = refl
+all_kept (function ClassExpr) = refl
+all_kept (function ComputedKey) = refl
+all_kept (function ParenTarget) = refl
+all_kept (function (Method InObject)) = refl
+all_kept (function (Getter InObject)) = refl
+all_kept (function (Setter InObject)) = refl
+all_kept (function (Field InObject)) = refl
+all_kept (function (Method InClass)) = refl
+all_kept (function (Getter InClass)) = refl
+all_kept (function (Setter InClass)) = refl
+all_kept (function (Field InClass)) = refl
+all_kept (function (Method Static)) = refl
+all_kept (function (Getter Static)) = refl
+all_kept (function (Setter Static)) = refl
+all_kept (function (Field Static)) = refl
+all_kept (function (ArrayPat Binds)) = refl
+all_kept (function (ObjectPat Binds)) = refl
+all_kept (function (PropertyPat Binds)) = refl
+all_kept (function (ShorthandPat Binds)) = refl
+all_kept (function (ShorthandInit Binds)) = refl
+all_kept (function (WithInit Binds)) = refl
+all_kept (function (RestPat Binds)) = refl
+all_kept (function (RestProperty Binds)) = refl
+all_kept (function (ArrayPat Assigns)) = refl
+all_kept (function (ObjectPat Assigns)) = refl
+all_kept (function (PropertyPat Assigns)) = refl
+all_kept (function (ShorthandPat Assigns)) = refl
+all_kept (function (ShorthandInit Assigns)) = refl
+all_kept (function (WithInit Assigns)) = refl
+all_kept (function (RestPat Assigns)) = refl
+all_kept (function (RestProperty Assigns)) = refl
+all_kept (expression Seq) = refl
+all_kept (expression Assign) = refl
+all_kept (expression Arrow) = refl
+all_kept (expression ArrowBlock) = refl
+all_kept (expression BareArrow) = refl
+all_kept (expression BareArrowBlock) = refl
+all_kept (expression Cond) = refl
+all_kept (expression Call) = refl
+all_kept (expression Member) = refl
+all_kept (expression Index) = refl
+all_kept (expression Tagged) = refl
+all_kept (expression New) = refl
+all_kept (expression NewWithoutArguments) = refl
+all_kept (expression SuperCall) = refl
+all_kept (expression SuperMember) = refl
+all_kept (expression SuperIndex) = refl
+all_kept (expression ImportCall) = refl
+all_kept (expression ImportMeta) = refl
+all_kept (expression NewTarget) = refl
+all_kept (expression Chain) = refl
+all_kept (expression Array) = refl
+all_kept (expression Object) = refl
+all_kept (expression Property) = refl
+all_kept (expression Shorthand) = refl
+all_kept (expression Spread) = refl
+all_kept (expression Parenthesized) = refl
+all_kept (expression (Binary Nullish)) = refl
+all_kept (expression (OpAssign Nullish)) = refl
+all_kept (expression (Binary Or)) = refl
+all_kept (expression (OpAssign Or)) = refl
+all_kept (expression (Binary And)) = refl
+all_kept (expression (OpAssign And)) = refl
+all_kept (expression (Binary BitOr)) = refl
+all_kept (expression (OpAssign BitOr)) = refl
+all_kept (expression (Binary BitXor)) = refl
+all_kept (expression (OpAssign BitXor)) = refl
+all_kept (expression (Binary BitAnd)) = refl
+all_kept (expression (OpAssign BitAnd)) = refl
+all_kept (expression (Binary Equal)) = refl
+all_kept (expression (OpAssign Equal)) = refl
+all_kept (expression (Binary Unequal)) = refl
+all_kept (expression (OpAssign Unequal)) = refl
+all_kept (expression (Binary StrictEqual)) = refl
+all_kept (expression (OpAssign StrictEqual)) = refl
+all_kept (expression (Binary StrictUnequal)) = refl
+all_kept (expression (OpAssign StrictUnequal)) = refl
+all_kept (expression (Binary Less)) = refl
+all_kept (expression (OpAssign Less)) = refl
+all_kept (expression (Binary Greater)) = refl
+all_kept (expression (OpAssign Greater)) = refl
+all_kept (expression (Binary AtMost)) = refl
+all_kept (expression (OpAssign AtMost)) = refl
+all_kept (expression (Binary AtLeast)) = refl
+all_kept (expression (OpAssign AtLeast)) = refl
+all_kept (expression (Binary InOp)) = refl
+all_kept (expression (OpAssign InOp)) = refl
+all_kept (expression (Binary InstanceOf)) = refl
+all_kept (expression (OpAssign InstanceOf)) = refl
+all_kept (expression (Binary ShiftLeft)) = refl
+all_kept (expression (OpAssign ShiftLeft)) = refl
+all_kept (expression (Binary ShiftRight)) = refl
+all_kept (expression (OpAssign ShiftRight)) = refl
+all_kept (expression (Binary ShiftOut)) = refl
+all_kept (expression (OpAssign ShiftOut)) = refl
+all_kept (expression (Binary Add)) = refl
+all_kept (expression (OpAssign Add)) = refl
+all_kept (expression (Binary Subtract)) = refl
+all_kept (expression (OpAssign Subtract)) = refl
+all_kept (expression (Binary Multiply)) = refl
+all_kept (expression (OpAssign Multiply)) = refl
+all_kept (expression (Binary Divide)) = refl
+all_kept (expression (OpAssign Divide)) = refl
+all_kept (expression (Binary Remainder)) = refl
+all_kept (expression (OpAssign Remainder)) = refl
+all_kept (expression (Binary Exponentiate)) = refl
+all_kept (expression (OpAssign Exponentiate)) = refl
+all_kept (expression (Unary Delete)) = refl
+all_kept (expression (Unary Void)) = refl
+all_kept (expression (Unary TypeOf)) = refl
+all_kept (expression (Unary Positive)) = refl
+all_kept (expression (Unary Negative)) = refl
+all_kept (expression (Unary Complement)) = refl
+all_kept (expression (Unary Not)) = refl
+all_kept (expression (PrefixUpdate Increment)) = refl
+all_kept (expression (PostfixUpdate Increment)) = refl
+all_kept (expression (PrefixUpdate Decrement)) = refl
+all_kept (expression (PostfixUpdate Decrement)) = refl
+all_kept (expression (NameLink true)) = refl
+all_kept (expression (IndexLink true)) = refl
+all_kept (expression (CallLink true)) = refl
+all_kept (expression (PlainTemplate true)) = refl
+all_kept (expression (SubstitutedTemplate true)) = refl
+all_kept (expression (TemplateSpan true)) = refl
+all_kept (expression (NameLink false)) = refl
+all_kept (expression (IndexLink false)) = refl
+all_kept (expression (CallLink false)) = refl
+all_kept (expression (PlainTemplate false)) = refl
+all_kept (expression (SubstitutedTemplate false)) = refl
+all_kept (expression (TemplateSpan false)) = refl
+all_kept (jsx Element) = refl
+all_kept (jsx ElementWithChildren) = refl
+all_kept (jsx Fragment) = refl
+all_kept (jsx NamespacedName) = refl
+all_kept (jsx MemberName) = refl
+all_kept (jsx Attribute) = refl
+all_kept (jsx Container) = refl
+all_kept (jsx EmptyContainer) = refl
+all_kept (jsx JsxSpread) = refl
+
+pub record RowKept (k : Kind) : Type 0 where
+  pub shut_end : (ends_open k || (not (trails (production k)) || last_shut (positions k))) ≡ true
+  pub one_end : (not (trails (production k)) || last_one (positions k)) ≡ true
+  pub bodies : (no_bodies (positions k) || all_firm (positions k)) ≡ true
+  pub contexts : knowns k (positions k) ≡ true
+  pub inits : (is_for k || no_inits (positions k)) ≡ true
+
+pub row_facts : (k : Kind) → RowKept k
+row_facts k =
+    let a = and_parts (ends_open k || (not (trails (production k)) || last_shut (positions k))) _ (all_kept k) in
+    let b = and_parts (not (trails (production k)) || last_one (positions k)) _ a.1 in
+    let c = and_parts (no_bodies (positions k) || all_firm (positions k)) _ b.1 in
+    let d = and_parts (knowns k (positions k)) (is_for k || no_inits (positions k)) c.1 in
+    record { shut_end = a.0; one_end = b.0; bodies = c.0; contexts = d.0; inits = d.1 }
