@@ -4,6 +4,10 @@ mod Rules
 mod Legality
 pub mod Laws
 pub mod Views
+pub mod Tokens
+pub mod Apart
+pub mod Signs
+pub mod Rows
 mod Patterns
 mod Classes
 mod Expressions

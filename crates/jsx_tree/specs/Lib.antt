@@ -13,3 +13,8 @@ pub mod StaticRules
 pub mod View
 pub mod Program
 pub mod Stage
+pub mod Walk
+pub mod Stops
+pub mod Answers
+pub mod Texts
+pub mod Grows
