@@ -2,6 +2,8 @@ mod Lexing
 mod Literals
 mod PlaceExamples
 pub mod Automata
+pub mod Families
+pub mod Fronts
 pub mod Between
 pub mod FileAt
 pub mod FileEnds

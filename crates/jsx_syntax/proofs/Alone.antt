@@ -8,7 +8,7 @@ use Rattle.jsx_base.specs.Token.{Blank, InLineComment, Opening, BehindGap, gap_a
 use Rattle.jsx_base.specs.Token.{same, first_is, is_digit, is_start, begins, step, is_dead, accepts, taken, left, last_state, code_state, state, is_code, Lexeme, is_token, no_token, ended, punct, punctuator, lexed, at_front, token}
 use Rattle.jsx_syntax.specs.Gaps.{IsBehind}
 use Rattle.jsx_syntax.proofs.Gaps.{stays}
-use Rattle.jsx_syntax.proofs.Tokens.{same_self}
+use Rattle.jsx_tree.proofs.Tokens.{same_self}
 
 -- ---- what an automaton takes, it takes again, and whole
 

@@ -12,8 +12,8 @@ use Rattle.jsx_lex.proofs.Raws.{whole}
 use Rattle.jsx_syntax.specs.Here.{Here}
 use Rattle.jsx_syntax.specs.Seen.{IsNext, next_token}
 use Rattle.jsx_syntax.proofs.Alone.{lexed_by, alive}
-use Rattle.jsx_syntax.proofs.Fronts.{other_ahead}
-use Rattle.jsx_syntax.proofs.Tokens.{same_self}
+use Rattle.jsx_base.proofs.Fronts.{other_ahead}
+use Rattle.jsx_tree.proofs.Tokens.{same_self}
 
 -- ---- the same state, and the same token
 

@@ -12,8 +12,8 @@ use Rattle.jsx_tree.specs.Stage.{leaf_at, value_leaf}
 use Rattle.jsx_syntax.specs.declared.error.ParseError.{ParseError}
 use Rattle.jsx_syntax.specs.Pieces.{is_found, Empty, template, Fixed, Leaf, Given, nothing, Literal, IsName, IsNumber, IsString, token_kind, Past, fixed, spelled, Primary, literal, markup}
 use Rattle.jsx_syntax.specs.Answers.{Barred, NoWalk, Refused, NoPrimary}
-use Rattle.jsx_syntax.proofs.Tokens.{one_text}
-use Rattle.jsx_syntax.proofs.Apart.{clash}
+use Rattle.jsx_tree.proofs.Tokens.{one_text}
+use Rattle.jsx_tree.proofs.Apart.{clash}
 use Rattle.jsx_syntax.proofs.Unique.{found_at, same_literal, markup_literal}
 use Rattle.jsx_syntax.proofs.Steps.{barred_markup}
 

@@ -1,15 +1,12 @@
-pub mod Tokens
 pub mod Spellings
 pub mod Gaps
 pub mod Places
-pub mod Families
-pub mod Fronts
 pub mod Words
 pub mod Takes
 pub mod Taking
 pub mod Alone
 pub mod Codes
-pub mod Apart
+pub mod Literals
 pub mod Unique
 pub mod Steps
 pub mod Leaves

@@ -13,10 +13,11 @@ use Rattle.jsx_tree.specs.StaticRules.{Surroundings, all_of, is_plain_list, has_
 use Rattle.jsx_tree.specs.Stage.{value_leaf, in_stage, each_in_stage, with_semicolons}
 use Rattle.jsx_tree.specs.View.{forest}
 use Rattle.jsx_syntax.specs.Pieces.{is_found, pun_sign, const_sign, is_number, Statement, Binding, Constant, Evaluation, Bound, Empty, template, Part, one, Literal, IsName, IsNumber, IsString, token_kind, Past, fixed, spelled as leaf', form, whole, no_string, listed, absent, declarators, Walk, done, next, Bindings, last_one, one_more, literal, markup, by_dot, by_call, dotted, called, Arguments, closed, last, then', Reads, primary, grown}
-use Rattle.jsx_syntax.proofs.Tokens.{and_left, and_right, and_both}
-use Rattle.jsx_syntax.proofs.Apart.{apart}
+use Rattle.jsx_tree.proofs.Tokens.{and_left, and_right, and_both}
+use Rattle.jsx_tree.proofs.Apart.{apart}
 use Rattle.jsx_syntax.proofs.Unique.{found_at, split}
-use Rattle.jsx_syntax.proofs.Signs.{scan_both, scan_alone, past_ends, comma_too, comma_else, begun, begun_after, not_same, unless_heads}
+use Rattle.jsx_tree.proofs.Signs.{past_ends, comma_too, comma_else, begun, begun_after}
+use Rattle.jsx_syntax.proofs.Signs.{scan_both, scan_alone, not_same, unless_heads}
 
 -- ---- the token before the place behind an expression
 

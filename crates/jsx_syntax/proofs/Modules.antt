@@ -14,7 +14,7 @@ use Rattle.jsx_tree.specs.Stage.{ReadsSoFar, has_kind, in_stage, in_stages, each
 use Rattle.jsx_tree.specs.View.{forest}
 use Rattle.jsx_syntax.specs.Pieces.{is_found, Run, stop, more}
 use Rattle.jsx_syntax.specs.Answers.{ToEnd, NoRun, NoTree}
-use Rattle.jsx_syntax.proofs.Tokens.{and_left, and_right, and_both, found_first}
+use Rattle.jsx_tree.proofs.Tokens.{and_left, and_right, and_both, found_first}
 use Rattle.jsx_syntax.proofs.Signs.{scan_both, plain_too, found_end}
 use Rattle.jsx_syntax.proofs.Whole.{Staged, module', constant, bound, evaluation, call, member, element, staged, three, trees_of, forest_back, statement_past}
 use Rattle.jsx_syntax.proofs.Runs.{one_run, all_fit, all_staged, all_legal, all_before, first_is_none, gathered_more, all_scan}

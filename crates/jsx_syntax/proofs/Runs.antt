@@ -17,8 +17,8 @@ use Rattle.jsx_tree.specs.declared.tree.Item.TheVariants as item
 use Rattle.jsx_tree.specs.View.{forest, view_stmt, view_item}
 use Rattle.jsx_syntax.specs.Pieces.{is_found, Statement, Constant, Evaluation, Bound, Empty, Part, one, IsName, IsNumber, IsString, token_kind, Past, fixed, form, no_string, done, next, Primary, literal, markup, Run, stop, more}
 use Rattle.jsx_syntax.specs.Answers.{Barred}
-use Rattle.jsx_syntax.proofs.Tokens.{and_left, and_right, and_both, same_is}
-use Rattle.jsx_syntax.proofs.Apart.{clash, found_token}
+use Rattle.jsx_tree.proofs.Tokens.{and_left, and_right, and_both, same_is}
+use Rattle.jsx_tree.proofs.Apart.{clash, found_token}
 use Rattle.jsx_syntax.proofs.Unique.{found_at, one_past, one_inj, split}
 use Rattle.jsx_syntax.proofs.Signs.{scan_both}
 use Rattle.jsx_syntax.proofs.Meaning.{fits_past}

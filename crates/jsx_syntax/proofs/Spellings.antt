@@ -8,7 +8,7 @@ use Rattle.std.proofs.lemmas.Slice.Eq.{bytes_eq-Decides}
 use lib.Utf8.{encode, scalars, encodes}
 use Rattle.jsx_base.specs.Token.{Text, same, among}
 use Rattle.jsx_tree.specs.Nonterminals as grammar
-use Rattle.jsx_syntax.proofs.Tokens.{and_left, and_right, same_is, same_self}
+use Rattle.jsx_tree.proofs.Tokens.{and_left, and_right, same_is, same_self}
 
 -- whether the characters of the word are its bytes
 abbrev pub is_plain : Text → Bool

@@ -12,7 +12,7 @@ use Rattle.jsx_syntax.specs.declared.error.ParseError.{ParseError}
 use Rattle.jsx_syntax.specs.declared.error.ParseError.TheVariants.{Syntax}
 use Rattle.jsx_syntax.specs.Pieces.{is_found, stops, pun_sign, const_sign, behind_const, Class, Statement, Binding, Markup, Form, Constant, Evaluation, Bound, Empty, class_of, kind_of, template, Piece, Fixed, Part, Whole, NoString, Listed, Declarators, Given, nothing, one, with, Past, fixed, form, whole, no_string, listed, declarators, Walk, done, next, Bindings, last_one, one_more, Step, by_dot, by_call, Dotted, Called, called, Arguments, closed, last, then', Reads}
 use Rattle.jsx_syntax.specs.Answers.{Barred, NoWalk, Refused, Built, NoPrimary, NoDotted, NoArguments}
-use Rattle.jsx_syntax.proofs.Apart.{clash, never_both}
+use Rattle.jsx_tree.proofs.Apart.{clash, never_both}
 use Rattle.jsx_syntax.proofs.Unique.{found_at, one_past, one_inj, const_reads, split, Through, here, further, passes, fixed_found, stops_dot, stops_call}
 
 pub bar : {p : Piece} {ps : List Piece} {x : Place} → Barred p x → NoWalk (p ∷ ps) x

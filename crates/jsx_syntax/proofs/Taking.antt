@@ -24,11 +24,11 @@ use Rattle.jsx_syntax.specs.declared.lexer.Fixed.{Fixed}
 use Rattle.jsx_syntax.specs.declared.lexer.Fixed.TheVariants as fixed
 use Rattle.jsx_syntax.specs.declared.lexer.Leaf.{Leaf}
 use Rattle.jsx_syntax.specs.declared.lexer.Leaf.TheVariants as leaf
-use Rattle.jsx_syntax.proofs.Tokens.{and_both, same_is, same_self}
+use Rattle.jsx_tree.proofs.Tokens.{and_both, same_is, same_self}
 use Rattle.jsx_syntax.proofs.Spellings.{by_both}
 use Rattle.jsx_syntax.proofs.Gaps.{is_behind}
 use Rattle.jsx_syntax.proofs.Takes.{skip_within}
-use Rattle.jsx_syntax.proofs.Fronts.{turned}
+use Rattle.jsx_base.proofs.Fronts.{turned}
 use Rattle.jsx_syntax.proofs.Alone.{IsAlone, alone}
 
 -- what the token is, by the definitions

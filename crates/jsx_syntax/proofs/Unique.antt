@@ -9,8 +9,9 @@ use Rattle.jsx_tree.specs.Spelling.{mode_of}
 use Rattle.jsx_tree.specs.Reading.{Place, forth}
 use Rattle.jsx_tree.specs.View.{forest}
 use Rattle.jsx_syntax.specs.Pieces.{is_found, stops, pun_sign, Markup, Form, Constant, Evaluation, Bound, Empty, class_of, kind_of, template, Piece, Fixed, Part, Whole, NoString, Given, nothing, one, with, single, Literal, IsName, IsNumber, IsString, token_kind, Past, fixed, spelled, form, whole, no_string, listed, absent, declarators, Walk, done, next, Bindings, last_one, one_more, Primary, literal, markup, Step, by_dot, by_call, Dotted, dotted, Called, called, Arguments, closed, last, then', Reads, primary, grown}
-use Rattle.jsx_syntax.proofs.Tokens.{and_left, and_right, one_text}
-use Rattle.jsx_syntax.proofs.Apart.{clash, never_both, less_other, less_literal}
+use Rattle.jsx_tree.proofs.Tokens.{and_left, and_right, one_text}
+use Rattle.jsx_tree.proofs.Apart.{clash, never_both, less_other}
+use Rattle.jsx_syntax.proofs.Literals.{less_literal}
 
 pub one_inj : {t u : Tree} → one t ≡ one u → t ≡ u
 one_inj e = cc

@@ -13,10 +13,11 @@ use Rattle.jsx_tree.specs.StaticRules.{Surroundings, is_here, all_of, has_init, 
 use Rattle.jsx_tree.specs.Stage.{has_kind, limits, is_plain_tag, is_string, value_leaf, in_stage, in_stages, each_in_stage, leaf_at, with_semicolons}
 use Rattle.jsx_tree.specs.View.{forest}
 use Rattle.jsx_syntax.specs.Pieces.{is_found, stops, pun_sign, const_sign, is_number, Statement, Binding, Constant, Evaluation, Bound, Empty, template, Part, one, single, IsName, IsNumber, IsString, Past, fixed, spelled as leaf', form, whole, no_string, listed, absent, declarators, Walk, done, next, Bindings, last_one, one_more, literal, markup, by_dot, by_call, dotted, called, Arguments, closed, last, then', Reads, primary, grown}
-use Rattle.jsx_syntax.proofs.Tokens.{and_left, and_right, and_both, found_before, found_first}
-use Rattle.jsx_syntax.proofs.Apart.{apart}
+use Rattle.jsx_tree.proofs.Tokens.{and_left, and_right, and_both, found_before, found_first}
+use Rattle.jsx_tree.proofs.Apart.{apart}
 use Rattle.jsx_syntax.proofs.Unique.{found_at}
-use Rattle.jsx_syntax.proofs.Signs.{scan_both, scan_alone, past_ends, comma_too, comma_else}
+use Rattle.jsx_tree.proofs.Signs.{past_ends, comma_too, comma_else}
+use Rattle.jsx_syntax.proofs.Signs.{scan_both, scan_alone}
 use Rattle.jsx_syntax.proofs.Meaning.{Where, AtStatement, AtValue, AtCallee, AtObject, AtArgument, nonterminal_at, reads_begun, last_scan, more_scan}
 
 -- the kinds of the stage

@@ -3,6 +3,5 @@ pub mod Spans
 pub mod Seen
 pub mod Answers
 pub mod Pieces
-pub mod Ahead
 pub mod Gaps
 pub mod Spelled

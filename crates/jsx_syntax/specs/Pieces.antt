@@ -7,13 +7,10 @@ use Rattle.jsx_tree.specs.Kinds.{ConstWord, Var, Declarator, ExprStmt, Binds, Ca
 use Rattle.jsx_tree.specs.Nonterminals.{Nonterminal, Name, Pat, TagName, leaf_in}
 use Rattle.jsx_tree.specs.Form.{is_leaf}
 use Rattle.jsx_tree.specs.Spelling.{mode_of}
-use Rattle.jsx_tree.specs.Reading.{Place, Lost, At, forth}
+use Rattle.jsx_tree.specs.Reading.{Place, forth}
 use Rattle.jsx_tree.specs.Stage.{leaf_at, value_leaf, is_string}
 use Rattle.jsx_tree.specs.View.{forest}
-
-abbrev pub is_found : Place → Bool
-is_found Lost = false
-is_found (At q e text) = true
+pub use Rattle.jsx_tree.specs.Walk.{is_found}
 
 -- what has forms of its own, beside expressions, and those forms
 pub data Class : Type 0 where

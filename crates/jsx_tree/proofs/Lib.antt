@@ -5,6 +5,10 @@ mod Legality
 pub mod Laws
 pub mod Views
 pub mod Telling
+pub mod Tokens
+pub mod Apart
+pub mod Signs
+pub mod Rows
 mod Patterns
 mod Classes
 mod Expressions

@@ -18,3 +18,8 @@ pub mod Stage
 pub mod Fits
 pub mod Sound
 pub mod Notes
+pub mod Walk
+pub mod Stops
+pub mod Answers
+pub mod Texts
+pub mod Grows

@@ -4,7 +4,7 @@ use Rattle.std.specs.List.{filter}
 use Rattle.std.proofs.lemmas.Bool.{ne_eqb, false≢true}
 use Rattle.jsx_base.specs.Token.{Text, first_is, is_one_of}
 use Rattle.jsx_tree.specs.Nonterminals as grammar
-use Rattle.jsx_syntax.proofs.Tokens.{and_left, and_right}
+use Rattle.jsx_tree.proofs.Tokens.{and_left, and_right}
 use Rattle.jsx_syntax.proofs.identifiers.reserved_from.Goals as goal
 
 at : (b n : ℕ) (ws : List Text) → b ≡ n → ws ≡ filter (first_is (nat_eq n)) grammar.reserved → ws ≡ filter (first_is (nat_eq b)) grammar.reserved

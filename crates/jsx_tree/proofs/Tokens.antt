@@ -6,7 +6,7 @@ use Rattle.jsx_base.specs.Token.{Text, Mode, TokenKind, token, same}
 use Rattle.jsx_tree.specs.Signs.{Sign, Tok}
 use Rattle.jsx_tree.specs.Reading.{Place, Lost, At, forth, scan, go_if}
 use Rattle.jsx_tree.proofs.Laws.{scan_lost}
-use Rattle.jsx_syntax.specs.Pieces.{is_found}
+use Rattle.jsx_tree.specs.Walk.{is_found}
 
 pub and_left : (a b : Bool) → (a && b) ≡ true → a ≡ true
 and_left true b e = refl

@@ -5,8 +5,14 @@ use Rattle.std.proofs.lemmas.Bool.{false≢true, and_left, and_right, and_parts,
 use Rattle.jsx_base.specs.Token.{Text, Mode, TokenKind, IdentifierName, Punctuator, NumericLiteral, BigIntLiteral, StringLiteral, RegExpLiteral, NoSubstitution, TemplateHead, TemplateMiddle, TemplateTail, JsxName, JsxString, JsxText, Elision, NoToken}
 use Rattle.jsx_base.specs.Token.{is_kind, State, Dead, Done, InName, BehindZero, InDigits, BehindPoint, InFraction, BehindE, BehindSign, InExponent, InBase, BehindN, InString, InEscape, InHex, InUnicode, InBraces, BehindNul, BehindCr, AtRegExp, InRegExp, InRegExpEscape, InFlags, InPiece, InPieceEscape, BehindDollar, InJsxName, InJsxString, InJsxText}
 use Rattle.jsx_base.specs.Token.{Lexeme, same, begins, is_longer, longest, punctuators, punctuator, punct, drop_as, first_is, is_digit, is_start, is_code, ended, no_token, lexed, state, at_front, is_token, accepts, last_state, taken, left}
-use Rattle.jsx_syntax.specs.Ahead.{IsNotAhead, NoneAhead}
-use Rattle.jsx_syntax.proofs.Families.{may_be, not_kind}
+use Rattle.jsx_base.proofs.Families.{may_be, not_kind}
+
+-- whatever stood before the text; the flag says whether its token is the first of its line: not this token, and none of this kind
+pub record IsNotAhead (m : Mode) (k : TokenKind) (text t : Text) : Type 0 where
+  pub not_it : (f : Bool) → is_token (at_front m f text) k t ≡ false
+
+pub record NoneAhead (m : Mode) (k : TokenKind) (text : Text) : Type 0 where
+  pub none : (f : Bool) → is_kind (at_front m f text).kind k ≡ false
 
 pub either : (P : Lexeme → Type 0) (b : Bool) (x y : Lexeme) → P x → P y → P (cond b x y)
 either P true x y p q = p

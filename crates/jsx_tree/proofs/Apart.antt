@@ -1,13 +1,13 @@
 -- Which tokens don't stand at one place, and what the first token of a text is behind another.
-use Rattle.std.proofs.Common.{◌≡◌, ℕ, nat_eq, Bool, true, false, cond, [], ◌∷◌, refl, sym, ◌∙◌, ap, subst}
+use Rattle.std.proofs.Common.{◌≡◌, ℕ, nat_eq, Bool, true, false, cond, [], ◌∷◌, refl, sym, ◌∙◌, subst}
 use Rattle.std.specs.Prelude.{◌&&◌, ◌||◌, IsTrue, codes}
 use Rattle.std.proofs.lemmas.Bool.{eqb-true, eq-eqb}
-use Rattle.jsx_base.specs.Token.{Text, Operand, Operator, TokenKind, IdentifierName, Punctuator, NumericLiteral, StringLiteral, Lexeme, kind_number, is_token, breaks, skip, first_is, at_front, token, same}
+use Rattle.jsx_base.specs.Token.{Text, Operand, Operator, TokenKind, Punctuator, Lexeme, kind_number, is_token, breaks, skip, first_is, at_front, token, same}
 use Rattle.jsx_tree.specs.Signs.{AfterExpr, Tok}
 use Rattle.jsx_tree.specs.Reading.{Place, Lost, At, forth}
-use Rattle.jsx_syntax.specs.Pieces.{is_found, Literal, IsName, IsNumber, IsString, token_kind}
-use Rattle.jsx_syntax.proofs.Tokens.{and_left, and_right, and_both, same_is, same_self}
-use Rattle.jsx_syntax.proofs.Fronts.{none_ahead, other_ahead}
+use Rattle.jsx_tree.specs.Walk.{is_found}
+use Rattle.jsx_tree.proofs.Tokens.{and_left, and_right, and_both, same_is, same_self}
+use Rattle.jsx_base.proofs.Fronts.{other_ahead}
 
 pub by_not : (b : Bool) → (b ≡ true → ⊥) → b ≡ false
 by_not true f = absurd (f refl)
@@ -62,18 +62,3 @@ less_other k d t (At q e text) n a b =
     let first = same q [] || breaks text in
     let here = less_first first (skip text) (found_token _ (At (codes "<") AfterExpr (token Operand (same q []) text).rest) a) in
     clash _ (found_token _ (At (d ∷ t) AfterExpr (token Operator (same q []) text).rest) b) ((other_ahead k d t Operator (skip text) (less_or_other d (skip text) n here)).not_it first)
-
-no_literal_front : (l : Literal) (t : Text) (f : Bool) (s : Text) → first_is (nat_eq 60) s ≡ true → is_token (at_front Operator f s) (token_kind l) t ≡ true → ⊥
-no_literal_front l t f [] e h = cc
-no_literal_front l t f (c ∷ s) e h = clash _ (subst (λ v. is_token (at_front Operator f (v ∷ s)) (token_kind l) t ≡ true) (sym (eqb-true 60 c e)) h) (no_one l)
-  where
-    no_one : (l : Literal) → is_token (at_front Operator f (60 ∷ s)) (token_kind l) t ≡ false
-    no_one IsName = ap (λ b. b && same (at_front Operator f (60 ∷ s)).raw t) ((none_ahead IdentifierName Operator 60 s refl refl refl).none f)
-    no_one IsNumber = ap (λ b. b && same (at_front Operator f (60 ∷ s)).raw t) ((none_ahead NumericLiteral Operator 60 s refl refl refl).none f)
-    no_one IsString = ap (λ b. b && same (at_front Operator f (60 ∷ s)).raw t) ((none_ahead StringLiteral Operator 60 s refl refl refl).none f)
-
-pub less_literal : (l : Literal) (t : Text) (x : Place) → IsTrue (is_found (forth (Tok Operand Punctuator (codes "<")) x)) → IsTrue (is_found (forth (Tok Operator (token_kind l) t) x)) → ⊥
-less_literal l t Lost a b = cc
-less_literal l t (At q e text) a b =
-    let first = same q [] || breaks text in
-    no_literal_front l t first (skip text) (less_first first (skip text) (found_token _ (At (codes "<") AfterExpr (token Operand (same q []) text).rest) a)) (found_token _ (At t AfterExpr (token Operator (same q []) text).rest) b)
