@@ -1,5 +1,5 @@
 -- One report after another.
-use Rattle.std.proofs.Common.{◌≡◌, ℕ, ◌≤◌, Bool, true, false, not, ◌&&◌, List, [], ◌∷◌, ◌++◌, Option, Result, Ok, Err, IsTrue, refl, sym, ap, subst, true≢false, ◌∙◌, append_assoc, append-nil, suc, ◌+◌, ◌<◌, map, length, take, drop, get_or, take-suc, drop-cons, add-one, arith}
+use Rattle.std.proofs.Common.{◌≡◌, ℕ, zero, ◌≤◌, Bool, true, false, not, ◌&&◌, List, [], ◌∷◌, ◌++◌, Option, Result, Ok, Err, IsTrue, refl, sym, ap, subst, true≢false, ◌∙◌, append_assoc, append-nil, suc, ◌+◌, ◌<◌, map, length, take, drop, get_or, take-suc, drop-cons, add-one, arith}
 use Rattle.std.specs.Prelude.{if◌then◌else◌}
 use Rattle.std.proofs.lemmas.List.{get_or-map, length-map}
 use Rattle.jsx_base.specs.Faults.{Rose}
@@ -73,6 +73,23 @@ answer_ended ExplicitBug f g b m done r later flags before went step = answers_e
 answer_ended FatalError f g b m done r later flags before went step = answers_end FatalError f g b m done r later flags before went step
 answer_ended (Emit e) f g b m done r later flags before went step = tt
 answer_ended Memory f g b m done r later flags before went step = tt
+
+first_answers : (e : HandlerError) (f g : HandlerFlags) (b m : Books) (done : List Report) (r : Report) → g ≡ f → m ≡ booked_all f b done → Err e ≡ answer_to g m r → Err e ≡ answer_all f (booked_all f b done) (r ∷ [])
+first_answers e f g b m done r flags before step =
+    step ∙ ap (λ (x : HandlerFlags). answer_to x m r) flags ∙ ap (λ (x : Books). answer_to f x r) before ∙ sym (then_end (answer_to f (booked_all f b done) r))
+
+-- the answer is that of the report which ended it
+pub answer_first : (e : HandlerError) (f g : HandlerFlags) (b m : Books) (done : List Report) (r : Report) → g ≡ f → m ≡ booked_all f b done → OnWent {T = Unit {0}} (Err e) (Err e ≡ answer_to g m r) → OnWent {T = Unit {0}} (Err e) (Err e ≡ answer_all f (booked_all f b done) (r ∷ []))
+answer_first ExplicitBug f g b m done r flags before step = first_answers ExplicitBug f g b m done r flags before step
+answer_first FatalError f g b m done r flags before step = first_answers FatalError f g b m done r flags before step
+answer_first (Emit e) f g b m done r flags before step = tt
+answer_first Memory f g b m done r flags before step = tt
+
+-- fewer than all leave some
+pub some_left : (n : ℕ) (rs : List Report) → n < length rs → IsTrue (not (is_empty (drop n rs)))
+some_left n [] h = absurd (omega (arith, h))
+some_left zero (r ∷ rs) h = refl
+some_left (suc n) (r ∷ rs) h = some_left n rs (omega (arith, h))
 
 no_bug : (x t : Bool) → t ≡ false → (if◌then◌else◌ {A = Result (Unit {0}) HandlerError} (x && t) (Err ExplicitBug) (Ok tt)) ≡ Ok tt
 no_bug true t h = rw h refl

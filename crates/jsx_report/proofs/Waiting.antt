@@ -31,6 +31,9 @@ pub answer_all_waiting : (f : HandlerFlags) (x : List Report) (b : Books) (rs : 
 answer_all_waiting f x b [] = refl
 answer_all_waiting f x b (r ∷ rs) = ap (λ (it : Result (Unit {0}) HandlerError). and_then (answer_to f b r) it) (ap (λ (it : Books). answer_all f it rs) (booked_waiting f x b r) ∙ answer_all_waiting f x (booked f b r) rs)
 
+pub first_waiting : (f : HandlerFlags) (x : List Report) (b : Books) (done rest : List Report) → answer_all f (booked_all f (waiting x b) done) (first_of rest) ≡ answer_all f (booked_all f b done) (first_of rest)
+first_waiting f x b done rest = ap (λ (it : Books). answer_all f it (first_of rest)) (booked_all_waiting f x b done) ∙ answer_all_waiting f x (booked_all f b done) (first_of rest)
+
 module _ {E : Type 0} (text : E → Option Text) (faults : E → ℕ) (explains : E → Bool) (shows : E → HandlerFlags → Report → Text → Type 0) where
   -- the bugs that waited are taken out, handed in, and the rest is put back
   pub put_back : {T : Type 0} (done rest : List Report) (old mid : Handler E) (x y : Vec Diagnostic Global) (result : Result T HandlerError) → map report_of y.items ≡ rest → HandsSome text faults explains shows (λ b. b) done rest (record old { delayed = x }) mid result → HandsSome text faults explains shows (waiting rest) done rest old (record mid { delayed = y }) result

@@ -1,5 +1,5 @@
 -- Reports one after another, and what a run ends with.
-use Rattle.std.specs.Prelude.{◌≡◌, ◌⊎◌, ℕ, Bool, false, not, if◌then◌else◌, nat_eq, nat_lt, List, [], ◌∷◌, ◌++◌, length, take, flat_map, Option, Result, Ok, Err, IsTrue, IsPermutation, OnOk, codes, decimal, ⊤}
+use Rattle.std.specs.Prelude.{◌≡◌, ◌⊎◌, ℕ, Bool, false, not, if◌then◌else◌, nat_eq, nat_lt, List, [], ◌∷◌, ◌++◌, length, take, flat_map, Option, Result, Ok, Err, IsTrue, IsPermutation, OnOk, OnErr, codes, decimal, ⊤}
 use Rattle.std.specs.Ordering.{nat_cmp, is_lt}
 use Rattle.std.specs.Cmp.Lexicographic.{slice_cmp}
 use Rattle.jsx_base.specs.Faults.{Rose}
@@ -13,7 +13,7 @@ use Rattle.jsx_report.specs.declared.error.HandlerError.TheVariants.{Emit, Expli
 use Rattle.jsx_report.specs.Emitter.{PrintsAll, PrintsFront, is_empty}
 use Rattle.jsx_report.specs.Books.{Books, booked, booked_all, news_all}
 use Rattle.jsx_report.specs.Made.{plain_report}
-use Rattle.jsx_report.specs.Handler.{KeepsSettings, OnEmit, OnFault, answer_to, books_of, emitter_of}
+use Rattle.jsx_report.specs.Handler.{KeepsSettings, OnEmit, OnFault, OnWent, answer_to, books_of, emitter_of}
 
 -- the first of the reports
 abbrev pub first_of : List Report → List Report
@@ -72,6 +72,10 @@ module _ {E : Type 0} (text : E → Option Text) (faults : E → ℕ) (explains 
     pub rest : List Report
     pub split : reports ≡ done ++ rest
     pub hands : HandsSome (leave rest) done rest old new result
+    -- none of those before shows a bug, an error is that of a report, and the first of the rest answers so
+    pub fine : answer_all old.flags (books_of old) done ≡ Ok tt
+    pub stops : OnErr result (IsTrue (not (is_empty rest)))
+    pub answered : OnWent result (without_value result ≡ answer_all old.flags (booked_all old.flags (books_of old) done) (first_of rest))
 
 -- the books, in which these bugs wait
 abbrev pub waiting : List Report → Books → Books

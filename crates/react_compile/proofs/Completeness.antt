@@ -4,8 +4,7 @@ use Rattle.jsx_base.specs.Faults.{Rose}
 use Rattle.jsx_base.specs.Source.{Gives}
 use Rattle.jsx_tree.specs.Kinds.{Tree}
 use Rattle.react_compile.specs.Compiles.{IsSource}
-use Rattle.react_compile.specs.Run.{IsAtEnd, TakesAll, IsValid}
-use Rattle.react_compile.specs.Input.{TakesTooMany}
+use Rattle.react_compile.specs.Run.{IsAtEnd, TakesAll, TakesTooMany, IsValid}
 use Rattle.react_compile.specs.declared.program.Status.{Status}
 use Rattle.react_compile.specs.declared.program.Status.TheVariants.{Done, Fault, Write, Memory}
 

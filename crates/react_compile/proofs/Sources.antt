@@ -1,10 +1,10 @@
 -- Bytes of a source, piece after piece.
-use Rattle.std.proofs.Common.{◌≡◌, ℕ, ◌≤◌, List, [], ◌++◌, arith, inl, inr, append_assoc, append-nil, refl, sym, ap, ◌∙◌, Option, Some, None, subst, length, take, drop, ◌↔◌, IfSome}
+use Rattle.std.proofs.Common.{◌≡◌, ℕ, ◌+◌, ◌≤◌, List, [], ◌++◌, arith, inl, inr, append_assoc, append-nil, refl, sym, ap, ◌∙◌, Option, Some, None, subst, length, take, drop, ◌↔◌, IfSome}
 use Rattle.std.proofs.Math.Seq.{take-append_seam}
 use Rattle.std.specs.Io.KnownBytes.{prepend_known}
 use Rattle.jsx_base.specs.Faults.{Rose}
 use Rattle.jsx_base.specs.Source.{Gives}
-use Rattle.react_compile.specs.Run.{IsAtEnd, TakesAll}
+use Rattle.react_compile.specs.Run.{IsAtEnd, TakesAll, TakesFew, max_source, read_size}
 
 pub gives_nothing : (left : Option (List ℕ)) → Gives left left []
 gives_nothing None = refl
@@ -30,6 +30,13 @@ takes_all first old new xs buf n zero e f h =
       gives = subst (λ ys. Gives first new ys) (append-nil xs) (gives_more first old new xs [] e f');
       to_end = ended old new n zero f' h;
     }
+
+pub takes_none : (left : Option (List ℕ)) → TakesFew left left
+takes_none left = record { bytes = []; gives = gives_nothing left; few = omega arith }
+
+-- what a read that gave nothing more, or one buffer at most, leaves
+pub takes_few : (left rest : Option (List ℕ)) (xs : List ℕ) → length xs ≤ max_source + read_size → Gives left rest xs → TakesFew left rest
+takes_few left rest xs few g = record { bytes = xs; gives = g; few = few }
 
 pub rose_since : (first old new : ℕ) → first ≤ old → Rose old new → Rose first new
 rose_since first old new le (inl lt) = inl (omega arith)

@@ -4,6 +4,5 @@ pub mod StandsFor
 pub mod Compiles
 pub mod Run
 pub mod Status
-pub mod Input
 pub mod Printed
 pub mod ParseErrors

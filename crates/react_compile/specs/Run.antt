@@ -1,5 +1,5 @@
 -- What a run leaves: what it took of its source, and what its sinks gained.
-use Rattle.std.specs.Prelude.{◌≡◌, ◌⊎◌, ℕ, ◌<◌, ◌≤◌, List, [], codes, Option, Some, IfSome, length}
+use Rattle.std.specs.Prelude.{◌≡◌, ◌⊎◌, ℕ, ◌+◌, ◌<◌, ◌≤◌, List, [], codes, Option, Some, IfSome, length}
 use Rattle.jsx_base.specs.Faults.{Rose}
 use Rattle.jsx_base.specs.Source.{Gives}
 use Rattle.jsx_base.specs.Sink.{Gains, GainsPrefix}
@@ -9,6 +9,10 @@ use Rattle.react_compile.specs.Compiles.{IsSource, Compiles}
 -- the greatest number of bytes that a source may have
 abbrev pub max_source : ℕ
 max_source = 16777216
+
+-- how many bytes are asked for in one read
+abbrev pub read_size : ℕ
+read_size = 65536
 
 -- the lines that a run writes to its second sink
 abbrev pub bad_words : List ℕ
@@ -35,6 +39,31 @@ pub record TakesAll (left rest : Option (List ℕ)) (bytes : List ℕ) : Type 0 
   pub gives : Gives left rest bytes
   pub to_end : IsAtEnd rest
 
+-- the source gave at most so many bytes more than it may have as one read asks for
+pub record TakesFew (left rest : Option (List ℕ)) : Type 0 where
+  pub bytes : List ℕ
+  pub gives : Gives left rest bytes
+  pub few : length bytes ≤ max_source + read_size
+
+-- more bytes than a source may have were taken
+pub record TakesTooMany (left rest : Option (List ℕ)) : Type 0 where
+  pub bytes : List ℕ
+  pub gives : Gives left rest bytes
+  pub too_many : max_source < length bytes
+
+-- the whole source was taken, and no tree reads it
+pub record TakesNoModule (left rest : Option (List ℕ)) : Type 0 where
+  pub source : List ℕ
+  pub taken : TakesAll left rest source
+  pub few : length source ≤ max_source
+  pub no_tree : (tree : Tree) → IsSource source tree → ⊥
+
+-- the sink tells its bytes, and they are as they were
+pub record KeepsTold (held holds : Option (List ℕ)) : Type 0 where
+  pub bytes : List ℕ
+  pub old : held ≡ Some bytes
+  pub new : holds ≡ Some bytes
+
 -- the sink gained the code of these bytes and nothing else
 pub record GainsCode (source : List ℕ) (held holds : Option (List ℕ)) : Type 0 where
   pub code : List ℕ
@@ -51,33 +80,42 @@ pub record GainsCodePrefix (source : List ℕ) (held holds : Option (List ℕ)) 
 pub record WritesCode (left rest held holds : Option (List ℕ)) : Type 0 where
   pub source : List ℕ
   pub taken : TakesAll left rest source
+  pub few : length source ≤ max_source
   pub code : GainsCode source held holds
 
 -- the same of a prefix of the code
 pub record WritesPrefix (left rest held holds : Option (List ℕ)) : Type 0 where
   pub source : List ℕ
   pub taken : TakesAll left rest source
+  pub few : length source ≤ max_source
   pub code : GainsCodePrefix source held holds
 
--- the whole source was taken and no tree reads it, which the second sink is told
+-- no tree reads the source, which the second sink is told
 pub record TellsSyntaxError (left rest held holds : Option (List ℕ)) : Type 0 where
-  pub source : List ℕ
-  pub taken : TakesAll left rest source
-  pub no_tree : (tree : Tree) → IsSource source tree → ⊥
+  pub cause : TakesNoModule left rest
   pub says : Gains held holds syntax_error
 
--- more bytes than a source may have were taken, which the second sink is told
+-- the source has too many bytes, which the second sink is told
 pub record TellsTooBig (left rest held holds : Option (List ℕ)) : Type 0 where
-  pub bytes : List ℕ
-  pub gives : Gives left rest bytes
-  pub too_many : max_source < length bytes
+  pub cause : TakesTooMany left rest
   pub says : Gains held holds input_too_big
 
--- a prefix of one of the lines, or nothing
-pub record TellsPrefix (held holds : Option (List ℕ)) : Type 0 where
+-- a line for which there is a cause, given whether there are words, what the source had and has left, and its count of faults before and after
+abbrev pub HasCause : Type 0 → Option (List ℕ) → Option (List ℕ) → ℕ → ℕ → List ℕ → Type 0
+HasCause are_words left rest reads_old reads_new line =
+    ((line ≡ bad_words) × are_words) ⊎ (((line ≡ read_fault) × Rose reads_old reads_new) ⊎ ((line ≡ out_of_memory) ⊎
+    (((line ≡ syntax_error) × TakesNoModule left rest) ⊎ ((line ≡ input_too_big) × TakesTooMany left rest))))
+
+-- a prefix of a line for which there is a cause, or nothing
+pub record TellsPrefix (are_words : Type 0) (left rest : Option (List ℕ)) (reads_old reads_new : ℕ) (held holds : Option (List ℕ)) : Type 0 where
   pub line : List ℕ
-  pub is_line : (line ≡ bad_words) ⊎ ((line ≡ read_fault) ⊎ ((line ≡ out_of_memory) ⊎ ((line ≡ syntax_error) ⊎ (line ≡ input_too_big))))
+  pub cause : HasCause are_words left rest reads_old reads_new line
   pub gains : GainsPrefix held holds line
+
+-- no tree reads the source, and the second sink gained a prefix of the line that says so
+pub record TellsSyntaxPrefix (source : List ℕ) (held holds : Option (List ℕ)) : Type 0 where
+  pub no_tree : (tree : Tree) → IsSource source tree → ⊥
+  pub gains : GainsPrefix held holds syntax_error
 
 -- what a run without words is given so that it has to give code: a source that tells its bytes, few enough, which read, and no fault in this call
 pub record IsValid (left : Option (List ℕ)) (reads_old reads_new out_old out_new err_old err_new : ℕ) : Type 0 where

@@ -3,8 +3,7 @@
 ghost use Rattle.std.specs.Prelude.{◌≡◌, ◌<◌, ◌≤◌, ℕ, IfOk, length, vec_len};
 ghost use Rattle.jsx_base.specs.Faults.{Rose};
 ghost use Rattle.jsx_base.specs.Source.{Gives};
-ghost use Rattle.react_compile.specs.Run.{TakesAll, max_source};
-ghost use Rattle.react_compile.specs.Input.{TakesTooMany};
+ghost use Rattle.react_compile.specs.Run.{TakesAll, TakesFew, TakesTooMany, max_source};
 
 use jsx_base::{Failed, Source};
 use std::alloc::{AllocError, Global};
@@ -59,6 +58,7 @@ pub fn read_all<S: Source>(alloc: Global, input: &mut S) -> Result<Vec<u8>, Inpu
     ensures all { IfOk result (λ bytes. TakesAll (S.left input.old) (S.left input.new) bytes.items) }
     ensures few { IfOk result (λ bytes. vec_len bytes ≤ max_source) }
     ensures too_big { result ≡ Err InputError.TooBig → TakesTooMany (S.left input.old) (S.left input.new) }
+    ensures bounded { TakesFew (S.left input.old) (S.left input.new) }
     ensures failed { result ≡ Err InputError.Failed → Rose (S.faults input.old) (S.faults input.new) }
 {
     let mut bytes = Vec::new(alloc);

@@ -6,7 +6,7 @@ ghost use Rattle.jsx_base.specs.Sink.{Gains, GainsPrefix};
 ghost use Rattle.jsx_tree.specs.Kinds.{Tree};
 ghost use Rattle.react_compile.specs.Status.{code_of, IsTold};
 ghost use Rattle.react_compile.specs.Compiles.{IsSource};
-ghost use Rattle.react_compile.specs.Run.{WritesCode, WritesPrefix, TellsSyntaxError, TellsTooBig, TellsPrefix, GainsCode, GainsCodePrefix, IsValid, bad_words, read_fault, out_of_memory, syntax_error, max_source};
+ghost use Rattle.react_compile.specs.Run.{WritesCode, WritesPrefix, TakesFew, KeepsTold, TellsSyntaxError, TellsTooBig, TellsPrefix, TellsSyntaxPrefix, GainsCode, GainsCodePrefix, IsValid, bad_words, read_fault, out_of_memory, syntax_error, max_source};
 
 use crate::compiler::{CompileError, compile};
 #[cfg(test)]
@@ -95,12 +95,14 @@ fn emit<O: Sink, E: Sink>(code: &[u8], out: &mut O, err: &mut E) -> Status
     requires { 64 ≤ E.room err.old }
     ensures ends { (result ≡ Status.Done) ⊎ ((result ≡ Status.Memory) ⊎ (result ≡ Status.Write)) }
     ensures done { result ≡ Status.Done → Gains (O.holds out.old) (O.holds out.new) code.now }
-    ensures done_says { result ≡ Status.Done → E.holds err.new ≡ E.holds err.old }
+    ensures done_says { result ≡ Status.Done → err.new ≡ err.old }
+    ensures unwritten { result ≡ Status.Done → code.now ≡ [] → out.new ≡ out.old }
     ensures memory { result ≡ Status.Memory → O.holds out.new ≡ O.holds out.old }
     ensures memory_says { result ≡ Status.Memory → Gains (E.holds err.old) (E.holds err.new) out_of_memory }
     ensures write { result ≡ Status.Write → Rose (O.faults out.old) (O.faults out.new) ⊎ Rose (E.faults err.old) (E.faults err.new) }
     ensures prefix { result ≡ Status.Write → GainsPrefix (O.holds out.old) (O.holds out.new) code.now }
-    ensures prefix_says { result ≡ Status.Write → TellsPrefix (E.holds err.old) (E.holds err.new) }
+    ensures prefix_says { result ≡ Status.Write → GainsPrefix (E.holds err.old) (E.holds err.new) out_of_memory }
+    ensures one_sink { result ≡ Status.Write → (O.holds out.new ≡ O.holds out.old) ⊎ (err.new ≡ err.old) }
 {
     if code.is_empty() {
         return Status::Done;
@@ -123,10 +125,11 @@ fn compile_to<O: Sink, E: Sink>(alloc: Global, source: &[u8], out: &mut O, err: 
     ensures ends { (result ≡ Status.Done) ⊎ ((result ≡ Status.Fault) ⊎ ((result ≡ Status.Memory) ⊎ (result ≡ Status.Write))) }
 
     ensures done { result ≡ Status.Done → GainsCode source.now (O.holds out.old) (O.holds out.new) }
-    ensures done_says { result ≡ Status.Done → E.holds err.new ≡ E.holds err.old }
+    ensures done_says { result ≡ Status.Done → err.new ≡ err.old }
+    ensures unwritten { result ≡ Status.Done → KeepsTold (O.holds out.old) (O.holds out.new) → out.new ≡ out.old }
 
     ensures fault { result ≡ Status.Fault → (tree : Tree) → IsSource source.now tree → ⊥ }
-    ensures fault_out { result ≡ Status.Fault → O.holds out.new ≡ O.holds out.old }
+    ensures fault_out { result ≡ Status.Fault → out.new ≡ out.old }
     ensures fault_says { result ≡ Status.Fault → Gains (E.holds err.old) (E.holds err.new) syntax_error }
 
     ensures memory { result ≡ Status.Memory → O.holds out.new ≡ O.holds out.old }
@@ -134,7 +137,8 @@ fn compile_to<O: Sink, E: Sink>(alloc: Global, source: &[u8], out: &mut O, err: 
 
     ensures write { result ≡ Status.Write → Rose (O.faults out.old) (O.faults out.new) ⊎ Rose (E.faults err.old) (E.faults err.new) }
     ensures prefix { result ≡ Status.Write → (O.holds out.new ≡ O.holds out.old) ⊎ GainsCodePrefix source.now (O.holds out.old) (O.holds out.new) }
-    ensures prefix_says { result ≡ Status.Write → TellsPrefix (E.holds err.old) (E.holds err.new) }
+    ensures prefix_says { result ≡ Status.Write → GainsPrefix (E.holds err.old) (E.holds err.new) out_of_memory ⊎ TellsSyntaxPrefix source.now (E.holds err.old) (E.holds err.new) }
+    ensures one_sink { result ≡ Status.Write → (O.holds out.new ≡ O.holds out.old) ⊎ (err.new ≡ err.old) }
 {
     match compile(alloc, source) {
         Ok(output) => emit(output.code.as_bytes(), out, err),
@@ -145,8 +149,9 @@ fn compile_to<O: Sink, E: Sink>(alloc: Global, source: &[u8], out: &mut O, err: 
 
 /// Runs the compiler: reads a source to its end, and writes its code to `out` or says on `err` why there is none.
 ///
-/// No words are taken so far. The code goes out in one write, for which room is reserved before; an empty code isn't
-/// written. A line on `err` ends with LF. A source has at most 16,777,216 bytes.
+/// No words are taken so far, and with words the source isn't read. The code goes out in one write, for which room is
+/// reserved before; an empty code isn't written. After a write that fails nothing more is written. A line on `err` ends
+/// with LF. A source has at most 16,777,216 bytes, and no more than one read beyond them is taken.
 #[tactic(auto, using(crate::proofs::Sinks::telling))]
 pub fn run<S: Source, O: Sink, E: Sink>(
     alloc: Global,
@@ -159,9 +164,16 @@ pub fn run<S: Source, O: Sink, E: Sink>(
 
     // Code is written only for a source that reads, and stands for it.
     ensures done { result ≡ Status.Done → WritesCode (S.left input.old) (S.left input.new) (O.holds out.old) (O.holds out.new) }
-    ensures done_says { result ≡ Status.Done → E.holds err.new ≡ E.holds err.old }
+    ensures done_says { result ≡ Status.Done → err.new ≡ err.old }
+    ensures unwritten { result ≡ Status.Done → KeepsTold (O.holds out.old) (O.holds out.new) → out.new ≡ out.old }
     ensures prefix { result ≡ Status.Write → (O.holds out.new ≡ O.holds out.old) ⊎ WritesPrefix (S.left input.old) (S.left input.new) (O.holds out.old) (O.holds out.new) }
     ensures nothing { result ≢ Status.Done → result ≢ Status.Write → O.holds out.new ≡ O.holds out.old }
+    ensures untouched { (result ≡ Status.Fault) ⊎ ((result ≡ Status.Usage) ⊎ (result ≡ Status.Read)) → out.new ≡ out.old }
+    ensures one_sink { result ≡ Status.Write → (O.holds out.new ≡ O.holds out.old) ⊎ (err.new ≡ err.old) }
+
+    // Of the source no more is taken than may have to be seen.
+    ensures unread { words.now ≢ [] → input.new ≡ input.old }
+    ensures bounded { TakesFew (S.left input.old) (S.left input.new) }
 
     // Each other status has its cause, and its line.
     ensures fault { result ≡ Status.Fault → TellsSyntaxError (S.left input.old) (S.left input.new) (E.holds err.old) (E.holds err.new) ⊎ TellsTooBig (S.left input.old) (S.left input.new) (E.holds err.old) (E.holds err.new) }
@@ -171,7 +183,7 @@ pub fn run<S: Source, O: Sink, E: Sink>(
     ensures read { result ≡ Status.Read → Rose (S.faults input.old) (S.faults input.new) }
     ensures read_says { result ≡ Status.Read → Gains (E.holds err.old) (E.holds err.new) read_fault }
     ensures write { result ≡ Status.Write → Rose (O.faults out.old) (O.faults out.new) ⊎ Rose (E.faults err.old) (E.faults err.new) }
-    ensures write_says { result ≡ Status.Write → TellsPrefix (E.holds err.old) (E.holds err.new) }
+    ensures write_says { result ≡ Status.Write → TellsPrefix (words.now ≢ []) (S.left input.old) (S.left input.new) (S.faults input.old) (S.faults input.new) (E.holds err.old) (E.holds err.new) }
     ensures memory_says { result ≡ Status.Memory → Gains (E.holds err.old) (E.holds err.new) out_of_memory }
 
     // Valid input gives code, or want of memory.

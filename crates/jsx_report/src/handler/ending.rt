@@ -23,7 +23,8 @@ impl<E: Emitter> Handler<E> {
     ghost use Rattle.jsx_report.specs.Handler.{OnWent, Reports, answer_to, books_of, bug_or_ok, emitter_of, refusal};
     ghost use Rattle.jsx_report.specs.Made.{plain_report};
     ghost use Rattle.jsx_report.specs.Emitter.{is_empty};
-    ghost use Rattle.jsx_report.specs.Ending.{ClosesOrWants, HandsAll, HandsSome, IsClosing, answer_all, as_booked, count_text, waiting, without_value};
+    ghost use Rattle.jsx_report.specs.Ending.{ClosesOrWants, HandsAll, HandsSome, IsClosing, answer_all, as_booked, count_text, first_of, waiting, without_value};
+    ghost use Rattle.jsx_report.specs.Books.{booked_all};
     ghost use Rattle.jsx_report.specs.Stop.{done_of, rest_of, stop_answer};
 
     /// Reports the bugs that waited, if no error was counted, and answers whether there were any. None
@@ -152,6 +153,8 @@ impl<E: Emitter> Handler<E> {
     fn report_each(&mut self, reports: &[Diagnostic]) -> Result<(), Stop>
         ensures hands { HandsSome E.text E.faults E.explains E.shows (λ books. books) (done_of result (map report_of reports.now)) (rest_of result (map report_of reports.now)) self.old self.new (stop_answer result) }
         ensures answer { OnWent (stop_answer result) (stop_answer result ≡ answer_all self.old.flags (books_of self.old) (map report_of reports.now)) }
+        ensures fine { answer_all self.old.flags (books_of self.old) (done_of result (map report_of reports.now)) ≡ Ok tt }
+        ensures answered { OnWent (stop_answer result) (stop_answer result ≡ answer_all self.old.flags (booked_all self.old.flags (books_of self.old) (done_of result (map report_of reports.now))) (first_of (rest_of result (map report_of reports.now)))) }
         ensures within { IfErr result (λ stop. stop.done < length reports.now) }
     {
         let mut done = 0;

@@ -99,6 +99,23 @@ fn bugs_that_waited_are_printed_at_the_end(rt: HostRuntime) {
     assert!(rt; holds(handler, "a\nb\n"));
 }
 
+/// Whether `finish` ends at the second of two bugs that waited, where errors are bugs and the first is known.
+fn ends_at_the_second(alloc: Global, handler: &mut Handler<Lines>) -> bool {
+    let waiting = delay_bug(alloc, handler, "a").is_ok() && delay_bug(alloc, handler, "b").is_ok();
+    handler.flags.treat_err_as_bug = true;
+    let known = handler.span_bug(spans(alloc), "a") == HandlerError::ExplicitBug;
+    waiting && known && handler.finish() == Err(HandlerError::ExplicitBug)
+}
+
+#[test]
+fn finish_ends_at_the_first_bug_that_is_news(rt: HostRuntime) {
+    let mut handler = loud(rt.alloc());
+    assert!(rt; ends_at_the_second(rt.alloc(), &mut handler));
+    assert!(rt; handler.finish() == Ok(true));
+    assert!(rt; handler.finish() == Ok(false));
+    assert!(rt; holds(handler, "a\nb\n"));
+}
+
 #[test]
 fn a_bug_is_printed_at_once_where_the_flags_say_so(rt: HostRuntime) {
     let mut handler = loud(rt.alloc());

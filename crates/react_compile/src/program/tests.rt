@@ -175,26 +175,35 @@ const WELL: Given<'static> = Given {
 };
 
 #[test]
-fn faults_from_outside(rt: HostRuntime) -> Result<(), Fail> {
+fn faults_of_sources(rt: HostRuntime) -> Result<(), Fail> {
+    // With words nothing is read, so no read can fail.
     let word = Given {
         word: Some("--map"),
-        ..WELL
-    };
-    assert_runs(&rt, &word, (Status::Usage, "", BAD_WORDS))?;
-    let first_read = Given {
         bad_reads: &[0],
         ..WELL
     };
-    assert_runs(&rt, &first_read, (Status::Read, "", READ_FAULT))?;
-    let second_read = Given {
-        bad_reads: &[1],
-        ..WELL
-    };
-    assert_runs(&rt, &second_read, (Status::Read, "", READ_FAULT))
+    assert_runs(&rt, &word, (Status::Usage, "", BAD_WORDS))?;
+    for reads in [&[0u32], &[1]] {
+        let read = Given {
+            bad_reads: reads,
+            ..WELL
+        };
+        assert_runs(&rt, &read, (Status::Read, "", READ_FAULT))?;
+    }
+    Ok(())
 }
 
 #[test]
-fn faults_of_sinks(rt: HostRuntime) -> Result<(), Fail> {
+fn reads_end_with_the_first_that_gives_nothing(rt: HostRuntime) -> Result<(), Fail> {
+    let later_read = Given {
+        bad_reads: &[2],
+        ..WELL
+    };
+    assert_runs(&rt, &later_read, (Status::Done, CODE, ""))
+}
+
+#[test]
+fn code_goes_out_in_one_write(rt: HostRuntime) -> Result<(), Fail> {
     let code_write = Given {
         bad_writes: &[0],
         ..WELL
@@ -206,12 +215,6 @@ fn faults_of_sinks(rt: HostRuntime) -> Result<(), Fail> {
         ..WELL
     };
     assert_runs(&rt, &later_write, (Status::Done, CODE, ""))?;
-    let line_write = Given {
-        source: b"c",
-        bad_lines: &[0],
-        ..WELL
-    };
-    assert_runs(&rt, &line_write, (Status::Write, "", ""))?;
     // Nothing is written of an empty code, so no write can fail.
     let no_write = Given {
         source: b"",
@@ -222,9 +225,34 @@ fn faults_of_sinks(rt: HostRuntime) -> Result<(), Fail> {
 }
 
 #[test]
+fn a_line_goes_out_in_one_write(rt: HostRuntime) -> Result<(), Fail> {
+    let line_write = Given {
+        source: b"c",
+        bad_lines: &[0],
+        ..WELL
+    };
+    assert_runs(&rt, &line_write, (Status::Write, "", ""))?;
+    let later_write = Given {
+        source: b"c",
+        bad_lines: &[1],
+        bad_writes: &[0],
+        ..WELL
+    };
+    assert_runs(&rt, &later_write, (Status::Fault, "", SYNTAX_ERROR))
+}
+
+#[test]
 fn a_source_as_great_as_may_be(rt: HostRuntime) -> Result<(), Fail> {
     let mut blanks = vec![in rt.alloc(); b' '; MAX_SOURCE]?;
     assert_runs(&rt, &plain(&blanks), (Status::Done, "", ""))?;
     blanks.push(b' ')?;
-    assert_runs(&rt, &plain(&blanks), (Status::Fault, "", TOO_BIG))
+    // The read with the number 256 gives the byte that is too many, and no further one is made.
+    let too_big = Given {
+        word: None,
+        source: &blanks,
+        bad_reads: &[257],
+        bad_writes: &[],
+        bad_lines: &[],
+    };
+    assert_runs(&rt, &too_big, (Status::Fault, "", TOO_BIG))
 }

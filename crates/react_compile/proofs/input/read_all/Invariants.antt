@@ -8,6 +8,7 @@ invariant-reads g l = record {
   taken : Gives (g.S.Source.left l.fn.input) (g.S.Source.left l.input) l.bytes.items;
   faults : g.S.Source.faults l.fn.input ≤ g.S.Source.faults l.input;
   chunk : vec_len l.chunk ≡ 65536;
+  few : vec_len l.bytes ≤ 16842752;
 }
 
 abbrev pub decreases-reads : goal.decreases-reads

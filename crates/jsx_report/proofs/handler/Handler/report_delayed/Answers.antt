@@ -1,9 +1,10 @@
-use Rattle.std.proofs.Common.{◌≡◌, [], map, take, drop, append-nil, Result, Err, sym, ap, subst, ◌∙◌}
-use Rattle.std.proofs.lemmas.List.{take-append-drop, drop-map}
+use Rattle.std.proofs.Common.{◌≡◌, [], map, take, drop, append-nil, Result, Err, refl, sym, ap, subst, ◌∙◌}
+use Rattle.std.proofs.lemmas.List.{take-append-drop, drop-map, length-map}
 use Rattle.jsx_diag.specs.Data.{report_of}
 use Rattle.jsx_report.specs.declared.error.HandlerError.{HandlerError}
 use Rattle.jsx_report.specs.Handler.{OnWent, books_of}
-use Rattle.jsx_report.proofs.Waiting.{put_back, none_left, answer_all_waiting}
+use Rattle.jsx_report.proofs.Ending.{some_left}
+use Rattle.jsx_report.proofs.Waiting.{put_back, none_left, answer_all_waiting, first_waiting}
 use Rattle.jsx_report.proofs.handler.Handler.report_delayed.Goals as goal
 
 pub returns-in-Ok-clause-hands : goal.returns-in-Ok-clause-hands
@@ -16,6 +17,9 @@ returns-in-Ok-clause-hands g c =
       rest = [];
       split = sym (append-nil rs);
       hands = none_left g.E.Emitter.text g.E.Emitter.faults g.E.Emitter.explains g.E.Emitter.shows rs c.args.self.now c.report_each.new.self c.replace-bugs.new.dest none (rw taken at c.in-Ok.ensures.hands);
+      fine = sym (answer_all_waiting c.args.self.now.flags (map report_of c.replace-bugs.new.dest.items) (books_of c.args.self.now) rs) ∙ (rw taken at c.in-Ok.ensures.fine);
+      stops = tt;
+      answered = refl;
     }
 
 pub returns-in-Ok-clause-answer : goal.returns-in-Ok-clause-answer
@@ -35,6 +39,9 @@ returns-in-Err-clause-hands g c =
       rest = drop n rs;
       split = sym (take-append-drop n rs);
       hands = put_back g.E.Emitter.text g.E.Emitter.faults g.E.Emitter.explains g.E.Emitter.shows (take n rs) (drop n rs) c.args.self.now c.report_each.new.self c.replace-bugs.new.dest c.drop_front.new.reports (Err c.in-Err.stop.error) put (rw taken at c.in-Err.ensures.hands);
+      fine = sym (answer_all_waiting c.args.self.now.flags (map report_of c.replace-bugs.new.dest.items) (books_of c.args.self.now) (take n rs)) ∙ (rw taken at c.in-Err.ensures.fine);
+      stops = some_left n rs (rw (length-map c.args.self.now.delayed.items report_of) (rw taken at c.in-Err.ensures.within));
+      answered = subst (λ (it : Result (Unit {0}) HandlerError). OnWent {T = Unit {0}} (Err c.in-Err.stop.error) (Err c.in-Err.stop.error ≡ it)) (first_waiting c.args.self.now.flags (map report_of c.replace-bugs.new.dest.items) (books_of c.args.self.now) (take n rs) (drop n rs)) (rw taken at c.in-Err.ensures.answered);
     }
 
 pub returns-in-Err-clause-answer : goal.returns-in-Err-clause-answer
