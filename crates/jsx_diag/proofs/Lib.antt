@@ -1,1 +1,3 @@
 pub mod Equality
+mod SpliceExamples
+pub mod Splicing

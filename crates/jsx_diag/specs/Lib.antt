@@ -1,3 +1,4 @@
 pub mod Level
 pub mod Data
 pub mod Adds
+pub mod Splice

@@ -5,6 +5,7 @@ mod diagnostic;
 mod flags;
 mod level;
 mod message;
+mod splice;
 mod sub_diagnostic;
 mod suggestion;
 
@@ -12,6 +13,7 @@ pub use diagnostic::{Diagnostic, DiagnosticId};
 pub use flags::{ExplicitBug, FatalError, FatalErrorMarker, HandlerFlags};
 pub use level::{Applicability, Level, Style};
 pub use message::{DiagnosticStyledString, Message, StringPart};
+pub use splice::SpliceError;
 pub use sub_diagnostic::SubDiagnostic;
 pub use suggestion::{CodeSuggestion, Substitution, SubstitutionPart};
 

@@ -3,6 +3,7 @@
 
 mod notes;
 mod records;
+mod splices;
 mod suggestions;
 
 use crate::{Diagnostic, Level};

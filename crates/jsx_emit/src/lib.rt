@@ -1,0 +1,15 @@
+//! The pages of reports, and what they are made of.
+#![tactic(auto)]
+
+mod annotation;
+mod lock;
+mod output;
+mod styled_buffer;
+
+pub use annotation::{Annotation, AnnotationType, Line, MultilineAnnotation};
+pub use lock::{GlobalLock, acquire_global_lock};
+pub use output::{ColorConfig, Destination, MAX_HIGHLIGHT_LINES, MAX_SUGGESTIONS, WritableDst};
+pub use styled_buffer::{StyledBuffer, StyledString};
+
+#[cfg(test)]
+mod tests;
