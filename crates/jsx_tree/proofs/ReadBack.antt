@@ -3,7 +3,6 @@ pub mod Longest
 pub mod Lexemes
 pub mod Gaps
 pub mod Basics
-pub mod Tests
 pub mod TokenStates
 pub mod Joins
 pub mod RowChecks

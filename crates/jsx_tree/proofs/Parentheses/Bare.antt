@@ -1,6 +1,6 @@
 -- A tree as it is laid with its pairs off: the same whether pairs were put or not. What stands in place of a pair is an expression or a target.
 use Rattle.std.proofs.Common.{◌≡◌, List, [], ◌∷◌, Bool, true, false, refl, ap, ⊎_elim}
-use Rattle.std.proofs.lemmas.Bool.{and_parts, or_cases, true≢false, false≢true}
+use Rattle.std.proofs.lemmas.Bool.{and_parts, or_cases, true≢false, false≢true, not-true}
 use Rattle.std.specs.Prelude.{not, ◌&&◌, ◌||◌}
 use Rattle.jsx_tree.specs.Kinds.{Binds, Assigns, Imported, Exported, From, Kind, program, statement, function, expression, FunctionBody, Empty, Default, FunctionDecl, Declarator, Property, Do, While, For, ForIn, ForOf, Label, Method, Getter, Setter, Field, InObject, InClass, Static, ParenTarget, BareArrow, BareArrowBlock, NewWithoutArguments, Parenthesized, Tree, leaf, node, list, Forest, none, part}
 use Rattle.jsx_tree.specs.Nonterminals.{Nonterminal, SubStmt, Stmt, Item, Body, ObjectMember, ClassMember, CaseClause, Declaration, Declarators, TemplatePart, TemplateSpans, Specifiers, Pat, PatElement, PatProp, Slot, in_homes, homes}
@@ -9,7 +9,7 @@ use Rattle.jsx_tree.specs.Normal.{laid_node, made, mades, laid_tree}
 use Rattle.jsx_tree.specs.Form.{Single, Position, position, positions}
 use Rattle.jsx_tree.specs.Parentheses.{asks}
 use Rattle.jsx_tree.specs.Sound.{lax, may_stand, is_no_jsx, loose, loose_slots}
-use Rattle.jsx_tree.proofs.ReadBack.Basics.{not_true, clash}
+use Rattle.jsx_tree.proofs.ReadBack.Basics.{clash}
 
 abbrev pub bare_node : Kind → Forest → Tree
 bare_node (expression Parenthesized) (part e none) = e
@@ -253,5 +253,5 @@ mutual
   evens_bare (s ∷ ss) none f h = absurd (false≢true h)
   evens_bare (position Single c g b a ∷ ss) (part t ts) f h =
       let p = and_parts (may_stand c t) (loose c t && loose_slots ss ts) h in
-      even_bare c t (not_true (firm c) f) p.0 (and_parts (loose c t) (loose_slots ss ts) p.1).0
+      even_bare c t (not-true (firm c) f) p.0 (and_parts (loose c t) (loose_slots ss ts) p.1).0
   evens_bare (position _ c g b a ∷ ss) (part t ts) f h = absurd (false≢true f)
