@@ -12,8 +12,8 @@ use Rattle.jsx_tree.specs.Form.{Single, Maybe, Several, Position, position, posi
 use Rattle.jsx_tree.specs.Spelling.{spelled}
 use Rattle.jsx_tree.specs.Layout.{first_token}
 use Rattle.jsx_tree.specs.Parentheses.{asks, is_expression, parens_of, is_dotted_number, as_laid, wants, dress, dresses, dress_each}
-use Rattle.jsx_tree.proofs.ReadBack.RowChecks.{is_none}
 use Rattle.jsx_tree.specs.Sound.{lax, at_home, may_stand, is_no_jsx, loose, loose_slots, loose_each}
+use Rattle.jsx_tree.proofs.ReadBack.RowChecks.{is_none}
 use Rattle.jsx_tree.proofs.Parentheses.Levels.{low, lows, all_lows}
 use Rattle.jsx_tree.proofs.Parentheses.FirstPass.{home, fine, fine_slots, fine_each, home_where, slots_fine, in_expr}
 use Rattle.jsx_tree.proofs.Parentheses.Laying.{admits_in}

@@ -7,8 +7,8 @@ use Rattle.jsx_tree.specs.Kinds.{ArrayPat, Binary, Binds, Block, CallLink, Catch
 use Rattle.jsx_tree.specs.Nonterminals.{Nonterminal, Expr, DotObject, in_homes, homes, literal_homes}
 use Rattle.jsx_tree.specs.Grammar.{TwoOrMore, Fixed, Part, Optional, Many, Within, Production, production}
 use Rattle.jsx_tree.specs.Form.{Single, Several, Position, position, positions}
-use Rattle.jsx_tree.proofs.ReadBack.RowChecks.{is_none}
 use Rattle.jsx_tree.specs.Sound.{lax}
+use Rattle.jsx_tree.proofs.ReadBack.RowChecks.{is_none}
 use Rattle.jsx_tree.proofs.Parentheses.EmptyStatements.{is_free}
 
 -- the kinds that may begin with no token

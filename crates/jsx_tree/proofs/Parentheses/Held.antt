@@ -10,10 +10,9 @@ use Rattle.jsx_tree.specs.Grammar.{ListShape, TwoOrMore, Fixed, Part, Optional, 
 use Rattle.jsx_tree.specs.Normal.{is_empty, unless_empty, without_empty, laid_node, mades, each_made, laid_tree}
 use Rattle.jsx_tree.specs.Form.{Single, Maybe, Several, Position, position, positions, enough, at_most_one, last_only, admits, fits_below, fit_slots}
 use Rattle.jsx_tree.specs.Parentheses.{is_dotted_number}
-use Rattle.jsx_tree.proofs.ReadBack.RowChecks.{is_none}
-use Rattle.jsx_tree.specs.Fits.{is_solid, is_plain}
-use Rattle.jsx_tree.specs.Fits.{may_begin, held, helds, held_each}
+use Rattle.jsx_tree.specs.Fits.{is_solid, is_plain, may_begin, held, helds, held_each}
 use Rattle.jsx_tree.specs.Sound.{is_no_jsx}
+use Rattle.jsx_tree.proofs.ReadBack.RowChecks.{is_none}
 use Rattle.jsx_tree.proofs.Parentheses.EmptyStatements.{is_free, drops, all_drops}
 use Rattle.jsx_tree.proofs.Parentheses.FirstPass.{home, fine, fine_slots, fine_each}
 use Rattle.jsx_tree.proofs.Parentheses.Laying.{admits_in, without_none, each_laid, slots_laid, laid_admits}

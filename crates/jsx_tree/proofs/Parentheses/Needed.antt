@@ -10,8 +10,7 @@ use Rattle.jsx_tree.specs.Form.{Single, Maybe, Several, Position, position, posi
 use Rattle.jsx_tree.specs.Spelling.{spelled}
 use Rattle.jsx_tree.specs.Layout.{first_token}
 use Rattle.jsx_tree.specs.Parentheses.{asks, is_expression, parens_of, is_dotted_number, as_laid, wants, wrapped, dress, dresses, dress_each}
-use Rattle.jsx_tree.specs.Fits.{is_solid, is_plain}
-use Rattle.jsx_tree.specs.Fits.{may_begin, held, helds, held_each}
+use Rattle.jsx_tree.specs.Fits.{is_solid, is_plain, may_begin, held, helds, held_each}
 
 plain_laid : (k : Kind) (cs : Forest) → is_plain k ≡ true → laid_node k cs ≡ node k cs
 plain_laid (expression BareArrow) cs h = absurd (false≢true h)

@@ -10,11 +10,11 @@ use Rattle.jsx_tree.specs.Form.{Single, Maybe, Several, Position, position, posi
 use Rattle.jsx_tree.specs.Parentheses.{asks}
 use Rattle.jsx_tree.specs.StaticRules.{is_here, trails, is_if, open_if, last_open}
 use Rattle.jsx_tree.specs.Sound.{may_stand, may_shape, loose, loose_slots, loose_each}
+use Rattle.jsx_tree.proofs.ReadBack.Basics.{clash}
 use Rattle.jsx_tree.proofs.Parentheses.Bare.{bare_node, bare, lays, bares, turns, laid_stays, bare_stays, firm, clear, all_clear, nowhere, no_list}
 use Rattle.jsx_tree.proofs.Parentheses.Seen.{At, Same, firm_by, first_at, rest_at, each_at, no_more, slots_of, one_of, rest_of, here_same, here_list}
 use Rattle.jsx_tree.proofs.Parentheses.PlaceTests.{ends_open, shut, last_one, last_shut}
 use Rattle.jsx_tree.proofs.Parentheses.PlaceTable.{row_facts}
-use Rattle.jsx_tree.proofs.ReadBack.Basics.{clash}
 
 -- laid, or with the pairs off
 abbrev form : Bool → Kind → Forest → Tree

@@ -1,12 +1,12 @@
 -- Each row passes the tests of its places: computed for each kind, as in `RowTable`.
 use Rattle.std.proofs.Common.{◌≡◌, true, refl}
-use Rattle.jsx_tree.specs.Kinds.{Kind, program, statement, function, expression, jsx, ArrayPat, Binary, Binds, Block, CallLink, Delete, Element, Field, ForBinding, ForDeclaration, FunctionExpr, Getter, Imported, InObject, Increment, IndexLink, Method, Module, NameLink, Nullish, ObjectPat, OpAssign, PlainTemplate, PostfixUpdate, PrefixUpdate, PropertyPat, RestPat, RestProperty, Seq, Setter, ShorthandInit, ShorthandPat, Specifier, SpecifierAs, SubstitutedTemplate, TemplateSpan, Unary, Var, VarWord, WithInit}
-use Rattle.jsx_tree.proofs.Parentheses.PlaceTests.{ends_open, last_shut, last_one, no_bodies, all_firm, knowns, is_for, no_inits, row_kept}
 use Rattle.std.proofs.lemmas.Bool.{and_parts}
 use Rattle.std.specs.Prelude.{not, ◌||◌}
+use Rattle.jsx_tree.specs.Kinds.{Kind, program, statement, function, expression, jsx, ArrayPat, Binary, Binds, Block, CallLink, Delete, Element, Field, ForBinding, ForDeclaration, FunctionExpr, Getter, Imported, InObject, Increment, IndexLink, Method, Module, NameLink, Nullish, ObjectPat, OpAssign, PlainTemplate, PostfixUpdate, PrefixUpdate, PropertyPat, RestPat, RestProperty, Seq, Setter, ShorthandInit, ShorthandPat, Specifier, SpecifierAs, SubstitutedTemplate, TemplateSpan, Unary, Var, VarWord, WithInit}
 use Rattle.jsx_tree.specs.Grammar.{production}
 use Rattle.jsx_tree.specs.Form.{positions}
 use Rattle.jsx_tree.specs.StaticRules.{trails}
+use Rattle.jsx_tree.proofs.Parentheses.PlaceTests.{ends_open, last_shut, last_one, no_bodies, all_firm, knowns, is_for, no_inits, row_kept}
 
 all_kept : (k : Kind) → row_kept k ≡ true
 all_kept (program Module) = refl

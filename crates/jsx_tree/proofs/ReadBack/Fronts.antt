@@ -3,16 +3,17 @@ use Rattle.std.proofs.Common.{◌≡◌, List, [], ◌∷◌, ◌++◌, Bool, tr
 use Rattle.std.specs.Prelude.{nat_eq, nat_le}
 use Rattle.std.proofs.lemmas.Bool.{false≢true, and_parts, eqb-true, false_from_ne_true, not-true, not_from_false, and_right}
 use Rattle.jsx_base.specs.Token.{Text, Mode, Operand, Operator, TokenKind, IdentifierName, Punctuator, NumericLiteral, BigIntLiteral, StringLiteral, RegExpLiteral, NoSubstitution, TemplateHead, TemplateMiddle, TemplateTail, JsxName, JsxString, JsxText, Elision, NoToken, same, is_one_of, is_code, is_digit, is_start, first_is}
-use Rattle.jsx_tree.proofs.ReadBack.Longest.{same_is}
 use Rattle.jsx_tree.specs.Signs.{Sign, Tok, Semicolon, TrailingComma, Unless, SameLine, Ends, Space, Pad, Line, Indent, Outdent, Unindent, Apart, Begin, Count, One, End}
 use Rattle.jsx_tree.specs.Kinds.{Binds, Assigns, Kind, program, Module, Script, FunctionBody, Tree, leaf, node, list, Forest, none, part}
 use Rattle.jsx_tree.specs.Nonterminals.{Nonterminal, Expr, MemberObject, DotObject, SimpleTarget, Ident, BindingIdent, StringOnly, Pat, NullishLeft, NewCallee, TemplateOf, TemplatePart, ChainLink, Name, ArrayItem, Slot, Body, Stmt, Item, DirectiveOnly, CaseClause, BlockOnly, in_homes, homes, literal_homes, leaf_in, is_value_word}
 use Rattle.jsx_tree.specs.Layout.{first_char}
 use Rattle.jsx_tree.specs.Spelling.{said, saids, each_said, joined, walk, gathered, between}
 use Rattle.jsx_tree.specs.Form.{is_leaf, Single, Several, last_only, positions}
+use Rattle.jsx_tree.specs.Fits.{is_solid, is_plain}
+use Rattle.jsx_tree.specs.Grammar.{Fixed, Part, Optional, Many, Within, Lines, TwoOrMore, Production, production}
+use Rattle.jsx_tree.proofs.ReadBack.Longest.{same_is}
 use Rattle.jsx_tree.proofs.ReadBack.Joins.{Token, Ahead, at_once, sign_ahead, ahead}
 use Rattle.jsx_tree.proofs.ReadBack.RowChecks.{is_starter, is_tagged, is_linked, is_name_place, is_quoted, elseless, frontal, is_later, is_body, holes, sound, sounds, sound_each, is_formed, rowed, Asks, asks_none, token_opens, part_opens, signs_open, row_opens, is_loose, is_keyed, is_body_kind}
-use Rattle.jsx_tree.specs.Fits.{is_solid, is_plain}
 use Rattle.jsx_tree.proofs.ReadBack.Leaves.{slash_first, no_sign, name_starts, piece_starts, start_no_digit}
 use Rattle.jsx_tree.proofs.ReadBack.NextTokens.{ahead_append, Opens}
 use Rattle.jsx_tree.proofs.ReadBack.NextInRow.{Front, LineFront, Fronts, TreeFront, FrontOf, FrontsOf, front_at}
@@ -21,7 +22,6 @@ use Rattle.jsx_tree.proofs.ReadBack.Nodes.{SoundNode, sound_node, Facts, facts}
 use Rattle.jsx_tree.proofs.ReadBack.Keys.{no_keyed}
 use Rattle.jsx_tree.proofs.ReadBack.RowTable.{all_opens}
 use Rattle.jsx_tree.proofs.ReadBack.Trees.{SoundLeaf, sound_leaf, rowed_of}
-use Rattle.jsx_tree.specs.Grammar.{Fixed, Part, Optional, Many, Within, Lines, TwoOrMore, Production, production}
 use Rattle.jsx_tree.proofs.ReadBack.Basics.{clash}
 
 -- ---- leaves

@@ -1,20 +1,17 @@
 -- A leaf's text before what doesn't go on with it.
-use Rattle.std.proofs.Common.{◌≡◌, ℕ, [], ◌∷◌, ◌++◌, Bool, true, false, cond, not, ◌||◌, ◌&&◌, codes, refl, sym, ap, ◌∙◌, subst}
-use Rattle.std.specs.Prelude.{nat_eq}
+use Rattle.std.proofs.Common.{◌≡◌, ℕ, [], ◌∷◌, ◌++◌, Bool, true, false, cond, not, ◌||◌, ◌&&◌, codes, refl, sym, ap, ◌∙◌, subst, ◌≤◌, arith}
+use Rattle.std.specs.Prelude.{nat_eq, nat_le}
 use Rattle.std.proofs.lemmas.Bool.{false≢true, and_parts, and_from, eqb-true, leb-true, lt-leb, false_from_ne_true, not-true, or_from, and_left, and_right}
-use Rattle.jsx_base.specs.Token.{Text, Mode, Operand, Operator, Piece, TokenKind, IdentifierName, Punctuator, NumericLiteral, BigIntLiteral, StringLiteral, RegExpLiteral, NoSubstitution, TemplateHead, TemplateMiddle, TemplateTail, JsxName, JsxString, JsxText, Elision, NoToken, kind_number, is_kind, same, begins, first_is, is_digit, is_start, is_blank, is_line_end, Blank, InLineComment, Opening, BehindGap, gap_after_blank, is_over, skip, breaks, breaks_in, State, Dead, Done, InName, BehindZero, InDigits, InFraction, InString, InPiece, AtRegExp, step, is_dead, accepts, taken, left, last_state, state, is_code, lexed, no_token, punct, punctuator, ended, at_front, Lexeme, is_token, token}
+use Rattle.std.specs.Char.{is_ascii_alphabetic}
+use Rattle.unicode_ident.specs.Ident.{is_xid_start}
+use Rattle.jsx_base.specs.Token.{Text, Mode, Operand, Operator, Piece, TokenKind, IdentifierName, Punctuator, NumericLiteral, BigIntLiteral, StringLiteral, RegExpLiteral, NoSubstitution, TemplateHead, TemplateMiddle, TemplateTail, JsxName, JsxString, JsxText, Elision, NoToken, kind_number, is_kind, same, begins, first_is, is_digit, is_start, is_blank, is_line_end, Blank, InLineComment, Opening, BehindGap, gap_after_blank, is_over, skip, breaks, breaks_in, State, Dead, Done, InName, BehindZero, InDigits, InFraction, InString, InPiece, AtRegExp, step, is_dead, accepts, taken, left, last_state, state, is_code, lexed, no_token, punct, punctuator, ended, at_front, Lexeme, is_token, token, is_one_of}
 use Rattle.jsx_base.proofs.Automata.{runs, stops, Read, read_on}
+use Rattle.jsx_tree.specs.Layout.{first_char}
 use Rattle.jsx_tree.proofs.ReadBack.Lexemes.{whole, alive}
 use Rattle.jsx_tree.proofs.ReadBack.Longest.{same_is}
 use Rattle.jsx_tree.proofs.ReadBack.Gaps.{IsBehind, is_behind, stays}
 use Rattle.jsx_tree.proofs.ReadBack.Joins.{follows}
 use Rattle.jsx_tree.proofs.ReadBack.Punctuators.{Reads}
-use Rattle.std.specs.Char.{is_ascii_alphabetic}
-use Rattle.unicode_ident.specs.Ident.{is_xid_start}
-use Rattle.std.specs.Prelude.{nat_le}
-use Rattle.std.proofs.Common.{◌≤◌, arith}
-use Rattle.jsx_base.specs.Token.{is_one_of}
-use Rattle.jsx_tree.specs.Layout.{first_char}
 use Rattle.jsx_tree.proofs.ReadBack.TokenStates.{no_number, Never, either, to, dead, last_never, accepts_never}
 use Rattle.jsx_tree.proofs.ReadBack.TokenEnds.{outside, stop_at}
 use Rattle.jsx_tree.proofs.ReadBack.Basics.{all_first, clash, if_false}

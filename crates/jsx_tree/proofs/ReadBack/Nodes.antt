@@ -10,9 +10,9 @@ use Rattle.jsx_tree.specs.Layout.{first_token}
 use Rattle.jsx_tree.specs.Spelling.{said, each_said, joined, gathered, spelled}
 use Rattle.jsx_tree.specs.Form.{Single, Maybe, Several, Position, position, positions, admits}
 use Rattle.jsx_tree.specs.StaticRules.{open_if, trails, is_if, last_open, is_optional}
+use Rattle.jsx_tree.specs.Fits.{is_plain}
 use Rattle.jsx_tree.proofs.ReadBack.Joins.{Token, at_once, Ahead, ahead, at_end, good}
 use Rattle.jsx_tree.proofs.ReadBack.RowChecks.{calm, Even, Calm, holds, Outs, is_inner, is_member, is_opened, elsed, dots, is_formed, sound, sounds, rowed, may_else, row_ok, elses, calm_row, is_none, outs, its_row, link_ok, is_span, is_dotted, is_elsed, is_program, imply, is_if_kind, is_tail, is_catch, is_sub, is_punct, if_row}
-use Rattle.jsx_tree.specs.Fits.{is_plain}
 use Rattle.jsx_tree.proofs.ReadBack.NextTokens.{good_append, calm_weaker, Outside}
 use Rattle.jsx_tree.proofs.ReadBack.NextInRow.{FrontsOf}
 use Rattle.jsx_tree.proofs.ReadBack.Rows.{Before, TreeGood, GoodsOf, home_of, no_rest, good_at, append_signs, row_good}

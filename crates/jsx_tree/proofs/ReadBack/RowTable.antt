@@ -2,8 +2,8 @@
 use Rattle.std.proofs.Common.{◌≡◌, true, refl}
 use Rattle.std.proofs.lemmas.Bool.{false≢true}
 use Rattle.jsx_tree.specs.Kinds.{Kind, jsx, ArrayPat, AtLeast, AtMost, BareArrow, BareArrowBlock, Binary, Binds, Block, CallLink, Delete, Equal, Field, ForBinding, ForDeclaration, FunctionExpr, Getter, Greater, Imported, InClass, InObject, InOp, Increment, IndexLink, InstanceOf, Less, Method, Module, NameLink, NewWithoutArguments, Nullish, ObjectPat, OpAssign, PlainTemplate, PostfixUpdate, PrefixUpdate, PropertyPat, RestPat, RestProperty, Seq, Setter, ShorthandInit, ShorthandPat, Specifier, SpecifierAs, StrictEqual, StrictUnequal, SubstitutedTemplate, TemplateSpan, Unary, Unequal, Var, VarWord, WithInit, expression, function, program, statement}
-use Rattle.jsx_tree.proofs.ReadBack.RowChecks.{kind_ok, kind_facts, kind_opens}
 use Rattle.jsx_tree.specs.Fits.{is_plain}
+use Rattle.jsx_tree.proofs.ReadBack.RowChecks.{kind_ok, kind_facts, kind_opens}
 
 pub all_rows : (k : Kind) → is_plain k ≡ true → kind_ok k ≡ true
 all_rows (program Module) h = refl

@@ -1,5 +1,4 @@
 -- A row whose parts are good is good.
-use Rattle.jsx_tree.proofs.ReadBack.Joins.{open_gap, joint}
 use Rattle.std.proofs.Common.{◌≡◌, List, [], ◌∷◌, ◌++◌, Bool, true, false, cond, not, ◌||◌, ◌&&◌, codes, refl, sym, ap, ◌∙◌, ⊎_elim, ◌⊎◌, inl}
 use Rattle.std.proofs.lemmas.Bool.{false≢true, and_parts, and_from, or_parts, or_cases, not-true}
 use Rattle.jsx_base.specs.Token.{Text, among, same}
@@ -11,7 +10,7 @@ use Rattle.jsx_tree.specs.Layout.{first_token}
 use Rattle.jsx_tree.specs.Spelling.{said, saids, each_said, joined, walk, gathered, before, between, behind, spelled}
 use Rattle.jsx_tree.specs.Form.{Single, enough, last_only, is_last, last_kind, admits, admits_node, spine_calls}
 use Rattle.jsx_tree.specs.StaticRules.{open_if}
-use Rattle.jsx_tree.proofs.ReadBack.Joins.{Ahead, ahead, stands, skips_next, no_slash, is_none_of, at_end, good, sign_good}
+use Rattle.jsx_tree.proofs.ReadBack.Joins.{open_gap, joint, Ahead, ahead, stands, skips_next, no_slash, is_none_of, at_end, good, sign_good}
 use Rattle.jsx_tree.proofs.ReadBack.RowChecks.{Need, Even, After, NoneOf, Sure, holds, Outs, is_holey, is_code_shape, before_signs, behind_signs, frontal, rests, is_inner, is_member, is_opened, elsed, is_punct, is_formed, sound, sound_each, rowed, sees, may_else, need_of, part_ok, guards, is_no_guard, sign_ok, signs_ok, absent_ok, many_ok, row_ok, elses}
 use Rattle.jsx_tree.proofs.ReadBack.Signs.{is_some, text_of, first_next}
 use Rattle.jsx_tree.proofs.ReadBack.NextTokens.{ahead_append, good_append, even_gap, Outside, none_code}

@@ -3,13 +3,13 @@ use Rattle.std.proofs.Common.{◌≡◌, ℕ, suc, List, [], ◌∷◌, ◌++◌
 use Rattle.std.specs.Prelude.{nat_eq}
 use Rattle.std.proofs.lemmas.Bool.{false≢true, and_parts, and_from, or_parts, eqb-true, eq-eqb, false_from_ne_true, not-true, or_from, and_left, and_right}
 use Rattle.jsx_base.specs.Token.{Text, Mode, Operand, Operator, Piece, Tag, Children, TokenKind, IdentifierName, Punctuator, NumericLiteral, BigIntLiteral, StringLiteral, RegExpLiteral, NoSubstitution, TemplateHead, TemplateMiddle, TemplateTail, JsxName, JsxString, JsxText, Elision, NoToken, kind_number, is_kind, same, among, begins, first_is, longest, punctuators, punct, Blank, is_cut, skip, skips, breaks, at_front, Lexeme, is_token, is_end, token}
-use Rattle.jsx_tree.proofs.ReadBack.Longest.{same_is, begins_longest}
 use Rattle.jsx_tree.specs.Signs.{Ending, AfterExpr, Sign, Tok, Semicolon, TrailingComma, Unless, SameLine, Ends, Space, Pad, Line, Indent, Outdent, Unindent, Apart, Begin, Count, One, End}
 use Rattle.jsx_tree.specs.Layout.{laid, no_notes, line, indent, pull, is_out, is_pad, last, first_char, first_token, layout}
 use Rattle.jsx_tree.specs.Reading.{At, scan, ended_at, go_if, semi_at, comma_at, token_at}
 use Rattle.jsx_tree.specs.Kinds.{Tree}
 use Rattle.jsx_tree.specs.Spelling.{spelled}
 use Rattle.jsx_tree.specs.Form.{is_leaf}
+use Rattle.jsx_tree.proofs.ReadBack.Longest.{same_is, begins_longest}
 use Rattle.jsx_tree.proofs.ReadBack.Joins.{Next, Nothing, Semi, Token, Ahead, sign_ahead, ahead, follows, is_mode, is_mark, stands, skips_next, pad, has_line, open_gap, next_ok, head_ok, no_slash, is_none_of, sign_good, good, at_end, joins}
 use Rattle.jsx_tree.proofs.ReadBack.Punctuators.{Reads, mark_reads, mark_gap}
 use Rattle.jsx_tree.proofs.ReadBack.Leaves.{operator_reads, operand_reads, piece_reads, slash_first}

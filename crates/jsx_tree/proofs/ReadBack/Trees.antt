@@ -1,9 +1,7 @@
 -- Each tree that is sound is good, where it is asked of what comes behind it.
-use Rattle.std.proofs.Common.{codes}
-use Rattle.std.proofs.Common.{◌≡◌, ℕ, List, [], ◌∷◌, Bool, true, false, cond, not, ◌||◌, ◌&&◌, refl, sym, ap, subst, ⊎_elim, ◌⊎◌, inl, inr}
+use Rattle.std.proofs.Common.{codes, ◌≡◌, ℕ, List, [], ◌∷◌, Bool, true, false, cond, not, ◌||◌, ◌&&◌, refl, sym, ap, subst, ⊎_elim, ◌⊎◌, inl, inr}
 use Rattle.std.proofs.lemmas.Bool.{false≢true, and_parts, and_from, or_left, false_from_ne_true, not-true, or_right}
 use Rattle.jsx_base.specs.Token.{Text, TokenKind, IdentifierName, Punctuator, NumericLiteral, BigIntLiteral, StringLiteral, RegExpLiteral, NoSubstitution, TemplateHead, TemplateMiddle, TemplateTail, JsxName, JsxString, JsxText, Elision, NoToken, among, same}
-use Rattle.jsx_tree.proofs.ReadBack.Longest.{same_is}
 use Rattle.jsx_tree.specs.Signs.{Tok, Semicolon, TrailingComma, Unless, SameLine, Ends, Space, Pad, Line, Indent, Outdent, Unindent, Apart, Begin, Count, One, End}
 use Rattle.jsx_tree.specs.Kinds.{leaf, Forest, none, part}
 use Rattle.jsx_tree.specs.Nonterminals.{Nonterminal, DotObject, ChainLink, TemplateOf, TemplatePart, TemplateSpans, Name, leaf_in}
@@ -12,9 +10,10 @@ use Rattle.jsx_tree.specs.Layout.{first_token}
 use Rattle.jsx_tree.specs.Spelling.{said, joined, mode_of, spelled}
 use Rattle.jsx_tree.specs.Form.{Single, Maybe, Several, slots, is_leaf, inside, is_piece}
 use Rattle.jsx_tree.specs.Parentheses.{is_dotted_number}
+use Rattle.jsx_tree.specs.Fits.{is_solid}
+use Rattle.jsx_tree.proofs.ReadBack.Longest.{same_is}
 use Rattle.jsx_tree.proofs.ReadBack.Joins.{Next, Nothing, Semi, Token, Ahead, follows, stands, open_gap, next_ok, joint, good}
 use Rattle.jsx_tree.proofs.ReadBack.RowChecks.{calm_chars, even, Even, Calm, holds, chars_are, is_member, is_opened, dots, need_of, is_formed, sound, sounds, rowed}
-use Rattle.jsx_tree.specs.Fits.{is_solid}
 use Rattle.jsx_tree.proofs.ReadBack.NextTokens.{even_gap, calm_even, calm_after}
 use Rattle.jsx_tree.proofs.ReadBack.Rows.{TreeGood}
 use Rattle.jsx_tree.proofs.ReadBack.Basics.{clash}

@@ -8,11 +8,10 @@ use Rattle.jsx_tree.specs.Layout.{Note, notes_text, laid, line, pull, is_out, is
 use Rattle.jsx_tree.specs.Reading.{At, scan, ended_at, go_if, semi_at, token_at}
 use Rattle.jsx_tree.specs.Kinds.{Tree}
 use Rattle.jsx_tree.specs.Spelling.{spelled}
+use Rattle.jsx_tree.specs.Notes.{no_note, all_beside, noted}
 use Rattle.jsx_tree.proofs.ReadBack.Joins.{Ahead, sign_ahead, ahead, follows, is_mode, is_mark, stands, skips_next, open_gap, head_ok, no_slash, is_none_of, sign_good, good, at_end, joins}
 use Rattle.jsx_tree.proofs.ReadBack.Punctuators.{mark_slash}
-use Rattle.jsx_tree.specs.Notes.{no_note, all_beside, noted}
-use Rattle.jsx_tree.proofs.ReadBack.CommentGaps.{Gap, Comments}
-use Rattle.jsx_tree.proofs.ReadBack.CommentGaps.{gap_pad, gap_nil, gap_blank, gap_more, gap_end}
+use Rattle.jsx_tree.proofs.ReadBack.CommentGaps.{Gap, Comments, gap_pad, gap_nil, gap_blank, gap_more, gap_end}
 use Rattle.jsx_tree.proofs.ReadBack.Signs.{append, append_nil, indent_pad, Gaps, gaps_follow, found, Found, first_next, either_way, apart_head, head_char, slash_raw, operand_slash, not_among, taken, comma_no, all_follow_semi, it}
 use Rattle.jsx_tree.proofs.ReadBack.Basics.{all_first, clash}
 
