@@ -11,7 +11,7 @@ use Rattle.jsx_tree.specs.Spelling.{said, saids, each_said, joined, walk, gather
 use Rattle.jsx_tree.specs.Form.{is_leaf, Single, Several, last_only, positions}
 use Rattle.jsx_tree.specs.Fits.{is_solid, is_plain}
 use Rattle.jsx_tree.specs.Grammar.{Fixed, Part, Optional, Many, Within, Lines, TwoOrMore, Production, production}
-use Rattle.jsx_tree.proofs.ReadBack.Longest.{same_is}
+use Rattle.jsx_base.proofs.Longest.{same_is}
 use Rattle.jsx_tree.proofs.ReadBack.Joins.{Token, Ahead, at_once, sign_ahead, ahead}
 use Rattle.jsx_tree.proofs.ReadBack.RowChecks.{is_starter, is_tagged, is_linked, is_name_place, is_quoted, elseless, frontal, is_later, is_body, holes, sound, sounds, sound_each, is_formed, rowed, Asks, asks_none, token_opens, part_opens, signs_open, row_opens, is_loose, is_keyed, is_body_kind}
 use Rattle.jsx_tree.proofs.ReadBack.Leaves.{slash_first, no_sign, name_starts, piece_starts, start_no_digit}

@@ -5,7 +5,7 @@ use Rattle.std.proofs.lemmas.Bool.{false≢true, and_parts, eqb-true, not-true}
 use Rattle.jsx_base.specs.Token.{Text, same, first_is, is_line_end, Gap as At, Blank, InLineComment, InBlockComment, Closing, is_over, behind_gap, is_cut, breaks_in, skip, breaks}
 use Rattle.jsx_tree.specs.Layout.{Note, Own, Beside, notes_text, line, indent}
 use Rattle.jsx_tree.specs.Notes.{no_note, all_beside, no_ends, closes, is_line_comment, is_block_comment, all_notes}
-use Rattle.jsx_tree.proofs.ReadBack.Longest.{same_is}
+use Rattle.jsx_base.proofs.Longest.{same_is}
 use Rattle.jsx_tree.proofs.ReadBack.Joins.{has_line}
 use Rattle.jsx_tree.proofs.ReadBack.CommentGaps.{Gap, Comments, gap_pad, gap_nil, gap_blank, gap_more}
 use Rattle.jsx_tree.proofs.ReadBack.Signs.{append, indent_pad}

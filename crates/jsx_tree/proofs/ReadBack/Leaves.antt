@@ -7,12 +7,12 @@ use Rattle.unicode_ident.specs.Ident.{is_xid_start}
 use Rattle.jsx_base.specs.Token.{Text, Mode, Operand, Operator, Piece, TokenKind, IdentifierName, Punctuator, NumericLiteral, BigIntLiteral, StringLiteral, RegExpLiteral, NoSubstitution, TemplateHead, TemplateMiddle, TemplateTail, JsxName, JsxString, JsxText, Elision, NoToken, kind_number, is_kind, same, begins, first_is, is_digit, is_start, is_blank, is_line_end, Blank, InLineComment, Opening, BehindGap, gap_after_blank, is_over, skip, breaks, breaks_in, State, Dead, Done, InName, BehindZero, InDigits, InFraction, InString, InPiece, AtRegExp, step, is_dead, accepts, taken, left, last_state, state, is_code, lexed, no_token, punct, punctuator, ended, at_front, Lexeme, is_token, token, is_one_of}
 use Rattle.jsx_base.proofs.Automata.{runs, stops, Read, read_on}
 use Rattle.jsx_tree.specs.Layout.{first_char}
-use Rattle.jsx_tree.proofs.ReadBack.Lexemes.{whole, alive}
-use Rattle.jsx_tree.proofs.ReadBack.Longest.{same_is}
-use Rattle.jsx_tree.proofs.ReadBack.Gaps.{IsBehind, is_behind, stays}
+use Rattle.jsx_base.proofs.Lexemes.{whole, alive}
+use Rattle.jsx_base.proofs.Longest.{same_is}
+use Rattle.jsx_base.proofs.Gaps.{IsBehind, is_behind, stays}
 use Rattle.jsx_tree.proofs.ReadBack.Joins.{follows}
 use Rattle.jsx_tree.proofs.ReadBack.Punctuators.{Reads}
-use Rattle.jsx_tree.proofs.ReadBack.TokenStates.{no_number, Never, either, to, dead, last_never, accepts_never}
+use Rattle.jsx_base.proofs.TokenStates.{no_number, Never, either, to, dead, last_never, accepts_never}
 use Rattle.jsx_tree.proofs.ReadBack.TokenEnds.{outside, stop_at}
 use Rattle.jsx_tree.proofs.ReadBack.Basics.{all_first, clash, if_false}
 

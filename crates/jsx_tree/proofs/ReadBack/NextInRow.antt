@@ -10,7 +10,7 @@ use Rattle.jsx_tree.specs.Grammar.{ListShape, Commas, Elisions, NoTrailing, TwoO
 use Rattle.jsx_tree.specs.Layout.{last, first_char}
 use Rattle.jsx_tree.specs.Spelling.{said, saids, each_said, joined, walk, gathered, before, between, behind}
 use Rattle.jsx_tree.specs.Form.{Single, enough, last_only}
-use Rattle.jsx_tree.proofs.ReadBack.Longest.{same_is}
+use Rattle.jsx_base.proofs.Longest.{same_is}
 use Rattle.jsx_tree.proofs.ReadBack.Joins.{Nothing, Token, Ahead, at_once, sign_ahead, ahead, goes_on, is_pointed, follows, skips_next, open_gap, joint, is_none_of, at_end}
 use Rattle.jsx_tree.proofs.ReadBack.RowChecks.{calm_chars, calm, is_tagged, is_linked, Need, Even, Calm, After, NoneOf, Sure, holds, Outs, idle, outside_ok, no_starter, is_punct, flat, seen, seen_piece, seen_part, seen_many, sees, is_name_place, is_line, elseless, with_token, before_signs, comma, is_some_shape, is_code_shape, is_holey, frontal, is_body, is_later, holes, is_formed, sound, sound_each, rowed}
 use Rattle.jsx_tree.proofs.ReadBack.NextTokens.{ahead_append, char_of, even_gap, Outside, outside_holds, idle_ahead, with_next, next_apart, with_token_ahead, Opens, code_skips, none_code, no_arrow, punct_joint, is_kind_punct, pointed_joint}

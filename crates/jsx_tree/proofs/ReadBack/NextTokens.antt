@@ -6,7 +6,7 @@ use Rattle.jsx_base.specs.Token.{Text, Mode, Operand, Operator, Piece, Tag, Chil
 use Rattle.jsx_tree.specs.Signs.{Sign, Tok, Semicolon, TrailingComma, Unless, SameLine, Ends, Space, Pad, Line, Indent, Outdent, Unindent, Apart, Begin, Count, One, End}
 use Rattle.jsx_tree.specs.Nonterminals.{Nonterminal}
 use Rattle.jsx_tree.specs.Layout.{last, first_char}
-use Rattle.jsx_tree.proofs.ReadBack.Longest.{same_is}
+use Rattle.jsx_base.proofs.Longest.{same_is}
 use Rattle.jsx_tree.proofs.ReadBack.Joins.{Next, Nothing, Semi, Token, Ahead, at_once, sign_ahead, ahead, goes_on, is_pointed, follows, skips_next, open_gap, next_ok, joint, no_slash, is_none_of, at_end, good, sign_good}
 use Rattle.jsx_tree.proofs.ReadBack.RowChecks.{calm_chars, calm_next, even, calm, is_tagged, is_linked, Need, Even, Calm, After, NoneOf, Sure, holds, Outs, idle, chars_are, is_one_text, outside_ok, is_starter, no_starter, is_punct, is_name_place, elseless, is_quoted, with_token}
 use Rattle.jsx_tree.proofs.ReadBack.Basics.{clash}

@@ -3,7 +3,8 @@ use Rattle.std.proofs.Common.{◌≡◌, ℕ, [], ◌∷◌, ◌++◌, Bool, tru
 use Rattle.std.specs.Prelude.{nat_eq}
 use Rattle.std.proofs.lemmas.Bool.{false≢true, and_parts, and_from, or_parts, or_cases, eqb-true, eq-eqb, false_from_ne_true, not-true, and_left, and_right}
 use Rattle.jsx_base.specs.Token.{Text, Operator, Punctuator, NoSubstitution, TemplateHead, same, among, is_one_of, begins, drop_as, longest, first_is, is_digit, is_start, is_blank, is_line_end, punctuators, punctuator, punct, Blank, InLineComment, Opening, BehindGap, gap_after_blank, behind_gap, is_over, skip, breaks, breaks_in, State, Dead, Done, InName, BehindZero, InDigits, InFraction, InString, InPiece, AtRegExp, code_state, state, lexed, no_token, at_front, Lexeme}
-use Rattle.jsx_tree.proofs.ReadBack.Longest.{extends, all_begin, Bars, longest_by, same_is}
+use Rattle.jsx_base.specs.Longer.{extends, all_begin}
+use Rattle.jsx_base.proofs.Longest.{Bars, longest_by, same_is}
 use Rattle.jsx_tree.proofs.ReadBack.Joins.{goes_on, is_pointed, safe, mark_chars, is_mark, in_table, no_html, no_comment, no_question, no_number, no_gap, follows}
 use Rattle.jsx_tree.proofs.ReadBack.Basics.{all_first, clash, if_false, all_chars, char_is, differ, dropped}
 

@@ -9,7 +9,7 @@ use Rattle.jsx_tree.specs.Reading.{At, scan, ended_at, go_if, semi_at, comma_at,
 use Rattle.jsx_tree.specs.Kinds.{Tree}
 use Rattle.jsx_tree.specs.Spelling.{spelled}
 use Rattle.jsx_tree.specs.Form.{is_leaf}
-use Rattle.jsx_tree.proofs.ReadBack.Longest.{same_is, begins_longest}
+use Rattle.jsx_base.proofs.Longest.{same_is, begins_longest}
 use Rattle.jsx_tree.proofs.ReadBack.Joins.{Next, Nothing, Semi, Token, Ahead, sign_ahead, ahead, follows, is_mode, is_mark, stands, skips_next, pad, has_line, open_gap, next_ok, head_ok, no_slash, is_none_of, sign_good, good, at_end, joins}
 use Rattle.jsx_tree.proofs.ReadBack.Punctuators.{Reads, mark_reads, mark_gap}
 use Rattle.jsx_tree.proofs.ReadBack.Leaves.{operator_reads, operand_reads, piece_reads, slash_first}

@@ -11,7 +11,7 @@ use Rattle.jsx_tree.specs.Spelling.{said, joined, mode_of, spelled}
 use Rattle.jsx_tree.specs.Form.{Single, Maybe, Several, slots, is_leaf, inside, is_piece}
 use Rattle.jsx_tree.specs.Parentheses.{is_dotted_number}
 use Rattle.jsx_tree.specs.Fits.{is_solid}
-use Rattle.jsx_tree.proofs.ReadBack.Longest.{same_is}
+use Rattle.jsx_base.proofs.Longest.{same_is}
 use Rattle.jsx_tree.proofs.ReadBack.Joins.{Next, Nothing, Semi, Token, Ahead, follows, stands, open_gap, next_ok, joint, good}
 use Rattle.jsx_tree.proofs.ReadBack.RowChecks.{calm_chars, even, Even, Calm, holds, chars_are, is_member, is_opened, dots, need_of, is_formed, sound, sounds, rowed}
 use Rattle.jsx_tree.proofs.ReadBack.NextTokens.{even_gap, calm_even, calm_after}
