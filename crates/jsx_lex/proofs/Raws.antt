@@ -1,9 +1,7 @@
--- A token's raw text and what it leaves are the text.
+-- What is found at the front of a text is its next token, or its end.
 use Rattle.std.proofs.Common.{◌≡◌, [], ◌∷◌, ◌++◌, Bool, true, false, refl, sym, ap, ◌∙◌, subst}
 use Rattle.std.proofs.lemmas.Bool.{false≢true}
-use Rattle.jsx_base.specs.Token.{Text, Mode, NoToken}
-use Rattle.jsx_base.specs.Token.{is_kind}
-use Rattle.jsx_base.specs.Token.{same, at_front}
+use Rattle.jsx_base.specs.Token.{Text, Mode, NoToken, is_kind, same, at_front}
 use Rattle.jsx_lex.specs.declared.token.TokenKind.{TokenKind}
 use Rattle.jsx_lex.specs.declared.token.TokenKind.TheVariants as token
 use Rattle.jsx_lex.specs.Front.{IsFound, IsNext}
