@@ -10,10 +10,14 @@ pub mod FileEnds
 pub mod FileOrder
 pub mod FirstLine
 pub mod Gains
+pub mod Gaps
+pub mod Lexemes
 pub mod LineAt
 pub mod LineParts
+pub mod Longest
 pub mod Ranges
 pub mod Remarks
 pub mod Spans
 pub mod SpotAt
+pub mod TokenStates
 pub mod Walks

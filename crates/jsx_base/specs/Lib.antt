@@ -10,6 +10,7 @@ pub mod Source
 pub mod StdSink
 pub mod StdSource
 pub mod Lines
+pub mod Longer
 pub mod LineStarts
 pub mod Files
 pub mod SourceFile

@@ -6,8 +6,9 @@ use Rattle.jsx_base.specs.Token.{Text, among, same, begins, longest, drop_as, fi
 use Rattle.jsx_lex.specs.declared.token.TokenKind.{TokenKind}
 use Rattle.jsx_lex.specs.declared.token.TokenKind.TheVariants as token
 use Rattle.jsx_lex.specs.Kinds.{is_punctuator, spelling}
-use Rattle.jsx_lex.specs.Marks.{IsMark, IsSingle, extends, all_begin, is_clear, goes_on_by, is_pair, is_chain}
-use Rattle.jsx_lex.proofs.Table.{Bars, longest_is, longest_by, longest_none, same_is}
+use Rattle.jsx_lex.specs.Marks.{IsMark, IsSingle, is_clear, goes_on_by, is_pair, is_chain}
+use Rattle.jsx_base.specs.Longer.{extends, all_begin}
+use Rattle.jsx_base.proofs.Longest.{Bars, longest_is, longest_by, longest_none, same_is}
 
 -- whether it is `?` and what follows makes no `?.` of it
 abbrev pub is_question : Text → Bool

@@ -6,7 +6,7 @@ use Rattle.jsx_base.specs.Token.{Text, Lexeme, Punctuator, is_kind, is_token, sa
 use Rattle.jsx_lex.specs.declared.token.TokenKind.{TokenKind}
 use Rattle.jsx_lex.specs.declared.token.TokenKind.TheVariants as token
 use Rattle.jsx_lex.specs.Kinds.{kind_of, is_punctuator, spelling}
-use Rattle.jsx_lex.proofs.Table.{same_is}
+use Rattle.jsx_base.proofs.Longest.{same_is}
 
 -- the kinds in the order of the table
 abbrev kinds : List TokenKind

@@ -1,6 +1,7 @@
 -- The punctuator that begins a text.
-use Rattle.std.specs.Prelude.{◌≡◌, ◌++◌, ℕ, List, [], ◌∷◌, Bool, true, false, cond, ◌&&◌, ◌||◌, not, nat_eq, codes}
-use Rattle.jsx_base.specs.Token.{Text, punctuator, punctuators, among, same, begins, is_longer, first_is, is_one_of, is_digit, drop_as}
+use Rattle.std.specs.Prelude.{◌≡◌, ◌++◌, ℕ, [], ◌∷◌, Bool, true, false, ◌&&◌, ◌||◌, not, nat_eq, codes}
+use Rattle.jsx_base.specs.Token.{Text, punctuator, punctuators, among, same, begins, first_is, is_digit, drop_as}
+use Rattle.jsx_base.specs.Longer.{extends, all_begin}
 use Rattle.jsx_lex.specs.declared.token.TokenKind.{TokenKind}
 use Rattle.jsx_lex.specs.Kinds.{is_punctuator, spelling}
 
@@ -9,17 +10,6 @@ pub record IsMark (text : Text) (k : TokenKind) (rest : Text) : Type 0 where
   pub text_is : text ≡ spelling k ++ rest
   pub is_mark : is_punctuator k ≡ true
   pub not_empty : same (spelling k) [] ≡ false
-
--- what stands behind `p` in the longer ones of a table that begin with it
-abbrev pub extends : List Text → Text → List Text
-extends [] p = []
-extends (q ∷ qs) p = cond (begins p q && is_longer q p) (drop_as p q ∷ extends qs p) (extends qs p)
-
--- whether each of the texts begins with one of the characters
-abbrev pub all_begin : List Text → Text → Bool
-all_begin [] ds = true
-all_begin ([] ∷ es) ds = false
-all_begin ((d ∷ e) ∷ es) ds = is_one_of d ds && all_begin es ds
 
 -- a text that doesn't begin as `?.5`, whatever follows it
 abbrev pub is_clear : Text → Bool

@@ -1,10 +1,5 @@
 -- The layout of a tree that fits reads back: signs by signs, row by row, and the whole program.
-pub mod Longest
-pub mod Lexemes
-pub mod Gaps
 pub mod Basics
-pub mod Tests
-pub mod TokenStates
 pub mod Joins
 pub mod RowChecks
 pub mod Punctuators

@@ -1,15 +1,15 @@
--- A tree as it is laid with its pairs off: the same whether pairs were put or not. What stands in place of a pair is an expression or a target.
+-- A tree as it is laid with its pairs off, and where pairs may stand: at places that ask for an expression or a target.
 use Rattle.std.proofs.Common.{◌≡◌, List, [], ◌∷◌, Bool, true, false, refl, ap, ⊎_elim}
-use Rattle.std.proofs.lemmas.Bool.{and_parts, or_cases, true≢false, false≢true}
+use Rattle.std.proofs.lemmas.Bool.{and_parts, or_cases, true≢false, false≢true, not-true}
 use Rattle.std.specs.Prelude.{not, ◌&&◌, ◌||◌}
+use Rattle.jsx_base.specs.Token.{NoSubstitution, TemplateHead, TemplateMiddle, TemplateTail}
 use Rattle.jsx_tree.specs.Kinds.{Binds, Assigns, Imported, Exported, From, Kind, program, statement, function, expression, FunctionBody, Empty, Default, FunctionDecl, Declarator, Property, Do, While, For, ForIn, ForOf, Label, Method, Getter, Setter, Field, InObject, InClass, Static, ParenTarget, BareArrow, BareArrowBlock, NewWithoutArguments, Parenthesized, Tree, leaf, node, list, Forest, none, part}
 use Rattle.jsx_tree.specs.Nonterminals.{Nonterminal, SubStmt, Stmt, Item, Body, ObjectMember, ClassMember, CaseClause, Declaration, Declarators, TemplatePart, TemplateSpans, Specifiers, Pat, PatElement, PatProp, Slot, in_homes, homes}
-use Rattle.jsx_base.specs.Token.{NoSubstitution, TemplateHead, TemplateMiddle, TemplateTail}
 use Rattle.jsx_tree.specs.Normal.{laid_node, made, mades, laid_tree}
 use Rattle.jsx_tree.specs.Form.{Single, Position, position, positions}
 use Rattle.jsx_tree.specs.Parentheses.{asks}
 use Rattle.jsx_tree.specs.Sound.{lax, may_stand, is_no_jsx, loose, loose_slots}
-use Rattle.jsx_tree.proofs.ReadBack.Basics.{not_true, clash}
+use Rattle.jsx_tree.proofs.ReadBack.Basics.{clash}
 
 abbrev pub bare_node : Kind → Forest → Tree
 bare_node (expression Parenthesized) (part e none) = e
@@ -56,39 +56,32 @@ firm c =
     not (asks c) && (not (in_homes (lax c) (homes (expression Parenthesized))) && (not (in_homes (lax c) (homes (function ParenTarget)))
     && (not (in_homes (lax c) (homes (expression BareArrow))) && not (in_homes (lax c) (homes (expression NewWithoutArguments))))))
 
+record Firm (c : Nonterminal) : Type 0 where
+  pub asked : not (asks c) ≡ true
+  pub pairs : not (in_homes (lax c) (homes (expression Parenthesized))) ≡ true
+  pub targets : not (in_homes (lax c) (homes (function ParenTarget))) ≡ true
+  pub arrows : not (in_homes (lax c) (homes (expression BareArrow))) ≡ true
+  pub news : not (in_homes (lax c) (homes (expression NewWithoutArguments))) ≡ true
+
+firm_of : (c : Nonterminal) → firm c ≡ true → Firm c
+firm_of c f =
+    let p = and_parts (not (asks c)) _ f in
+    let q = and_parts (not (in_homes (lax c) (homes (expression Parenthesized)))) _ p.1 in
+    let r = and_parts (not (in_homes (lax c) (homes (function ParenTarget)))) _ q.1 in
+    let s = and_parts (not (in_homes (lax c) (homes (expression BareArrow)))) _ r.1 in
+    record { asked = p.0; pairs = q.0; targets = r.0; arrows = s.0; news = s.1 }
+
 neither : {A : Type 0} (a b x : Bool) → not a ≡ true → not b ≡ true → ((a && x) || b) ≡ true → A
 neither true b x h i m = absurd (false≢true h)
 neither false true x h i m = absurd (false≢true i)
 neither false false x h i m = absurd (false≢true m)
 
 pub no_turn : (c : Nonterminal) (k : Kind) (cs : Forest) → firm c ≡ true → may_stand c (node k cs) ≡ true → turns k ≡ false
-no_turn c (expression Parenthesized) cs f m =
-    let p = and_parts (not (asks c)) _ f in
-    let q = and_parts (not (in_homes (lax c) (homes (expression Parenthesized)))) _ p.1 in
-    neither (asks c) (in_homes (lax c) (homes (expression Parenthesized))) true p.0 q.0 m
-no_turn c (function ParenTarget) cs f m =
-    let p = and_parts (not (asks c)) _ f in
-    let q = and_parts (not (in_homes (lax c) (homes (expression Parenthesized)))) _ p.1 in
-    let r = and_parts (not (in_homes (lax c) (homes (function ParenTarget)))) _ q.1 in
-    neither (asks c) (in_homes (lax c) (homes (function ParenTarget))) false p.0 r.0 m
-no_turn c (expression BareArrow) cs f m =
-    let p = and_parts (not (asks c)) _ f in
-    let q = and_parts (not (in_homes (lax c) (homes (expression Parenthesized)))) _ p.1 in
-    let r = and_parts (not (in_homes (lax c) (homes (function ParenTarget)))) _ q.1 in
-    let s = and_parts (not (in_homes (lax c) (homes (expression BareArrow)))) _ r.1 in
-    neither (asks c) (in_homes (lax c) (homes (expression BareArrow))) true p.0 s.0 m
-no_turn c (expression BareArrowBlock) cs f m =
-    let p = and_parts (not (asks c)) _ f in
-    let q = and_parts (not (in_homes (lax c) (homes (expression Parenthesized)))) _ p.1 in
-    let r = and_parts (not (in_homes (lax c) (homes (function ParenTarget)))) _ q.1 in
-    let s = and_parts (not (in_homes (lax c) (homes (expression BareArrow)))) _ r.1 in
-    neither (asks c) (in_homes (lax c) (homes (expression BareArrow))) true p.0 s.0 m
-no_turn c (expression NewWithoutArguments) cs f m =
-    let p = and_parts (not (asks c)) _ f in
-    let q = and_parts (not (in_homes (lax c) (homes (expression Parenthesized)))) _ p.1 in
-    let r = and_parts (not (in_homes (lax c) (homes (function ParenTarget)))) _ q.1 in
-    let s = and_parts (not (in_homes (lax c) (homes (expression BareArrow)))) _ r.1 in
-    neither (asks c) (in_homes (lax c) (homes (expression NewWithoutArguments))) true p.0 s.1 m
+no_turn c (expression Parenthesized) cs f m = let p = firm_of c f in neither (asks c) _ true p.asked p.pairs m
+no_turn c (function ParenTarget) cs f m = let p = firm_of c f in neither (asks c) _ false p.asked p.targets m
+no_turn c (expression BareArrow) cs f m = let p = firm_of c f in neither (asks c) _ true p.asked p.arrows m
+no_turn c (expression BareArrowBlock) cs f m = let p = firm_of c f in neither (asks c) _ true p.asked p.arrows m
+no_turn c (expression NewWithoutArguments) cs f m = let p = firm_of c f in neither (asks c) _ true p.asked p.news m
 no_turn c k cs f m = refl
 
 -- ---- what stands at the other places: nothing that the rules of what is around it look into, as bodies, members, declarators or loops
@@ -253,5 +246,5 @@ mutual
   evens_bare (s ∷ ss) none f h = absurd (false≢true h)
   evens_bare (position Single c g b a ∷ ss) (part t ts) f h =
       let p = and_parts (may_stand c t) (loose c t && loose_slots ss ts) h in
-      even_bare c t (not_true (firm c) f) p.0 (and_parts (loose c t) (loose_slots ss ts) p.1).0
+      even_bare c t (not-true (firm c) f) p.0 (and_parts (loose c t) (loose_slots ss ts) p.1).0
   evens_bare (position _ c g b a ∷ ss) (part t ts) f h = absurd (false≢true f)

@@ -1,6 +1,6 @@
 -- No part begins with a token that may not come first there.
 use Rattle.std.proofs.Common.{◌≡◌, ℕ, List, [], ◌∷◌, Bool, true, false, cond, sym, refl, ap, ◌∙◌, subst, ⊎_elim}
-use Rattle.std.proofs.lemmas.Bool.{and_parts, and_from, or_cases, or_left, or_right, both_ways, true≢false, false≢true}
+use Rattle.std.proofs.lemmas.Bool.{and_parts, and_from, or_cases, or_left, or_right, both_ways, true≢false, false≢true, not-true}
 use Rattle.std.specs.Prelude.{⊤, codes, not, ◌&&◌, ◌||◌}
 use Rattle.jsx_base.specs.Token.{Text, TokenKind, Elision, NumericLiteral, IdentifierName, JsxName, among}
 use Rattle.jsx_tree.specs.Signs.{Tok, Unless}
@@ -12,9 +12,8 @@ use Rattle.jsx_tree.specs.Form.{Single, Maybe, Several, Position, position, posi
 use Rattle.jsx_tree.specs.Spelling.{spelled}
 use Rattle.jsx_tree.specs.Layout.{first_token}
 use Rattle.jsx_tree.specs.Parentheses.{asks, is_expression, parens_of, is_dotted_number, as_laid, wants, dress, dresses, dress_each}
-use Rattle.jsx_tree.proofs.ReadBack.RowChecks.{is_none}
 use Rattle.jsx_tree.specs.Sound.{lax, at_home, may_stand, is_no_jsx, loose, loose_slots, loose_each}
-use Rattle.jsx_tree.proofs.ReadBack.Basics.{not_true}
+use Rattle.jsx_tree.proofs.ReadBack.RowChecks.{is_none}
 use Rattle.jsx_tree.proofs.Parentheses.Levels.{low, lows, all_lows}
 use Rattle.jsx_tree.proofs.Parentheses.FirstPass.{home, fine, fine_slots, fine_each, home_where, slots_fine, in_expr}
 use Rattle.jsx_tree.proofs.Parentheses.Laying.{admits_in}
@@ -35,22 +34,22 @@ LedIn (list ts) = LedsOf ts
 LedIn t = ⊤
 
 led_leaf : (c : Nonterminal) (s : TokenKind) (x : Text) → not (in_homes c (literal_homes Elision)) ≡ true → leaf_in c s x ≡ true → not (is_hole s) ≡ true
-led_leaf c Elision x n h = absurd (both_ways (in_homes c (literal_homes Elision)) (not_true (in_homes c (literal_homes Elision)) n) h)
+led_leaf c Elision x n h = absurd (both_ways (in_homes c (literal_homes Elision)) (not-true (in_homes c (literal_homes Elision)) n) h)
 led_leaf c _ x n h = refl
 
 no_open : (c : Nonterminal) (k : Kind) (cs : Forest) → safe c ≡ true → admits c (laid_node k cs) ≡ true → is_open_kind k ≡ true → ⊥
 no_open c (program Module) cs s h o =
     let p = and_parts (not (in_homes c (literal_homes Elision))) _ s in let q = and_parts (not (in_homes c (homes (program Module))) && not (in_homes c (homes (program Script)))) _ p.1 in let r = and_parts (not (in_homes c (homes (program Module)))) _ q.0 in
-    both_ways (in_homes c (homes (program Module))) (not_true (in_homes c (homes (program Module))) r.0) (admits_in c (program Module) cs h)
+    both_ways (in_homes c (homes (program Module))) (not-true (in_homes c (homes (program Module))) r.0) (admits_in c (program Module) cs h)
 no_open c (program Script) cs s h o =
     let p = and_parts (not (in_homes c (literal_homes Elision))) _ s in let q = and_parts (not (in_homes c (homes (program Module))) && not (in_homes c (homes (program Script)))) _ p.1 in let r = and_parts (not (in_homes c (homes (program Module)))) _ q.0 in
-    both_ways (in_homes c (homes (program Script))) (not_true (in_homes c (homes (program Script))) r.1) (admits_in c (program Script) cs h)
+    both_ways (in_homes c (homes (program Script))) (not-true (in_homes c (homes (program Script))) r.1) (admits_in c (program Script) cs h)
 no_open c (program FunctionBody) cs s h o =
     let p = and_parts (not (in_homes c (literal_homes Elision))) _ s in let q = and_parts (not (in_homes c (homes (program Module))) && not (in_homes c (homes (program Script)))) _ p.1 in let r = and_parts (not (in_homes c (homes (program FunctionBody)))) _ q.1 in
-    both_ways (in_homes c (homes (program FunctionBody))) (not_true (in_homes c (homes (program FunctionBody))) r.0) (admits_in c (program FunctionBody) cs h)
+    both_ways (in_homes c (homes (program FunctionBody))) (not-true (in_homes c (homes (program FunctionBody))) r.0) (admits_in c (program FunctionBody) cs h)
 no_open c (statement Catch) cs s h o =
     let p = and_parts (not (in_homes c (literal_homes Elision))) _ s in let q = and_parts (not (in_homes c (homes (program Module))) && not (in_homes c (homes (program Script)))) _ p.1 in let r = and_parts (not (in_homes c (homes (program FunctionBody)))) _ q.1 in
-    both_ways (in_homes c (homes (statement Catch))) (not_true (in_homes c (homes (statement Catch))) r.1) (admits_in c (statement Catch) cs h)
+    both_ways (in_homes c (homes (statement Catch))) (not-true (in_homes c (homes (statement Catch))) r.1) (admits_in c (statement Catch) cs h)
 no_open c k cs s h o = false≢true o
 
 led_two : (c : Nonterminal) (t : Tree) → LedIn t → safe (lax c) ≡ true → (us : Forest) → t ≡ list us → enough TwoOrMore us ≡ true → fine_each true c us ≡ true → first_led us ≡ true

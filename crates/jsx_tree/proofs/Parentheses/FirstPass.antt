@@ -112,10 +112,6 @@ new_asks : (c : Nonterminal) → is_new c ≡ true → asks c ≡ true
 new_asks NewCallee h = refl
 new_asks _ h = absurd (false≢true h)
 
-new_node : (c : Nonterminal) (k : Kind) → is_new c ≡ true → in_homes (lax c) (homes k) ≡ true → in_homes (Expr 0) (homes k) ≡ true
-new_node NewCallee k n h = in_expr 17 (homes k) h
-new_node _ k n h = absurd (false≢true n)
-
 low_home : (t : Tree) → is_expression t ≡ true → admits (Expr 0) (as_laid t) ≡ true
 low_home (leaf s x) h = h
 low_home (node k cs) h = laid_home (Expr 0) k cs refl h
@@ -208,10 +204,6 @@ each_last c none = refl
 each_last c (part t none) = refl
 each_last c (part t (part u us)) =
     ap (λ b. not b && last_only (dress_each c (part u us))) (dress_last c [] t) ∙ ap (λ b. not (is_last t) && b) (each_last c (part u us))
-
--- an expression at one place may be one at another, so a node with its parts changed may stand where it did
-still_may : (c : Nonterminal) (k : Kind) (cs ds : Forest) → may_stand c (node k cs) ≡ true → may_stand c (node k ds) ≡ true
-still_may c k cs ds h = h
 
 mutual
   pub dress_fine : (c : Nonterminal) (g : List Text) (t : Tree) → low c ≡ true → may_stand c t ≡ true → loose c t ≡ true → (home true c (dress c g t) ≡ true) × (fine true c (dress c g t) ≡ true)

@@ -1,6 +1,6 @@
 -- A laid tree is held: nothing but what is laid stands in it, and each part begins as it may.
 use Rattle.std.proofs.Common.{◌≡◌, List, [], ◌∷◌, Bool, true, false, cond, sym, refl, ap, ◌∙◌, subst, inl, inr, ⊎_elim}
-use Rattle.std.proofs.lemmas.Bool.{and_parts, and_from, or_cases, both_ways, true≢false, false≢true}
+use Rattle.std.proofs.lemmas.Bool.{and_parts, and_from, or_cases, both_ways, true≢false, false≢true, not-true}
 use Rattle.std.specs.Prelude.{not, ◌&&◌, ◌||◌}
 use Rattle.jsx_base.specs.Token.{Text, among}
 use Rattle.jsx_tree.specs.Signs.{Tok}
@@ -10,10 +10,9 @@ use Rattle.jsx_tree.specs.Grammar.{ListShape, TwoOrMore, Fixed, Part, Optional, 
 use Rattle.jsx_tree.specs.Normal.{is_empty, unless_empty, without_empty, laid_node, mades, each_made, laid_tree}
 use Rattle.jsx_tree.specs.Form.{Single, Maybe, Several, Position, position, positions, enough, at_most_one, last_only, admits, fits_below, fit_slots}
 use Rattle.jsx_tree.specs.Parentheses.{is_dotted_number}
-use Rattle.jsx_tree.proofs.ReadBack.RowChecks.{is_none}
-use Rattle.jsx_tree.specs.Fits.{is_solid, is_plain}
-use Rattle.jsx_tree.specs.Fits.{may_begin, held, helds, held_each}
+use Rattle.jsx_tree.specs.Fits.{is_solid, is_plain, may_begin, held, helds, held_each}
 use Rattle.jsx_tree.specs.Sound.{is_no_jsx}
+use Rattle.jsx_tree.proofs.ReadBack.RowChecks.{is_none}
 use Rattle.jsx_tree.proofs.Parentheses.EmptyStatements.{is_free, drops, all_drops}
 use Rattle.jsx_tree.proofs.Parentheses.FirstPass.{home, fine, fine_slots, fine_each}
 use Rattle.jsx_tree.proofs.Parentheses.Laying.{admits_in, without_none, each_laid, slots_laid, laid_admits}
@@ -21,7 +20,6 @@ use Rattle.jsx_tree.proofs.Parentheses.Starts.{row_start, row_or, starts, first_
 use Rattle.jsx_tree.proofs.Parentheses.FirstSigns.{is_open_kind, row_leads, row_const, firm_first, is_dot, guarded_at, guarded, all_leads}
 use Rattle.jsx_tree.proofs.Parentheses.Begins.{begins, begun, begun_slots, begun_all, dotted_node, dotted_not}
 use Rattle.jsx_tree.proofs.Parentheses.BeginsKept.{all_guarded, begins_kept}
-use Rattle.jsx_tree.proofs.ReadBack.Basics.{not_true}
 
 -- ---- what a laid tree begins with
 
@@ -63,7 +61,7 @@ row_as k cs ds f =
     (or_cases (firm_first (positions k)) (row_const (production k)) (and_parts (firm_first (positions k) || row_const (production k)) (guarded (positions k)) (and_parts (is_open_kind k || row_leads (production k)) _ (all_leads k)).1).0)
 
 not_free : (s : ListShape) (b : Bool) → (is_free s || b) ≡ true → not (is_free s) ≡ true → b ≡ true
-not_free s b h n = ⊎_elim (λ p. absurd (both_ways (is_free s) (not_true (is_free s) n) p)) (λ p. p) (or_cases (is_free s) b h)
+not_free s b h n = ⊎_elim (λ p. absurd (both_ways (is_free s) (not-true (is_free s) n) p)) (λ p. p) (or_cases (is_free s) b h)
 
 mutual
   laid_as : (c : Nonterminal) (t : Tree) → fine false c t ≡ true → As (starts t) (starts (laid_tree t)) (led t) (led (laid_tree t))
@@ -214,4 +212,4 @@ mutual
       let x = and_parts (home false c t) (fine false c t && fine_each false c ts) h in
       let y = and_parts (fine false c t) (fine_each false c ts) x.1 in
       let z = and_parts (begun t) (begun_all ts) n in
-      and_from _ _ (laid_held c [] t x.0 y.0 refl (ap not (dotted_not c t (not_true (is_dot c) d))) z.0) (each_held c ts d y.1 z.1)
+      and_from _ _ (laid_held c [] t x.0 y.0 refl (ap not (dotted_not c t (not-true (is_dot c) d))) z.0) (each_held c ts d y.1 z.1)

@@ -1,6 +1,6 @@
 -- The normal form of a normal form is itself, where the parameter of an arrow without parentheses is a name.
 use Rattle.std.proofs.Common.{◌≡◌, List, [], ◌∷◌, Bool, true, false, cond, refl, ap, ◌∙◌}
-use Rattle.std.proofs.lemmas.Bool.{and_parts, and_from, both_ways, false≢true}
+use Rattle.std.proofs.lemmas.Bool.{and_parts, and_from, both_ways, false≢true, not-true}
 use Rattle.std.specs.Prelude.{codes, not, ◌&&◌}
 use Rattle.jsx_base.specs.Token.{Text, IdentifierName, StringLiteral, same}
 use Rattle.jsx_tree.specs.Kinds.{Specifier, SpecifierAs, Role, ComputedKey, ObjectPat, PropertyPat, ShorthandPat, ShorthandInit, WithInit, ParenTarget, Arrow, ArrowBlock, BareArrow, BareArrowBlock, New, NewWithoutArguments, Object, Property, Shorthand, Parenthesized, Kind, program, function, expression, Tree, leaf, node, list, Forest, none, part}
@@ -8,7 +8,6 @@ use Rattle.jsx_tree.specs.Nonterminals.{Nonterminal, BindingIdent, in_homes, hom
 use Rattle.jsx_tree.specs.Normal.{pair, long_prop, long_pat, each, is_empty, unless_empty, without_empty, plain_node, of_list, mades, each_made, nf}
 use Rattle.jsx_tree.specs.Form.{Form, Single, Maybe, Several, Position, position, positions, shaped, admits, fits_below, fit_slots, fit_each}
 use Rattle.jsx_tree.specs.Sound.{may_stand, may_shape, is_no_jsx, loose, loose_slots, loose_each}
-use Rattle.jsx_tree.proofs.ReadBack.Basics.{not_true}
 use Rattle.jsx_tree.proofs.Parentheses.EmptyStatements.{drops, all_drops}
 
 -- ---- a bare arrow's parameter is a name
@@ -80,7 +79,7 @@ without_filled (part t ts) = filled_unless (is_empty t) t (without_empty ts) ref
 
 filled_stays : (ts : Forest) → filled ts ≡ true → without_empty ts ≡ ts
 filled_stays none h = refl
-filled_stays (part t ts) h = let p = and_parts (not (is_empty t)) (filled ts) h in ap (λ v. unless_empty v t (without_empty ts)) (not_true (is_empty t) p.0) ∙ ap (part t) (filled_stays ts p.1)
+filled_stays (part t ts) h = let p = and_parts (not (is_empty t)) (filled ts) h in ap (λ v. unless_empty v t (without_empty ts)) (not-true (is_empty t) p.0) ∙ ap (part t) (filled_stays ts p.1)
 
 normal_unless : (v : Bool) (t : Tree) (ts : Forest) → nf t ≡ t → each_made plain_node ts ≡ ts → each_made plain_node (unless_empty v t ts) ≡ unless_empty v t ts
 normal_unless true t ts e h = h
@@ -240,7 +239,7 @@ mutual
 -- ---- which trees have such arrows alone: those of the form of the productions, and those that have it but for pairs
 
 no_node : {A : Type 0} (k : Kind) → in_homes BindingIdent (homes k) ≡ true → A
-no_node k m = absurd (both_ways (in_homes BindingIdent (homes k)) (not_true (in_homes BindingIdent (homes k)) (and_parts (drops (positions k)) (not (in_homes BindingIdent (homes k))) (all_drops k)).1) m)
+no_node k m = absurd (both_ways (in_homes BindingIdent (homes k)) (not-true (in_homes BindingIdent (homes k)) (and_parts (drops (positions k)) (not (in_homes BindingIdent (homes k))) (all_drops k)).1) m)
 
 fit_name : (k : Kind) (cs : Forest) → fit_slots (positions k) cs ≡ true → has_name k cs ≡ true
 fit_name (expression BareArrow) (part (leaf s x) cs) h = refl

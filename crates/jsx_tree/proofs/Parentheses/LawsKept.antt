@@ -1,6 +1,6 @@
 -- The static rules, but for those that pairs mend, hold of a tree with pairs where they hold of it without.
 use Rattle.std.proofs.Common.{◌≡◌, List, [], ◌∷◌, Bool, true, false, cond, suc, sym, refl, ap, ◌∙◌}
-use Rattle.std.proofs.lemmas.Bool.{and_parts, and_from, both_ways, false≢true}
+use Rattle.std.proofs.lemmas.Bool.{and_parts, and_from, both_ways, false≢true, not-true}
 use Rattle.std.specs.Prelude.{not, ◌&&◌, ◌||◌, nat_eq}
 use Rattle.jsx_base.specs.Token.{Text, TokenKind}
 use Rattle.jsx_tree.specs.Kinds.{Kind, function, expression, Arrow, ArrowBlock, BareArrow, BareArrowBlock, New, NewWithoutArguments, ParenTarget, Parenthesized, Tree, leaf, node, list, Forest, none, part}
@@ -10,7 +10,6 @@ use Rattle.jsx_tree.specs.Normal.{is_empty, unless_empty, without_empty, laid_no
 use Rattle.jsx_tree.specs.Form.{Single, Maybe, Several, Position, position, positions, at_most_one, enough, last_only}
 use Rattle.jsx_tree.specs.StaticRules.{Surroundings, rule, stands, enters, is_strict_body, has_plain_params, all_of, is_plain_list}
 use Rattle.jsx_tree.specs.Sound.{may_stand, is_no_jsx, is_mended, loose, loose_slots, loose_each, lawful, lawfuls, each_lawful}
-use Rattle.jsx_tree.proofs.ReadBack.Basics.{not_true}
 use Rattle.jsx_tree.proofs.Parentheses.EmptyStatements.{drops, all_drops}
 use Rattle.jsx_tree.proofs.Parentheses.Laying.{param_leaf}
 use Rattle.jsx_tree.proofs.Parentheses.Bare.{bare_node, bare, lays, bares, no_list}
@@ -99,7 +98,7 @@ new_kept e h r v =
 
 -- no node is a name that is bound
 no_node : {A : Type 0} (k : Kind) (cs : Forest) → may_stand BindingIdent (node k cs) ≡ true → A
-no_node k cs m = absurd (both_ways (in_homes BindingIdent (homes k)) (not_true (in_homes BindingIdent (homes k)) (and_parts (drops (positions k)) (not (in_homes BindingIdent (homes k))) (all_drops k)).1) m)
+no_node k cs m = absurd (both_ways (in_homes BindingIdent (homes k)) (not-true (in_homes BindingIdent (homes k)) (and_parts (drops (positions k)) (not (in_homes BindingIdent (homes k))) (all_drops k)).1) m)
 
 node_kept : (k : Kind) (cs : Forest) → is_no_jsx k ≡ true → loose_slots (positions k) cs ≡ true → Parts k cs → (v : Surroundings) → lawful v (laid_node k (lays k cs)) ≡ lawful v (bare_node k (bares k cs))
 node_kept (expression Parenthesized) (part e none) n h r v =

@@ -1,6 +1,6 @@
 -- The last of the passes: a tree whose parts are at home as they are laid has the form of the productions, once it is laid.
 use Rattle.std.proofs.Common.{◌≡◌, List, [], ◌∷◌, Bool, true, false, refl, ap, ◌∙◌, ⊎_elim}
-use Rattle.std.proofs.lemmas.Bool.{and_parts, and_from, or_cases, both_ways, false≢true}
+use Rattle.std.proofs.lemmas.Bool.{and_parts, and_from, or_cases, both_ways, false≢true, not-true}
 use Rattle.std.specs.Prelude.{not, ◌&&◌, ◌||◌}
 use Rattle.jsx_base.specs.Token.{Text, TokenKind, IdentifierName, JsxName}
 use Rattle.jsx_tree.specs.Kinds.{Kind, statement, expression, Empty, BareArrow, BareArrowBlock, NewWithoutArguments, Tree, leaf, node, list, Forest, none, part}
@@ -11,7 +11,6 @@ use Rattle.jsx_tree.specs.Form.{Form, Single, Maybe, Several, Position, position
 use Rattle.jsx_tree.specs.Parentheses.{as_laid}
 use Rattle.jsx_tree.specs.Fits.{is_solid}
 use Rattle.jsx_tree.specs.Sound.{is_no_jsx}
-use Rattle.jsx_tree.proofs.ReadBack.Basics.{not_true}
 use Rattle.jsx_tree.proofs.Parentheses.EmptyStatements.{is_free, drops, all_drops}
 use Rattle.jsx_tree.proofs.Parentheses.FirstPass.{home, fine, fine_slots, fine_each}
 use Rattle.jsx_tree.proofs.Parentheses.SecondPass.{alike, spine_less, laid_kept}
@@ -125,7 +124,7 @@ empty_in c (node (statement Empty) cs) e h = admits_in c (statement Empty) cs h
 empty_in c _ e h = absurd (false≢true e)
 
 unless_not : (c : Nonterminal) (v : Bool) (t : Tree) (ts : Forest) → is_empty t ≡ v → admits c t ≡ true → not (in_homes c (homes (statement Empty))) ≡ true → unless_empty v t ts ≡ part t ts
-unless_not c true t ts e h n = absurd (both_ways (in_homes c (homes (statement Empty))) (not_true (in_homes c (homes (statement Empty))) n) (empty_in c t e h))
+unless_not c true t ts e h n = absurd (both_ways (in_homes c (homes (statement Empty))) (not-true (in_homes c (homes (statement Empty))) n) (empty_in c t e h))
 unless_not c false t ts e h n = refl
 
 pub without_none : (c : Nonterminal) (ts : Forest) → not (in_homes c (homes (statement Empty))) ≡ true → fit_each c ts ≡ true → without_empty ts ≡ ts
@@ -156,7 +155,7 @@ param_in : (a : Tree) → admits BindingIdent a ≡ true → fits_below BindingI
 param_in (leaf s x) h f = and_from _ _ (param_leaf s x h) (and_from _ true f refl)
 param_in (list ts) h f = absurd (false≢true h)
 param_in (node k cs) h f =
-    absurd (both_ways (in_homes BindingIdent (homes k)) (not_true (in_homes BindingIdent (homes k)) (and_parts (drops (positions k)) (not (in_homes BindingIdent (homes k))) (all_drops k)).1) h)
+    absurd (both_ways (in_homes BindingIdent (homes k)) (not-true (in_homes BindingIdent (homes k)) (and_parts (drops (positions k)) (not (in_homes BindingIdent (homes k))) (all_drops k)).1) h)
 
 laid_fits : (c : Nonterminal) (k : Kind) (ds : Forest) → fit_slots (positions k) ds ≡ true → fits_below c (laid_node k ds) ≡ true
 laid_fits c (expression BareArrow) (part a b) h =

@@ -1,6 +1,6 @@
 -- A tree whose parts are at home as they are laid is loose: each part may stand where it does.
 use Rattle.std.proofs.Common.{◌≡◌, List, [], ◌∷◌, true, false, refl, ⊎_elim}
-use Rattle.std.proofs.lemmas.Bool.{and_parts, and_from, or_cases, or_left, or_right, both_ways, false≢true}
+use Rattle.std.proofs.lemmas.Bool.{and_parts, and_from, or_cases, or_left, or_right, both_ways, false≢true, not-true}
 use Rattle.std.specs.Prelude.{not, ◌&&◌, ◌||◌}
 use Rattle.jsx_base.specs.Token.{Text, TokenKind, IdentifierName, JsxName, NoSubstitution, TemplateHead, TemplateMiddle, TemplateTail}
 use Rattle.jsx_tree.specs.Kinds.{Binds, Assigns, Imported, Exported, From, Kind, expression, New, BareArrow, BareArrowBlock, Arrow, ArrowBlock, NewWithoutArguments, Tree, leaf, node, list, Forest, none, part}
@@ -9,7 +9,6 @@ use Rattle.jsx_tree.specs.Normal.{laid_node}
 use Rattle.jsx_tree.specs.Form.{Single, Maybe, Several, Position, position, positions, at_most_one, enough, last_only, admits}
 use Rattle.jsx_tree.specs.Parentheses.{asks}
 use Rattle.jsx_tree.specs.Sound.{lax, may_stand, is_no_jsx, loose, loose_slots, loose_each}
-use Rattle.jsx_tree.proofs.ReadBack.Basics.{not_true}
 use Rattle.jsx_tree.proofs.Parentheses.FirstPass.{home, fine, fine_slots, fine_each}
 use Rattle.jsx_tree.proofs.Parentheses.Laying.{admits_in}
 
@@ -46,7 +45,7 @@ new_places (Specifiers From) = refl
 new_places _ = refl
 
 new_asks : (c : Nonterminal) → in_homes c object ≡ true → asks c ≡ true
-new_asks c h = ⊎_elim (λ p. p) (λ p. absurd (both_ways (in_homes c object) (not_true (in_homes c object) p) h)) (or_cases (asks c) (not (in_homes c object)) (new_places c))
+new_asks c h = ⊎_elim (λ p. p) (λ p. absurd (both_ways (in_homes c object) (not-true (in_homes c object) p) h)) (or_cases (asks c) (not (in_homes c object)) (new_places c))
 
 may_node : (c : Nonterminal) (k : Kind) (cs : Forest) → admits c (laid_node k cs) ≡ true → may_stand c (node k cs) ≡ true
 may_node c (expression BareArrow) (part a b) h = or_right _ _ (lax_home c (homes (expression Arrow)) (admits_in c (expression Arrow) _ h))

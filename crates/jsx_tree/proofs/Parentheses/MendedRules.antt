@@ -10,8 +10,8 @@ use Rattle.jsx_tree.specs.Normal.{is_empty, unless_empty, without_empty, laid_no
 use Rattle.jsx_tree.specs.Form.{Form, Single, Maybe, Several, Position, position, positions, enough, at_most_one, last_only}
 use Rattle.jsx_tree.specs.Parentheses.{parens_of, no_directive, first_no_directive, behind_directives, special, is_in, is_init, shield, shields, shield_each}
 use Rattle.jsx_tree.specs.StaticRules.{Surroundings, rule, stands, enters, legal, legals, each_legal, is_string_stmt, first_of_list, is_in_op, open_in, open_ins, any_open}
-use Rattle.jsx_tree.proofs.Parentheses.FirstPass.{home, home_shape, fine, fine_slots, fine_each}
 use Rattle.jsx_tree.specs.Sound.{is_no_jsx, is_mended, lawful, lawfuls, each_lawful}
+use Rattle.jsx_tree.proofs.Parentheses.FirstPass.{home, home_shape, fine, fine_slots, fine_each}
 use Rattle.jsx_tree.proofs.Parentheses.SecondPass.{mend, mend_is}
 
 -- ---- the rules that are left, and those that pairs mend, are all

@@ -1,6 +1,6 @@
 -- Where all parts are at home and begin as they may, `dress` adds no pair.
 use Rattle.std.proofs.Common.{◌≡◌, List, [], ◌∷◌, true, false, cond, refl, ap, ◌∙◌}
-use Rattle.std.proofs.lemmas.Bool.{and_parts, and_right, or_from, not_from_true, false≢true}
+use Rattle.std.proofs.lemmas.Bool.{and_parts, and_right, or_from, not_from_true, false≢true, not-true}
 use Rattle.std.specs.Prelude.{not, ◌&&◌}
 use Rattle.jsx_base.specs.Token.{Text, among}
 use Rattle.jsx_tree.specs.Kinds.{Kind, expression, BareArrow, BareArrowBlock, NewWithoutArguments, Tree, leaf, node, list, Forest, none, part}
@@ -10,9 +10,7 @@ use Rattle.jsx_tree.specs.Form.{Single, Maybe, Several, Position, position, posi
 use Rattle.jsx_tree.specs.Spelling.{spelled}
 use Rattle.jsx_tree.specs.Layout.{first_token}
 use Rattle.jsx_tree.specs.Parentheses.{asks, is_expression, parens_of, is_dotted_number, as_laid, wants, wrapped, dress, dresses, dress_each}
-use Rattle.jsx_tree.specs.Fits.{is_solid, is_plain}
-use Rattle.jsx_tree.specs.Fits.{may_begin, held, helds, held_each}
-use Rattle.jsx_tree.proofs.ReadBack.Basics.{not_true}
+use Rattle.jsx_tree.specs.Fits.{is_solid, is_plain, may_begin, held, helds, held_each}
 
 plain_laid : (k : Kind) (cs : Forest) → is_plain k ≡ true → laid_node k cs ≡ node k cs
 plain_laid (expression BareArrow) cs h = absurd (false≢true h)
@@ -23,7 +21,7 @@ plain_laid k cs h = refl
 unwanted : (c : Nonterminal) (g : List Text) (t : Tree) → admits c (as_laid t) ≡ true → may_begin c g t ≡ true → wants c g t ≡ false
 unwanted c g t a m =
     let p = and_parts (not (among (first_token (spelled t)) g)) (not (is_dotted_number c t)) m in
-    and_right (asks c) _ (and_right (is_expression t) _ (or_from _ _ (not_from_true (admits c (as_laid t)) a) (or_from _ _ (not_true (among (first_token (spelled t)) g) p.0) (not_true (is_dotted_number c t) p.1))))
+    and_right (asks c) _ (and_right (is_expression t) _ (or_from _ _ (not_from_true (admits c (as_laid t)) a) (or_from _ _ (not-true (among (first_token (spelled t)) g) p.0) (not-true (is_dotted_number c t) p.1))))
 
 unwrapped : (c : Nonterminal) (g : List Text) (t : Tree) → wants c g t ≡ false → wrapped c g t ≡ t
 unwrapped c g t w = ap (λ v. cond v (parens_of t) t) w

@@ -11,8 +11,8 @@ use Rattle.jsx_tree.specs.Form.{Position, position, positions}
 use Rattle.jsx_tree.specs.Spelling.{said, saids, each_said, joined, gathered, walk, spelled, leaf_signs}
 use Rattle.jsx_tree.specs.Layout.{first_token}
 use Rattle.jsx_tree.specs.Parentheses.{parens_of, is_in, is_init, special, shield, shields, shield_each}
-use Rattle.jsx_tree.proofs.Parentheses.SecondPass.{mend, mend_is}
 use Rattle.jsx_tree.proofs.ReadBack.Rows.{append_signs}
+use Rattle.jsx_tree.proofs.Parentheses.SecondPass.{mend, mend_is}
 
 -- the first token of a row, x that of its first part
 abbrev pub row_start : Production → Text → Text

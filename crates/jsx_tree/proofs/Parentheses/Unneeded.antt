@@ -1,6 +1,6 @@
 -- No pair is put on a laid tree that fits.
 use Rattle.std.proofs.Common.{◌≡◌, List, [], ◌∷◌, Bool, true, false, cond, refl, ap, ◌∙◌, ⊎_elim}
-use Rattle.std.proofs.lemmas.Bool.{and_parts, and_from, or_cases, or_parts, true≢false, false≢true}
+use Rattle.std.proofs.lemmas.Bool.{and_parts, and_from, or_cases, or_parts, true≢false, false≢true, not-true}
 use Rattle.std.specs.Prelude.{codes, not, ◌&&◌, ◌||◌}
 use Rattle.jsx_base.specs.Token.{Text, IdentifierName, StringLiteral, same}
 use Rattle.jsx_tree.specs.Kinds.{Kind, program, statement, function, expression, Module, Script, FunctionBody, ExprStmt, For, ForOf, ParenTarget, BareArrow, BareArrowBlock, NewWithoutArguments, Tree, leaf, node, list, Forest, none, part}
@@ -11,7 +11,6 @@ use Rattle.jsx_tree.specs.Parentheses.{parens_of, no_directive, first_no_directi
 use Rattle.jsx_tree.specs.StaticRules.{Surroundings, outside, rule, stands, enters, legal, legals, each_legal, is_string_stmt, first_of_list, is_in_op, open_in, open_ins, any_open}
 use Rattle.jsx_tree.specs.Fits.{held, fits}
 use Rattle.jsx_tree.specs.Sound.{is_mended}
-use Rattle.jsx_tree.proofs.ReadBack.Basics.{not_true}
 use Rattle.jsx_tree.proofs.Parentheses.Needed.{dress_none}
 use Rattle.jsx_tree.proofs.Parentheses.MendedRules.{mended, mendeds, in_kind}
 use Rattle.jsx_tree.proofs.Parentheses.Idempotent.{filled, without_filled}
@@ -168,11 +167,11 @@ no_directive_stays t h = refl
 first_stays : (ts : Forest) → not (first_of_list is_string_stmt ts) ≡ true → filled ts ≡ true → first_no_directive ts ≡ ts
 first_stays none r h = refl
 first_stays (part t ts) r h =
-    ap (λ v. cond v (part t (first_no_directive ts)) (part (no_directive t) ts)) (not_true (is_empty t) (and_parts (not (is_empty t)) (filled ts) h).0)
-    ∙ ap (λ u. part u ts) (no_directive_stays t (not_true (is_string_stmt t) r))
+    ap (λ v. cond v (part t (first_no_directive ts)) (part (no_directive t) ts)) (not-true (is_empty t) (and_parts (not (is_empty t)) (filled ts) h).0)
+    ∙ ap (λ u. part u ts) (no_directive_stays t (not-true (is_string_stmt t) r))
 
 async_stays : (x : Text) (us : Forest) → leaf_in ForOfHead IdentifierName x ≡ true → held_async (part (leaf IdentifierName x) us) ≡ part (leaf IdentifierName x) us
-async_stays x us h = ap (λ v. part (cond v (node (function ParenTarget) (part (leaf IdentifierName x) none)) (leaf IdentifierName x)) us) (not_true (same x (codes "async")) (and_parts (is_bound x) (not (same x (codes "async"))) h).1)
+async_stays x us h = ap (λ v. part (cond v (node (function ParenTarget) (part (leaf IdentifierName x) none)) (leaf IdentifierName x)) us) (not-true (same x (codes "async")) (and_parts (is_bound x) (not (same x (codes "async"))) h).1)
 
 special_stays : (k : Kind) (cs : Forest) → fit_slots (positions k) cs ≡ true → (not (is_mended k) || rule k cs) ≡ true → trimmed_node k cs ≡ true → special k cs ≡ node k cs
 special_stays (program Module) (part x (part (list ts) none)) f r h = ap (λ us. node (program Module) (part x (part (list us) none))) (first_stays ts r h)
@@ -221,7 +220,7 @@ no_inits_shut [] ts h = refl
 no_inits_shut (s ∷ ss) none h = refl
 no_inits_shut (position f c g b a ∷ ss) (part t ts) h =
     let p = and_parts (not (is_init c)) (no_inits ss) h in
-    and_from _ _ (ap (λ v. not v || not (open_in t)) (not_true (is_init c) p.0)) (no_inits_shut ss ts p.1)
+    and_from _ _ (ap (λ v. not v || not (open_in t)) (not-true (is_init c) p.0)) (no_inits_shut ss ts p.1)
 
 for_inits : (cs : Forest) → rule (statement For) cs ≡ true → shut_inits (positions (statement For)) cs ≡ true
 for_inits none h = refl
@@ -239,7 +238,7 @@ inits_of k cs m = ⊎_elim (λ p. for_case k cs p m) (λ p. no_inits_shut (posit
 
 -- whether a part is shut, and whether nothing stands open in it where it is
 shut_part : (shut b i : Bool) (o : Bool) → (not i || not o) ≡ true → (shut ≡ true → (not b && o) ≡ false) → (i || (shut && not b)) ≡ true → o ≡ false
-shut_part shut b true o h f s = not_true o h
+shut_part shut b true o h f s = not-true o h
 shut_part true false false o h f s = f refl
 shut_part true true false o h f s = absurd (false≢true s)
 shut_part false b false o h f s = absurd (false≢true s)

@@ -1,15 +1,12 @@
 -- Gaps with comments in them.
-use Rattle.std.proofs.Common.{suc}
-use Rattle.std.proofs.Common.{◌≡◌, ℕ, List, [], ◌∷◌, ◌++◌, Bool, true, false, cond, not, ◌||◌, codes, refl, sym, ap, ◌∙◌}
+use Rattle.std.proofs.Common.{suc, ◌≡◌, ℕ, List, [], ◌∷◌, ◌++◌, Bool, true, false, cond, not, ◌||◌, codes, refl, sym, ap, ◌∙◌}
 use Rattle.std.specs.Prelude.{nat_eq}
 use Rattle.std.proofs.lemmas.Bool.{false≢true, and_parts, and_from, or_parts}
-use Rattle.jsx_base.specs.Token.{Text, Blank, first_is, same, skip, breaks, is_cut, is_end}
+use Rattle.jsx_base.specs.Token.{Text, Blank, first_is, same, skip, breaks, is_cut, is_end, skips}
 use Rattle.jsx_tree.specs.Layout.{Note, Beside, notes_text}
-use Rattle.jsx_tree.proofs.ReadBack.Joins.{pad, has_line}
-use Rattle.jsx_tree.specs.Notes.{no_note, all_beside}
-use Rattle.jsx_base.specs.Token.{skips}
+use Rattle.jsx_tree.specs.Notes.{no_note, all_beside, noted, at_code, marks}
 use Rattle.jsx_tree.specs.Signs.{Sign, Tok, Semicolon, TrailingComma, Unless, SameLine, Ends, Space, Pad, Line, Indent, Outdent, Unindent, Apart, Begin, Count, One, End}
-use Rattle.jsx_tree.specs.Notes.{noted, at_code, marks}
+use Rattle.jsx_tree.proofs.ReadBack.Joins.{pad, has_line}
 use Rattle.jsx_tree.proofs.ReadBack.Signs.{append, append_nil, by_pad, skip_pad, breaks_pad}
 
 -- a text that is skipped as a gap is, with a line end in it or, where not l, without

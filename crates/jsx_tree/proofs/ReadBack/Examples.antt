@@ -1,26 +1,19 @@
 -- The definitions on examples, and what each condition of `fits` is for.
-use Rattle.std.specs.Prelude.{Bool}
-use Rattle.jsx_tree.proofs.Samples.{call}
-use Rattle.std.specs.Prelude.{◌≡◌, codes, true, false, refl, ◌&&◌}
-use Rattle.jsx_tree.specs.Kinds.{If, NewWithoutArguments, Chain, NameLink, Cond, Less, PrefixUpdate, Decrement, Unary, Negative, Not, Binary, Divide, Spread, statement, expression, leaf}
-use Rattle.jsx_base.specs.Token.{RegExpLiteral}
+use Rattle.std.specs.Prelude.{Bool, ◌≡◌, codes, true, false, refl, ◌&&◌, ℕ, nat_eq, ◌||◌, []}
+use Rattle.jsx_base.specs.Token.{RegExpLiteral, same}
+use Rattle.jsx_tree.specs.Kinds.{If, Arrow, BareArrow, NewWithoutArguments, Chain, NameLink, Cond, Less, PrefixUpdate, Decrement, Unary, Negative, Not, Binary, Divide, Spread, statement, expression, leaf, Tree}
 use Rattle.jsx_tree.specs.Nonterminals.{WholeProgram}
 use Rattle.jsx_tree.specs.Form.{is}
-use Rattle.jsx_tree.specs.Layout.{layout}
-use Rattle.jsx_tree.specs.Normal.{laid_tree}
+use Rattle.jsx_tree.specs.Layout.{layout, laid}
+use Rattle.jsx_tree.specs.Normal.{laid_tree, nf}
 use Rattle.jsx_tree.specs.Parentheses.{parenthesise}
 use Rattle.jsx_tree.specs.Reading.{reads}
 use Rattle.jsx_tree.specs.Spelling.{spelled}
 use Rattle.jsx_tree.specs.StaticRules.{outside, legal}
-use Rattle.jsx_tree.proofs.Samples.{n, num, str, n1, n2, n3, l0, l1, l2, l3, stmt, script, dot, object_of, array_of, empty, sample_if}
-use Rattle.jsx_tree.proofs.ReadBack.Joins.{joins}
-use Rattle.std.specs.Prelude.{ℕ, nat_eq, ◌||◌, []}
-use Rattle.jsx_base.specs.Token.{same}
-use Rattle.jsx_tree.specs.Kinds.{Tree}
-use Rattle.jsx_tree.specs.Layout.{laid}
-use Rattle.jsx_tree.specs.Notes.{at_code}
-use Rattle.jsx_tree.specs.Notes.{marks}
+use Rattle.jsx_tree.specs.Notes.{at_code, marks}
 use Rattle.jsx_tree.specs.Fits.{fits}
+use Rattle.jsx_tree.proofs.Samples.{call, n, num, str, n1, n2, n3, l0, l1, l2, l3, stmt, script, dot, object_of, array_of, empty, sample_if}
+use Rattle.jsx_tree.proofs.ReadBack.Joins.{joins}
 
 if_joins : joins (spelled sample_if) ≡ true
 if_joins = refl
@@ -97,3 +90,13 @@ marked_noted = refl
 
 marked_read : reads (laid (marks at_calls) 0 [] [] false (spelled marked)) marked ≡ true
 marked_read = refl
+
+-- an empty statement as an arrow's parameter, which no grammar has: kept by the first normal form, dropped by the second
+abbrev odd_arrow : Tree
+odd_arrow = n2 (expression BareArrow) empty (n "a")
+
+odd_arrow_once : nf odd_arrow ≡ n2 (expression Arrow) (l1 empty) (n "a")
+odd_arrow_once = refl
+
+odd_arrow_twice : nf (nf odd_arrow) ≡ n2 (expression Arrow) l0 (n "a")
+odd_arrow_twice = refl

@@ -1,19 +1,19 @@
 -- What each sound tree begins with.
 use Rattle.std.proofs.Common.{◌≡◌, List, [], ◌∷◌, ◌++◌, Bool, true, false, not, ◌||◌, ◌&&◌, codes, refl, sym, ap, ◌∙◌, subst, ⊎_elim, ◌⊎◌, inl, inr}
 use Rattle.std.specs.Prelude.{nat_eq, nat_le}
-use Rattle.std.proofs.lemmas.Bool.{false≢true, and_parts, eqb-true}
+use Rattle.std.proofs.lemmas.Bool.{false≢true, and_parts, eqb-true, false_from_ne_true, not-true, not_from_false, and_right}
 use Rattle.jsx_base.specs.Token.{Text, Mode, Operand, Operator, TokenKind, IdentifierName, Punctuator, NumericLiteral, BigIntLiteral, StringLiteral, RegExpLiteral, NoSubstitution, TemplateHead, TemplateMiddle, TemplateTail, JsxName, JsxString, JsxText, Elision, NoToken, same, is_one_of, is_code, is_digit, is_start, first_is}
-use Rattle.jsx_tree.proofs.ReadBack.Longest.{same_is}
 use Rattle.jsx_tree.specs.Signs.{Sign, Tok, Semicolon, TrailingComma, Unless, SameLine, Ends, Space, Pad, Line, Indent, Outdent, Unindent, Apart, Begin, Count, One, End}
 use Rattle.jsx_tree.specs.Kinds.{Binds, Assigns, Kind, program, Module, Script, FunctionBody, Tree, leaf, node, list, Forest, none, part}
 use Rattle.jsx_tree.specs.Nonterminals.{Nonterminal, Expr, MemberObject, DotObject, SimpleTarget, Ident, BindingIdent, StringOnly, Pat, NullishLeft, NewCallee, TemplateOf, TemplatePart, ChainLink, Name, ArrayItem, Slot, Body, Stmt, Item, DirectiveOnly, CaseClause, BlockOnly, in_homes, homes, literal_homes, leaf_in, is_value_word}
 use Rattle.jsx_tree.specs.Layout.{first_char}
 use Rattle.jsx_tree.specs.Spelling.{said, saids, each_said, joined, walk, gathered, between}
 use Rattle.jsx_tree.specs.Form.{is_leaf, Single, Several, last_only, positions}
+use Rattle.jsx_tree.specs.Fits.{is_solid, is_plain}
+use Rattle.jsx_tree.specs.Grammar.{Fixed, Part, Optional, Many, Within, Lines, TwoOrMore, Production, production}
+use Rattle.jsx_base.proofs.Longest.{same_is}
 use Rattle.jsx_tree.proofs.ReadBack.Joins.{Token, Ahead, at_once, sign_ahead, ahead}
 use Rattle.jsx_tree.proofs.ReadBack.RowChecks.{is_starter, is_tagged, is_linked, is_name_place, is_quoted, elseless, frontal, is_later, is_body, holes, sound, sounds, sound_each, is_formed, rowed, Asks, asks_none, token_opens, part_opens, signs_open, row_opens, is_loose, is_keyed, is_body_kind}
-use Rattle.jsx_tree.specs.Fits.{is_solid, is_plain}
-use Rattle.jsx_tree.proofs.ReadBack.Basics.{clash, by_not, not_true, not_false, and_false_2}
 use Rattle.jsx_tree.proofs.ReadBack.Leaves.{slash_first, no_sign, name_starts, piece_starts, start_no_digit}
 use Rattle.jsx_tree.proofs.ReadBack.NextTokens.{ahead_append, Opens}
 use Rattle.jsx_tree.proofs.ReadBack.NextInRow.{Front, LineFront, Fronts, TreeFront, FrontOf, FrontsOf, front_at}
@@ -22,7 +22,7 @@ use Rattle.jsx_tree.proofs.ReadBack.Nodes.{SoundNode, sound_node, Facts, facts}
 use Rattle.jsx_tree.proofs.ReadBack.Keys.{no_keyed}
 use Rattle.jsx_tree.proofs.ReadBack.RowTable.{all_opens}
 use Rattle.jsx_tree.proofs.ReadBack.Trees.{SoundLeaf, sound_leaf, rowed_of}
-use Rattle.jsx_tree.specs.Grammar.{Fixed, Part, Optional, Many, Within, Lines, TwoOrMore, Production, production}
+use Rattle.jsx_tree.proofs.ReadBack.Basics.{clash}
 
 -- ---- leaves
 
@@ -68,7 +68,7 @@ quoted_leaf _ s x i h l = absurd (false≢true i)
 
 -- `else` stands at no such place
 else_word : (c : Nonterminal) → elseless c ≡ true → leaf_in c IdentifierName (codes "else") ≡ false
-else_word (Expr n) h = and_false_2 (nat_le n 18) (is_value_word (codes "else")) refl
+else_word (Expr n) h = and_right (nat_le n 18) (is_value_word (codes "else")) refl
 else_word MemberObject h = refl
 else_word DotObject h = refl
 else_word SimpleTarget h = refl
@@ -106,7 +106,7 @@ frontal_of c h =
     let q = and_parts b (d && (e && f)) p.1 in
     let r = and_parts d (e && f) q.1 in
     let s = and_parts e f r.1 in
-    record { no_body = not_true _ p.0; no_program = not_true _ q.0; no_elision = not_true _ r.0; no_middle = not_true _ s.0; no_tail = not_true _ s.1 }
+    record { no_body = not-true _ p.0; no_program = not-true _ q.0; no_elision = not-true _ r.0; no_middle = not-true _ s.0; no_tail = not-true _ s.1 }
 
 no_middle_home : (c : Nonterminal) → frontal c ≡ true → in_homes c (literal_homes TemplateMiddle) ≡ false
 no_middle_home c h = (frontal_of c h).no_middle
@@ -134,10 +134,10 @@ leaf_opens : (c : Nonterminal) (s : TokenKind) (m : Mode) (x : Text) → is_code
     → (s ≡ IdentifierName → (is_digit (first_char x) ≡ false) × (nat_eq (first_char x) 46 ≡ false)) → (elseless c ≡ true → leaf_in c s (codes "else") ≡ true → is_leaf s (codes "else") ≡ true → ⊥) → Opens c m x
 leaf_opens c s m x k l n q w e = record {
   code = k;
-  starter = not_false _ n;
+  starter = not_from_false _ n;
   back = λ i. absurd (no_tagged c s x i l.home l.solid);
   link = λ i. absurd (no_linked c s x i l.home l.solid);
-  lined = λ i. by_not (same x (codes "else")) (λ z. let y = same_is x (codes "else") z in e i (subst (λ t. leaf_in c s t ≡ true) y l.home) (subst (λ t. is_leaf s t ≡ true) y l.whole));
+  lined = λ i. false_from_ne_true (same x (codes "else")) (λ z. let y = same_is x (codes "else") z in e i (subst (λ t. leaf_in c s t ≡ true) y l.home) (subst (λ t. is_leaf s t ≡ true) y l.whole));
   named = λ i. w (named_leaf c s x i l.home l.solid);
   quoted = λ i. q (quoted_leaf c s x i l.home l.solid);
 }
@@ -156,7 +156,7 @@ plain_fronts c s x l m t f = record {
 
 word_first : (x : Text) → first_is is_start x ≡ true → (is_digit (first_char x) ≡ false) × (nat_eq (first_char x) 46 ≡ false)
 word_first [] h = absurd (false≢true h)
-word_first (c ∷ x) h = (start_no_digit c h, by_not (nat_eq c 46) (λ e. clash (is_start c) h (subst (λ y. is_start y ≡ false) (sym (eqb-true c 46 e)) refl)))
+word_first (c ∷ x) h = (start_no_digit c h, false_from_ne_true (nat_eq c 46) (λ e. clash (is_start c) h (subst (λ y. is_start y ≡ false) (sym (eqb-true c 46 e)) refl)))
 
 slash_sign : (x : Text) → first_is (λ c. nat_eq c 47) x ≡ true → is_one_of (first_char x) (codes "=>") ≡ false
 slash_sign [] h = absurd (false≢true h)
@@ -237,7 +237,7 @@ token_front f m s t k h =
     let b = and_parts (is_code m) (is_starter (first_char t)) a.0 in
     let c = and_parts x1 (x2 && x3) a.1 in
     let d = and_parts x2 x3 c.1 in
-    record { mode = m; kind = s; text = t; view = λ w. refl; code = b.0; starter = b.1; tagged = imp _ _ c.0; linked = imp _ _ d.0; lined = λ e. not_true _ (imp _ _ d.1 e) }
+    record { mode = m; kind = s; text = t; view = λ w. refl; code = b.0; starter = b.1; tagged = imp _ _ c.0; linked = imp _ _ d.0; lined = λ e. not-true _ (imp _ _ d.1 e) }
 
 part_front : (f : Asks) (c : Nonterminal) (t : Tree) (k : List Sign) → Fronts c t → part_opens f c ≡ true → RowFront f (λ w. ahead (joined (said t) ++ k) w)
 part_front f c t k r h =
@@ -389,7 +389,7 @@ opens_of c k o n h = go (is_tagged c) (is_linked c) (elseless c) refl refl refl
     go true false false p q r = o.tagged (tagged_home c k p h)
     go false true true p q r = clash _ r (link_ask c q)
     go false true false p q r = o.linked (linked_home c k q h)
-    go false false true p q r = or_with (is_keyed k) _ (by_not (is_keyed k) (λ i. no_keyed c k i r h)) (or_with (is_loose k) _ n o.lined)
+    go false false true p q r = or_with (is_keyed k) _ (false_from_ne_true (is_keyed k) (λ i. no_keyed c k i r h)) (or_with (is_loose k) _ n o.lined)
     go false false false p q r = or_with (is_loose k) _ n o.none_asked
 
 front_of : (c : Nonterminal) (k : Kind) (cs : Forest) → SoundNode c k cs → FrontsOf cs → is_loose k ≡ false → Front c (node k cs)

@@ -5,7 +5,7 @@ use Rattle.jsx_tree.specs.Signs.{Sign, Tok, Semicolon, TrailingComma, Unless, Sa
 use Rattle.jsx_tree.specs.Spelling.{mode_of}
 use Rattle.jsx_tree.specs.Form.{is_leaf}
 use Rattle.jsx_tree.specs.Layout.{last, first_char}
-use Rattle.jsx_tree.proofs.ReadBack.Longest.{extends, all_begin}
+use Rattle.jsx_base.specs.Longer.{extends, all_begin}
 
 -- the next token behind a place
 pub data Next : Type 0 where

@@ -1,16 +1,14 @@
 -- Kept comments are gaps.
 use Rattle.std.proofs.Common.{◌≡◌, ℕ, List, [], ◌∷◌, ◌++◌, Bool, true, false, cond, not, ◌||◌, ◌&&◌, refl, sym, ap, ◌∙◌, subst}
 use Rattle.std.specs.Prelude.{nat_eq}
-use Rattle.std.proofs.lemmas.Bool.{false≢true, and_parts, eqb-true}
+use Rattle.std.proofs.lemmas.Bool.{false≢true, and_parts, eqb-true, not-true}
 use Rattle.jsx_base.specs.Token.{Text, same, first_is, is_line_end, Gap as At, Blank, InLineComment, InBlockComment, Closing, is_over, behind_gap, is_cut, breaks_in, skip, breaks}
-use Rattle.jsx_tree.proofs.ReadBack.Longest.{same_is}
 use Rattle.jsx_tree.specs.Layout.{Note, Own, Beside, notes_text, line, indent}
-use Rattle.jsx_tree.proofs.ReadBack.Joins.{has_line}
 use Rattle.jsx_tree.specs.Notes.{no_note, all_beside, no_ends, closes, is_line_comment, is_block_comment, all_notes}
-use Rattle.jsx_tree.proofs.ReadBack.CommentGaps.{Gap, Comments}
-use Rattle.jsx_tree.proofs.ReadBack.Basics.{not_true}
+use Rattle.jsx_base.proofs.Longest.{same_is}
+use Rattle.jsx_tree.proofs.ReadBack.Joins.{has_line}
+use Rattle.jsx_tree.proofs.ReadBack.CommentGaps.{Gap, Comments, gap_pad, gap_nil, gap_blank, gap_more}
 use Rattle.jsx_tree.proofs.ReadBack.Signs.{append, indent_pad}
-use Rattle.jsx_tree.proofs.ReadBack.CommentGaps.{gap_pad, gap_nil, gap_blank, gap_more}
 
 -- ---- to the line's end
 
@@ -18,13 +16,13 @@ line_behind : (t y : Text) → no_ends t ≡ true → behind_gap InLineComment (
 line_behind [] y h = refl
 line_behind (c ∷ t) y h =
     let a = and_parts (not (is_line_end c)) (no_ends t) h in
-    ap (λ b. cond (is_over (cond b Blank InLineComment)) (c ∷ (t ++ (10 ∷ y))) (behind_gap (cond b Blank InLineComment) (t ++ (10 ∷ y)))) (not_true _ a.0) ∙ line_behind t y a.1
+    ap (λ b. cond (is_over (cond b Blank InLineComment)) (c ∷ (t ++ (10 ∷ y))) (behind_gap (cond b Blank InLineComment) (t ++ (10 ∷ y)))) (not-true _ a.0) ∙ line_behind t y a.1
 
 line_cut : (t y : Text) → no_ends t ≡ true → is_cut InLineComment (t ++ (10 ∷ y)) ≡ is_cut Blank y
 line_cut [] y h = refl
 line_cut (c ∷ t) y h =
     let a = and_parts (not (is_line_end c)) (no_ends t) h in
-    ap (λ b. is_cut (cond b Blank InLineComment) (t ++ (10 ∷ y))) (not_true _ a.0) ∙ line_cut t y a.1
+    ap (λ b. is_cut (cond b Blank InLineComment) (t ++ (10 ∷ y))) (not-true _ a.0) ∙ line_cut t y a.1
 
 line_gap : (t : Text) → no_ends t ≡ true → Gap true ((47 ∷ 47 ∷ t) ++ (10 ∷ []))
 line_gap t h = record {
@@ -65,7 +63,7 @@ block_flat (c ∷ []) y h n = absurd (false≢true h)
 block_flat (c ∷ d ∷ t) y h n =
     let p = and_parts (not (is_line_end c)) (not (is_line_end d) && no_ends t) n in
     let q = and_parts (not (is_line_end d)) (no_ends t) p.1 in
-    go (nat_eq 42 c) (nat_eq 47 d) h (is_line_end c) (not_true _ p.0) (not_true _ q.0) (λ e. block_flat (d ∷ t) y e p.1)
+    go (nat_eq 42 c) (nat_eq 47 d) h (is_line_end c) (not-true _ p.0) (not-true _ q.0) (λ e. block_flat (d ∷ t) y e p.1)
   where
     go : (a b : Bool) → cond (a && b) (same t []) (closes (d ∷ t)) ≡ true → (u : Bool) → u ≡ false → is_line_end d ≡ false → (closes (d ∷ t) ≡ true → breaks_in InBlockComment (d ∷ (t ++ y)) ≡ breaks_in Blank y)
         → (not (is_over (step_block (a && (b && true)))) && (u || breaks_in (step_block (a && (b && true))) (d ∷ (t ++ y)))) ≡ breaks_in Blank y
@@ -97,9 +95,6 @@ flat_gap : (t : Text) → closes t ≡ true → no_ends t ≡ true → Gap false
 flat_gap t h n = record { skipped = λ y. open_behind t y h; cuts = λ y. open_cut t y h; unbroken = λ e y. open_flat t y h n }
 
 -- ---- notes
-
-wider : (g : Text) → Gap false g → Gap true g
-wider g p = record { skipped = p.skipped; cuts = p.cuts; unbroken = λ e. absurd (false≢true (sym e)) }
 
 -- a comment to the line's end with the line end, one in `/*` and `*/`
 record LineText (t : Text) : Type 0 where

@@ -1,24 +1,20 @@
 -- A leaf's text before what doesn't go on with it.
-use Rattle.std.proofs.Common.{◌≡◌, ℕ, [], ◌∷◌, ◌++◌, Bool, true, false, cond, not, ◌||◌, ◌&&◌, codes, refl, sym, ap, ◌∙◌, subst}
-use Rattle.std.specs.Prelude.{nat_eq}
-use Rattle.std.proofs.lemmas.Bool.{false≢true, and_parts, and_from, eqb-true}
-use Rattle.jsx_base.specs.Token.{Text, Mode, Operand, Operator, Piece, TokenKind, IdentifierName, Punctuator, NumericLiteral, BigIntLiteral, StringLiteral, RegExpLiteral, NoSubstitution, TemplateHead, TemplateMiddle, TemplateTail, JsxName, JsxString, JsxText, Elision, NoToken, kind_number, is_kind, same, begins, first_is, is_digit, is_start, is_blank, is_line_end, Blank, InLineComment, Opening, BehindGap, gap_after_blank, is_over, skip, breaks, breaks_in, State, Dead, Done, InName, BehindZero, InDigits, InFraction, InString, InPiece, AtRegExp, step, is_dead, accepts, taken, left, last_state, state, is_code, lexed, no_token, punct, punctuator, ended, at_front, Lexeme, is_token, token}
-use Rattle.jsx_base.proofs.Automata.{runs, stops, Read, read_on}
-use Rattle.jsx_tree.proofs.ReadBack.Lexemes.{whole, alive}
-use Rattle.jsx_tree.proofs.ReadBack.Longest.{same_is}
-use Rattle.jsx_tree.proofs.ReadBack.Gaps.{IsBehind, is_behind, stays}
-use Rattle.jsx_tree.proofs.ReadBack.Joins.{follows}
-use Rattle.jsx_tree.proofs.ReadBack.Basics.{all_first, clash, by_not, not_true, if_false, or_false, and_false, and_false_2}
-use Rattle.jsx_tree.proofs.ReadBack.Punctuators.{Reads}
+use Rattle.std.proofs.Common.{◌≡◌, ℕ, [], ◌∷◌, ◌++◌, Bool, true, false, cond, not, ◌||◌, ◌&&◌, codes, refl, sym, ap, ◌∙◌, subst, ◌≤◌, arith}
+use Rattle.std.specs.Prelude.{nat_eq, nat_le}
+use Rattle.std.proofs.lemmas.Bool.{false≢true, and_parts, and_from, eqb-true, leb-true, lt-leb, false_from_ne_true, not-true, or_from, and_left, and_right}
 use Rattle.std.specs.Char.{is_ascii_alphabetic}
 use Rattle.unicode_ident.specs.Ident.{is_xid_start}
-use Rattle.std.specs.Prelude.{nat_le}
-use Rattle.std.proofs.Common.{◌≤◌, arith}
-use Rattle.std.proofs.lemmas.Bool.{leb-true, lt-leb}
-use Rattle.jsx_base.specs.Token.{is_one_of}
+use Rattle.jsx_base.specs.Token.{Text, Mode, Operand, Operator, Piece, TokenKind, IdentifierName, Punctuator, NumericLiteral, BigIntLiteral, StringLiteral, RegExpLiteral, NoSubstitution, TemplateHead, TemplateMiddle, TemplateTail, JsxName, JsxString, JsxText, Elision, NoToken, kind_number, is_kind, same, begins, first_is, is_digit, is_start, is_blank, is_line_end, Blank, InLineComment, Opening, BehindGap, gap_after_blank, is_over, skip, breaks, breaks_in, State, Dead, Done, InName, BehindZero, InDigits, InFraction, InString, InPiece, AtRegExp, step, is_dead, accepts, taken, left, last_state, state, is_code, lexed, no_token, punct, punctuator, ended, at_front, Lexeme, is_token, token, is_one_of}
+use Rattle.jsx_base.proofs.Automata.{runs, stops, Read, read_on}
 use Rattle.jsx_tree.specs.Layout.{first_char}
-use Rattle.jsx_tree.proofs.ReadBack.TokenStates.{no_number, Never, either, to, dead, last_never, accepts_never}
+use Rattle.jsx_base.proofs.Lexemes.{whole, alive}
+use Rattle.jsx_base.proofs.Longest.{same_is}
+use Rattle.jsx_base.proofs.Gaps.{IsBehind, is_behind, stays}
+use Rattle.jsx_tree.proofs.ReadBack.Joins.{follows}
+use Rattle.jsx_tree.proofs.ReadBack.Punctuators.{Reads}
+use Rattle.jsx_base.proofs.TokenStates.{no_number, Never, either, to, dead, last_never, accepts_never}
 use Rattle.jsx_tree.proofs.ReadBack.TokenEnds.{outside, stop_at}
+use Rattle.jsx_tree.proofs.ReadBack.Basics.{all_first, clash, if_false}
 
 -- ---- kinds
 
@@ -166,7 +162,7 @@ skip_whole : (m : Mode) (s : TokenKind) (t : Text) → (NoToken ≡ s → ⊥) �
 skip_whole m s t n e w =
     let x : Lexeme = at_front m (breaks t) (skip t) in
     let k : x.kind ≡ s = sym (ap (λ y. y.kind) e) ∙ w.kind in
-    let a : is_kind x.kind NoToken ≡ false = by_not (is_kind x.kind NoToken) (λ h. n (sym (kind_is x.kind NoToken h) ∙ k)) in
+    let a : is_kind x.kind NoToken ≡ false = false_from_ne_true (is_kind x.kind NoToken) (λ h. n (sym (kind_is x.kind NoToken h) ∙ k)) in
     sym (whole m (breaks t) (skip t) a) ∙ ap (λ y. y ++ x.rest) (sym (ap (λ y. y.raw) e) ∙ w.raw) ∙ ap (λ y. t ++ y) (sym (ap (λ y. y.rest) e) ∙ w.rest) ∙ append_nil t
 
 behind_of : (m : Mode) (s : TokenKind) (c : ℕ) (t : Text) → (NoToken ≡ s → ⊥) → (Punctuator ≡ s → ⊥) → token m false (c ∷ t) ≡ at_front m (breaks (c ∷ t)) (skip (c ∷ t)) → IsWhole m s (c ∷ t) → Behind m s c t
@@ -190,13 +186,13 @@ first_off p q (d ∷ rest) f h = f d h
 
 number_ends : (k : TokenKind) (t raw rest : Text) → ((d : ℕ) → follows k t d ≡ true → is_start d ≡ false) → ((d : ℕ) → follows k t d ≡ true → is_digit d ≡ false) → all_first (follows k t) rest ≡ true
     → cond (first_is is_start rest || first_is is_digit rest) (no_token rest) (record { kind = k; raw = raw; rest = rest }) ≡ record { kind = k; raw = raw; rest = rest }
-number_ends k t raw rest f g h = if_false _ _ _ (or_false _ _ (first_off (follows k t) is_start rest f h) (first_off (follows k t) is_digit rest g h))
+number_ends k t raw rest f g h = if_false _ _ _ (or_from _ _ (first_off (follows k t) is_start rest f h) (first_off (follows k t) is_digit rest g h))
 
 ended_by : (s : TokenKind) (t raw rest : Text) → (NoToken ≡ s → ⊥) → all_first (follows s t) rest ≡ true → ended s raw rest ≡ record { kind = s; raw = raw; rest = rest }
 ended_by NoToken t raw rest n h = absurd (n refl)
 ended_by NumericLiteral t raw rest n h = number_ends NumericLiteral t raw rest (λ d e. (outside t d e).start) (λ d e. (outside t d e).digit) h
 ended_by BigIntLiteral t raw rest n h =
-    number_ends BigIntLiteral t raw rest (λ d e. not_true _ ((and_parts (not (is_start d)) (not (is_digit d)) e).0)) (λ d e. not_true _ ((and_parts (not (is_start d)) (not (is_digit d)) e).1)) h
+    number_ends BigIntLiteral t raw rest (λ d e. not-true _ ((and_parts (not (is_start d)) (not (is_digit d)) e).0)) (λ d e. not-true _ ((and_parts (not (is_start d)) (not (is_digit d)) e).1)) h
 ended_by IdentifierName t raw rest n h = refl
 ended_by Punctuator t raw rest n h = refl
 ended_by StringLiteral t raw rest n h = refl
@@ -237,18 +233,18 @@ done_stays k (c ∷ t) = refl
 
 far_operator : (s : TokenKind) (c : ℕ) (t : Text) → (NoToken ≡ s → ⊥) → (Punctuator ≡ s → ⊥) → Core Operator s c t → Far Operator c t
 far_operator s c t n p w = record {
-  less = by_not _ (λ e. clash _ (subst (λ x. is_dead (state Operator x t) ≡ true) (eqb-true 60 c e) refl) w.alive);
-  minus = by_not _ (λ e. clash _ (subst (λ x. is_dead (state Operator x t) ≡ true) (eqb-true 45 c e) refl) w.alive);
-  slash = λ i. by_not _ (λ e. clash _ (subst (λ x. is_dead (state Operator x t) ≡ true) (eqb-true 47 c e) refl) w.alive);
-  point = λ i. by_not _ (λ e. clash _ (subst (λ x. is_dead (state Operator x t) ≡ true) (sym (eqb-true c 46 e)) (subst (λ y. is_dead (state Operator 46 y) ≡ true) (sym i) refl)) w.alive);
+  less = false_from_ne_true _ (λ e. clash _ (subst (λ x. is_dead (state Operator x t) ≡ true) (eqb-true 60 c e) refl) w.alive);
+  minus = false_from_ne_true _ (λ e. clash _ (subst (λ x. is_dead (state Operator x t) ≡ true) (eqb-true 45 c e) refl) w.alive);
+  slash = λ i. false_from_ne_true _ (λ e. clash _ (subst (λ x. is_dead (state Operator x t) ≡ true) (eqb-true 47 c e) refl) w.alive);
+  point = λ i. false_from_ne_true _ (λ e. clash _ (subst (λ x. is_dead (state Operator x t) ≡ true) (sym (eqb-true c 46 e)) (subst (λ y. is_dead (state Operator 46 y) ≡ true) (sym i) refl)) w.alive);
 }
 
 far_operand : (s : TokenKind) (c : ℕ) (t : Text) → (NoToken ≡ s → ⊥) → (Punctuator ≡ s → ⊥) → Core Operand s c t → Far Operand c t
 far_operand s c t n p w = record {
-  less = by_not _ (λ e. p (sym (subst (λ x. accepts (last_state (state Operand x t) t) ≡ Punctuator) (eqb-true 60 c e) (ap accepts (done_stays Punctuator t))) ∙ w.accepted));
-  minus = by_not _ (λ e. clash _ (subst (λ x. is_dead (state Operand x t) ≡ true) (eqb-true 45 c e) refl) w.alive);
-  slash = λ i. by_not _ (λ e. n (sym (subst (λ x. accepts (last_state (state Operand x t) t) ≡ NoToken) (eqb-true 47 c e) (subst (λ y. accepts (last_state (state Operand 47 y) y) ≡ NoToken) (sym i) refl)) ∙ w.accepted));
-  point = λ i. by_not _ (λ e. clash _ (subst (λ x. is_dead (state Operand x t) ≡ true) (sym (eqb-true c 46 e)) (subst (λ y. is_dead (state Operand 46 y) ≡ true) (sym i) refl)) w.alive);
+  less = false_from_ne_true _ (λ e. p (sym (subst (λ x. accepts (last_state (state Operand x t) t) ≡ Punctuator) (eqb-true 60 c e) (ap accepts (done_stays Punctuator t))) ∙ w.accepted));
+  minus = false_from_ne_true _ (λ e. clash _ (subst (λ x. is_dead (state Operand x t) ≡ true) (eqb-true 45 c e) refl) w.alive);
+  slash = λ i. false_from_ne_true _ (λ e. n (sym (subst (λ x. accepts (last_state (state Operand x t) t) ≡ NoToken) (eqb-true 47 c e) (subst (λ y. accepts (last_state (state Operand 47 y) y) ≡ NoToken) (sym i) refl)) ∙ w.accepted));
+  point = λ i. false_from_ne_true _ (λ e. clash _ (subst (λ x. is_dead (state Operand x t) ≡ true) (sym (eqb-true c 46 e)) (subst (λ y. is_dead (state Operand 46 y) ≡ true) (sym i) refl)) w.alive);
 }
 
 over_before : (c : ℕ) (t rest : Text) → (t ≡ [] → nat_eq 47 c ≡ false) → is_over (gap_after_blank c t) ≡ true → is_over (gap_after_blank c (t ++ rest)) ≡ true
@@ -262,7 +258,7 @@ over_before c [] rest n h = go (nat_eq 47 c) (n refl) (is_blank c || is_line_end
 
 state_operator : (c : ℕ) (t rest : Text) → (t ≡ [] → nat_eq c 46 ≡ false) → state Operator c (t ++ rest) ≡ state Operator c t
 state_operator c (d ∷ t) rest n = refl
-state_operator c [] rest n = ap (λ b. with_point b) (and_false (nat_eq c 46) (first_is is_digit rest) (n refl) ∙ sym (and_false (nat_eq c 46) false (n refl)))
+state_operator c [] rest n = ap (λ b. with_point b) (and_left (nat_eq c 46) (first_is is_digit rest) (n refl) ∙ sym (and_left (nat_eq c 46) false (n refl)))
   where
     with_point : Bool → State
     with_point b =
@@ -270,7 +266,7 @@ state_operator c [] rest n = ap (λ b. with_point b) (and_false (nat_eq c 46) (f
 
 state_operand : (c : ℕ) (t rest : Text) → (t ≡ [] → nat_eq c 46 ≡ false) → state Operand c (t ++ rest) ≡ state Operand c t
 state_operand c (d ∷ t) rest n = refl
-state_operand c [] rest n = ap (λ b. with_point b) (and_false (nat_eq c 46) (first_is is_digit rest) (n refl) ∙ sym (and_false (nat_eq c 46) false (n refl)))
+state_operand c [] rest n = ap (λ b. with_point b) (and_left (nat_eq c 46) (first_is is_digit rest) (n refl) ∙ sym (and_left (nat_eq c 46) false (n refl)))
   where
     with_point : Bool → State
     with_point b =
@@ -282,7 +278,7 @@ reads_by m s c t rest n w far e h = record {
   skipped = stays c (t ++ rest) (over_before c t rest far.slash w.over);
   unbroken = ap (λ x. not x && (is_line_end c || breaks_in (gap_after_blank c (t ++ rest)) (t ++ rest))) (over_before c t rest far.slash w.over);
   read = λ f. if_false (is_code m && (begins (codes "<!--") (c ∷ (t ++ rest)) || (f && begins (codes "-->") (c ∷ (t ++ rest))))) (no_token (c ∷ (t ++ rest))) (lexed m (state m c (t ++ rest)) c (t ++ rest))
-      (and_false_2 (is_code m) _ (or_false _ _ (and_false (nat_eq 60 c) _ far.less) (and_false_2 f _ (and_false (nat_eq 45 c) _ far.minus))))
+      (and_right (is_code m) _ (or_from _ _ (and_left (nat_eq 60 c) _ far.less) (and_right f _ (and_left (nat_eq 45 c) _ far.minus))))
       ∙ lexed_before m s c t rest n w.core e h;
 }
 
@@ -356,8 +352,8 @@ pub no_sign : (s : TokenKind) (t : Text) → (NoToken ≡ s → ⊥) → (Punctu
 no_sign s [] n p w = refl
 no_sign s (c ∷ t) n p w =
     let k : Core Operator s c t = operator_core s c t n p w in
-    or_false (nat_eq c 61) (nat_eq c 62 || false) (by_not (nat_eq c 61) (λ e. clash _ (subst (λ x. is_dead (state Operator x t) ≡ true) (sym (eqb-true c 61 e)) refl) k.alive))
-    (or_false (nat_eq c 62) false (by_not (nat_eq c 62) (λ e. clash _ (subst (λ x. is_dead (state Operator x t) ≡ true) (sym (eqb-true c 62 e)) refl) k.alive)) refl)
+    or_from (nat_eq c 61) (nat_eq c 62 || false) (false_from_ne_true (nat_eq c 61) (λ e. clash _ (subst (λ x. is_dead (state Operator x t) ≡ true) (sym (eqb-true c 61 e)) refl) k.alive))
+    (or_from (nat_eq c 62) false (false_from_ne_true (nat_eq c 62) (λ e. clash _ (subst (λ x. is_dead (state Operator x t) ≡ true) (sym (eqb-true c 62 e)) refl) k.alive)) refl)
 
 pub name_starts : (t : Text) → (is_token (token Operator false t) IdentifierName t && same (token Operator false t).rest []) ≡ true → first_is is_start t ≡ true
 name_starts [] w = absurd (false≢true w)
@@ -384,7 +380,7 @@ piece_starts s (c ∷ t) n p i y a b d e w = go (nat_eq c 96) refl
 
 -- a digit begins no name
 pub start_no_digit : (c : ℕ) → is_start c ≡ true → is_digit c ≡ false
-start_no_digit c h = by_not (is_digit c) (λ d. clash _ h (off d))
+start_no_digit c h = false_from_ne_true (is_digit c) (λ d. clash _ h (off d))
   where
     off : is_digit c ≡ true → is_start c ≡ false
     off d =
@@ -394,8 +390,8 @@ start_no_digit c h = by_not (is_digit c) (λ d. clash _ h (off d))
         let l65 : nat_le 65 c ≡ false = lt-leb 65 c (omega arith) in
         let l97 : nat_le 97 c ≡ false = lt-leb 97 c (omega arith) in
         let l128 : nat_le 128 c ≡ false = lt-leb 128 c (omega arith) in
-        let n36 : nat_eq c 36 ≡ false = by_not (nat_eq c 36) (λ e. let f : c ≡ 36 = eqb-true c 36 e in omega arith) in
-        let n95 : nat_eq c 95 ≡ false = by_not (nat_eq c 95) (λ e. let f : c ≡ 95 = eqb-true c 95 e in omega arith) in
-        or_false (is_ascii_alphabetic c || is_one_of c (36 ∷ 95 ∷ [])) (nat_le 128 c && is_xid_start c)
-        (or_false (is_ascii_alphabetic c) (is_one_of c (36 ∷ 95 ∷ [])) (or_false (nat_le 65 c && nat_le c 90) (nat_le 97 c && nat_le c 122) (and_false (nat_le 65 c) (nat_le c 90) l65) (and_false (nat_le 97 c) (nat_le c 122) l97))
-        (or_false (nat_eq c 36) (nat_eq c 95 || false) n36 (or_false (nat_eq c 95) false n95 refl))) (and_false (nat_le 128 c) (is_xid_start c) l128)
+        let n36 : nat_eq c 36 ≡ false = false_from_ne_true (nat_eq c 36) (λ e. let f : c ≡ 36 = eqb-true c 36 e in omega arith) in
+        let n95 : nat_eq c 95 ≡ false = false_from_ne_true (nat_eq c 95) (λ e. let f : c ≡ 95 = eqb-true c 95 e in omega arith) in
+        or_from (is_ascii_alphabetic c || is_one_of c (36 ∷ 95 ∷ [])) (nat_le 128 c && is_xid_start c)
+        (or_from (is_ascii_alphabetic c) (is_one_of c (36 ∷ 95 ∷ [])) (or_from (nat_le 65 c && nat_le c 90) (nat_le 97 c && nat_le c 122) (and_left (nat_le 65 c) (nat_le c 90) l65) (and_left (nat_le 97 c) (nat_le c 122) l97))
+        (or_from (nat_eq c 36) (nat_eq c 95 || false) n36 (or_from (nat_eq c 95) false n95 refl))) (and_left (nat_le 128 c) (is_xid_start c) l128)

@@ -1,9 +1,8 @@
 -- What a row lets come next does come next: the walk over the row.
 use Rattle.std.proofs.Common.{◌≡◌, ℕ, List, [], ◌∷◌, ◌++◌, Bool, true, false, cond, not, ◌||◌, ◌&&◌, codes, refl, sym, ap, ◌∙◌, subst, ⊎_elim, ◌⊎◌}
 use Rattle.std.specs.Prelude.{nat_eq}
-use Rattle.std.proofs.lemmas.Bool.{false≢true, and_parts, and_from, or_cases, eqb-true}
+use Rattle.std.proofs.lemmas.Bool.{false≢true, and_parts, and_from, or_cases, eqb-true, not-true, not_from_false, or_left, or_right, or_from, and_left}
 use Rattle.jsx_base.specs.Token.{Text, Mode, Piece, TokenKind, Punctuator, same, is_one_of, is_digit}
-use Rattle.jsx_tree.proofs.ReadBack.Longest.{same_is}
 use Rattle.jsx_tree.specs.Signs.{Sign, Tok, Semicolon, TrailingComma, Unless, SameLine, Ends, Space, Pad, Line, Indent, Outdent, Unindent, Apart, Begin, Count, One, End}
 use Rattle.jsx_tree.specs.Kinds.{Tree, leaf, node, list, Forest, none, part}
 use Rattle.jsx_tree.specs.Nonterminals.{Nonterminal, Stmt, Item, DirectiveOnly, CaseClause}
@@ -11,16 +10,16 @@ use Rattle.jsx_tree.specs.Grammar.{ListShape, Commas, Elisions, NoTrailing, TwoO
 use Rattle.jsx_tree.specs.Layout.{last, first_char}
 use Rattle.jsx_tree.specs.Spelling.{said, saids, each_said, joined, walk, gathered, before, between, behind}
 use Rattle.jsx_tree.specs.Form.{Single, enough, last_only}
+use Rattle.jsx_base.proofs.Longest.{same_is}
 use Rattle.jsx_tree.proofs.ReadBack.Joins.{Nothing, Token, Ahead, at_once, sign_ahead, ahead, goes_on, is_pointed, follows, skips_next, open_gap, joint, is_none_of, at_end}
 use Rattle.jsx_tree.proofs.ReadBack.RowChecks.{calm_chars, calm, is_tagged, is_linked, Need, Even, Calm, After, NoneOf, Sure, holds, Outs, idle, outside_ok, no_starter, is_punct, flat, seen, seen_piece, seen_part, seen_many, sees, is_name_place, is_line, elseless, with_token, before_signs, comma, is_some_shape, is_code_shape, is_holey, frontal, is_body, is_later, holes, is_formed, sound, sound_each, rowed}
-use Rattle.jsx_tree.proofs.ReadBack.Basics.{not_true, not_false, or_left, or_right, or_false, and_false}
 use Rattle.jsx_tree.proofs.ReadBack.NextTokens.{ahead_append, char_of, even_gap, Outside, outside_holds, idle_ahead, with_next, next_apart, with_token_ahead, Opens, code_skips, none_code, no_arrow, punct_joint, is_kind_punct, pointed_joint}
 
 -- ---- one token at the front
 
 no_else_by : (x : Text) → nat_eq (first_char x) 101 ≡ false → same x (codes "else") ≡ false
 no_else_by [] h = refl
-no_else_by (c ∷ x) h = and_false (nat_eq c 101) (same x (codes "lse")) h
+no_else_by (c ∷ x) h = and_left (nat_eq c 101) (same x (codes "lse")) h
 
 calm_by : (b e : Bool) (d : Ahead) (c : Nonterminal) (m : Mode) (s : TokenKind) (x : Text) → flat d ≡ true → Opens c m x → (d.sure || is_one_of (first_char x) (calm_chars b)) ≡ true → (e ≡ false → same x (codes "else") ≡ false) → calm b e (with_next (Token m s x) d) ≡ true
 calm_by b e d c m s x f o h n =
@@ -30,7 +29,7 @@ calm_by b e d c m s x f o h n =
   where
     els : (e : Bool) → (e ≡ false → same x (codes "else") ≡ false) → (e || is_none_of (Token m s x) (codes "else" ∷ [])) ≡ true
     els true n = refl
-    els false n = none_code m s x (codes "else" ∷ []) o.code (or_false (same x (codes "else")) false (n refl) refl) refl
+    els false n = none_code m s x (codes "else" ∷ []) o.code (or_from (same x (codes "else")) false (n refl) refl) refl
 
 back_calm : (b : Bool) (d : ℕ) → nat_eq d 96 ≡ true → is_one_of d (calm_chars b) ≡ true
 back_calm true d h = subst (λ x. is_one_of x (calm_chars true) ≡ true) (sym (eqb-true d 96 h)) refl
@@ -44,7 +43,7 @@ link_calm true d e h = char_of (λ c. is_one_of c (calm_chars true)) (codes "?.[
 link_calm false d e h = absurd (false≢true e)
 
 link_no_else : (d : ℕ) → is_one_of d (codes "?.[(") ≡ true → nat_eq d 101 ≡ false
-link_no_else d h = not_true _ (char_of (λ c. not (nat_eq c 101)) (codes "?.[(") d refl h)
+link_no_else d h = not-true _ (char_of (λ c. not (nat_eq c 101)) (codes "?.[(") d refl h)
 
 line_elseless : (c : Nonterminal) → is_line c ≡ true → elseless c ≡ true
 line_elseless Stmt h = refl
@@ -78,7 +77,7 @@ seen_after s t d c m k x o h =
   where
     pair : (y : Bool) → ((not (is_pointed t) && no_starter y t (goes_on t)) || (is_name_place c && is_pointed t)) ≡ true → ((y && nat_eq (last t) (first_char x)) || follows Punctuator t (first_char x)) ≡ true
     pair y h =
-        ⊎_elim (λ (e : (not (is_pointed t) && no_starter y t (goes_on t)) ≡ true). let r = and_parts (not (is_pointed t)) (no_starter y t (goes_on t)) e in punct_joint y t (first_char x) (not_true _ r.0) r.1 o.starter)
+        ⊎_elim (λ (e : (not (is_pointed t) && no_starter y t (goes_on t)) ≡ true). let r = and_parts (not (is_pointed t)) (no_starter y t (goes_on t)) e in punct_joint y t (first_char x) (not-true _ r.0) r.1 o.starter)
         (λ (e : (is_name_place c && is_pointed t) ≡ true). let r = and_parts (is_name_place c) (is_pointed t) e in let n = o.named r.0 in or_right (y && nat_eq (last t) (first_char x)) (follows Punctuator t (first_char x)) (pointed_joint t (first_char x) r.1 n.1 n.0))
         (or_cases (not (is_pointed t) && no_starter y t (goes_on t)) (is_name_place c && is_pointed t) h)
 
@@ -101,7 +100,7 @@ piece_holds (After k t) d s x h =
     let b = and_parts d.void (is_punct k && (not (is_pointed t) && same (goes_on t) [])) a.1 in
     let c = and_parts (is_punct k) (not (is_pointed t) && same (goes_on t) []) b.1 in
     let e = and_parts (not (is_pointed t)) (same (goes_on t) []) c.1 in
-    let f : follows Punctuator t (first_char x) ≡ true = and_from (not (is_one_of (first_char x) (goes_on t))) (not (is_pointed t && is_digit (first_char x))) (ap (λ y. not (is_one_of (first_char x) y)) (same_is (goes_on t) [] e.1)) (not_false _ (and_false (is_pointed t) (is_digit (first_char x)) (not_true _ e.0))) in
+    let f : follows Punctuator t (first_char x) ≡ true = and_from (not (is_one_of (first_char x) (goes_on t))) (not (is_pointed t && is_digit (first_char x))) (ap (λ y. not (is_one_of (first_char x) y)) (same_is (goes_on t) [] e.1)) (not_from_false _ (and_left (is_pointed t) (is_digit (first_char x)) (not-true _ e.0))) in
     and_from (open_gap [] (with_next (Token Piece s x) d)) (joint k t (with_next (Token Piece s x) d)) (and_from (flat d) d.void a.0 b.0)
     (or_right d.sure _ (or_right (d.apart && nat_eq (last t) (first_char x)) (follows k t (first_char x)) (subst (λ z. follows z t (first_char x) ≡ true) (sym (is_kind_punct k c.0)) f)))
 piece_holds Even d s x h = absurd (false≢true h)

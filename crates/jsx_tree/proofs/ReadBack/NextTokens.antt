@@ -1,15 +1,15 @@
 -- What a row lets come next does come next.
 use Rattle.std.proofs.Common.{◌≡◌, ℕ, List, [], ◌∷◌, ◌++◌, Bool, true, false, not, ◌||◌, ◌&&◌, codes, refl, sym, ap, ◌∙◌, subst}
 use Rattle.std.specs.Prelude.{nat_eq}
-use Rattle.std.proofs.lemmas.Bool.{false≢true, and_parts, and_from, or_parts, eqb-true}
+use Rattle.std.proofs.lemmas.Bool.{false≢true, and_parts, and_from, or_parts, eqb-true, false_from_ne_true, not-true, not_from_false, or_left, or_right, or_from, and_left, and_right}
 use Rattle.jsx_base.specs.Token.{Text, Mode, Operand, Operator, Piece, Tag, Children, TokenKind, Punctuator, among, same, is_one_of, is_digit, is_code}
-use Rattle.jsx_tree.proofs.ReadBack.Longest.{same_is}
 use Rattle.jsx_tree.specs.Signs.{Sign, Tok, Semicolon, TrailingComma, Unless, SameLine, Ends, Space, Pad, Line, Indent, Outdent, Unindent, Apart, Begin, Count, One, End}
 use Rattle.jsx_tree.specs.Nonterminals.{Nonterminal}
 use Rattle.jsx_tree.specs.Layout.{last, first_char}
+use Rattle.jsx_base.proofs.Longest.{same_is}
 use Rattle.jsx_tree.proofs.ReadBack.Joins.{Next, Nothing, Semi, Token, Ahead, at_once, sign_ahead, ahead, goes_on, is_pointed, follows, skips_next, open_gap, next_ok, joint, no_slash, is_none_of, at_end, good, sign_good}
 use Rattle.jsx_tree.proofs.ReadBack.RowChecks.{calm_chars, calm_next, even, calm, is_tagged, is_linked, Need, Even, Calm, After, NoneOf, Sure, holds, Outs, idle, chars_are, is_one_text, outside_ok, is_starter, no_starter, is_punct, is_name_place, elseless, is_quoted, with_token}
-use Rattle.jsx_tree.proofs.ReadBack.Basics.{clash, by_not, not_true, not_false, or_left, or_right, or_false, and_false, and_false_2}
+use Rattle.jsx_tree.proofs.ReadBack.Basics.{clash}
 
 -- ---- lists of signs put together
 
@@ -141,7 +141,7 @@ outside_holds o (NoneOf ts) v w h = go (o.known && is_one_text ts (codes "=>")) 
     go false true e f h =
         let p = and_parts o.known (not o.els && is_one_text ts (codes "else")) f in
         let q = and_parts (not o.els) (is_one_text ts (codes "else")) p.1 in
-        by (codes "else") q.1 (calm_else o.dot o.els v (not_true _ q.0) (w.calm_out p.0))
+        by (codes "else") q.1 (calm_else o.dot o.els v (not-true _ q.0) (w.calm_out p.0))
     go false false e f h = let p = and_parts o.no_comma (is_one_text ts (codes ",")) h in by (codes ",") p.1 (w.comma_out p.0)
 
 -- ---- signs of layout
@@ -231,7 +231,7 @@ code_skips Children s x h = absurd (false≢true h)
 
 pub none_code : (m : Mode) (s : TokenKind) (x : Text) (ts : List Text) → is_code m ≡ true → among x ts ≡ false → no_slash ts ≡ true → is_none_of (Token m s x) ts ≡ true
 none_code Operand s x ts h a n = n
-none_code Operator s x ts h a n = not_false _ a
+none_code Operator s x ts h a n = not_from_false _ a
 none_code Piece s x ts h a n = absurd (false≢true h)
 none_code Tag s x ts h a n = absurd (false≢true h)
 none_code Children s x ts h a n = absurd (false≢true h)
@@ -240,29 +240,26 @@ none_code Children s x ts h a n = absurd (false≢true h)
 pub no_arrow : (x : Text) → is_starter (first_char x) ≡ true → among x (codes "=>" ∷ []) ≡ false
 no_arrow [] h = refl
 no_arrow (c ∷ x) h =
-    let n : is_one_of c (codes "=>") ≡ false = not_true _ h in
-    or_false (nat_eq c 61 && same x (codes ">")) false (and_false (nat_eq c 61) (same x (codes ">")) ((or_parts (nat_eq c 61) (nat_eq c 62 || false) n).0)) refl
-
-starter_not : (d c : ℕ) → is_starter d ≡ true → not (is_starter c) ≡ true → nat_eq d c ≡ false
-starter_not d c h n = by_not (nat_eq d c) (λ e. clash (is_starter c) (subst (λ x. is_starter x ≡ true) (eqb-true d c e) h) (not_true _ n))
+    let n : is_one_of c (codes "=>") ≡ false = not-true _ h in
+    or_from (nat_eq c 61 && same x (codes ">")) false (and_left (nat_eq c 61) (same x (codes ">")) ((or_parts (nat_eq c 61) (nat_eq c 62 || false) n).0)) refl
 
 -- the characters of a list that is no start, but for the token's own last one
 not_starting : (a : Bool) (t ds : Text) (d : ℕ) → no_starter a t ds ≡ true → is_starter d ≡ true → (a && nat_eq (last t) d) ≡ false → is_one_of d ds ≡ false
 not_starting a t [] d h s n = refl
 not_starting a t (c ∷ ds) d h s n =
     let p = and_parts ((a && nat_eq (last t) c) || not (is_starter c)) (no_starter a t ds) h in
-    or_false (nat_eq d c) (is_one_of d ds) (by_not (nat_eq d c) (λ e. go (a && nat_eq (last t) c) refl p.0 (eqb-true d c e))) (not_starting a t ds d p.1 s n)
+    or_from (nat_eq d c) (is_one_of d ds) (false_from_ne_true (nat_eq d c) (λ e. go (a && nat_eq (last t) c) refl p.0 (eqb-true d c e))) (not_starting a t ds d p.1 s n)
   where
     go : (b : Bool) → (a && nat_eq (last t) c) ≡ b → (b || not (is_starter c)) ≡ true → d ≡ c → ⊥
     go true e h f = clash (a && nat_eq (last t) d) (subst (λ x. (a && nat_eq (last t) x) ≡ true) (sym f) e) n
-    go false e h f = clash (is_starter c) (subst (λ x. is_starter x ≡ true) f s) (not_true _ h)
+    go false e h f = clash (is_starter c) (subst (λ x. is_starter x ≡ true) f s) (not-true _ h)
 
 pub punct_joint : (a : Bool) (t : Text) (d : ℕ) → is_pointed t ≡ false → no_starter a t (goes_on t) ≡ true → is_starter d ≡ true → ((a && nat_eq (last t) d) || follows Punctuator t d) ≡ true
 punct_joint a t d p n s = go (a && nat_eq (last t) d) refl
   where
     go : (b : Bool) → (a && nat_eq (last t) d) ≡ b → (b || follows Punctuator t d) ≡ true
     go true e = refl
-    go false e = and_from (not (is_one_of d (goes_on t))) (not (is_pointed t && is_digit d)) (not_false _ (not_starting a t (goes_on t) d n s e)) (not_false _ (and_false (is_pointed t) (is_digit d) p))
+    go false e = and_from (not (is_one_of d (goes_on t))) (not (is_pointed t && is_digit d)) (not_from_false _ (not_starting a t (goes_on t) d n s e)) (not_from_false _ (and_left (is_pointed t) (is_digit d) p))
 
 pub is_kind_punct : (s : TokenKind) → is_punct s ≡ true → s ≡ Punctuator
 is_kind_punct Punctuator h = refl
@@ -273,8 +270,8 @@ pub pointed_joint : (t : Text) (d : ℕ) → is_pointed t ≡ true → nat_eq d 
 pointed_joint t d p n g = go (same t (codes ".")) refl p
   where
     ends : (not (is_pointed t && is_digit d)) ≡ true
-    ends = not_false _ (and_false_2 (is_pointed t) (is_digit d) g)
+    ends = not_from_false _ (and_right (is_pointed t) (is_digit d) g)
 
     go : (b : Bool) → same t (codes ".") ≡ b → (b || same t (codes "?.")) ≡ true → follows Punctuator t d ≡ true
-    go true e h = and_from (not (is_one_of d (goes_on t))) _ (not_false _ (subst (λ x. is_one_of d (goes_on x) ≡ false) (sym (same_is t (codes ".") e)) (or_false (nat_eq d 46) false n refl))) ends
-    go false e h = and_from (not (is_one_of d (goes_on t))) _ (not_false _ (subst (λ x. is_one_of d (goes_on x) ≡ false) (sym (same_is t (codes "?.") h)) refl)) ends
+    go true e h = and_from (not (is_one_of d (goes_on t))) _ (not_from_false _ (subst (λ x. is_one_of d (goes_on x) ≡ false) (sym (same_is t (codes ".") e)) (or_from (nat_eq d 46) false n refl))) ends
+    go false e h = and_from (not (is_one_of d (goes_on t))) _ (not_from_false _ (subst (λ x. is_one_of d (goes_on x) ≡ false) (sym (same_is t (codes "?.") h)) refl)) ends

@@ -1,6 +1,6 @@
 -- Each node whose parts are good is good.
 use Rattle.std.proofs.Common.{◌≡◌, ℕ, suc, arith, List, [], ◌∷◌, ◌++◌, Bool, true, false, cond, not, ◌||◌, ◌&&◌, codes, refl, sym, ap, ◌∙◌, subst, ⊎_elim, inl}
-use Rattle.std.proofs.lemmas.Bool.{false≢true, and_parts, and_from}
+use Rattle.std.proofs.lemmas.Bool.{false≢true, and_parts, and_from, not-true, or_left, or_right, or_from, and_left, and_right}
 use Rattle.jsx_base.specs.Token.{Text, Operator, Punctuator, NoSubstitution, TemplateHead, TemplateMiddle, TemplateTail, among}
 use Rattle.jsx_tree.specs.Signs.{Sign, Tok, Semicolon, TrailingComma, Unless, SameLine, Ends, Space, Pad, Line, Indent, Outdent, Unindent, Apart, Begin, Count, One, End}
 use Rattle.jsx_tree.specs.Kinds.{Binds, NameLink, IndexLink, CallLink, Kind, program, statement, expression, Module, Script, If, While, For, ForIn, ForOf, Label, Catch, Chain, Tree, leaf, node, list, Forest, none, part}
@@ -10,15 +10,15 @@ use Rattle.jsx_tree.specs.Layout.{first_token}
 use Rattle.jsx_tree.specs.Spelling.{said, each_said, joined, gathered, spelled}
 use Rattle.jsx_tree.specs.Form.{Single, Maybe, Several, Position, position, positions, admits}
 use Rattle.jsx_tree.specs.StaticRules.{open_if, trails, is_if, last_open, is_optional}
+use Rattle.jsx_tree.specs.Fits.{is_plain}
 use Rattle.jsx_tree.proofs.ReadBack.Joins.{Token, at_once, Ahead, ahead, at_end, good}
 use Rattle.jsx_tree.proofs.ReadBack.RowChecks.{calm, Even, Calm, holds, Outs, is_inner, is_member, is_opened, elsed, dots, is_formed, sound, sounds, rowed, may_else, row_ok, elses, calm_row, is_none, outs, its_row, link_ok, is_span, is_dotted, is_elsed, is_program, imply, is_if_kind, is_tail, is_catch, is_sub, is_punct, if_row}
-use Rattle.jsx_tree.specs.Fits.{is_plain}
-use Rattle.jsx_tree.proofs.ReadBack.Basics.{clash, not_true, or_left, or_right, or_false, and_false, and_false_2, if_false}
 use Rattle.jsx_tree.proofs.ReadBack.NextTokens.{good_append, calm_weaker, Outside}
 use Rattle.jsx_tree.proofs.ReadBack.NextInRow.{FrontsOf}
 use Rattle.jsx_tree.proofs.ReadBack.Rows.{Before, TreeGood, GoodsOf, home_of, no_rest, good_at, append_signs, row_good}
 use Rattle.jsx_tree.proofs.ReadBack.RowTable.{all_rows, all_facts}
 use Rattle.jsx_tree.proofs.ReadBack.Trees.{rowed_of, need_even}
+use Rattle.jsx_tree.proofs.ReadBack.Basics.{clash, if_false}
 
 -- ---- what a sound node is
 
@@ -85,14 +85,14 @@ facts k p =
       els_row = imp (is_elsed k) _ r.1;
       calm_one = b.0;
       calm_two = imp (is_elsed k) _ b.1;
-      no_head = not_true _ f.0;
-      no_middle = not_true _ f.1;
+      no_head = not-true _ f.0;
+      no_middle = not-true _ f.1;
       span_true = imp _ _ g.0;
       span_false = imp _ _ g.1;
-      no_name = not_true _ i.0;
-      no_whole = not_true _ j.0;
-      no_tail = not_true _ j.1;
-      block = λ z. not_true _ (imp _ _ l.0 z);
+      no_name = not-true _ i.0;
+      no_whole = not-true _ j.0;
+      no_tail = not-true _ j.1;
+      block = λ z. not-true _ (imp _ _ l.0 z);
       catch' = imp _ _ l.1;
     }
 
@@ -123,8 +123,8 @@ elsed_kind CatchClause k h o = or_right (in_homes SubStmt (homes k)) _ (or_right
 elsed_kind _ k h o = absurd (false≢true o)
 
 not_program : (c : Nonterminal) (k : Kind) → in_homes c (homes k) ≡ true → is_inner c ≡ true → is_program k ≡ true → ⊥
-not_program c (program Module) h i p = clash _ h (not_true _ ((and_parts (not (in_homes c (homes (program Module)))) (not (in_homes c (homes (program Script)))) i).0))
-not_program c (program Script) h i p = clash _ h (not_true _ ((and_parts (not (in_homes c (homes (program Module)))) (not (in_homes c (homes (program Script)))) i).1))
+not_program c (program Module) h i p = clash _ h (not-true _ ((and_parts (not (in_homes c (homes (program Module)))) (not (in_homes c (homes (program Script)))) i).0))
+not_program c (program Script) h i p = clash _ h (not-true _ ((and_parts (not (in_homes c (homes (program Module)))) (not (in_homes c (homes (program Script)))) i).1))
 not_program c _ h i p = false≢true p
 
 -- ---- no `else` behind an open `if`
@@ -134,7 +134,7 @@ block_closed g (leaf s x) h i = refl
 block_closed g (node k cs) h i =
     let n : SoundNode BlockOnly k cs = sound_node BlockOnly g k cs h in
     let f : Facts k = facts k n.plain in
-    and_false (trails (production k)) (last_open (is_if k) cs) (f.block n.home)
+    and_left (trails (production k)) (last_open (is_if k) cs) (f.block n.home)
 block_closed g (list us) h i = absurd (false≢true i)
 
 -- how many parts there are
@@ -185,7 +185,7 @@ place_closed SubStmt g t true i h n = absurd (false≢true n)
 place_closed SubStmt g t false i h n = refl
 place_closed BlockOnly g t x i h n = or_right (not (x && true)) (not (open_if t)) (ap not (block_closed g t h i))
 place_closed CatchClause g t x i h n = or_right (not (x && true)) (not (open_if t)) (ap not (catch_closed g t h i))
-place_closed _ g t x i h n = or_left (not (x && false)) (not (open_if t)) (ap not (and_false_2 x false refl))
+place_closed _ g t x i h n = or_left (not (x && false)) (not (open_if t)) (ap not (and_right x false refl))
 
 elses_calm : (o : Outs) (ps : Production) (cs : Forest) (g : List Text) → rowed g ps cs ≡ true → calm_row o ps ≡ true → elses o ps cs ≡ true
 elses_calm o [] cs g r h = refl
@@ -239,7 +239,7 @@ opt_elses o x c y ps (leaf s u) ts n h = refl
 opt_elses o x c y ps (node k cs) ts n h = refl
 opt_elses o x c y ps (list none) ts n h = h
 opt_elses o x c y ps (list (part t us)) ts n h =
-    and_from (not (may_else o (fixed y ++ ps) && elsed c) || not (open_if t)) (elses o ps ts) (or_left (not (may_else o (fixed y ++ ps) && elsed c)) (not (open_if t)) (ap not (and_false_2 (may_else o (fixed y ++ ps)) (elsed c) n))) h
+    and_from (not (may_else o (fixed y ++ ps) && elsed c) || not (open_if t)) (elses o ps ts) (or_left (not (may_else o (fixed y ++ ps) && elsed c)) (not (open_if t)) (ap not (and_right (may_else o (fixed y ++ ps)) (elsed c) n))) h
 
 tail_elses : (k : Kind) (cs : Forest) → is_tail k ≡ true → is_if_kind k ≡ false → sounds (positions k) cs ≡ true → open_if (node k cs) ≡ false → elses (outs k true) (its_row k) cs ≡ true
 unfolding count size
@@ -290,7 +290,7 @@ outside_of c k cs e v f h b = record {
 }
   where
     go : (x : Bool) → is_opened c ≡ x → not (is_span k) ≡ true → calm (is_dotted k) (cond (is_opened c) false (is_member c || e)) v ≡ true
-    go true q n = clash _ (opened_span c k f h q) (not_true _ n)
+    go true q n = clash _ (opened_span c k f h q) (not-true _ n)
     go false q n =
         let m : calm (dots c) (is_member c || e) v ≡ true = subst (λ z. holds (cond z Even (Calm (dots c) (is_member c || e))) v ≡ true) q b.needs in
         subst (λ z. calm (is_dotted k) z v ≡ true) (sym (if_false (is_opened c) false (is_member c || e) q)) (calm_weaker (dots c) (is_member c || e) (is_dotted k) (is_member c || e) v (dot (dots c) refl) (same (is_member c || e)) m)
@@ -323,7 +323,7 @@ may_else_of c k cs e v h b q = opened (is_opened c) refl q
   where
     by_else : (x : Bool) → elsed c ≡ x → e ≡ true → is_member c ≡ false → is_opened c ≡ false → MayElse c k cs
     by_else true w z m o = record { kind = elsed_kind c k h w; closed = λ _. b.no_open z w }
-    by_else false w z m o = clash _ (b.els z) (or_false (elsed c) (is_member c || is_opened c) w (or_false (is_member c) (is_opened c) m o))
+    by_else false w z m o = clash _ (b.els z) (or_from (elsed c) (is_member c || is_opened c) w (or_from (is_member c) (is_opened c) m o))
 
     member : (x : Bool) → is_member c ≡ x → is_opened c ≡ false → (x || e) ≡ true → MayElse c k cs
     member true w o z = record { kind = member_kind c k h w; closed = λ t. absurd (member_tail c k t w h) }

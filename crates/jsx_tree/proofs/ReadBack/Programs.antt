@@ -1,6 +1,7 @@
 -- The layout of a tree that fits reads as its laid tree.
 use Rattle.std.proofs.Common.{◌≡◌, ℕ, List, [], ◌∷◌, Bool, true, false, not, ◌&&◌, refl, inr}
 use Rattle.std.proofs.lemmas.Bool.{false≢true, and_parts, and_from}
+use Rattle.std.specs.Prelude.{IsTrue}
 use Rattle.jsx_base.specs.Token.{Text, among}
 use Rattle.jsx_tree.specs.Signs.{AfterExpr}
 use Rattle.jsx_tree.specs.Kinds.{Kind, program, statement, expression, Module, Script, If, Chain, Tree, leaf, node, list, Forest, none, part}
@@ -13,20 +14,14 @@ use Rattle.jsx_tree.specs.Form.{Form, Single, Maybe, Several, Position, position
 use Rattle.jsx_tree.specs.Parentheses.{is_dotted_number}
 use Rattle.jsx_tree.specs.Reading.{At, scan, ended_at, reads}
 use Rattle.jsx_tree.specs.StaticRules.{Surroundings, outside, rule, stands, legal, legals, each_legal, enters}
+use Rattle.jsx_tree.specs.Fits.{is_plain, is_solid, may_begin, held, helds, held_each, fits_laid, fits}
+use Rattle.jsx_tree.specs.declared.text.Goal.{Goal}
+use Rattle.jsx_tree.specs.Notes.{all_notes, noted_layout, noted, at_code, marks}
+use Rattle.jsx_tree.specs.Program.{is_goal, Reads}
 use Rattle.jsx_tree.proofs.ReadBack.Joins.{ahead, open_gap, at_end, good, joins}
 use Rattle.jsx_tree.proofs.ReadBack.RowChecks.{Even, outs, is_program, link_ok, sound, sounds, sound_each, is_formed}
-use Rattle.jsx_tree.specs.Fits.{is_plain, is_solid}
-use Rattle.std.specs.Prelude.{IsTrue}
-use Rattle.jsx_tree.specs.declared.text.Goal.{Goal}
-use Rattle.jsx_tree.specs.declared.text.Goal.TheVariants as goals
 use Rattle.jsx_tree.proofs.ReadBack.KeptComments.{comments_are}
-use Rattle.jsx_tree.specs.Notes.{all_notes, noted_layout}
-use Rattle.jsx_tree.specs.Program.{is_goal, Reads}
-use Rattle.jsx_tree.specs.Fits.{may_begin, held, helds, held_each, fits_laid, fits}
-use Rattle.jsx_tree.specs.Notes.{noted}
-use Rattle.jsx_tree.proofs.ReadBack.CommentGaps.{Comments}
-use Rattle.jsx_tree.specs.Notes.{at_code, marks}
-use Rattle.jsx_tree.proofs.ReadBack.CommentGaps.{marks_are, marks_noted}
+use Rattle.jsx_tree.proofs.ReadBack.CommentGaps.{Comments, marks_are, marks_noted}
 use Rattle.jsx_tree.proofs.ReadBack.WithComments.{scans_noted}
 use Rattle.jsx_tree.proofs.ReadBack.Signs.{scans_layout}
 use Rattle.jsx_tree.proofs.ReadBack.NextTokens.{even_gap, Outside}
@@ -35,6 +30,7 @@ use Rattle.jsx_tree.proofs.ReadBack.Rows.{GoodOf, GoodsOf}
 use Rattle.jsx_tree.proofs.ReadBack.Trees.{tree_good_leaf, rowed_of}
 use Rattle.jsx_tree.proofs.ReadBack.Nodes.{SoundNode, sound_node, node_good}
 use Rattle.jsx_tree.proofs.ReadBack.Fronts.{all_fronts}
+use Rattle.jsx_tree.specs.declared.text.Goal.TheVariants as goals
 
 mutual
   all_good : (t : Tree) → GoodOf t

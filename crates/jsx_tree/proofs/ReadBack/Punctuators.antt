@@ -1,17 +1,17 @@
 -- A punctuator before what doesn't go on with it.
 use Rattle.std.proofs.Common.{◌≡◌, ℕ, [], ◌∷◌, ◌++◌, Bool, true, false, cond, not, ◌||◌, ◌&&◌, codes, refl, sym, ap, ◌∙◌, subst, ⊎_elim}
 use Rattle.std.specs.Prelude.{nat_eq}
-use Rattle.std.proofs.lemmas.Bool.{false≢true, and_parts, and_from, or_parts, or_cases, eqb-true, eq-eqb}
+use Rattle.std.proofs.lemmas.Bool.{false≢true, and_parts, and_from, or_parts, or_cases, eqb-true, eq-eqb, false_from_ne_true, not-true, and_left, and_right}
 use Rattle.jsx_base.specs.Token.{Text, Operator, Punctuator, NoSubstitution, TemplateHead, same, among, is_one_of, begins, drop_as, longest, first_is, is_digit, is_start, is_blank, is_line_end, punctuators, punctuator, punct, Blank, InLineComment, Opening, BehindGap, gap_after_blank, behind_gap, is_over, skip, breaks, breaks_in, State, Dead, Done, InName, BehindZero, InDigits, InFraction, InString, InPiece, AtRegExp, code_state, state, lexed, no_token, at_front, Lexeme}
-use Rattle.jsx_tree.proofs.ReadBack.Longest.{extends, all_begin}
-use Rattle.jsx_tree.proofs.ReadBack.Longest.{Bars, longest_by, same_is}
+use Rattle.jsx_base.specs.Longer.{extends, all_begin}
+use Rattle.jsx_base.proofs.Longest.{Bars, longest_by, same_is}
 use Rattle.jsx_tree.proofs.ReadBack.Joins.{goes_on, is_pointed, safe, mark_chars, is_mark, in_table, no_html, no_comment, no_question, no_number, no_gap, follows}
-use Rattle.jsx_tree.proofs.ReadBack.Basics.{all_first, clash, by_not, not_true, if_false, and_false, and_false_2, all_chars, char_is, differ, dropped}
+use Rattle.jsx_tree.proofs.ReadBack.Basics.{all_first, clash, if_false, all_chars, char_is, differ, dropped}
 
 safe_begins : (q t rest ds : Text) → safe q t ds ≡ true → all_first (λ d. not (is_one_of d ds)) rest ≡ true → begins q (t ++ rest) ≡ false
 safe_begins [] t rest ds h n = absurd (false≢true h)
 safe_begins (b ∷ q) [] [] ds h n = refl
-safe_begins (b ∷ q) [] (d ∷ rest) ds h n = and_false (nat_eq b d) (begins q rest) (differ b d ds h (not_true _ n))
+safe_begins (b ∷ q) [] (d ∷ rest) ds h n = and_left (nat_eq b d) (begins q rest) (differ b d ds h (not-true _ n))
 safe_begins (b ∷ q) (c ∷ t) rest ds h n = go (nat_eq b c) h (λ g. safe_begins q t rest ds g n)
   where
     go : (e : Bool) → (not e || safe q t ds) ≡ true → (safe q t ds ≡ true → begins q (t ++ rest) ≡ false) → (e && begins q (t ++ rest)) ≡ false
@@ -22,8 +22,8 @@ bars_of : (ds rest : Text) → all_first (λ d. not (is_one_of d ds)) rest ≡ t
 bars_of [] rest h = tt
 bars_of (d ∷ ds) [] h = (refl, bars_of ds [] refl)
 bars_of (d ∷ ds) (c ∷ rest) h =
-    let p = or_parts (nat_eq c d) (is_one_of c ds) (not_true _ h) in
-    (by_not (nat_eq d c) (λ e. clash _ (subst (λ x. nat_eq x d ≡ true) (eqb-true d c e) (self d)) p.0), bars_of ds (c ∷ rest) (go (is_one_of c ds) p.1))
+    let p = or_parts (nat_eq c d) (is_one_of c ds) (not-true _ h) in
+    (false_from_ne_true (nat_eq d c) (λ e. clash _ (subst (λ x. nat_eq x d ≡ true) (eqb-true d c e) (self d)) p.0), bars_of ds (c ∷ rest) (go (is_one_of c ds) p.1))
   where
     self : (x : ℕ) → nat_eq x x ≡ true
     self x = eq-eqb x x refl
@@ -54,7 +54,7 @@ plain_of c h =
     let d = and_parts _ _ b.1 in
     let e = and_parts _ _ d.1 in
     let f = and_parts _ _ e.1 in
-    record { gap = not_true _ a.0; start = not_true _ b.0; zero_ = not_true _ d.0; digit = not_true _ e.0; quote = not_true _ f.0; back = not_true _ f.1 }
+    record { gap = not-true _ a.0; start = not-true _ b.0; zero_ = not-true _ d.0; digit = not-true _ e.0; quote = not-true _ f.0; back = not-true _ f.1 }
 
 dead_by : (c : ℕ) (a b d e q w : Bool) → a ≡ false → b ≡ false → d ≡ false → e ≡ false → q ≡ false → w ≡ false
     → cond a InName (cond b BehindZero (cond d (InDigits true) (cond e (InFraction false) (cond q (InString c) (cond w (InPiece NoSubstitution TemplateHead) Dead))))) ≡ Dead
@@ -99,8 +99,8 @@ point_state c p rest h n = go (nat_eq c 46) refl (subst (λ b. (not b || (is_poi
 
 question_safe : (t rest : Text) → (safe (codes "?.") t (goes_on t) || same t (codes "?.")) ≡ true → all_first (λ d. not (is_one_of d (goes_on t))) rest ≡ true → (same t (codes "?.") ≡ true → first_is is_digit rest ≡ false) → (begins (codes "?.") (t ++ rest) && first_is is_digit (drop_as (codes "?.") (t ++ rest))) ≡ false
 question_safe t rest h n d =
-    ⊎_elim (λ (x : safe (codes "?.") t (goes_on t) ≡ true). and_false _ _ (safe_begins (codes "?.") t rest (goes_on t) x n))
-    (λ (x : same t (codes "?.") ≡ true). and_false_2 (begins (codes "?.") (t ++ rest)) (first_is is_digit (drop_as (codes "?.") (t ++ rest))) (subst (λ y. first_is is_digit (drop_as (codes "?.") (y ++ rest)) ≡ false) (sym (same_is t (codes "?.") x)) (d x)))
+    ⊎_elim (λ (x : safe (codes "?.") t (goes_on t) ≡ true). and_left _ _ (safe_begins (codes "?.") t rest (goes_on t) x n))
+    (λ (x : same t (codes "?.") ≡ true). and_right (begins (codes "?.") (t ++ rest)) (first_is is_digit (drop_as (codes "?.") (t ++ rest))) (subst (λ y. first_is is_digit (drop_as (codes "?.") (y ++ rest)) ≡ false) (sym (same_is t (codes "?.") x)) (d x)))
     (or_cases (safe (codes "?.") t (goes_on t)) (same t (codes "?.")) h)
 
 first_off : (p q : ℕ → Bool) (rest : Text) → ((d : ℕ) → p d ≡ true → q d ≡ false) → all_first p rest ≡ true → first_is q rest ≡ false
@@ -142,14 +142,14 @@ mark_reads (c ∷ p) rest h n =
       unbroken = ap (λ x. not x && (is_line_end c || breaks_in (gap_after_blank c (p ++ rest)) (p ++ rest))) over;
       read = λ f. ap (λ x. cond (x || (f && begins (codes "-->") (t ++ rest))) (no_token (t ++ rest)) (lexed Operator (code_state false c (p ++ rest)) c (p ++ rest))) less
           ∙ ap (λ x. cond (f && x) (no_token (t ++ rest)) (lexed Operator (code_state false c (p ++ rest)) c (p ++ rest))) arrow
-          ∙ ap (λ x. cond x (no_token (t ++ rest)) (lexed Operator (code_state false c (p ++ rest)) c (p ++ rest))) (and_false_2 f false refl)
+          ∙ ap (λ x. cond x (no_token (t ++ rest)) (lexed Operator (code_state false c (p ++ rest)) c (p ++ rest))) (and_right f false refl)
           ∙ ap (λ x. lexed Operator x c (p ++ rest)) dead
           ∙ ap (λ x. punct x (t ++ rest)) it
           ∙ ap (λ x. record { kind = Punctuator; raw = t; rest = x }) (dropped t rest);
     }
   where
     go_digit : (a b : Bool) → a ≡ true → not (a && b) ≡ true → b ≡ false
-    go_digit true b e g = not_true b g
+    go_digit true b e g = not-true b g
     go_digit false b e g = absurd (false≢true e)
 
     or_right_of : (a : Bool) {b : Bool} → b ≡ true → (a || b) ≡ true
@@ -165,7 +165,7 @@ mark_gap t h =
     let h5 = and_parts (no_number t) (no_gap t) h4.1 in
     let h6 = and_parts (not (is_one_of 32 (goes_on t))) (not (is_one_of 10 (goes_on t)) && (same t (codes "/") || not (is_one_of 47 (goes_on t)))) h5.1 in
     let h7 = and_parts (not (is_one_of 10 (goes_on t))) (same t (codes "/") || not (is_one_of 47 (goes_on t))) h6.1 in
-    (and_from _ (not (is_pointed t && is_digit 32)) h6.0 (ap not (and_false_2 (is_pointed t) false refl)), and_from _ (not (is_pointed t && is_digit 10)) h7.0 (ap not (and_false_2 (is_pointed t) false refl)))
+    (and_from _ (not (is_pointed t && is_digit 32)) h6.0 (ap not (and_right (is_pointed t) false refl)), and_from _ (not (is_pointed t && is_digit 10)) h7.0 (ap not (and_right (is_pointed t) false refl)))
 
 -- a slash may follow each but `/`
 pub mark_slash : (t : Text) → is_mark t ≡ true → same t (codes "/") ≡ false → follows Punctuator t 47 ≡ true
@@ -177,7 +177,7 @@ mark_slash t h n =
     let h5 = and_parts (no_number t) (no_gap t) h4.1 in
     let h6 = and_parts (not (is_one_of 32 (goes_on t))) (not (is_one_of 10 (goes_on t)) && (same t (codes "/") || not (is_one_of 47 (goes_on t)))) h5.1 in
     let h7 = and_parts (not (is_one_of 10 (goes_on t))) (same t (codes "/") || not (is_one_of 47 (goes_on t))) h6.1 in
-    and_from (not (is_one_of 47 (goes_on t))) (not (is_pointed t && is_digit 47)) (or_with (same t (codes "/")) n h7.1) (ap not (and_false_2 (is_pointed t) false refl))
+    and_from (not (is_one_of 47 (goes_on t))) (not (is_pointed t && is_digit 47)) (or_with (same t (codes "/")) n h7.1) (ap not (and_right (is_pointed t) false refl))
   where
     or_with : (a : Bool) {b : Bool} → a ≡ false → (a || b) ≡ true → b ≡ true
     or_with true e h = absurd (false≢true (sym e))

@@ -1,8 +1,7 @@
 -- Which rows of the grammar make lists of signs that join: a check of each row by itself.
 use Rattle.std.specs.Prelude.{ℕ, List, [], ◌∷◌, ◌++◌, codes, Bool, true, false, cond, not, ◌&&◌, ◌||◌, nat_eq}
-use Rattle.jsx_base.specs.Token.{Text, Mode, Operator, TokenKind, Punctuator, NoSubstitution, TemplateHead, among, same, is_one_of, is_code}
+use Rattle.jsx_base.specs.Token.{Text, Mode, Operator, TokenKind, Punctuator, NoSubstitution, TemplateHead, among, same, is_one_of, is_code, Elision, TemplateMiddle, TemplateTail}
 use Rattle.jsx_tree.specs.Signs.{Sign, Tok, Semicolon, TrailingComma, Unless, SameLine, Ends, Space, Line, Indent, Unindent, Begin, Count, One, End}
-use Rattle.jsx_base.specs.Token.{Elision, TemplateMiddle, TemplateTail}
 use Rattle.jsx_tree.specs.Kinds.{Specifier, SpecifierAs, Method, PropertyPat, Property, NameLink, While, For, ForIn, ForOf, Label, Catch, Module, Script, FunctionBody, Field, RestPat, RestProperty, Binds, Assigns, Kind, program, statement, function, expression, If, Chain, TemplateSpan, Tree, leaf, node, list, Forest, none, part}
 use Rattle.jsx_tree.specs.Nonterminals.{Nonterminal, MemberObject, SimpleTarget, Ident, BindingIdent, StringOnly, Pat, NullishLeft, NewCallee, in_homes, leaf_in, homes, literal_homes, Expr, DotObject, ChainLink, TemplateOf, TemplatePart, TemplateSpans, Name, ArrayItem, Slot, Body, ClassMember, SubStmt, BlockOnly, CatchClause, Stmt, Item, DirectiveOnly, CaseClause}
 use Rattle.jsx_tree.specs.Grammar.{ListShape, Commas, Elisions, NoTrailing, TwoOrMore, Lines, TopLines, OneOrMore, Spaced, JsxChildren, Fixed, Part, Optional, Many, Within, Production, production, fixed, pun, key}
@@ -11,8 +10,8 @@ use Rattle.jsx_tree.specs.Layout.{first_char, first_token, last}
 use Rattle.jsx_tree.specs.Form.{last_kind, Form, Single, Maybe, Several, Position, position, positions, at_most_one, enough, last_only, admits, is_leaf}
 use Rattle.jsx_tree.specs.Parentheses.{is_dotted_number}
 use Rattle.jsx_tree.specs.StaticRules.{rule, open_if, trails}
-use Rattle.jsx_tree.proofs.ReadBack.Joins.{Next, Nothing, Semi, Token, Ahead, at_once, ahead, goes_on, is_pointed, follows, stands, skips_next, open_gap, joint, no_slash, at_end, is_none_of}
 use Rattle.jsx_tree.specs.Fits.{is_plain, is_solid}
+use Rattle.jsx_tree.proofs.ReadBack.Joins.{Next, Nothing, Semi, Token, Ahead, at_once, ahead, goes_on, is_pointed, follows, stands, skips_next, open_gap, joint, no_slash, at_end, is_none_of}
 
 -- ---- what is asked of what comes next
 

@@ -1,7 +1,6 @@
 -- A row whose parts are good is good.
-use Rattle.jsx_tree.proofs.ReadBack.Joins.{open_gap, joint}
 use Rattle.std.proofs.Common.{◌≡◌, List, [], ◌∷◌, ◌++◌, Bool, true, false, cond, not, ◌||◌, ◌&&◌, codes, refl, sym, ap, ◌∙◌, ⊎_elim, ◌⊎◌, inl}
-use Rattle.std.proofs.lemmas.Bool.{false≢true, and_parts, and_from, or_parts, or_cases}
+use Rattle.std.proofs.lemmas.Bool.{false≢true, and_parts, and_from, or_parts, or_cases, not-true}
 use Rattle.jsx_base.specs.Token.{Text, among, same}
 use Rattle.jsx_tree.specs.Signs.{Sign, Tok, Semicolon, TrailingComma, Unless, SameLine, Ends, Space, Pad, Line, Indent, Outdent, Unindent, Apart, Begin, Count, One, End}
 use Rattle.jsx_tree.specs.Kinds.{RestPat, RestProperty, Binds, Assigns, function, Kind, Tree, leaf, node, list, Forest, none, part}
@@ -11,12 +10,12 @@ use Rattle.jsx_tree.specs.Layout.{first_token}
 use Rattle.jsx_tree.specs.Spelling.{said, saids, each_said, joined, walk, gathered, before, between, behind, spelled}
 use Rattle.jsx_tree.specs.Form.{Single, enough, last_only, is_last, last_kind, admits, admits_node, spine_calls}
 use Rattle.jsx_tree.specs.StaticRules.{open_if}
-use Rattle.jsx_tree.proofs.ReadBack.Joins.{Ahead, ahead, stands, skips_next, no_slash, is_none_of, at_end, good, sign_good}
+use Rattle.jsx_tree.proofs.ReadBack.Joins.{open_gap, joint, Ahead, ahead, stands, skips_next, no_slash, is_none_of, at_end, good, sign_good}
 use Rattle.jsx_tree.proofs.ReadBack.RowChecks.{Need, Even, After, NoneOf, Sure, holds, Outs, is_holey, is_code_shape, before_signs, behind_signs, frontal, rests, is_inner, is_member, is_opened, elsed, is_punct, is_formed, sound, sound_each, rowed, sees, may_else, need_of, part_ok, guards, is_no_guard, sign_ok, signs_ok, absent_ok, many_ok, row_ok, elses}
-use Rattle.jsx_tree.proofs.ReadBack.Basics.{clash, not_true}
 use Rattle.jsx_tree.proofs.ReadBack.Signs.{is_some, text_of, first_next}
 use Rattle.jsx_tree.proofs.ReadBack.NextTokens.{ahead_append, good_append, even_gap, Outside, none_code}
 use Rattle.jsx_tree.proofs.ReadBack.NextInRow.{Front, Fronts, FrontOf, FrontsOf, front_at, Shows, see, see_fixed, see_part, see_many}
+use Rattle.jsx_tree.proofs.ReadBack.Basics.{clash}
 
 -- ---- trees
 
@@ -125,7 +124,7 @@ abbrev NoRest : Nonterminal → List Text → Tree → Type 0
 NoRest c g t = sound c g t ≡ true → rests c ≡ false → is_last t ≡ false
 
 else_by : (x y : Bool) (t : Tree) → (not (x && y) || not (open_if t)) ≡ true → x ≡ true → y ≡ true → open_if t ≡ false
-else_by true true t h e f = not_true (open_if t) h
+else_by true true t h e f = not-true (open_if t) h
 else_by true false t h e f = absurd (false≢true f)
 else_by false y t h e f = absurd (false≢true e)
 
@@ -139,8 +138,8 @@ guard_holds c ts t k v h f a n =
     ap (λ w. is_none_of w.next ts) (ahead_append (joined (said t)) k v ∙ r.view (ahead k v)) ∙ none_code r.mode r.kind r.text ts r.opens.code (ap (λ x. among x ts) (sym e) ∙ a) n
 
 sound_guard : (c : Nonterminal) (g : List Text) (t : Tree) → is_formed Single t ≡ true → sound c g t ≡ true → among (first_token (spelled t)) g ≡ false
-sound_guard c g (leaf s x) i h = not_true _ ((and_parts (leaf_in c s x) (not (among (first_token (spelled (leaf s x))) g)) ((and_parts (leaf_in c s x && not (among (first_token (spelled (leaf s x))) g)) _ h).0)).1)
-sound_guard c g (node k cs) i h = not_true _ ((and_parts (admits c (node k cs)) (not (among (first_token (spelled (node k cs))) g)) ((and_parts (admits c (node k cs) && not (among (first_token (spelled (node k cs))) g)) _ h).0)).1)
+sound_guard c g (leaf s x) i h = not-true _ ((and_parts (leaf_in c s x) (not (among (first_token (spelled (leaf s x))) g)) ((and_parts (leaf_in c s x && not (among (first_token (spelled (leaf s x))) g)) _ h).0)).1)
+sound_guard c g (node k cs) i h = not-true _ ((and_parts (admits c (node k cs)) (not (among (first_token (spelled (node k cs))) g)) ((and_parts (admits c (node k cs) && not (among (first_token (spelled (node k cs))) g)) _ h).0)).1)
 sound_guard c g (list us) i h = absurd (false≢true i)
 
 pub admits_homes : (c : Nonterminal) (t : Tree) (k : Kind) → admits_node c t k ≡ true → in_homes c (homes k) ≡ true
@@ -201,20 +200,6 @@ before_good Dotted x v h g = g
 before_good JsxChildren x v h g = absurd (false≢true h)
 
 -- behind the last item: a hole has its comma
-behind_is : (s : ListShape) (x : List Sign) → (x ≡ [] → ⊥) → behind s x ≡ behind_signs s
-behind_is Commas x n = refl
-behind_is Elisions [] n = absurd (n refl)
-behind_is Elisions (m ∷ x) n = refl
-behind_is NoTrailing x n = refl
-behind_is TwoOrMore x n = refl
-behind_is Lines x n = refl
-behind_is TopLines x n = refl
-behind_is Adjacent x n = refl
-behind_is OneOrMore x n = refl
-behind_is Spaced x n = refl
-behind_is Dotted x n = refl
-behind_is JsxChildren x n = refl
-
 -- the last item, where x are its signs
 last_good : (s : ListShape) (x k : List Sign) (v : Ahead) → is_code_shape s ≡ true → good (x ++ (behind_signs s ++ k)) v ≡ true → (is_holey s ≡ true → good (pun "," ∷ k) v ≡ true) → good ((before s x ++ behind s x) ++ k) v ≡ true
 last_good Elisions [] k v h g q = q refl
@@ -258,7 +243,7 @@ many_of o s c ps h =
     let i = and_parts (p3 && p4) (p5 && p6) e.1 in
     let j = and_parts p3 p4 i.0 in
     let k = and_parts p5 p6 i.1 in
-    record { inner_item = f.0; inner_signs = f.1; last_item = j.0; last_signs = j.1; rest_item = k.0; hole_signs = k.1; inner = b.0; no_else = not_true _ d.0; shape = d.1 }
+    record { inner_item = f.0; inner_signs = f.1; last_item = j.0; last_signs = j.1; rest_item = k.0; hole_signs = k.1; inner = b.0; no_else = not-true _ d.0; shape = d.1 }
 
 many_good : (o : Outs) (v : Ahead) (s : ListShape) (c : Nonterminal) (ps : Production) (k : List Sign) → ManyOk o s c ps → ((n : Need) → Shows n o v ps k) → good k v ≡ true → (us : Forest) → last_only us ≡ true → sound_each c us ≡ true → FrontsOf us → GoodsOf us → good (gathered s (each_said us) ++ k) v ≡ true
 many_good o v s c ps k m f q none l h fs gs = q
@@ -291,7 +276,7 @@ many_good o v s c ps k m f q (part t (part u us)) l h fs gs =
     ap (λ z. good z v) (append_signs (before s x) (between s ++ y) k ∙ ap (λ z. before s x ++ z) (append_signs (between s) y k))
     ∙ ap (λ z. good (z ++ (between s ++ (y ++ k))) v) (before_is s x m.shape) ∙ ap (λ z. good z v) (append_signs (before_signs s) x (between s ++ (y ++ k)))
     ∙ line_good s (x ++ (between s ++ (y ++ k)))
-    (part_good o v c [] t (fixed (between s) ++ (Many s c ∷ ps)) (between s ++ (y ++ k)) a.0 gs.0 b.0 shows m.inner_item m.inner (λ _ e. clash _ e m.no_else) (λ e. clash _ e (not_true _ d.0))
+    (part_good o v c [] t (fixed (between s) ++ (Many s c ∷ ps)) (between s ++ (y ++ k)) a.0 gs.0 b.0 shows m.inner_item m.inner (λ _ e. clash _ e m.no_else) (λ e. clash _ e (not-true _ d.0))
     (signs_hold o v (between s) (Many s c ∷ ps) (y ++ k) (λ n. see_many n o v ps k s c u us fu) m.inner_signs r))
   where
     line_good : (s : ListShape) (z : List Sign) → good z v ≡ true → good (before_signs s ++ z) v ≡ true
@@ -337,7 +322,7 @@ present o v x y c r ps t k i s fr gd f e h q =
     let u : List Sign = joined (said t) in
     let shows : (n : Need) → Shows n o v (fixed y ++ ps) (y ++ k) = λ n. see_fixed n o v ps k (f n) y in
     let g : good (y ++ k) v ≡ true = signs_hold o v y ps k f m.0 (q l.1) in
-    let w : good (u ++ (y ++ k)) v ≡ true = part_good o v c [] t (fixed y ++ ps) (y ++ k) i gd s shows d.0 j.1 (else_by (may_else o (fixed y ++ ps)) (elsed c) t e) (λ z. clash _ z (no_rest c [] t s (not_true _ j.0))) g in
+    let w : good (u ++ (y ++ k)) v ≡ true = part_good o v c [] t (fixed y ++ ps) (y ++ k) i gd s shows d.0 j.1 (else_by (may_else o (fixed y ++ ps)) (elsed c) t e) (λ z. clash _ z (no_rest c [] t s (not-true _ j.0))) g in
     ap (λ z. good z v) (append_signs x (u ++ y) k ∙ ap (λ z. x ++ z) (append_signs u y k))
     ∙ signs_hold o v x (Part c ∷ (fixed y ++ ps)) (u ++ (y ++ k)) (λ n. see_part n o v (fixed y ++ ps) (y ++ k) c t (shows n) (front_at c [] t i fr s)) b.0 w
 
@@ -377,7 +362,7 @@ row_good o v w (Part c ∷ ps) (part t ts) g s f q e h =
     let j = and_parts (not (rests c)) (is_inner c) i.1 in
     let k = and_parts (not (may_else o ps && elsed c) || not (open_if t)) (elses o ps ts) e in
     one_part c t (walk ps (saids ts)) a.0
-    (part_good o v c g t ps (walk ps (saids ts)) a.0 q.0 b.0 (λ n pre p. see n o v w ps pre ts [] p b.1 f.1) i.0 j.1 (else_by (may_else o ps) (elsed c) t k.0) (λ l. clash _ l (no_rest c g t b.0 (not_true _ j.0))) (row_good o v w ps ts [] b.1 f.1 q.1 k.1 d.1))
+    (part_good o v c g t ps (walk ps (saids ts)) a.0 q.0 b.0 (λ n pre p. see n o v w ps pre ts [] p b.1 f.1) i.0 j.1 (else_by (may_else o ps) (elsed c) t k.0) (λ l. clash _ l (no_rest c g t b.0 (not-true _ j.0))) (row_good o v w ps ts [] b.1 f.1 q.1 k.1 d.1))
   where
     one_part : (c : Nonterminal) (t : Tree) (k : List Sign) → is_formed Single t ≡ true → good (joined (said t) ++ k) v ≡ true → good (joined (said t) ++ k) v ≡ true
     one_part c t k i g = g

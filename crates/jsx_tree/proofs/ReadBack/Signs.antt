@@ -1,20 +1,19 @@
 -- A list of signs that joins scans what it lays: the first law, each token read as that token, and the second, for lists of signs.
 use Rattle.std.proofs.Common.{◌≡◌, ℕ, suc, List, [], ◌∷◌, ◌++◌, Bool, true, false, cond, not, ◌||◌, ◌&&◌, codes, refl, sym, ap, ◌∙◌, subst}
 use Rattle.std.specs.Prelude.{nat_eq}
-use Rattle.std.proofs.lemmas.Bool.{false≢true, and_parts, and_from, or_parts, eqb-true, eq-eqb}
+use Rattle.std.proofs.lemmas.Bool.{false≢true, and_parts, and_from, or_parts, eqb-true, eq-eqb, false_from_ne_true, not-true, or_from, and_left, and_right}
 use Rattle.jsx_base.specs.Token.{Text, Mode, Operand, Operator, Piece, Tag, Children, TokenKind, IdentifierName, Punctuator, NumericLiteral, BigIntLiteral, StringLiteral, RegExpLiteral, NoSubstitution, TemplateHead, TemplateMiddle, TemplateTail, JsxName, JsxString, JsxText, Elision, NoToken, kind_number, is_kind, same, among, begins, first_is, longest, punctuators, punct, Blank, is_cut, skip, skips, breaks, at_front, Lexeme, is_token, is_end, token}
-use Rattle.jsx_tree.proofs.ReadBack.Longest.{same_is, begins_longest}
 use Rattle.jsx_tree.specs.Signs.{Ending, AfterExpr, Sign, Tok, Semicolon, TrailingComma, Unless, SameLine, Ends, Space, Pad, Line, Indent, Outdent, Unindent, Apart, Begin, Count, One, End}
 use Rattle.jsx_tree.specs.Layout.{laid, no_notes, line, indent, pull, is_out, is_pad, last, first_char, first_token, layout}
 use Rattle.jsx_tree.specs.Reading.{At, scan, ended_at, go_if, semi_at, comma_at, token_at}
 use Rattle.jsx_tree.specs.Kinds.{Tree}
 use Rattle.jsx_tree.specs.Spelling.{spelled}
-use Rattle.jsx_tree.proofs.ReadBack.Tests.{same_self}
 use Rattle.jsx_tree.specs.Form.{is_leaf}
+use Rattle.jsx_base.proofs.Longest.{same_is, begins_longest}
 use Rattle.jsx_tree.proofs.ReadBack.Joins.{Next, Nothing, Semi, Token, Ahead, sign_ahead, ahead, follows, is_mode, is_mark, stands, skips_next, pad, has_line, open_gap, next_ok, head_ok, no_slash, is_none_of, sign_good, good, at_end, joins}
-use Rattle.jsx_tree.proofs.ReadBack.Basics.{all_first, clash, by_not, not_true, if_false, or_false, and_false, and_false_2}
 use Rattle.jsx_tree.proofs.ReadBack.Punctuators.{Reads, mark_reads, mark_gap}
 use Rattle.jsx_tree.proofs.ReadBack.Leaves.{operator_reads, operand_reads, piece_reads, slash_first}
+use Rattle.jsx_tree.proofs.ReadBack.Basics.{same_self, all_first, clash, if_false}
 
 -- ---- gaps
 
@@ -67,7 +66,7 @@ no_line_more : (g h : Text) → has_line g ≡ false → has_line h ≡ false �
 no_line_more [] h p q = q
 no_line_more (c ∷ g) h p q =
     let a = or_parts (nat_eq c 10) (has_line g) p in
-    or_false (nat_eq c 10) (has_line (g ++ h)) a.0 (no_line_more g h a.1 q)
+    or_from (nat_eq c 10) (has_line (g ++ h)) a.0 (no_line_more g h a.1 q)
 
 pub indent_pad : (n : List Bool) → pad (indent n) ≡ true
 indent_pad [] = refl
@@ -86,7 +85,7 @@ open_of g v h =
     record { pads = a.0; lines = λ e. or_parts (has_line g) v.line (go v.same_line _ e b.0); modes = λ e. two (skips_next v.next) e b.1 }
   where
     go : (x y : Bool) → x ≡ true → not (x && y) ≡ true → y ≡ false
-    go true y e f = not_true y f
+    go true y e f = not-true y f
     go false y e f = absurd (false≢true e)
 
     two : (x : Bool) → x ≡ false → (x || (same g [] && v.void)) ≡ true → (g ≡ []) × (v.void ≡ true)
@@ -321,7 +320,7 @@ slash_not_among (d ∷ q) y ts b h = go ts (sym (eqb-true d 47 ((and_parts (nat_
     go ([] ∷ ts) e h = absurd (false≢true h)
     go ((c ∷ t) ∷ ts) e h =
         let a = and_parts (not (nat_eq c 47)) (no_slash ts) h in
-        or_false (nat_eq d c && same q t) (among (d ∷ q) ts) (and_false (nat_eq d c) (same q t) (by_not (nat_eq d c) (λ f. clash _ (eq-eqb c 47 (sym (eqb-true d c f) ∙ sym e)) (not_true _ a.0)))) (go ts e a.1)
+        or_from (nat_eq d c && same q t) (among (d ∷ q) ts) (and_left (nat_eq d c) (same q t) (false_from_ne_true (nat_eq d c) (λ f. clash _ (eq-eqb c 47 (sym (eqb-true d c f) ∙ sym e)) (not-true _ a.0)))) (go ts e a.1)
 
 raw_punct : (q x : Text) → (punct q x).raw ≡ q
 raw_punct [] x = refl
@@ -330,7 +329,7 @@ raw_punct (c ∷ q) x = refl
 -- a regular expression's slash, read where an operator may stand
 pub slash_raw : (y : Text) (f : Bool) (ts : List Text) → no_slash ts ≡ true → among (at_front Operator f (47 ∷ y)).raw ts ≡ false
 slash_raw y f ts h =
-    let e : (at_front Operator f (47 ∷ y)).raw ≡ longest punctuators (47 ∷ y) = ap (λ b. (cond b (record { kind = NoToken; raw = []; rest = 47 ∷ y }) (punct (longest punctuators (47 ∷ y)) (47 ∷ y))).raw) (and_false_2 f false refl) ∙ raw_punct (longest punctuators (47 ∷ y)) (47 ∷ y) in
+    let e : (at_front Operator f (47 ∷ y)).raw ≡ longest punctuators (47 ∷ y) = ap (λ b. (cond b (record { kind = NoToken; raw = []; rest = 47 ∷ y }) (punct (longest punctuators (47 ∷ y)) (47 ∷ y))).raw) (and_right f false refl) ∙ raw_punct (longest punctuators (47 ∷ y)) (47 ∷ y) in
     ap (λ x. among x ts) e ∙ slash_not_among (longest punctuators (47 ∷ y)) y ts (begins_longest punctuators (47 ∷ y)) h
 
 slash_none : (t y g : Text) (ts : List Text) → first_is (λ c. nat_eq c 47) t ≡ true → pad g ≡ true → skip (t ++ y) ≡ t ++ y → no_slash ts ≡ true → among (token Operator false (g ++ (t ++ y))).raw ts ≡ false
@@ -369,14 +368,14 @@ Unseen ts text = among (token Operator false text).raw ts ≡ false
 
 none_ahead : (ms : List Sign) (i : ℕ) (n : List Bool) (q : Text) (bare : Bool) (g : Text) (ts : List Text) → good ms at_end ≡ true → pad g ≡ true → is_none_of (ahead ms at_end).next ts ≡ true → Unseen ts (g ++ laid no_notes i n q bare ms)
 none_ahead [] i n q bare g ts h p o = ap (λ x. among (at_front Operator (breaks (g ++ [])) x).raw ts) (skip_pad g [] p) ∙ not_among ts o
-none_ahead (Tok Operator k t ∷ ms) i n q bare g ts h p o = ap (λ x. among x.raw ts) ((front Operator k t ms (suc i) n h).it.read g false p (λ e. absurd (false≢true (sym e)))) ∙ not_true _ o
+none_ahead (Tok Operator k t ∷ ms) i n q bare g ts h p o = ap (λ x. among x.raw ts) ((front Operator k t ms (suc i) n h).it.read g false p (λ e. absurd (false≢true (sym e)))) ∙ not-true _ o
 none_ahead (Tok Operand k t ∷ ms) i n q bare g ts h p o =
     let f = front Operand k t ms (suc i) n h in
     slash_none t (laid no_notes (suc i) n t false ms) g ts (operand_slash k t f.stood) p (f.it.skipped refl) o
 none_ahead (Tok Piece k t ∷ ms) i n q bare g ts h p o = absurd (false≢true o)
 none_ahead (Tok Tag k t ∷ ms) i n q bare g ts h p o = absurd (false≢true o)
 none_ahead (Tok Children k t ∷ ms) i n q bare g ts h p o = absurd (false≢true o)
-none_ahead (Semicolon ∷ ms) i n q bare g ts h p o = ap (λ x. among x.raw ts) (semi_read (laid no_notes (suc i) n q false ms) g false p) ∙ not_true _ o
+none_ahead (Semicolon ∷ ms) i n q bare g ts h p o = ap (λ x. among x.raw ts) (semi_read (laid no_notes (suc i) n q false ms) g false p) ∙ not-true _ o
 none_ahead (Space ∷ ms) i n q bare g ts h p o = subst (Unseen ts) (append g (32 ∷ []) (laid no_notes i n q false ms)) (none_ahead ms i n q false (g ++ (32 ∷ [])) ts h (pad_more g (32 ∷ []) p refl) o)
 none_ahead (Pad ∷ ms) i n q bare g ts h p o =
     either_way (λ x. Unseen ts (g ++ x)) (bare || is_pad ms) [] (32 ∷ []) (laid no_notes i n q (is_pad ms) ms) (none_ahead ms i n q (is_pad ms) g ts h p o)
@@ -423,7 +422,7 @@ less_gap g v w o d e f l = record {
 }
 
 pub comma_no : (x : Lexeme) (q : Text) (e : Ending) (text : Text) → among x.raw (codes "," ∷ []) ≡ false → comma_at x q e text ≡ At q e text
-comma_no x q e text h = if_false (is_token x Punctuator (codes ",")) (At (codes ",") AfterExpr x.rest) (At q e text) (and_false_2 (is_kind x.kind Punctuator) (same x.raw (codes ",")) ((or_parts (same x.raw (codes ",")) false h).0))
+comma_no x q e text h = if_false (is_token x Punctuator (codes ",")) (At (codes ",") AfterExpr x.rest) (At q e text) (and_right (is_kind x.kind Punctuator) (same x.raw (codes ",")) ((or_parts (same x.raw (codes ",")) false h).0))
 
 scans : (ms : List Sign) (i : ℕ) (n : List Bool) (q : Text) (bare : Bool) (p : Text) (e : Ending) (g : Text) → good ms at_end ≡ true → Open g (ahead ms at_end) → Done p e ms (g ++ laid no_notes i n q bare ms)
 scans [] i n q bare p e g h o = ap is_end (append_nil g) ∙ end_pad g o.pads

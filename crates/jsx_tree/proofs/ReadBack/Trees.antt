@@ -1,10 +1,7 @@
 -- Each tree that is sound is good, where it is asked of what comes behind it.
-use Rattle.jsx_tree.proofs.ReadBack.Basics.{or_left, by_not, clash}
-use Rattle.std.proofs.Common.{codes}
-use Rattle.std.proofs.Common.{◌≡◌, ℕ, List, [], ◌∷◌, Bool, true, false, cond, not, ◌||◌, ◌&&◌, refl, sym, ap, subst, ⊎_elim, ◌⊎◌, inl, inr}
-use Rattle.std.proofs.lemmas.Bool.{false≢true, and_parts, and_from}
+use Rattle.std.proofs.Common.{codes, ◌≡◌, ℕ, List, [], ◌∷◌, Bool, true, false, cond, not, ◌||◌, ◌&&◌, refl, sym, ap, subst, ⊎_elim, ◌⊎◌, inl, inr}
+use Rattle.std.proofs.lemmas.Bool.{false≢true, and_parts, and_from, or_left, false_from_ne_true, not-true, or_right}
 use Rattle.jsx_base.specs.Token.{Text, TokenKind, IdentifierName, Punctuator, NumericLiteral, BigIntLiteral, StringLiteral, RegExpLiteral, NoSubstitution, TemplateHead, TemplateMiddle, TemplateTail, JsxName, JsxString, JsxText, Elision, NoToken, among, same}
-use Rattle.jsx_tree.proofs.ReadBack.Longest.{same_is}
 use Rattle.jsx_tree.specs.Signs.{Tok, Semicolon, TrailingComma, Unless, SameLine, Ends, Space, Pad, Line, Indent, Outdent, Unindent, Apart, Begin, Count, One, End}
 use Rattle.jsx_tree.specs.Kinds.{leaf, Forest, none, part}
 use Rattle.jsx_tree.specs.Nonterminals.{Nonterminal, DotObject, ChainLink, TemplateOf, TemplatePart, TemplateSpans, Name, leaf_in}
@@ -13,12 +10,13 @@ use Rattle.jsx_tree.specs.Layout.{first_token}
 use Rattle.jsx_tree.specs.Spelling.{said, joined, mode_of, spelled}
 use Rattle.jsx_tree.specs.Form.{Single, Maybe, Several, slots, is_leaf, inside, is_piece}
 use Rattle.jsx_tree.specs.Parentheses.{is_dotted_number}
+use Rattle.jsx_tree.specs.Fits.{is_solid}
+use Rattle.jsx_base.proofs.Longest.{same_is}
 use Rattle.jsx_tree.proofs.ReadBack.Joins.{Next, Nothing, Semi, Token, Ahead, follows, stands, open_gap, next_ok, joint, good}
 use Rattle.jsx_tree.proofs.ReadBack.RowChecks.{calm_chars, even, Even, Calm, holds, chars_are, is_member, is_opened, dots, need_of, is_formed, sound, sounds, rowed}
-use Rattle.jsx_tree.specs.Fits.{is_solid}
-use Rattle.jsx_tree.proofs.ReadBack.Basics.{not_true, or_right}
 use Rattle.jsx_tree.proofs.ReadBack.NextTokens.{even_gap, calm_even, calm_after}
 use Rattle.jsx_tree.proofs.ReadBack.Rows.{TreeGood}
+use Rattle.jsx_tree.proofs.ReadBack.Basics.{clash}
 
 -- ---- positions and rows
 
@@ -90,7 +88,7 @@ leaf_good s x v a n b c =
 
 -- no leaf is a slash
 no_slash_leaf : (s : TokenKind) (x : Text) → is_leaf s (codes "/") ≡ false → is_leaf s x ≡ true → same x (codes "/") ≡ false
-no_slash_leaf s x n h = by_not (same x (codes "/")) (λ e. clash _ (subst (λ y. is_leaf s y ≡ true) (same_is x (codes "/") e) h) n)
+no_slash_leaf s x n h = false_from_ne_true (same x (codes "/")) (λ e. clash _ (subst (λ y. is_leaf s y ≡ true) (same_is x (codes "/") e) h) n)
 
 -- where anything may follow
 free_joint : (s : TokenKind) (x : Text) (v : Ahead) → ((d : ℕ) → follows s x d ≡ true) → joint s x v ≡ true
@@ -162,7 +160,7 @@ sound_leaf c g s x h =
     let b = and_parts (leaf_in c s x) (not (among (first_token (spelled (leaf s x))) g)) a.0 in
     let d = and_parts (is_leaf s x && is_solid s) (not (is_dotted_number c (leaf s x))) a.1 in
     let e = and_parts (is_leaf s x) (is_solid s) d.0 in
-    record { home = b.0; whole = e.0; solid = e.1; number = not_true _ d.1 }
+    record { home = b.0; whole = e.0; solid = e.1; number = not-true _ d.1 }
 
 -- a kind other than a number's
 other_leaf : (s : TokenKind) (x : Text) (c : Nonterminal) (e : Bool) (v : Ahead) → SoundLeaf c s x → chars_are (follows s x) (calm_chars true) ≡ true → chars_are (follows s x) (calm_chars false) ≡ true → holds (need_of c e) v ≡ true → joint s x v ≡ true

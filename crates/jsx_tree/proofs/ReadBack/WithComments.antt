@@ -1,21 +1,19 @@
 -- The same with comments and marks before tokens.
-use Rattle.jsx_tree.proofs.ReadBack.Basics.{or_left}
 use Rattle.std.proofs.Common.{◌≡◌, ℕ, suc, List, [], ◌∷◌, ◌++◌, Bool, true, false, not, ◌||◌, ◌&&◌, codes, refl, sym, ap, ◌∙◌, subst}
 use Rattle.std.specs.Prelude.{nat_eq}
-use Rattle.std.proofs.lemmas.Bool.{false≢true, and_parts, eqb-true}
+use Rattle.std.proofs.lemmas.Bool.{false≢true, and_parts, eqb-true, or_left, not-true, or_right, or_from}
 use Rattle.jsx_base.specs.Token.{Text, Mode, Operand, Operator, Piece, Tag, Children, TokenKind, IdentifierName, Punctuator, NumericLiteral, BigIntLiteral, StringLiteral, RegExpLiteral, NoSubstitution, TemplateHead, TemplateMiddle, TemplateTail, JsxName, JsxString, JsxText, Elision, NoToken, same, among, first_is, skip, skips, breaks, at_front, token}
 use Rattle.jsx_tree.specs.Signs.{Ending, AfterExpr, Sign, Tok, Semicolon, TrailingComma, Unless, SameLine, Ends, Space, Pad, Line, Indent, Outdent, Unindent, Apart, Begin, Count, One, End}
 use Rattle.jsx_tree.specs.Layout.{Note, notes_text, laid, line, pull, is_out, is_pad, last, first_char, first_token}
 use Rattle.jsx_tree.specs.Reading.{At, scan, ended_at, go_if, semi_at, token_at}
 use Rattle.jsx_tree.specs.Kinds.{Tree}
 use Rattle.jsx_tree.specs.Spelling.{spelled}
-use Rattle.jsx_tree.proofs.ReadBack.Joins.{Ahead, sign_ahead, ahead, follows, is_mode, is_mark, stands, skips_next, open_gap, head_ok, no_slash, is_none_of, sign_good, good, at_end, joins}
-use Rattle.jsx_tree.proofs.ReadBack.Basics.{all_first, clash, not_true, or_right, or_false}
-use Rattle.jsx_tree.proofs.ReadBack.Punctuators.{mark_slash}
 use Rattle.jsx_tree.specs.Notes.{no_note, all_beside, noted}
-use Rattle.jsx_tree.proofs.ReadBack.CommentGaps.{Gap, Comments}
-use Rattle.jsx_tree.proofs.ReadBack.CommentGaps.{gap_pad, gap_nil, gap_blank, gap_more, gap_end}
+use Rattle.jsx_tree.proofs.ReadBack.Joins.{Ahead, sign_ahead, ahead, follows, is_mode, is_mark, stands, skips_next, open_gap, head_ok, no_slash, is_none_of, sign_good, good, at_end, joins}
+use Rattle.jsx_tree.proofs.ReadBack.Punctuators.{mark_slash}
+use Rattle.jsx_tree.proofs.ReadBack.CommentGaps.{Gap, Comments, gap_pad, gap_nil, gap_blank, gap_more, gap_end}
 use Rattle.jsx_tree.proofs.ReadBack.Signs.{append, append_nil, indent_pad, Gaps, gaps_follow, found, Found, first_next, either_way, apart_head, head_char, slash_raw, operand_slash, not_among, taken, comma_no, all_follow_semi, it}
+use Rattle.jsx_tree.proofs.ReadBack.Basics.{all_first, clash}
 
 -- ---- the first law behind any gap
 
@@ -185,7 +183,7 @@ none_ahead f c [] i n q bare g l ts h w p o =
 none_ahead f c (Tok Operator k t ∷ ms) i n q bare g l ts h w p o =
     let y : Text = laid f (suc i) n t false ms in
     let r : Gap (l || wide f i) (g ++ notes_text n (f i)) = gap_more l (wide f i) g (notes_text n (f i)) p (c.gap i n) in
-    subst (Unseen ts) (append g (notes_text n (f i)) (t ++ y)) (ap (λ x. among x.raw ts) (any_gap Operator k t y (front f c Operator k t ms i n h w).it (g ++ notes_text n (f i)) (l || wide f i) false r (λ e. absurd (false≢true (sym e)))) ∙ not_true _ o)
+    subst (Unseen ts) (append g (notes_text n (f i)) (t ++ y)) (ap (λ x. among x.raw ts) (any_gap Operator k t y (front f c Operator k t ms i n h w).it (g ++ notes_text n (f i)) (l || wide f i) false r (λ e. absurd (false≢true (sym e)))) ∙ not-true _ o)
 none_ahead f c (Tok Operand k t ∷ ms) i n q bare g l ts h w p o =
     let y : Text = laid f (suc i) n t false ms in
     let r : Gap (l || wide f i) (g ++ notes_text n (f i)) = gap_more l (wide f i) g (notes_text n (f i)) p (c.gap i n) in
@@ -194,7 +192,7 @@ none_ahead f c (Tok Operand k t ∷ ms) i n q bare g l ts h w p o =
 none_ahead f c (Tok Piece k t ∷ ms) i n q bare g l ts h w p o = absurd (false≢true o)
 none_ahead f c (Tok Tag k t ∷ ms) i n q bare g l ts h w p o = absurd (false≢true o)
 none_ahead f c (Tok Children k t ∷ ms) i n q bare g l ts h w p o = absurd (false≢true o)
-none_ahead f c (Semicolon ∷ ms) i n q bare g l ts h w p o = ap (λ x. among x.raw ts) (any_semi (laid f (suc i) n q false ms) g l false p) ∙ not_true _ o
+none_ahead f c (Semicolon ∷ ms) i n q bare g l ts h w p o = ap (λ x. among x.raw ts) (any_semi (laid f (suc i) n q false ms) g l false p) ∙ not-true _ o
 none_ahead f c (Space ∷ ms) i n q bare g l ts h w p o = subst (Unseen ts) (append g (32 ∷ []) (laid f i n q false ms)) (none_ahead f c ms i n q false (g ++ (32 ∷ [])) (l || false) ts h w (gap_more l false g (32 ∷ []) p gap_blank) o)
 none_ahead f c (Pad ∷ ms) i n q bare g l ts h w p o =
     either_way (λ x. Unseen ts (g ++ x)) (bare || is_pad ms) [] (32 ∷ []) (laid f i n q (is_pad ms) ms) (none_ahead f c ms i n q (is_pad ms) g l ts h w p o)
@@ -233,7 +231,7 @@ open_nil v h =
     record { gap = gap_nil; lines = λ e. (refl, go v.same_line v.line e b.0); modes = λ e. (refl, two (skips_next v.next) e b.1) }
   where
     go : (x y : Bool) → x ≡ true → not (x && y) ≡ true → y ≡ false
-    go true y e f = not_true y f
+    go true y e f = not-true y f
     go false y e f = absurd (false≢true e)
 
     two : (x : Bool) {y : Bool} → x ≡ false → (x || y) ≡ true → y ≡ true
@@ -241,7 +239,7 @@ open_nil v h =
     two false e f = f
 
 or_no : (a b : Bool) → a ≡ false → b ≡ false → (a || b) ≡ false
-or_no a b p q = or_false a b p q
+or_no a b p q = or_from a b p q
 
 more_gap : (l k : Bool) (g h : Text) (v w : Ahead) → Open l g v → Gap k h → v.void ≡ false → w.next ≡ v.next → w.same_line ≡ v.same_line → (v.line ≡ false → (k ≡ false) × (w.line ≡ false)) → Open (l || k) (g ++ h) w
 more_gap l k g h v w o p d e f m = record {

@@ -1,7 +1,14 @@
 -- What kind of token a state of the automata can't become.
 use Rattle.std.proofs.Common.{◌≡◌, ℕ, zero, suc, ◌*◌, ◌+◌, [], ◌∷◌, Bool, true, false, cond, not, ◌&&◌, refl, sym}
+use Rattle.std.proofs.lemmas.Bool.{and_parts}
 use Rattle.jsx_base.specs.Token.{Text, TokenKind, IdentifierName, NumericLiteral, BigIntLiteral, StringLiteral, RegExpLiteral, JsxName, JsxString, JsxText, NoToken, is_kind, hex_value, Hexadecimal, Octal, BinaryDigits, State, Dead, Done, InName, BehindZero, InDigits, BehindPoint, InFraction, BehindE, BehindSign, InExponent, InBase, BehindN, InString, InEscape, InHex, InUnicode, InBraces, BehindNul, BehindCr, AtRegExp, InRegExp, InRegExpEscape, InFlags, InPiece, InPieceEscape, BehindDollar, InJsxName, InJsxString, InJsxText, step, digit_step, accepts, last_state}
-use Rattle.jsx_tree.proofs.ReadBack.Tests.{here, there}
+
+-- the parts of a test
+here : (b c : Bool) → (b && c) ≡ true → b ≡ true
+here b c h = (and_parts b c h).0
+
+there : (b c : Bool) → (b && c) ≡ true → c ≡ true
+there b c h = (and_parts b c h).1
 
 abbrev pub no_number : TokenKind → Bool
 no_number k = not (is_kind NumericLiteral k) && not (is_kind BigIntLiteral k)

@@ -1,11 +1,9 @@
--- A token's raw text and what it leaves are the text.
+-- A token's raw text and what it leaves are the text, and which token a state makes.
 use Rattle.std.proofs.Common.{◌≡◌, ℕ, [], ◌∷◌, ◌++◌, Bool, true, false, cond, ◌||◌, ◌&&◌, codes, refl, sym, ap, ◌∙◌}
 use Rattle.std.specs.Prelude.{nat_eq}
 use Rattle.std.proofs.lemmas.Bool.{false≢true, and_parts, eqb-true}
-use Rattle.jsx_base.specs.Token.{Text, Mode, TokenKind as Kind, IdentifierName, Punctuator, NumericLiteral, BigIntLiteral, StringLiteral, RegExpLiteral, NoSubstitution, TemplateHead, TemplateMiddle, TemplateTail, JsxName, JsxString, JsxText, Elision, NoToken}
-use Rattle.jsx_base.specs.Token.{is_kind, State, Dead, Done, InName, BehindZero, InDigits, BehindPoint, InFraction, BehindE, BehindSign, InExponent, InBase, BehindN, InString, InEscape, InHex, InUnicode, InBraces, BehindNul, BehindCr, AtRegExp, InRegExp, InRegExpEscape, InFlags, InPiece, InPieceEscape, BehindDollar, InJsxName, InJsxString, InJsxText}
-use Rattle.jsx_base.specs.Token.{Lexeme, is_dead, step, is_start, is_digit, first_is, is_code, begins, drop_as, longest, punctuators, punctuator, punct, ended, no_token, lexed, state, at_front, accepts, last_state, taken, left}
-use Rattle.jsx_tree.proofs.ReadBack.Longest.{begins_longest}
+use Rattle.jsx_base.specs.Token.{Text, Mode, TokenKind as Kind, IdentifierName, Punctuator, NumericLiteral, BigIntLiteral, StringLiteral, RegExpLiteral, NoSubstitution, TemplateHead, TemplateMiddle, TemplateTail, JsxName, JsxString, JsxText, Elision, NoToken, is_kind, State, Dead, Done, InName, BehindZero, InDigits, BehindPoint, InFraction, BehindE, BehindSign, InExponent, InBase, BehindN, InString, InEscape, InHex, InUnicode, InBraces, BehindNul, BehindCr, AtRegExp, InRegExp, InRegExpEscape, InFlags, InPiece, InPieceEscape, BehindDollar, InJsxName, InJsxString, InJsxText, Lexeme, is_dead, step, is_start, is_digit, first_is, is_code, begins, drop_as, longest, punctuators, punctuator, punct, ended, no_token, lexed, state, at_front, accepts, last_state, taken, left}
+use Rattle.jsx_base.proofs.Longest.{begins_longest}
 
 abbrev Whole : Text → Lexeme → Type 0
 Whole text x = is_kind x.kind NoToken ≡ false → x.raw ++ x.rest ≡ text

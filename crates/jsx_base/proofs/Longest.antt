@@ -3,17 +3,7 @@ use Rattle.std.proofs.Common.{◌≡◌, ℕ, List, [], ◌∷◌, ◌++◌, Boo
 use Rattle.std.specs.Prelude.{nat_eq}
 use Rattle.std.proofs.lemmas.Bool.{false≢true, and_parts, and_from, and_left, or_parts, or_cases, eq-eqb, eqb-true, false_from_ne_true}
 use Rattle.jsx_base.specs.Token.{Text, among, same, begins, is_longer, longer, longest, drop_as, first_is, is_one_of}
-
--- what stands behind `p` in the longer ones of a table that begin with it
-abbrev pub extends : List Text → Text → List Text
-extends [] p = []
-extends (q ∷ qs) p = cond (begins p q && is_longer q p) (drop_as p q ∷ extends qs p) (extends qs p)
-
--- whether each of the texts begins with one of the characters
-abbrev pub all_begin : List Text → Text → Bool
-all_begin [] ds = true
-all_begin ([] ∷ es) ds = false
-all_begin ((d ∷ e) ∷ es) ds = is_one_of d ds && all_begin es ds
+use Rattle.jsx_base.specs.Longer.{extends, all_begin}
 
 both : (b : Bool) → (b ≡ true → ⊥) → b ≡ false
 both b h = false_from_ne_true b h
