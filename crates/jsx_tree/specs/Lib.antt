@@ -18,3 +18,4 @@ pub mod Stops
 pub mod Answers
 pub mod Texts
 pub mod Grows
+pub mod Decided

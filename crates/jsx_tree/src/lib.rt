@@ -1,8 +1,10 @@
 //! The tree of a program over borrowed text, and the definitions of the grammar that it is a tree of.
 #![tactic(auto)]
 
+mod one_reading;
 mod text;
 mod tree;
 
+pub use one_reading::one_decided_tree;
 pub use text::{DeclareWord, Goal, Ident, LiteralKind, Text};
 pub use tree::{Access, Expr, Item, Jsx, Module, Pat, Program, Stmt, Tag};
