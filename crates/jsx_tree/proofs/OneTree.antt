@@ -35,5 +35,6 @@ mod Rows
 mod Lists
 mod Declarators
 mod Same
+mod Directives
 mod Trees
 pub mod Decided

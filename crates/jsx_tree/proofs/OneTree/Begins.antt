@@ -4,7 +4,7 @@ use Rattle.std.specs.Prelude.{◌&&◌, ◌||◌, nat_eq, codes}
 use Rattle.jsx_base.specs.Token.{Text, Operator, TokenKind, IdentifierName, kind_number, among, same}
 use Rattle.jsx_tree.specs.Signs.{Tok, Unless, Count}
 use Rattle.jsx_tree.specs.Kinds.{Kind, Tree, Forest}
-use Rattle.jsx_tree.specs.Nonterminals.{Nonterminal, Expr, Ident, Stmt, SubStmt, Item, Declaration, BlockOnly, CatchClause, CaseClause, Declarators, Body, WholeProgram, homes, in_homes, leaf_in, is_ident}
+use Rattle.jsx_tree.specs.Nonterminals.{Nonterminal, Expr, Ident, Stmt, SubStmt, Item, Declaration, BlockOnly, CatchClause, CaseClause, Declarators, Body, DirectiveOnly, homes, in_homes, leaf_in, is_ident}
 use Rattle.jsx_tree.specs.Grammar.{Context, Fixed, Part, Production, production}
 use Rattle.jsx_tree.specs.Form.{is}
 use Rattle.jsx_tree.specs.StaticRules.{Surroundings}
@@ -34,7 +34,7 @@ is_own CatchClause = true
 is_own CaseClause = true
 is_own Declarators = true
 is_own Body = true
-is_own WholeProgram = true
+is_own DirectiveOnly = true
 is_own c = false
 
 abbrev pub want_of : Nonterminal → Want
@@ -45,7 +45,6 @@ want_of Declaration = still
 want_of CaseClause = idle
 want_of Declarators = declared
 want_of Body = shutting
-want_of WholeProgram = idle
 want_of c = anything
 
 -- what stands behind a list of them

@@ -11,10 +11,10 @@ use Rattle.jsx_tree.proofs.OneTree.Parts.{known, kept, kepts}
 use Rattle.jsx_tree.proofs.OneTree.Trees.{one_reading}
 
 known_program : (k : ProgramKind) → decides_program k ≡ true → known (program k) ≡ true
-known_program Module h = cc
+known_program Module h = refl
 known_program Script h = refl
 known_program FunctionBody h = refl
-known_program Directive h = cc
+known_program Directive h = refl
 known_program ImportBare h = cc
 known_program Import h = cc
 known_program ImportAll h = cc

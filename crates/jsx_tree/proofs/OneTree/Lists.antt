@@ -41,22 +41,22 @@ line_sign : (x : Place) → forth Line x ≡ x
 line_sign Lost = refl
 line_sign (At q e text) = refl
 
-line_behind : (s : ListShape) (t : Tree) {y z : Place} → liney s ≡ true → scan y (behind s (spelled t)) ≡ z → y ≡ z
+pub line_behind : (s : ListShape) (t : Tree) {y z : Place} → liney s ≡ true → scan y (behind s (spelled t)) ≡ z → y ≡ z
 line_behind Lines t l e = e
 line_behind TopLines t {y} l e = sym (line_sign y) ∙ e
 line_behind _ t l e = cc
 
-line_between : (s : ListShape) {y z : Place} → liney s ≡ true → scan y (between s) ≡ z → y ≡ z
+pub line_between : (s : ListShape) {y z : Place} → liney s ≡ true → scan y (between s) ≡ z → y ≡ z
 line_between Lines l e = e
 line_between TopLines {y} l e = sym (line_sign y) ∙ e
 line_between _ l e = cc
 
-line_read : (s : ListShape) {v : Surroundings} {c : Nonterminal} {x y : Place} {t : Tree} → liney s ≡ true → IsRead v (W.is_text s) c x t y → IsRead v false c x t y
+pub line_read : (s : ListShape) {v : Surroundings} {c : Nonterminal} {x y : Place} {t : Tree} → liney s ≡ true → IsRead v (W.is_text s) c x t y → IsRead v false c x t y
 line_read Lines l r = r
 line_read TopLines l r = r
 line_read _ l r = cc
 
-listed_own : (c : Nonterminal) → is_listed c ≡ true → is_own c ≡ true
+pub listed_own : (c : Nonterminal) → is_listed c ≡ true → is_own c ≡ true
 listed_own Stmt l = refl
 listed_own Item l = refl
 listed_own CaseClause l = refl
@@ -68,18 +68,18 @@ listed_wants Item l = refl
 listed_wants CaseClause l = refl
 listed_wants _ l = cc
 
-stop_want : (c : Nonterminal) (x : Place) → is_listed c ≡ true → meets (stop_of c) x ≡ true → meets (want_of c) x ≡ true
+pub stop_want : (c : Nonterminal) (x : Place) → is_listed c ≡ true → meets (stop_of c) x ≡ true → meets (want_of c) x ≡ true
 stop_want c x l m =
     let h = listed_wants c l in
     let r = and_right (is_look (want_of c)) _ (and_right (implies (stop_of c) (want_of c)) _ h) in
     implied (stop_of c) (want_of c) x (and_left (implies (stop_of c) (want_of c)) _ h) (λ k. absurd (never (is_calm (want_of c)) k (not_is _ (and_right (is_stop (stop_of c)) _ r)))) m
 
-record Begun (c : Nonterminal) (x : Place) : Type 0 where
+pub record Begun (c : Nonterminal) (x : Place) : Type 0 where
   front : Front
   fit : fits front x ≡ true
   ok : front_ok c front ≡ true
 
-item_begins : (c : Nonterminal) {v : Surroundings} {x y : Place} (t : Tree) → is_listed c ≡ true → kept t ≡ true → IsRead v false c x t y → meets (want_of c) y ≡ true → Begun c x
+pub item_begins : (c : Nonterminal) {v : Surroundings} {x y : Place} (t : Tree) → is_listed c ≡ true → kept t ≡ true → IsRead v false c x t y → meets (want_of c) y ≡ true → Begun c x
 item_begins c (leaf s t) l h r m = absurd (own_leaf c s t (listed_own c l) (and_left (leaf_in c s t) _ r.is))
 item_begins c (list ts) l h r m = let bad = r.is in cc
 item_begins c (node k cs) l h r m =
@@ -91,20 +91,35 @@ item_begins c (node k cs) l h r m =
       ok = or_else (not (in_homes c (homes k))) _ (for_stated (fronts_ok c) (listed_fronts c l) k s) (ap not i);
     }
 
-begun_want : (c : Nonterminal) {x : Place} → is_listed c ≡ true → Begun c x → meets (want_of c) x ≡ true
+pub begun_want : (c : Nonterminal) {x : Place} → is_listed c ≡ true → Begun c x → meets (want_of c) x ≡ true
 begun_want c {x} l b = front_meets (want_of c) b.front x (and_left (is_look (want_of c)) _ (and_right (implies (stop_of c) (want_of c)) _ (listed_wants c l))) (and_right (front_stop (stop_of c) b.front) _ b.ok) b.fit
 
 begun_stop : (c : Nonterminal) {x : Place} → is_listed c ≡ true → Begun c x → meets (stop_of c) x ≡ true → ⊥
 begun_stop c {x} l b m = front_stops (stop_of c) b.front x (and_left (is_stop (stop_of c)) _ (and_right (is_look (want_of c)) _ (and_right (implies (stop_of c) (want_of c)) _ (listed_wants c l)))) (and_left (front_stop (stop_of c) b.front) _ b.ok) b.fit m
 
-items_begin : (s : ListShape) (c : Nonterminal) {v : Surroundings} {x y : Place} (t : Tree) (ts : Forest) → liney s ≡ true → is_listed c ≡ true → kepts (part t ts) ≡ true → W.Items IsRead v s c x (part t ts) y → meets (stop_of c) y ≡ true → Begun c x
+pub items_begin : (s : ListShape) (c : Nonterminal) {v : Surroundings} {x y : Place} (t : Tree) (ts : Forest) → liney s ≡ true → is_listed c ≡ true → kepts (part t ts) ≡ true → W.Items IsRead v s c x (part t ts) y → meets (stop_of c) y ≡ true → Begun c x
 items_begin s c t none li l h (W.last {y = y} r e f) m = item_begins c t l (and_left (kept t) true h) (line_read s li r) (stop_want c y l (subst (λ z. meets (stop_of c) z ≡ true) (sym (line_behind s t li e)) m))
 items_begin s c t (part u us) li l h (W.more {y = y} n r e i) m =
     let b = items_begin s c u us li l (and_right (kept t) (kepts (part u us)) h) i m in
     item_begins c t l (and_left (kept t) (kepts (part u us)) h) (line_read s li r) (subst (λ z. meets (want_of c) z ≡ true) (sym (line_between s li e)) (begun_want c l b))
 
-move_items : {v : Surroundings} {s : ListShape} {c : Nonterminal} {x x' y : Place} {ts : Forest} → x ≡ x' → W.Items IsRead v s c x' ts y → W.Items IsRead v s c x ts y
+pub move_items : {v : Surroundings} {s : ListShape} {c : Nonterminal} {x x' y : Place} {ts : Forest} → x ≡ x' → W.Items IsRead v s c x' ts y → W.Items IsRead v s c x ts y
 move_items {v} {s} {c} {y = y} {ts} e i = subst (λ x. W.Items IsRead v s c x ts y) (sym e) i
+
+-- the first item of a list, and the others
+pub record First (v : Surroundings) (s : ListShape) (c : Nonterminal) (t : Tree) (ts : Forest) (x y : Place) : Type 0 where
+  pub next : Place
+  pub read : IsRead v false c x t next
+  pub rest : W.Items IsRead v s c next ts y
+
+pub first_item : (s : ListShape) {v : Surroundings} {c : Nonterminal} {x y : Place} {t : Tree} {ts : Forest} → liney s ≡ true → W.Items IsRead v s c x (part t ts) y → First v s c t ts x y
+first_item s {t = t} li (W.last {y = y} r e f) = record { next = y; read = line_read s li r; rest = move_items (line_behind s t li e) (W.nil f) }
+first_item s li (W.more {y = y} n r e i) = record { next = y; read = line_read s li r; rest = move_items (line_between s li e) i }
+
+-- what stands behind the first
+pub rest_want : (s : ListShape) (c : Nonterminal) {v : Surroundings} {x y : Place} (ts : Forest) → liney s ≡ true → is_listed c ≡ true → kepts ts ≡ true → W.Items IsRead v s c x ts y → meets (stop_of c) y ≡ true → meets (want_of c) x ≡ true
+rest_want s c {x = x} none li l h (W.nil f) m = stop_want c x l m
+rest_want s c (part t ts) li l h i m = begun_want c l (items_begin s c t ts li l h i m)
 
 pub lines_same : (s : ListShape) (c : Nonterminal) {v w : Surroundings} {x y z : Place} (ts us : Forest) → liney s ≡ true → is_listed c ≡ true → All ts → kepts ts ≡ true → kepts us ≡ true
     → W.Items IsRead v s c x ts y → W.Items IsRead w s c x us z → meets (stop_of c) y ≡ true → meets (stop_of c) z ≡ true → SameRow ts us y z

@@ -1,29 +1,26 @@
 -- Two readings of one row from one place are one: its signs, its parts, those that may be absent, and its lists.
 use Rattle.std.proofs.Common.{◌≡◌, ℕ, Bool, true, false, not, cond, List, [], ◌∷◌, ◌++◌, refl, sym, ◌∙◌, ap, subst}
 use Rattle.std.specs.Prelude.{IsTrue, ◌&&◌, ◌||◌, nat_eq, codes}
-use Rattle.jsx_base.specs.Token.{Text, Operator, TokenKind, IdentifierName, Punctuator, among, same, breaks}
+use Rattle.jsx_base.specs.Token.{Text, Operator, TokenKind, Punctuator, among, same, breaks}
 use Rattle.jsx_tree.specs.Signs.{Sign, Tok, Semicolon, TrailingComma, Unless, SameLine, Ends, AfterWord}
-use Rattle.jsx_tree.specs.Kinds.{Tree, leaf, node, list, Forest, none, part}
-use Rattle.jsx_tree.specs.Nonterminals.{Nonterminal, Expr, Ident, Declarators, Param, CaseClause, DirectiveOnly, homes, in_homes, leaf_in, is_ident}
+use Rattle.jsx_tree.specs.Kinds.{Tree, list, Forest, none, part}
+use Rattle.jsx_tree.specs.Nonterminals.{Nonterminal, Expr, Ident, Declarators, Param, CaseClause, is_ident}
 use Rattle.jsx_tree.specs.Grammar.{ListShape, Commas, NoTrailing, Context, Fixed, Part, Optional, Many, Within, Production, fixed}
-use Rattle.jsx_tree.specs.Form.{admits, fits_below, enough, is_leaf}
+use Rattle.jsx_tree.specs.Form.{enough}
 use Rattle.jsx_tree.specs.StaticRules.{Surroundings}
 use Rattle.jsx_tree.specs.Reading.{Place, Lost, At, forth, scan}
 use Rattle.jsx_tree.proofs.Tokens.{and_left, and_right, same_is}
 use Rattle.jsx_tree.specs.Walk as W
 use Rattle.jsx_tree.specs.Walk.{is_found, is_heard, heard, keep, pieces, IsRead}
-use Rattle.jsx_tree.proofs.OneTree.Table.{kinds}
 use Rattle.jsx_tree.proofs.OneTree.Readings.{kind_at, text_at, broken}
-use Rattle.jsx_tree.proofs.OneTree.Checks.{every, starts}
-use Rattle.jsx_tree.proofs.OneTree.Facts.{never, or_else, not_is, Test, yes', no', test, eq_nat, Seen, took, seen, for_kind}
-use Rattle.jsx_tree.proofs.OneTree.Places.{taken, is_seq}
+use Rattle.jsx_tree.proofs.OneTree.Checks.{starts}
+use Rattle.jsx_tree.proofs.OneTree.Facts.{never, or_else, not_is, Test, yes', no', test, eq_nat, Seen, took, seen}
 use Rattle.jsx_tree.proofs.OneTree.Apart.{at_part, at_many, at_end}
-use Rattle.jsx_tree.proofs.OneTree.Spines.{seq_is, taken_scope}
 use Rattle.jsx_tree.proofs.OneTree.Next.{unless_kept}
 use Rattle.jsx_tree.proofs.OneTree.Missing.{Behind, a_mark, a_brace, a_line, behind}
 use Rattle.jsx_tree.proofs.OneTree.Endings.{found_first}
 use Rattle.jsx_tree.proofs.OneTree.Afters.{after_tree}
-use Rattle.jsx_tree.proofs.OneTree.Parts.{known, kept, kepts, tame_of, whole_starts, clean_known}
+use Rattle.jsx_tree.proofs.OneTree.Parts.{kept, kepts, tame_of, whole_starts}
 use Rattle.jsx_tree.proofs.OneTree.Wants.{Want, ended, other, is_calm, meets, is_at, looks, look_same, signed, follow, at_optional, read_start, mark}
 use Rattle.jsx_tree.proofs.OneTree.Begins.{fits, name', at_seen, ident_fits, is_listed, stop_of}
 use Rattle.jsx_tree.proofs.OneTree.Rows.{All, all_parts, Rest, rest_meets, is_whole, whole_is, part_good, part_same}
@@ -240,10 +237,6 @@ abbrev pub is_declarators : Nonterminal → Bool
 is_declarators Declarators = true
 is_declarators c = false
 
-abbrev pub is_directive : Nonterminal → Bool
-is_directive DirectiveOnly = true
-is_directive c = false
-
 abbrev pub shuts : Production → Bool
 shuts (Fixed (Tok Operator Punctuator u) ∷ ps) = same u (codes ")")
 shuts ps = false
@@ -256,7 +249,7 @@ list_ends ps = false
 abbrev pub many_good : Want → ListShape → Nonterminal → Production → Bool
 many_good e s c ps =
     (liney s && (is_listed c && follow e ps (stop_of c)))
-    || ((is_commas s && (is_param c && shuts ps)) || ((is_dense s && (is_declarators c && list_ends ps)) || is_directive c))
+    || ((is_commas s && (is_param c && shuts ps)) || (is_dense s && (is_declarators c && list_ends ps)))
 
 commas_is : (s : ListShape) → is_commas s ≡ true → s ≡ Commas
 commas_is Commas h = refl
@@ -273,10 +266,6 @@ param_is _ h = cc
 declarators_is : (c : Nonterminal) → is_declarators c ≡ true → c ≡ Declarators
 declarators_is Declarators h = refl
 declarators_is _ h = cc
-
-directive_is : (c : Nonterminal) → is_directive c ≡ true → c ≡ DirectiveOnly
-directive_is DirectiveOnly h = refl
-directive_is _ h = cc
 
 shut_seen : {V : List Context → Surroundings} (a : List Context) {x z : Place} {ts : Forest} (ps : Production) → shuts ps ≡ true → W.Walk IsRead V (pieces a ps) x ts z → Seen x Punctuator (codes ")")
 shut_seen a {x} (Fixed (Tok Operator Punctuator u) ∷ ps) h w =
@@ -310,35 +299,6 @@ list_end a (Fixed _ ∷ ps) h w = cc
 list_end a (_ ∷ ps) h w = cc
 list_end a [] h w = cc
 
--- no directive is among the kinds that are taken
-no_directive : {v : Surroundings} {b : Bool} {x y : Place} (t : Tree) → kept t ≡ true → IsRead v b DirectiveOnly x t y → ⊥
-no_directive (leaf s t) h r = no_leaf s (and_left (leaf_in DirectiveOnly s t) (is_leaf s t) r.is)
-  where
-    no_leaf : (s : TokenKind) → leaf_in DirectiveOnly s t ≡ true → ⊥
-    no_leaf IdentifierName h = cc
-    no_leaf _ h = cc
-no_directive (list ts) h r = let bad = r.is in cc
-no_directive (node k cs) h r =
-    let i = and_left (admits DirectiveOnly (node k cs)) (fits_below DirectiveOnly (node k cs)) r.is in
-    by_kind (clean_known DirectiveOnly k cs refl (and_left (known k) (kepts cs) h) i) i
-  where
-    barren : every (λ k. not (in_homes DirectiveOnly (homes k))) kinds ≡ true
-    barren = refl
-
-    by_kind : (taken k || is_seq k) ≡ true → in_homes DirectiveOnly (homes k) ≡ true → ⊥
-    by_kind s i = by_taken (test (taken k))
-      where
-        by_taken : Test (taken k) → ⊥
-        by_taken (yes' t) = never (in_homes DirectiveOnly (homes k)) i (not_is _ (for_kind (λ k. not (in_homes DirectiveOnly (homes k))) barren k (taken_scope k t)))
-        by_taken (no' n) = never (in_homes DirectiveOnly (homes k)) i (ap (λ k. in_homes DirectiveOnly (homes k)) (seq_is k (or_else (taken k) (is_seq k) s n)))
-
-directives_same : (s : ListShape) {v w : Surroundings} {x y z : Place} (ts us : Forest) → kepts ts ≡ true → kepts us ≡ true → W.Items IsRead v s DirectiveOnly x ts y → W.Items IsRead w s DirectiveOnly x us z → SameRow ts us y z
-directives_same s none none h k (W.nil f) (W.nil f') = record { trees = refl; place = refl }
-directives_same s ts (part u none) h k i (W.last r e f) = absurd (no_directive u (and_left (kept u) _ k) r)
-directives_same s ts (part u (part u' us)) h k i (W.more n r e j) = absurd (no_directive u (and_left (kept u) _ k) r)
-directives_same s (part t none) us h k (W.last r e f) j = absurd (no_directive t (and_left (kept t) _ h) r)
-directives_same s (part t (part t' ts)) us h k (W.more n r e i) j = absurd (no_directive t (and_left (kept t) _ h) r)
-
 move_shape : {v : Surroundings} {s s' : ListShape} {c c' : Nonterminal} {x y : Place} {ts : Forest} → s ≡ s' → c ≡ c' → W.Items IsRead v s c x ts y → W.Items IsRead v s' c' x ts y
 move_shape {v} {s} {s'} {c} {c'} {x} {y} {ts} p q i = subst (λ s. W.Items IsRead v s c' x ts y) p (subst (λ c. W.Items IsRead v s c x ts y) q i)
 
@@ -346,23 +306,20 @@ many_same : {V V' : List Context → Surroundings} {v v' : Surroundings} {a : Li
     → W.Items IsRead v s c x ts y → W.Items IsRead v' s c x us z → Rest V a e ps y → Rest V' a e ps z → SameRow ts us y z
 many_same {a = a} e s c ps {x} {y} {z} ts us h o k l g g' i j p q = by_lines (test (liney s && (is_listed c && follow e ps (stop_of c))))
   where
-    by_dense : Test (is_dense s && (is_declarators c && list_ends ps)) → ((is_dense s && (is_declarators c && list_ends ps)) || is_directive c) ≡ true → SameRow ts us y z
-    by_dense (yes' b) r =
+    by_dense : (is_dense s && (is_declarators c && list_ends ps)) ≡ true → SameRow ts us y z
+    by_dense b =
         let t = and_right (is_dense s) _ b in
         let s' = dense_is s (and_left (is_dense s) _ b) in
         let c' = declarators_is c (and_left (is_declarators c) _ t) in
         declarators_same ts us (subst (λ s. enough s ts ≡ true) s' g) (subst (λ s. enough s us ≡ true) s' g') o k l (move_shape s' c' i) (move_shape s' c' j) (list_end a ps (and_right (is_declarators c) _ t) p.walk) (list_end a ps (and_right (is_declarators c) _ t) q.walk)
-    by_dense (no' b) r =
-        let c' = directive_is c (or_else (is_dense s && (is_declarators c && list_ends ps)) _ r b) in
-        directives_same s ts us k l (move_shape refl c' i) (move_shape refl c' j)
 
-    by_commas : Test (is_commas s && (is_param c && shuts ps)) → ((is_commas s && (is_param c && shuts ps)) || ((is_dense s && (is_declarators c && list_ends ps)) || is_directive c)) ≡ true → SameRow ts us y z
+    by_commas : Test (is_commas s && (is_param c && shuts ps)) → ((is_commas s && (is_param c && shuts ps)) || (is_dense s && (is_declarators c && list_ends ps))) ≡ true → SameRow ts us y z
     by_commas (yes' b) r =
         let t = and_right (is_commas s) _ b in
         let s' = commas_is s (and_left (is_commas s) _ b) in
         let c' = param_is c (and_left (is_param c) _ t) in
         params_same ts us k l (move_shape s' c' i) (move_shape s' c' j) (shut_seen a ps (and_right (is_param c) _ t) p.walk) (shut_seen a ps (and_right (is_param c) _ t) q.walk)
-    by_commas (no' b) r = by_dense (test (is_dense s && (is_declarators c && list_ends ps))) (or_else (is_commas s && (is_param c && shuts ps)) _ r b)
+    by_commas (no' b) r = by_dense (or_else (is_commas s && (is_param c && shuts ps)) _ r b)
 
     by_lines : Test (liney s && (is_listed c && follow e ps (stop_of c))) → SameRow ts us y z
     by_lines (yes' b) =

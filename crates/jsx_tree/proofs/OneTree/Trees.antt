@@ -1,17 +1,18 @@
 -- A text has one tree: two kinds at one place begin with tokens that differ, and one kind reads its row in one way.
-use Rattle.std.proofs.Common.{◌≡◌, Bool, true, false, not, List, [], refl, sym, ◌∙◌, ap, subst, arith}
+use Rattle.std.proofs.Common.{◌≡◌, Bool, true, false, not, List, [], ◌∷◌, refl, sym, ◌∙◌, ap, subst, arith}
 use Rattle.std.specs.Prelude.{IsTrue, ◌&&◌, ◌||◌, nat_eq, nat_le, codes}
 use Rattle.jsx_base.specs.Token.{Text, Operator, TokenKind, IdentifierName, Punctuator, kind_number, among, same, breaks}
 use Rattle.jsx_tree.specs.declared.text.Goal.{Goal}
+use Rattle.jsx_tree.specs.declared.text.Goal.TheVariants as goals
 use Rattle.jsx_tree.specs.Signs.{Tok, Semicolon, Unless, AfterExpr}
-use Rattle.jsx_tree.specs.Kinds.{ExprStmt, Label, Kind, statement, Tree, leaf, node, list, Forest, none, part}
-use Rattle.jsx_tree.specs.Nonterminals.{Nonterminal, Expr, Ident, Stmt, SubStmt, Item, Declaration, BlockOnly, CatchClause, CaseClause, Declarators, Body, WholeProgram, homes, in_homes, leaf_in, is_ident}
-use Rattle.jsx_tree.specs.Grammar.{heads, production}
+use Rattle.jsx_tree.specs.Kinds.{ProgramKind, Module, Script, FunctionBody, ExprStmt, Label, Kind, program, statement, Tree, leaf, node, list, Forest, none, part}
+use Rattle.jsx_tree.specs.Nonterminals.{Nonterminal, Expr, Ident, Stmt, SubStmt, Item, Declaration, BlockOnly, CatchClause, CaseClause, Declarators, Body, DirectiveOnly, WholeProgram, homes, in_homes, leaf_in, is_ident}
+use Rattle.jsx_tree.specs.Grammar.{heads, Lines, TopLines, InCode, InModuleCode, production}
 use Rattle.jsx_tree.specs.Form.{admits, is, fits_below}
-use Rattle.jsx_tree.specs.StaticRules.{Surroundings, outside}
+use Rattle.jsx_tree.specs.StaticRules.{Surroundings, outside, rule}
 use Rattle.jsx_tree.specs.Spelling.{spelled}
 use Rattle.jsx_tree.specs.Reading.{Place, Lost, At, forth, scan, continues, ended_at}
-use Rattle.jsx_tree.specs.Program.{Reads}
+use Rattle.jsx_tree.specs.Program.{is_goal, Reads}
 use Rattle.jsx_tree.proofs.Tokens.{and_left, and_right}
 use Rattle.jsx_tree.specs.Walk.{is_found, IsRead, IsNode}
 use Rattle.jsx_tree.proofs.OneTree.Statements.{stated, place, stated_kinds, nth}
@@ -34,10 +35,12 @@ use Rattle.jsx_tree.proofs.OneTree.Ends.{end_kind}
 use Rattle.jsx_tree.proofs.OneTree.Missing.{Behind, a_mark, a_brace, a_line, behind}
 use Rattle.jsx_tree.proofs.OneTree.Afters.{after_tok, after_tree}
 use Rattle.jsx_tree.proofs.OneTree.Parts.{known, kept, kepts, tame_of, SameAt, word_read}
-use Rattle.jsx_tree.proofs.OneTree.Wants.{idle, idle_at, meets, mark, is_seen, look_same}
+use Rattle.jsx_tree.proofs.OneTree.Wants.{idle, shutting, idle_at, meets, implied, mark, is_seen, look_same}
 use Rattle.jsx_tree.proofs.OneTree.Begins.{is_own, want_of, Front, token', expr', name', front, fits, front_fits}
-use Rattle.jsx_tree.proofs.OneTree.Rows.{One, Each, each_leaf, each_node, each_none, each_part, All, own_leaf, own_kind, own_same}
+use Rattle.jsx_tree.proofs.OneTree.Rows.{One, Each, each_leaf, each_node, each_none, each_part, All, own_leaf, own_kind}
+use Rattle.jsx_tree.proofs.OneTree.Lists.{SameRow}
 use Rattle.jsx_tree.proofs.OneTree.Same.{row_good, row_same}
+use Rattle.jsx_tree.proofs.OneTree.Directives.{body_same}
 
 -- ---- fronts that differ
 
@@ -130,6 +133,9 @@ label_apart {x = x} cs ds h k a b =
     unless_place : (ts : List Text) (x y : Place) → forth (Unless ts) x ≡ y → IsTrue (is_found y) → x ≡ y
     unless_place ts x y e f = look_same (Unless ts) x y refl e f
 
+no_word : {P : Type 0} → false ≡ true → P
+no_word h = cc
+
 -- ---- two kinds at one place
 
 abbrev pub label_pair : Kind → Kind → Bool
@@ -144,8 +150,18 @@ pair_told c k l =
 abbrev pub pairs_told : Nonterminal → Bool
 pairs_told c = every (λ k. every (pair_told c k) stated_kinds) stated_kinds
 
+-- what holds directives
+abbrev pub is_body : Kind → Bool
+is_body (program FunctionBody) = true
+is_body k = false
+
+body_is : (k : Kind) → is_body k ≡ true → k ≡ program FunctionBody
+body_is (program FunctionBody) h = refl
+body_is (program _) h = cc
+body_is _ h = cc
+
 abbrev pub row_told : Nonterminal → Kind → Bool
-row_told c k = not (in_homes c (homes k)) || row_good false (want_of c) (production k)
+row_told c k = not (in_homes c (homes k)) || (is_body k || row_good false (want_of c) (production k))
 
 all_pairs : (c : Nonterminal) → is_own c ≡ true → pairs_told c ≡ true
 all_pairs Stmt o = refl
@@ -157,7 +173,7 @@ all_pairs CatchClause o = refl
 all_pairs CaseClause o = refl
 all_pairs Declarators o = refl
 all_pairs Body o = refl
-all_pairs WholeProgram o = refl
+all_pairs DirectiveOnly o = refl
 all_pairs _ o = cc
 
 all_rows : (c : Nonterminal) → is_own c ≡ true → every (row_told c) stated_kinds ≡ true
@@ -170,7 +186,7 @@ all_rows CatchClause o = refl
 all_rows CaseClause o = refl
 all_rows Declarators o = refl
 all_rows Body o = refl
-all_rows WholeProgram o = refl
+all_rows DirectiveOnly o = refl
 all_rows _ o = cc
 
 label_is : (k l : Kind) → label_pair k l ≡ true → (k ≡ statement Label) × (l ≡ statement ExprStmt)
@@ -205,8 +221,31 @@ kind_apart c {x = x} k l cs ds o s t i j n h g a b m m' = by_front (test (front_
     by_front (yes' p) = fronts_apart (front (want_of c) (production k)) (front (want_of c) (production l)) x p (front_fits (want_of c) (production k) [] a.walk h m) (front_fits (want_of c) (production l) [] b.walk g m')
     by_front (no' p) = by_label (test (label_pair k l)) (or_else (front_apart (front (want_of c) (production k)) (front (want_of c) (production l))) _ rest p)
 
-no_word : {P : Type 0} → false ≡ true → P
-no_word h = cc
+body_want : (c : Nonterminal) (x : Place) → is_own c ≡ true → in_homes c (homes (program FunctionBody)) ≡ true → meets (want_of c) x ≡ true → meets idle x ≡ true
+body_want Body x o h m = implied shutting idle x refl no_word m
+body_want Stmt x o h m = cc
+body_want SubStmt x o h m = cc
+body_want Item x o h m = cc
+body_want Declaration x o h m = cc
+body_want BlockOnly x o h m = cc
+body_want CatchClause x o h m = cc
+body_want CaseClause x o h m = cc
+body_want Declarators x o h m = cc
+body_want DirectiveOnly x o h m = cc
+body_want _ x o h m = cc
+
+kind_same : (c : Nonterminal) {v w : Surroundings} {x y z : Place} (k : Kind) (cs ds : Forest) → is_own c ≡ true → in_homes c (homes k) ≡ true → (is_body k || row_good false (want_of c) (production k)) ≡ true → IsNode IsRead v false k x cs y → IsNode IsRead w false k x ds z
+    → All cs → kepts cs ≡ true → kepts ds ≡ true → meets (want_of c) y ≡ true → meets (want_of c) z ≡ true → SameRow cs ds y z
+kind_same c {v} {w} {x} {y} {z} k cs ds o i g a b e h h' m n = by_body (test (is_body k))
+  where
+    by_body : Test (is_body k) → SameRow cs ds y z
+    by_body (no' p) = row_same false (want_of c) (production k) [] cs ds (or_else (is_body k) _ g p) no_word a.walk b.walk e h h' m n
+    by_body (yes' p) =
+        let q = body_is k p in
+        let a' : IsNode IsRead v false (program FunctionBody) x cs y = subst (λ k. IsNode IsRead v false k x cs y) q a in
+        let b' : IsNode IsRead w false (program FunctionBody) x ds z = subst (λ k. IsNode IsRead w false k x ds z) q b in
+        let i' = subst (λ k. in_homes c (homes k) ≡ true) q i in
+        body_same Lines Stmt (InCode ∷ []) (rule (program FunctionBody)) cs ds refl refl refl refl (λ ds ts h. h) a'.keeps b'.keeps e h h' a'.walk b'.walk (body_want c y o i' m) (body_want c z o i' n)
 
 node_one : (c : Nonterminal) {v w : Surroundings} {x y z : Place} (k l : Kind) (cs ds : Forest) → is_own c ≡ true → All cs → kept (node k cs) ≡ true → kept (node l ds) ≡ true → IsRead v false c x (node k cs) y → IsRead w false c x (node l ds) z
     → meets (want_of c) y ≡ true → meets (want_of c) z ≡ true → SameAt (node k cs) (node l ds) y z
@@ -236,7 +275,7 @@ node_one c {v} {w} {x} {y} {z} k l cs ds o a h g r s m n = by_place (test (nat_e
         let e : k ≡ l = sym (stated_nth k st) ∙ (ap (nth stated_kinds) (eq_nat {a = place k} {b = place l} p) ∙ stated_nth l sl) in
         let good = or_else (not (in_homes c (homes k))) _ (for_stated (row_told c) (all_rows c o) k st) (ap not i) in
         let s' : IsRead w false c x (node k ds) z = subst (λ l. IsRead w false c x (node l ds) z) (sym e) s in
-        let q = row_same false (want_of c) (production k) [] cs ds good no_word (node_walk false k refl r).walk (node_walk false k refl s').walk a hs gs m n in
+        let q = kind_same c k cs ds o i good (node_walk false k refl r) (node_walk false k refl s') a hs gs m n in
         record { tree = λ i. node (e i) (q.trees i); place = q.place }
 
 one_node : (k : Kind) (cs : Forest) → All cs → One (node k cs)
@@ -277,8 +316,39 @@ whole_read {text = text} t r = record {
   found = ended_found (scan (At [] AfterExpr text) (spelled t)) (and_right (is WholeProgram t) _ r.read);
 }
 
+abbrev program_of : Goal → ProgramKind
+program_of goals.Module = Module
+program_of goals.Script = Script
+
+roots_same : (goal : Goal) {v w : Surroundings} {x y z : Place} (cs ds : Forest) → All cs → kepts cs ≡ true → kepts ds ≡ true → IsRead v false WholeProgram x (node (program (program_of goal)) cs) y → IsRead w false WholeProgram x (node (program (program_of goal)) ds) z
+    → meets idle y ≡ true → meets idle z ≡ true → node (program (program_of goal)) cs ≡ node (program (program_of goal)) ds
+roots_same goals.Module cs ds a h k r s m n =
+    let p = node_walk false (program Module) refl r in
+    let q = node_walk false (program Module) refl s in
+    ap (node (program Module)) (body_same TopLines Item (InModuleCode ∷ []) (rule (program Module)) cs ds refl refl refl refl (λ ds ts h. h) p.keeps q.keeps a h k p.walk q.walk m n).trees
+roots_same goals.Script cs ds a h k r s m n =
+    let p = node_walk false (program Script) refl r in
+    let q = node_walk false (program Script) refl s in
+    ap (node (program Script)) (body_same TopLines Stmt (InCode ∷ []) (rule (program Script)) cs ds refl refl refl refl (λ ds ts h. h) p.keeps q.keeps a h k p.walk q.walk m n).trees
+
+-- the root of a program
+record Root (goal : Goal) (t : Tree) : Type 0 where
+  parts : Forest
+  is_root : t ≡ node (program (program_of goal)) parts
+
+root : (goal : Goal) (t : Tree) → is_goal goal t ≡ true → Root goal t
+root goals.Module (node (program Module) cs) h = record { parts = cs; is_root = refl }
+root goals.Script (node (program Script) cs) h = record { parts = cs; is_root = refl }
+root _ t h = cc
+
 pub one_reading : (goal : Goal) (text : Text) (t u : Tree) → kept t ≡ true → kept u ≡ true → Reads goal text t → Reads goal text u → t ≡ u
 one_reading goal text t u h k r s =
+    let a = root goal t r.of_goal in
+    let b = root goal u s.of_goal in
     let x = At [] AfterExpr text in
-    (own_same WholeProgram t u refl (each t) h k (whole_read t r) (whole_read u s)
-    (end_idle (scan x (spelled t)) (and_right (is WholeProgram t) _ r.read)) (end_idle (scan x (spelled u)) (and_right (is WholeProgram u) _ s.read))).tree
+    let y = scan x (spelled t) in
+    let z = scan x (spelled u) in
+    let e = roots_same goal a.parts b.parts (alls a.parts) (and_right (known (program (program_of goal))) _ (subst (λ t. kept t ≡ true) a.is_root h)) (and_right (known (program (program_of goal))) _ (subst (λ u. kept u ≡ true) b.is_root k))
+    (subst (λ t. IsRead outside false WholeProgram x t y) a.is_root (whole_read t r)) (subst (λ u. IsRead outside false WholeProgram x u z) b.is_root (whole_read u s))
+    (end_idle y (and_right (is WholeProgram t) _ r.read)) (end_idle z (and_right (is WholeProgram u) _ s.read)) in
+    a.is_root ∙ (e ∙ sym b.is_root)
