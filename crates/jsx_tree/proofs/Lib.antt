@@ -9,6 +9,7 @@ pub mod Tokens
 pub mod Apart
 pub mod Signs
 pub mod Rows
+pub mod OneTree
 mod Patterns
 mod Classes
 mod Expressions

@@ -23,3 +23,4 @@ pub mod Stops
 pub mod Answers
 pub mod Texts
 pub mod Grows
+pub mod Decided

@@ -1,0 +1,141 @@
+-- Trees that can be read at their places, and leaves.
+use Rattle.std.proofs.Common.{◌≡◌, ℕ, ◌≤◌, Bool, true, false, not, refl, sym, ◌∙◌, ap, arith}
+use Rattle.std.specs.Prelude.{◌&&◌, ◌||◌, nat_eq, nat_le}
+use Rattle.std.proofs.lemmas.Bool.{le-leb}
+use Rattle.jsx_base.specs.Token.{Text, Operator, TokenKind, IdentifierName, NumericLiteral, BigIntLiteral, StringLiteral, RegExpLiteral, NoSubstitution, TemplateHead, TemplateMiddle, TemplateTail, Elision, kind_number}
+use Rattle.jsx_tree.specs.Signs.{Tok, One}
+use Rattle.jsx_tree.specs.Kinds.{Binds, Assigns, Kind, Tree, leaf, node, list, Forest, none, part}
+use Rattle.jsx_tree.specs.Nonterminals.{Nonterminal, Expr, MemberObject, SimpleTarget, Ident, BindingIdent, Pat, Slot, PatElement, Param, Argument, ArrayItem, NullishLeft, NewCallee, DotObject, in_homes, leaf_in, literal_homes, is_ident, is_value_word}
+use Rattle.jsx_tree.specs.Grammar.{production}
+use Rattle.jsx_tree.specs.Form.{leads}
+use Rattle.jsx_tree.specs.StaticRules.{Surroundings}
+use Rattle.jsx_tree.specs.Reading.{Place, Lost, At, forth}
+use Rattle.jsx_tree.specs.Walk.{IsRead}
+use Rattle.jsx_tree.proofs.Tokens.{and_left, and_right, and_both}
+use Rattle.jsx_tree.proofs.OneTree.Readings.{level, reach, calm, Reads, word}
+use Rattle.jsx_tree.proofs.OneTree.Facts.{never, not_is, le_nat}
+use Rattle.jsx_tree.proofs.OneTree.Places.{needs, kin, is_prop, free, is_seq, taken}
+
+-- ---- trees that can be read at their places
+
+abbrev pub plain_leaf : TokenKind → Bool
+plain_leaf s = nat_eq (kind_number s) 0 || (nat_eq (kind_number s) 2 || (nat_eq (kind_number s) 3 || (nat_eq (kind_number s) 4 || nat_eq (kind_number s) 13)))
+
+abbrev pub is_piece : TokenKind → Bool
+is_piece NoSubstitution = true
+is_piece TemplateHead = true
+is_piece TemplateMiddle = true
+is_piece TemplateTail = true
+is_piece s = false
+
+abbrev pub is_regexp : TokenKind → Bool
+is_regexp RegExpLiteral = true
+is_regexp s = false
+
+abbrev mutual
+  pub tame : Tree → Bool
+  tame (leaf s t) = plain_leaf s || (is_piece s || is_regexp s)
+  tame (node k cs) = (taken k || is_seq k) && tames cs
+  tame (list ts) = tames ts
+
+  pub tames : Forest → Bool
+  tames none = true
+  tames (part t ts) = tame t && tames ts
+
+abbrev mutual
+  pub spine_ok : ℕ → Tree → Bool
+  spine_ok n (leaf s t) = true
+  spine_ok n (node k cs) = nat_le n (level k) && (not (leads (production k)) || first_ok n cs)
+  spine_ok n (list ts) = false
+
+  pub first_ok : ℕ → Forest → Bool
+  first_ok n none = false
+  first_ok n (part t ts) = spine_ok n t
+
+pub record Good (t : Tree) : Type 0 where
+  pub reads : (n : ℕ) (v : Surroundings) (c : Nonterminal) (x y : Place) → IsRead v false c x t y → kin c ≡ true → spine_ok n t ≡ true → calm (needs t) y ≡ true → Reads n x t y
+
+mutual
+  pub data Fine : Tree → Type 0 where
+    fine_leaf : {s : TokenKind} {t : Text} → plain_leaf s ≡ true → Fine (leaf s t)
+    fine_regexp : {t : Text} → Fine (leaf RegExpLiteral t)
+    fine_piece : {s : TokenKind} {t : Text} → is_piece s ≡ true → Fine (leaf s t)
+    fine_node : {k : Kind} {cs : Forest} → taken k ≡ true → is_prop k ≡ false → Good (node k cs) → Fine (node k cs)
+    fine_prop : {k : Kind} {cs : Forest} → taken k ≡ true → is_prop k ≡ true → Fines cs → Fine (node k cs)
+    fine_seq : {k : Kind} {cs : Forest} → is_seq k ≡ true → Fines cs → Fine (node k cs)
+    fine_list : {ts : Forest} → Fines ts → Fine (list ts)
+
+  pub data Fines : Forest → Type 0 where
+    fine_none : Fines none
+    fine_part : {t : Tree} {ts : Forest} → Fine t → Fines ts → Fines (part t ts)
+
+pub calm_more : (n m : ℕ) (x : Place) → n ≤ m → calm n x ≡ true → calm m x ≡ true
+calm_more n m x le c = let l : reach x ≤ n = le_nat c in le-leb (reach x) m (omega (arith, le, l))
+
+-- ---- a leaf
+
+pub one_sign : (x : Place) → forth One x ≡ x
+one_sign Lost = refl
+one_sign (At q e text) = refl
+
+bound_value : (a b : Bool) (t : Text) → (is_ident t && a) ≡ true → (is_ident t || b) ≡ true
+bound_value a b t h = or_in (is_ident t) b (and_left (is_ident t) a h)
+  where
+    or_in : (a b : Bool) → a ≡ true → (a || b) ≡ true
+    or_in true b e = refl
+    or_in false b e = cc
+
+word_kin : (c : Nonterminal) (t : Text) → kin c ≡ true → leaf_in c IdentifierName t ≡ true → is_value_word t ≡ true
+word_kin (Expr n) t k h = and_right (nat_le n 18) (is_value_word t) h
+word_kin MemberObject t k h = h
+word_kin DotObject t k h = h
+word_kin NullishLeft t k h = h
+word_kin NewCallee t k h = h
+word_kin Argument t k h = h
+word_kin ArrayItem t k h = h
+word_kin SimpleTarget t k h = bound_value _ _ t h
+word_kin BindingIdent t k h = bound_value _ _ t h
+word_kin (Pat r) t k h = bound_value _ _ t h
+word_kin (PatElement r) t k h = bound_value _ _ t h
+word_kin (Slot r) t k h = bound_value _ _ t h
+word_kin Param t k h = bound_value _ _ t h
+word_kin Ident t k h = bound_value true _ t (and_both _ _ h refl)
+word_kin _ t k h = cc
+
+pub in_is : {v : Surroundings} {c : Nonterminal} {x y : Place} {s : TokenKind} {t : Text} → IsRead v false c x (leaf s t) y → leaf_in c s t ≡ true
+in_is {c = c} {s = s} {t = t} r = and_left (leaf_in c s t) _ r.is
+
+pub no_piece : (c : Nonterminal) (s : TokenKind) (t : Text) → free c ≡ true → is_piece s ≡ true → leaf_in c s t ≡ true → ⊥
+no_piece c NoSubstitution t f p i = never _ i (not_is _ (and_left (not (in_homes c (literal_homes NoSubstitution))) _ f))
+no_piece c TemplateHead t f p i = never _ i (not_is _ (and_left (not (in_homes c (literal_homes TemplateHead))) _ (and_right (not (in_homes c (literal_homes NoSubstitution))) _ f)))
+no_piece c TemplateMiddle t f p i = never _ i (not_is _ (and_left (not (in_homes c (literal_homes TemplateMiddle))) _ (and_right (not (in_homes c (literal_homes TemplateHead))) _ (and_right (not (in_homes c (literal_homes NoSubstitution))) _ f))))
+no_piece c TemplateTail t f p i = never _ i (not_is _ (and_right (not (in_homes c (literal_homes TemplateMiddle))) _ (and_right (not (in_homes c (literal_homes TemplateHead))) _ (and_right (not (in_homes c (literal_homes NoSubstitution))) _ f))))
+no_piece c _ t f p i = cc
+
+pub kin_free : (c : Nonterminal) → kin c ≡ true → free c ≡ true
+kin_free (Expr n) k = refl
+kin_free MemberObject k = refl
+kin_free DotObject k = refl
+kin_free NullishLeft k = refl
+kin_free SimpleTarget k = refl
+kin_free NewCallee k = refl
+kin_free Ident k = refl
+kin_free BindingIdent k = refl
+kin_free (Pat Binds) k = refl
+kin_free (Pat Assigns) k = refl
+kin_free (PatElement Binds) k = refl
+kin_free (PatElement Assigns) k = refl
+kin_free (Slot Binds) k = refl
+kin_free (Slot Assigns) k = refl
+kin_free Param k = refl
+kin_free Argument k = refl
+kin_free ArrayItem k = refl
+kin_free _ k = cc
+
+pub leaf_reads : (n : ℕ) (s : TokenKind) (t : Text) {v : Surroundings} {c : Nonterminal} {x y : Place} → IsRead v false c x (leaf s t) y → kin c ≡ true → plain_leaf s ≡ true → (nat_eq (kind_number s) 13) ≡ false → Reads n x (leaf s t) y
+leaf_reads n IdentifierName t {c = c} {x} r k p e = word (word_kin c t k (in_is r)) (ap (forth (Tok Operator IdentifierName t)) (sym (one_sign x)) ∙ r.scans) r.found
+leaf_reads n NumericLiteral t {x = x} r k p e = word refl (ap (forth (Tok Operator NumericLiteral t)) (sym (one_sign x)) ∙ r.scans) r.found
+leaf_reads n BigIntLiteral t {x = x} r k p e = word refl (ap (forth (Tok Operator BigIntLiteral t)) (sym (one_sign x)) ∙ r.scans) r.found
+leaf_reads n StringLiteral t {x = x} r k p e = word refl (ap (forth (Tok Operator StringLiteral t)) (sym (one_sign x)) ∙ r.scans) r.found
+leaf_reads n Elision t r k p e = cc
+leaf_reads n _ t r k p e = cc

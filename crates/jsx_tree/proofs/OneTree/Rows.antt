@@ -1,0 +1,218 @@
+-- Two readings of one row from one place are one: once for all rows of statements.
+use Rattle.std.proofs.Common.{◌≡◌, zero, suc, Bool, true, false, not, List, refl, ◌∙◌, ap, subst, arith}
+use Rattle.std.specs.Prelude.{◌&&◌, ◌||◌}
+use Rattle.jsx_base.specs.Token.{Text, TokenKind, IdentifierName}
+use Rattle.jsx_tree.specs.Kinds.{Binds, Seq, Kind, expression, Tree, leaf, node, list, Forest, none, part}
+use Rattle.jsx_tree.specs.Nonterminals.{Nonterminal, Expr, Pat, Stmt, SubStmt, Item, Declaration, BlockOnly, CatchClause, CaseClause, Declarators, Body, DirectiveOnly, homes, in_homes, leaf_in}
+use Rattle.jsx_tree.specs.Grammar.{Context, Production}
+use Rattle.jsx_tree.specs.StaticRules.{Surroundings}
+use Rattle.jsx_tree.specs.Reading.{Place}
+use Rattle.jsx_tree.proofs.Tokens.{and_left, and_right}
+use Rattle.jsx_tree.specs.Walk as W
+use Rattle.jsx_tree.specs.Walk.{pieces, IsRead}
+use Rattle.jsx_tree.proofs.OneTree.Table.{kinds}
+use Rattle.jsx_tree.proofs.OneTree.Statements.{stated}
+use Rattle.jsx_tree.proofs.OneTree.Checks.{every}
+use Rattle.jsx_tree.proofs.OneTree.Facts.{never, or_else, not_is, Test, yes', no', test, for_kind}
+use Rattle.jsx_tree.proofs.OneTree.Places.{taken, is_seq}
+use Rattle.jsx_tree.proofs.OneTree.Spines.{seq_is, taken_scope}
+use Rattle.jsx_tree.proofs.OneTree.Endings.{after}
+use Rattle.jsx_tree.proofs.OneTree.Afters.{after_tree}
+use Rattle.jsx_tree.proofs.OneTree.Parts.{known, kept, kepts, tame_of, calm_most, SameAt, expr_same, whole_same, wordy, word_read, word_same}
+use Rattle.jsx_tree.proofs.OneTree.Wants.{Want, ended, meets, is_calm, follow, follow_meets}
+use Rattle.jsx_tree.proofs.OneTree.Begins.{is_own, want_of}
+
+-- ---- trees for which the law is known
+
+pub record One (t : Tree) : Type 0 where
+  pub one : (c : Nonterminal) (u : Tree) {v w : Surroundings} {x y z : Place} → is_own c ≡ true → kept t ≡ true → kept u ≡ true → IsRead v false c x t y → IsRead w false c x u z
+      → meets (want_of c) y ≡ true → meets (want_of c) z ≡ true → SameAt t u y z
+
+pub data Each : Tree → Type 0 where
+  each_leaf : {s : TokenKind} {t : Text} → Each (leaf s t)
+  each_node : {k : Kind} {cs : Forest} → One (node k cs) → Each (node k cs)
+  each_none : Each (list none)
+  each_part : {t : Tree} {ts : Forest} → Each t → Each (list ts) → Each (list (part t ts))
+
+-- the parts of a node, as a list
+abbrev pub All : Forest → Type 0
+All ts = Each (list ts)
+
+pub all_parts : {t : Tree} {ts : Forest} → All (part t ts) → Each t × All ts
+all_parts (each_part e es) = (e, es)
+
+-- ---- own places
+
+own_clean : (c : Nonterminal) → is_own c ≡ true → every (λ k. not (in_homes c (homes k))) kinds ≡ true
+own_clean Stmt o = refl
+own_clean SubStmt o = refl
+own_clean Item o = refl
+own_clean Declaration o = refl
+own_clean BlockOnly o = refl
+own_clean CatchClause o = refl
+own_clean CaseClause o = refl
+own_clean Declarators o = refl
+own_clean Body o = refl
+own_clean DirectiveOnly o = refl
+own_clean _ o = cc
+
+own_seq : (c : Nonterminal) → is_own c ≡ true → in_homes c (homes (expression Seq)) ≡ false
+own_seq Stmt o = refl
+own_seq SubStmt o = refl
+own_seq Item o = refl
+own_seq Declaration o = refl
+own_seq BlockOnly o = refl
+own_seq CatchClause o = refl
+own_seq CaseClause o = refl
+own_seq Declarators o = refl
+own_seq Body o = refl
+own_seq DirectiveOnly o = refl
+own_seq _ o = cc
+
+pub own_leaf : (c : Nonterminal) (s : TokenKind) (t : Text) → is_own c ≡ true → leaf_in c s t ≡ true → ⊥
+own_leaf Stmt IdentifierName t o h = cc
+own_leaf Stmt _ t o h = cc
+own_leaf SubStmt IdentifierName t o h = cc
+own_leaf SubStmt _ t o h = cc
+own_leaf Item IdentifierName t o h = cc
+own_leaf Item _ t o h = cc
+own_leaf Declaration IdentifierName t o h = cc
+own_leaf Declaration _ t o h = cc
+own_leaf BlockOnly IdentifierName t o h = cc
+own_leaf BlockOnly _ t o h = cc
+own_leaf CatchClause IdentifierName t o h = cc
+own_leaf CatchClause _ t o h = cc
+own_leaf CaseClause IdentifierName t o h = cc
+own_leaf CaseClause _ t o h = cc
+own_leaf Declarators IdentifierName t o h = cc
+own_leaf Declarators _ t o h = cc
+own_leaf Body IdentifierName t o h = cc
+own_leaf Body _ t o h = cc
+own_leaf DirectiveOnly IdentifierName t o h = cc
+own_leaf DirectiveOnly _ t o h = cc
+own_leaf _ s t o h = cc
+
+-- what stands at such a place is a statement's kind
+pub own_kind : (c : Nonterminal) (k : Kind) → is_own c ≡ true → known k ≡ true → in_homes c (homes k) ≡ true → stated k ≡ true
+own_kind c k o h i = by_stated (test (stated k))
+  where
+    or_other : (a b : Bool) → (a || b) ≡ true → b ≡ false → a ≡ true
+    or_other true b e f = refl
+    or_other false b e f = absurd (never b e f)
+
+    by_taken : Test (taken k) → stated k ≡ false → stated k ≡ true
+    by_taken (yes' t) n = absurd (never (in_homes c (homes k)) i (not_is _ (for_kind (λ k. not (in_homes c (homes k))) (own_clean c o) k (taken_scope k t))))
+    by_taken (no' t) n = absurd (never (in_homes c (homes k)) i (ap (λ k. in_homes c (homes k)) (seq_is k (or_else (taken k) (is_seq k) (or_other (taken k || is_seq k) (stated k) h n) t)) ∙ own_seq c o))
+
+    by_stated : Test (stated k) → stated k ≡ true
+    by_stated (yes' t) = t
+    by_stated (no' n) = by_taken (test (taken k)) n
+
+pub own_same : (c : Nonterminal) {v w : Surroundings} {x y z : Place} (t u : Tree) → is_own c ≡ true → Each t → kept t ≡ true → kept u ≡ true → IsRead v false c x t y → IsRead w false c x u z → meets (want_of c) y ≡ true → meets (want_of c) z ≡ true → SameAt t u y z
+own_same c (leaf s t) u o each_leaf h g r p m n = absurd (own_leaf c s t o (and_left (leaf_in c s t) _ r.is))
+own_same c (node k cs) u o (each_node e) h g r p m n = e.one c u o h g r p m n
+own_same c (list ts) u o e h g r p m n = let bad = r.is in cc
+
+-- ---- a part of a row
+
+abbrev pub is_whole : Nonterminal → Bool
+is_whole (Expr zero) = true
+is_whole c = false
+
+abbrev pub is_single : Nonterminal → Bool
+is_single (Expr (suc zero)) = true
+is_single c = false
+
+abbrev pub is_pattern : Nonterminal → Bool
+is_pattern (Pat Binds) = true
+is_pattern c = false
+
+pub whole_is : (c : Nonterminal) → is_whole c ≡ true → c ≡ Expr 0
+whole_is (Expr zero) h = refl
+whole_is (Expr (suc n)) h = cc
+whole_is _ h = cc
+
+single_is : (c : Nonterminal) → is_single c ≡ true → c ≡ Expr 1
+single_is (Expr zero) h = cc
+single_is (Expr (suc zero)) h = refl
+single_is (Expr (suc (suc n))) h = cc
+single_is _ h = cc
+
+pattern_is : (c : Nonterminal) → is_pattern c ≡ true → c ≡ Pat Binds
+pattern_is (Pat Binds) h = refl
+pattern_is (Pat _) h = cc
+pattern_is _ h = cc
+
+abbrev pub part_good : Want → Production → Nonterminal → Bool
+part_good e ps c = (is_whole c && follow e ps (ended 0)) || ((is_single c && follow e ps (ended 1)) || (is_pattern c || (wordy c || (is_own c && follow e ps (want_of c)))))
+
+-- two readings of what stands behind a part
+pub record Rest (V : List Context → Surroundings) (a : List Context) (e : Want) (ps : Production) (y : Place) : Type 0 where
+  pub trees : Forest
+  pub end : Place
+  pub walk : W.Walk IsRead V (pieces a ps) y trees end
+  pub good : kepts trees ≡ true
+  pub ends : meets e end ≡ true
+
+pub rest_meets : {V : List Context → Surroundings} {a : List Context} {e : Want} {ps : Production} {y : Place} (w : Want) → Rest V a e ps y → follow e ps w ≡ true → (is_calm w ≡ true → after y ≡ true) → meets w y ≡ true
+rest_meets {a = a} {e} {ps} w r h c = follow_meets e ps w a h c r.walk r.good r.ends
+
+whole_part : {V V' : List Context → Surroundings} {v v' : Surroundings} {a : List Context} {e : Want} {ps : Production} {x y z : Place} (t u : Tree) → follow e ps (ended 0) ≡ true → kept t ≡ true → kept u ≡ true
+    → IsRead v false (Expr 0) x t y → IsRead v' false (Expr 0) x u z → Rest V a e ps y → Rest V' a e ps z → SameAt t u y z
+whole_part t u h k l r s p q =
+    let i = tame_of t (Expr 0) refl k r.is in
+    let j = tame_of u (Expr 0) refl l s.is in
+    whole_same t u i j r s (rest_meets (ended 0) p h (λ _. after_tree t (Expr 0) i refl r)) (rest_meets (ended 0) q h (λ _. after_tree u (Expr 0) j refl s))
+
+single_part : {V V' : List Context → Surroundings} {v v' : Surroundings} {a : List Context} {e : Want} {ps : Production} {x y z : Place} (t u : Tree) → follow e ps (ended 1) ≡ true → kept t ≡ true → kept u ≡ true
+    → IsRead v false (Expr 1) x t y → IsRead v' false (Expr 1) x u z → Rest V a e ps y → Rest V' a e ps z → SameAt t u y z
+single_part t u h k l r s p q =
+    let i = tame_of t (Expr 1) refl k r.is in
+    let j = tame_of u (Expr 1) refl l s.is in
+    expr_same 1 1 (Expr 1) t u (omega arith) (record { kin' = refl; home' = refl; ended' = refl; seq' = refl }) refl i j r s (rest_meets (ended 1) p h (λ _. after_tree t (Expr 1) i refl r)) (rest_meets (ended 1) q h (λ _. after_tree u (Expr 1) j refl s))
+
+pattern_part : {v v' : Surroundings} {x y z : Place} (t u : Tree) → kept t ≡ true → kept u ≡ true → IsRead v false (Pat Binds) x t y → IsRead v' false (Pat Binds) x u z → SameAt t u y z
+pattern_part {y = y} {z} t u k l r s =
+    expr_same 19 19 (Pat Binds) t u (omega arith) (record { kin' = refl; home' = refl; ended' = refl; seq' = refl }) refl (tame_of t (Pat Binds) refl k r.is) (tame_of u (Pat Binds) refl l s.is) r s (calm_most y) (calm_most z)
+
+move_place : {v : Surroundings} {c d : Nonterminal} {x y : Place} {t : Tree} → c ≡ d → IsRead v false c x t y → IsRead v false d x t y
+move_place {v} {x = x} {y} {t} e r = subst (λ c. IsRead v false c x t y) e r
+
+pub part_same : {V V' : List Context → Surroundings} {v v' : Surroundings} {a : List Context} {e : Want} {ps : Production} (c : Nonterminal) {x y z : Place} (t u : Tree) → part_good e ps c ≡ true → Each t → kept t ≡ true → kept u ≡ true
+    → IsRead v false c x t y → IsRead v' false c x u z → Rest V a e ps y → Rest V' a e ps z → SameAt t u y z
+part_same {e = e} {ps} c {x} {y} {z} t u h f k l r s p q = by_whole (test (is_whole c && follow e ps (ended 0)))
+  where
+    by_own : (is_own c && follow e ps (want_of c)) ≡ true → SameAt t u y z
+    by_own g =
+        let o = and_left (is_own c) _ g in
+        let i = and_right (is_own c) _ g in
+        own_same c t u o f k l r s (rest_meets (want_of c) p i (no_calm c o)) (rest_meets (want_of c) q i (no_calm c o))
+      where
+        no_calm : (c : Nonterminal) {P : Type 0} → is_own c ≡ true → is_calm (want_of c) ≡ true → P
+        no_calm Stmt o h = cc
+        no_calm SubStmt o h = cc
+        no_calm Item o h = cc
+        no_calm Declaration o h = cc
+        no_calm BlockOnly o h = cc
+        no_calm CatchClause o h = cc
+        no_calm CaseClause o h = cc
+        no_calm Declarators o h = cc
+        no_calm Body o h = cc
+        no_calm DirectiveOnly o h = cc
+        no_calm _ o h = cc
+
+    by_word : Test (wordy c) → (wordy c || (is_own c && follow e ps (want_of c))) ≡ true → SameAt t u y z
+    by_word (yes' w) g = word_same (word_read c t w k r) (word_read c u w l s)
+    by_word (no' w) g = by_own (or_else (wordy c) _ g w)
+
+    by_pattern : Test (is_pattern c) → (is_pattern c || (wordy c || (is_own c && follow e ps (want_of c)))) ≡ true → SameAt t u y z
+    by_pattern (yes' w) g = pattern_part t u k l (move_place (pattern_is c w) r) (move_place (pattern_is c w) s)
+    by_pattern (no' w) g = by_word (test (wordy c)) (or_else (is_pattern c) _ g w)
+
+    by_single : Test (is_single c && follow e ps (ended 1)) → ((is_single c && follow e ps (ended 1)) || (is_pattern c || (wordy c || (is_own c && follow e ps (want_of c))))) ≡ true → SameAt t u y z
+    by_single (yes' w) g = let i = single_is c (and_left (is_single c) _ w) in single_part t u (and_right (is_single c) _ w) k l (move_place i r) (move_place i s) p q
+    by_single (no' w) g = by_pattern (test (is_pattern c)) (or_else (is_single c && follow e ps (ended 1)) _ g w)
+
+    by_whole : Test (is_whole c && follow e ps (ended 0)) → SameAt t u y z
+    by_whole (yes' w) = let i = whole_is c (and_left (is_whole c) _ w) in whole_part t u (and_right (is_whole c) _ w) k l (move_place i r) (move_place i s) p q
+    by_whole (no' w) = by_single (test (is_single c && follow e ps (ended 1))) (or_else (is_whole c && follow e ps (ended 0)) _ h w)

@@ -1,0 +1,70 @@
+-- The kinds of statements, and of what stands in them, in a list.
+use Rattle.std.specs.Prelude.{ℕ, zero, suc, List, [], ◌∷◌, Bool, true, false}
+use Rattle.jsx_tree.specs.Kinds.{Script, Module, FunctionBody, Directive, Var, VarWord, LetWord, ConstWord, Block, Declarator, Empty, ExprStmt, If, Do, While, Continue, Break, Return, Throw, Debugger, Label, Switch, Case, Default, Try, Catch, FunctionDecl, Kind, program, statement}
+
+abbrev pub stated : Kind → Bool
+stated (program Script) = true
+stated (program Module) = true
+stated (program FunctionBody) = true
+stated (program Directive) = true
+stated (statement Block) = true
+stated (statement (Var VarWord)) = true
+stated (statement (Var LetWord)) = true
+stated (statement (Var ConstWord)) = true
+stated (statement Declarator) = true
+stated (statement Empty) = true
+stated (statement ExprStmt) = true
+stated (statement If) = true
+stated (statement Do) = true
+stated (statement While) = true
+stated (statement Continue) = true
+stated (statement Break) = true
+stated (statement Return) = true
+stated (statement Throw) = true
+stated (statement Debugger) = true
+stated (statement Label) = true
+stated (statement Switch) = true
+stated (statement Case) = true
+stated (statement Default) = true
+stated (statement Try) = true
+stated (statement Catch) = true
+stated (statement FunctionDecl) = true
+stated k = false
+
+abbrev pub place : Kind → ℕ
+place (program Script) = 0
+place (program Module) = 1
+place (program FunctionBody) = 2
+place (program Directive) = 3
+place (statement Block) = 4
+place (statement (Var VarWord)) = 5
+place (statement (Var LetWord)) = 6
+place (statement (Var ConstWord)) = 7
+place (statement Declarator) = 8
+place (statement Empty) = 9
+place (statement ExprStmt) = 10
+place (statement If) = 11
+place (statement Do) = 12
+place (statement While) = 13
+place (statement Continue) = 14
+place (statement Break) = 15
+place (statement Return) = 16
+place (statement Throw) = 17
+place (statement Debugger) = 18
+place (statement Label) = 19
+place (statement Switch) = 20
+place (statement Case) = 21
+place (statement Default) = 22
+place (statement Try) = 23
+place (statement Catch) = 24
+place (statement FunctionDecl) = 25
+place k = 0
+
+abbrev pub stated_kinds : List Kind
+stated_kinds =
+    program Script ∷ program Module ∷ program FunctionBody ∷ program Directive ∷ statement Block ∷ statement (Var VarWord) ∷ statement (Var LetWord) ∷ statement (Var ConstWord) ∷ statement Declarator ∷ statement Empty ∷ statement ExprStmt ∷ statement If ∷ statement Do ∷ statement While ∷ statement Continue ∷ statement Break ∷ statement Return ∷ statement Throw ∷ statement Debugger ∷ statement Label ∷ statement Switch ∷ statement Case ∷ statement Default ∷ statement Try ∷ statement Catch ∷ statement FunctionDecl ∷ []
+
+abbrev pub nth : List Kind → ℕ → Kind
+nth [] n = program Script
+nth (k ∷ ks) zero = k
+nth (k ∷ ks) (suc n) = nth ks n

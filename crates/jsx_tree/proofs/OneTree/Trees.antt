@@ -1,0 +1,354 @@
+-- A text has one tree: two kinds at one place begin with tokens that differ, and one kind reads its row in one way.
+use Rattle.std.proofs.Common.{◌≡◌, Bool, true, false, not, List, [], ◌∷◌, refl, sym, ◌∙◌, ap, subst, arith}
+use Rattle.std.specs.Prelude.{IsTrue, ◌&&◌, ◌||◌, nat_eq, nat_le, codes}
+use Rattle.jsx_base.specs.Token.{Text, Operator, TokenKind, IdentifierName, Punctuator, kind_number, among, same, breaks}
+use Rattle.jsx_tree.specs.declared.text.Goal.{Goal}
+use Rattle.jsx_tree.specs.declared.text.Goal.TheVariants as goals
+use Rattle.jsx_tree.specs.Signs.{Tok, Semicolon, Unless, AfterExpr}
+use Rattle.jsx_tree.specs.Kinds.{ProgramKind, Module, Script, FunctionBody, ExprStmt, Label, Kind, program, statement, Tree, leaf, node, list, Forest, none, part}
+use Rattle.jsx_tree.specs.Nonterminals.{Nonterminal, Expr, Ident, Stmt, SubStmt, Item, Declaration, BlockOnly, CatchClause, CaseClause, Declarators, Body, DirectiveOnly, WholeProgram, homes, in_homes, leaf_in, is_ident}
+use Rattle.jsx_tree.specs.Grammar.{heads, Lines, TopLines, InCode, InModuleCode, production}
+use Rattle.jsx_tree.specs.Form.{admits, is, fits_below}
+use Rattle.jsx_tree.specs.StaticRules.{Surroundings, outside, rule}
+use Rattle.jsx_tree.specs.Spelling.{spelled}
+use Rattle.jsx_tree.specs.Reading.{Place, Lost, At, forth, scan, continues, ended_at}
+use Rattle.jsx_tree.specs.Program.{is_goal, Reads}
+use Rattle.jsx_tree.proofs.Tokens.{and_left, and_right}
+use Rattle.jsx_tree.specs.Walk.{is_found, IsRead, IsNode}
+use Rattle.jsx_tree.proofs.OneTree.Statements.{stated, place, stated_kinds, nth}
+use Rattle.jsx_tree.proofs.OneTree.Readings as R
+use Rattle.jsx_tree.proofs.OneTree.Readings.{Whole, single, several, calm, reach_of, kind_at, text_at, broken}
+use Rattle.jsx_tree.proofs.OneTree.Checks.{every, starts, same_token}
+use Rattle.jsx_tree.proofs.OneTree.Facts.{never, or_else, not_is, Test, yes', no', test, eq_nat, Seen, took}
+use Rattle.jsx_tree.proofs.OneTree.Growths.{split}
+use Rattle.jsx_tree.proofs.OneTree.Pairs.{ends, two_tokens}
+use Rattle.jsx_tree.proofs.OneTree.Agreeing.{passes}
+use Rattle.jsx_tree.proofs.Rows.Bridge.{node_walk}
+use Rattle.jsx_tree.proofs.OneTree.Apart.{at_sign, at_part}
+use Rattle.jsx_tree.proofs.OneTree.Fine.{calm_more}
+use Rattle.jsx_tree.proofs.OneTree.Spines.{home_of}
+use Rattle.jsx_tree.proofs.OneTree.Placed.{whole_reads}
+use Rattle.jsx_tree.proofs.OneTree.Chains.{fine}
+use Rattle.jsx_tree.proofs.OneTree.StatementList.{stated_nth, for_stated}
+use Rattle.jsx_tree.proofs.OneTree.Endings.{after, at_semi}
+use Rattle.jsx_tree.proofs.OneTree.Ends.{end_kind}
+use Rattle.jsx_tree.proofs.OneTree.Missing.{Behind, a_mark, a_brace, a_line, behind}
+use Rattle.jsx_tree.proofs.OneTree.Afters.{after_tok, after_tree}
+use Rattle.jsx_tree.proofs.OneTree.Parts.{known, kept, kepts, tame_of, SameAt, word_read}
+use Rattle.jsx_tree.proofs.OneTree.Wants.{idle, shutting, idle_at, meets, implied, mark, is_seen, look_same}
+use Rattle.jsx_tree.proofs.OneTree.Begins.{is_own, want_of, Front, token', expr', name', front, fits, front_fits}
+use Rattle.jsx_tree.proofs.OneTree.Rows.{One, Each, each_leaf, each_node, each_none, each_part, All, own_leaf, own_kind}
+use Rattle.jsx_tree.proofs.OneTree.Lists.{SameRow}
+use Rattle.jsx_tree.proofs.OneTree.Same.{row_good, row_same}
+use Rattle.jsx_tree.proofs.OneTree.Directives.{body_same}
+
+-- ---- fronts that differ
+
+abbrev pub front_apart : Front → Front → Bool
+front_apart (token' k t) (token' l u) = not (same_token k t l u)
+front_apart (token' k t) (expr' ts) = not (starts (kind_number k) t) || among t ts
+front_apart (expr' ts) (token' k t) = not (starts (kind_number k) t) || among t ts
+front_apart (token' k t) name' = not (nat_eq (kind_number k) 0 && is_ident t)
+front_apart name' (token' k t) = not (nat_eq (kind_number k) 0 && is_ident t)
+front_apart f g = false
+
+token_expr : (k : TokenKind) (t : Text) (ts : List Text) (x : Place) → (not (starts (kind_number k) t) || among t ts) ≡ true → fits (token' k t) x ≡ true → fits (expr' ts) x ≡ true → ⊥
+token_expr k t ts x h f g = by_start (test (not (starts (kind_number k) t)))
+  where
+    s : Seen x k t
+    s = is_seen x k t f
+
+    by_start : Test (not (starts (kind_number k) t)) → ⊥
+    by_start (yes' n) = never (starts (kind_number k) t) ((λ i. starts (sym s.kind i) (sym s.text i)) ∙ and_left (starts (kind_at x) (text_at x)) _ g) (not_is _ n)
+    by_start (no' n) = never (among t ts) (or_else (not (starts (kind_number k) t)) _ h n) (ap (λ u. among u ts) (sym s.text) ∙ not_is _ (and_right (starts (kind_at x) (text_at x)) _ g))
+
+token_name : (k : TokenKind) (t : Text) (x : Place) → not (nat_eq (kind_number k) 0 && is_ident t) ≡ true → fits (token' k t) x ≡ true → fits name' x ≡ true → ⊥
+token_name k t x h f g =
+    let s = is_seen x k t f in
+    never (nat_eq (kind_number k) 0 && is_ident t) ((λ i. nat_eq (sym s.kind i) 0 && is_ident (sym s.text i)) ∙ g) (not_is _ h)
+
+fronts_apart : (f g : Front) (x : Place) → front_apart f g ≡ true → fits f x ≡ true → fits g x ≡ true → ⊥
+fronts_apart (token' k t) (token' l u) x h f g = two_tokens (is_seen x k t f) (is_seen x l u g) (not_is _ h)
+fronts_apart (token' k t) (expr' ts) x h f g = token_expr k t ts x h f g
+fronts_apart (expr' ts) (token' k t) x h f g = token_expr k t ts x h g f
+fronts_apart (token' k t) name' x h f g = token_name k t x h f g
+fronts_apart name' (token' k t) x h f g = token_name k t x h g f
+fronts_apart _ _ x h f g = cc
+
+-- ---- a label and an expression
+
+ident_word : (s : TokenKind) (t : Text) → leaf_in Ident s t ≡ true → R.may_be s t ≡ true
+ident_word IdentifierName t h = or_left (is_ident t) _ h
+  where
+    or_left : (a b : Bool) → a ≡ true → (a || b) ≡ true
+    or_left true b h = refl
+    or_left false b h = cc
+ident_word _ t h = cc
+
+colon_calm : (x : Place) → Seen x Punctuator (codes ":") → calm 1 x ≡ true
+colon_calm x s = (λ i. nat_le (reach_of (s.kind i) (s.text i) (broken x)) 1)
+
+-- no semicolon is missing before a `:`
+colon_semi : (x : Place) → after x ≡ true → Seen x Punctuator (codes ":") → IsTrue (is_found (forth Semicolon x)) → ⊥
+colon_semi (At q AfterExpr text) a s f = by_behind (behind q AfterExpr text refl f (ap (λ k. nat_eq k 14) s.kind))
+  where
+    by_behind : Behind AfterExpr q (breaks text) (kind_at (At q AfterExpr text)) (text_at (At q AfterExpr text)) → ⊥
+    by_behind (a_mark k t) = never (same (codes ":") (codes ";")) (ap (λ u. same u (codes ";")) (sym s.text ∙ t)) refl
+    by_behind (a_brace k t) = never (same (codes ":") (codes "}")) (ap (λ u. same u (codes "}")) (sym s.text ∙ t)) refl
+    by_behind (a_line b' c) = never (continues AfterExpr q (codes ":")) refl (ap (continues AfterExpr q) (sym s.text) ∙ c)
+colon_semi _ a s f = cc
+
+-- a name before a `:` begins no expression statement
+name_colon : (k : TokenKind) (t : Text) {x p q y : Place} {e : Tree} → leaf_in Ident k t ≡ true → forth (Tok Operator k t) x ≡ p → IsTrue (is_found p) → forth (mark (codes ":")) p ≡ q → IsTrue (is_found q) → Whole x e y → IsTrue (is_found (forth Semicolon y)) → ⊥
+name_colon k t {x} {p} {q} {y} d i f g n w s = by_whole w s
+  where
+    colon : Seen p Punctuator (codes ":")
+    colon = took Punctuator (codes ":") p g n
+
+    name : R.Reads 1 x (leaf k t) p
+    name = R.word (ident_word k t d) i f
+
+    by_whole : {u : Tree} {z : Place} → Whole x u z → IsTrue (is_found (forth Semicolon z)) → ⊥
+    by_whole (single {y = z} r c) s =
+        let o = ends (passes name (omega arith) (split r (omega arith)) (calm_more 0 1 z (omega arith) c)) (colon_calm p colon) in
+        colon_semi p (after_tok Operator k t x i f) colon (subst (λ z. IsTrue (is_found (forth Semicolon z))) (sym o.place) s)
+    by_whole (several {y = z} r c g' n' w') s =
+        let o = ends (passes name (omega arith) (split r (omega arith)) c) (colon_calm p colon) in
+        two_tokens colon (subst (λ z. Seen z Punctuator (codes ",")) (sym o.place) (took Punctuator (codes ",") z g' n')) refl
+
+label_apart : {v w : Surroundings} {x y z : Place} (cs ds : Forest) → kepts cs ≡ true → kepts ds ≡ true → IsNode IsRead v false (statement Label) x cs y → IsNode IsRead w false (statement ExprStmt) x ds z → ⊥
+label_apart {x = x} cs ds h k a b =
+    let p = at_part a.walk in
+    let c = at_sign p.walk in
+    let w = word_read Ident p.tree refl (and_left (kept p.tree) _ (subst (λ ts. kepts ts ≡ true) p.is h)) p.read in
+    let s = at_sign b.walk in
+    let e = at_part s.walk in
+    let i = tame_of e.tree (Expr 0) refl (and_left (kept e.tree) _ (subst (λ ts. kepts ts ≡ true) e.is k)) e.read.is in
+    let m = at_sign e.walk in
+    let f = subst (λ z. IsTrue (is_found z)) (sym m.moves) m.found in
+    let whole = whole_reads e.tree (fine e.tree i) i e.read (at_semi e.next (after_tree e.tree (Expr 0) i refl e.read) f) in
+    let back = unless_place heads x s.next s.moves s.found in
+    name_colon w.kind w.text (and_left (leaf_in Ident w.kind w.text) _ (subst (λ t. is Ident t ≡ true) w.is_leaf p.read.is)) w.moves w.found c.moves c.found (subst (λ z. Whole z e.tree e.next) (sym back) whole) f
+  where
+    unless_place : (ts : List Text) (x y : Place) → forth (Unless ts) x ≡ y → IsTrue (is_found y) → x ≡ y
+    unless_place ts x y e f = look_same (Unless ts) x y refl e f
+
+no_word : {P : Type 0} → false ≡ true → P
+no_word h = cc
+
+-- ---- two kinds at one place
+
+abbrev pub label_pair : Kind → Kind → Bool
+label_pair (statement Label) (statement ExprStmt) = true
+label_pair k l = false
+
+abbrev pub pair_told : Nonterminal → Kind → Kind → Bool
+pair_told c k l =
+    not (in_homes c (homes k)) || (not (in_homes c (homes l)) || (nat_eq (place k) (place l)
+    || (front_apart (front (want_of c) (production k)) (front (want_of c) (production l)) || (label_pair k l || label_pair l k))))
+
+abbrev pub pairs_told : Nonterminal → Bool
+pairs_told c = every (λ k. every (pair_told c k) stated_kinds) stated_kinds
+
+-- what holds directives
+abbrev pub is_body : Kind → Bool
+is_body (program FunctionBody) = true
+is_body k = false
+
+body_is : (k : Kind) → is_body k ≡ true → k ≡ program FunctionBody
+body_is (program FunctionBody) h = refl
+body_is (program _) h = cc
+body_is _ h = cc
+
+abbrev pub row_told : Nonterminal → Kind → Bool
+row_told c k = not (in_homes c (homes k)) || (is_body k || row_good false (want_of c) (production k))
+
+all_pairs : (c : Nonterminal) → is_own c ≡ true → pairs_told c ≡ true
+all_pairs Stmt o = refl
+all_pairs SubStmt o = refl
+all_pairs Item o = refl
+all_pairs Declaration o = refl
+all_pairs BlockOnly o = refl
+all_pairs CatchClause o = refl
+all_pairs CaseClause o = refl
+all_pairs Declarators o = refl
+all_pairs Body o = refl
+all_pairs DirectiveOnly o = refl
+all_pairs _ o = cc
+
+all_rows : (c : Nonterminal) → is_own c ≡ true → every (row_told c) stated_kinds ≡ true
+all_rows Stmt o = refl
+all_rows SubStmt o = refl
+all_rows Item o = refl
+all_rows Declaration o = refl
+all_rows BlockOnly o = refl
+all_rows CatchClause o = refl
+all_rows CaseClause o = refl
+all_rows Declarators o = refl
+all_rows Body o = refl
+all_rows DirectiveOnly o = refl
+all_rows _ o = cc
+
+label_is : (k l : Kind) → label_pair k l ≡ true → (k ≡ statement Label) × (l ≡ statement ExprStmt)
+label_is (statement Label) (statement ExprStmt) h = (refl, refl)
+label_is (statement Label) (statement _) h = cc
+label_is (statement Label) _ h = cc
+label_is (statement _) l h = cc
+label_is _ l h = cc
+
+pair_apart : {v w : Surroundings} {x y z : Place} (k l : Kind) (cs ds : Forest) → label_pair k l ≡ true → kepts cs ≡ true → kepts ds ≡ true → IsNode IsRead v false k x cs y → IsNode IsRead w false l x ds z → ⊥
+pair_apart {v} {w} {x} {y} {z} k l cs ds p h g a b =
+    let i = label_is k l p in
+    label_apart cs ds h g (subst (λ k. IsNode IsRead v false k x cs y) i.0 a) (subst (λ l. IsNode IsRead w false l x ds z) i.1 b)
+
+-- ---- a node
+
+kind_apart : (c : Nonterminal) {v w : Surroundings} {x y z : Place} (k l : Kind) (cs ds : Forest) → is_own c ≡ true → stated k ≡ true → stated l ≡ true → in_homes c (homes k) ≡ true → in_homes c (homes l) ≡ true → nat_eq (place k) (place l) ≡ false
+    → kepts cs ≡ true → kepts ds ≡ true → IsNode IsRead v false k x cs y → IsNode IsRead w false l x ds z → meets (want_of c) y ≡ true → meets (want_of c) z ≡ true → ⊥
+kind_apart c {x = x} k l cs ds o s t i j n h g a b m m' = by_front (test (front_apart (front (want_of c) (production k)) (front (want_of c) (production l))))
+  where
+    told : pair_told c k l ≡ true
+    told = for_stated (pair_told c k) (for_stated (λ k. every (pair_told c k) stated_kinds) (all_pairs c o) k s) l t
+
+    rest : (front_apart (front (want_of c) (production k)) (front (want_of c) (production l)) || (label_pair k l || label_pair l k)) ≡ true
+    rest = or_else (nat_eq (place k) (place l)) _ (or_else (not (in_homes c (homes l))) _ (or_else (not (in_homes c (homes k))) _ told (ap not i)) (ap not j)) n
+
+    by_label : Test (label_pair k l) → (label_pair k l || label_pair l k) ≡ true → ⊥
+    by_label (yes' p) r = pair_apart k l cs ds p h g a b
+    by_label (no' p) r = pair_apart l k ds cs (or_else (label_pair k l) _ r p) g h b a
+
+    by_front : Test (front_apart (front (want_of c) (production k)) (front (want_of c) (production l))) → ⊥
+    by_front (yes' p) = fronts_apart (front (want_of c) (production k)) (front (want_of c) (production l)) x p (front_fits (want_of c) (production k) [] a.walk h m) (front_fits (want_of c) (production l) [] b.walk g m')
+    by_front (no' p) = by_label (test (label_pair k l)) (or_else (front_apart (front (want_of c) (production k)) (front (want_of c) (production l))) _ rest p)
+
+body_want : (c : Nonterminal) (x : Place) → is_own c ≡ true → in_homes c (homes (program FunctionBody)) ≡ true → meets (want_of c) x ≡ true → meets idle x ≡ true
+body_want Body x o h m = implied shutting idle x refl no_word m
+body_want Stmt x o h m = cc
+body_want SubStmt x o h m = cc
+body_want Item x o h m = cc
+body_want Declaration x o h m = cc
+body_want BlockOnly x o h m = cc
+body_want CatchClause x o h m = cc
+body_want CaseClause x o h m = cc
+body_want Declarators x o h m = cc
+body_want DirectiveOnly x o h m = cc
+body_want _ x o h m = cc
+
+kind_same : (c : Nonterminal) {v w : Surroundings} {x y z : Place} (k : Kind) (cs ds : Forest) → is_own c ≡ true → in_homes c (homes k) ≡ true → (is_body k || row_good false (want_of c) (production k)) ≡ true → IsNode IsRead v false k x cs y → IsNode IsRead w false k x ds z
+    → All cs → kepts cs ≡ true → kepts ds ≡ true → meets (want_of c) y ≡ true → meets (want_of c) z ≡ true → SameRow cs ds y z
+kind_same c {v} {w} {x} {y} {z} k cs ds o i g a b e h h' m n = by_body (test (is_body k))
+  where
+    by_body : Test (is_body k) → SameRow cs ds y z
+    by_body (no' p) = row_same false (want_of c) (production k) [] cs ds (or_else (is_body k) _ g p) no_word a.walk b.walk e h h' m n
+    by_body (yes' p) =
+        let q = body_is k p in
+        let a' : IsNode IsRead v false (program FunctionBody) x cs y = subst (λ k. IsNode IsRead v false k x cs y) q a in
+        let b' : IsNode IsRead w false (program FunctionBody) x ds z = subst (λ k. IsNode IsRead w false k x ds z) q b in
+        let i' = subst (λ k. in_homes c (homes k) ≡ true) q i in
+        body_same Lines Stmt (InCode ∷ []) (rule (program FunctionBody)) cs ds refl refl refl refl (λ ds ts h. h) a'.keeps b'.keeps e h h' a'.walk b'.walk (body_want c y o i' m) (body_want c z o i' n)
+
+node_one : (c : Nonterminal) {v w : Surroundings} {x y z : Place} (k l : Kind) (cs ds : Forest) → is_own c ≡ true → All cs → kept (node k cs) ≡ true → kept (node l ds) ≡ true → IsRead v false c x (node k cs) y → IsRead w false c x (node l ds) z
+    → meets (want_of c) y ≡ true → meets (want_of c) z ≡ true → SameAt (node k cs) (node l ds) y z
+node_one c {v} {w} {x} {y} {z} k l cs ds o a h g r s m n = by_place (test (nat_eq (place k) (place l)))
+  where
+    i : in_homes c (homes k) ≡ true
+    i = home_of c k cs (and_left (admits c (node k cs)) (fits_below c (node k cs)) r.is)
+
+    j : in_homes c (homes l) ≡ true
+    j = home_of c l ds (and_left (admits c (node l ds)) (fits_below c (node l ds)) s.is)
+
+    st : stated k ≡ true
+    st = own_kind c k o (and_left (known k) (kepts cs) h) i
+
+    sl : stated l ≡ true
+    sl = own_kind c l o (and_left (known l) (kepts ds) g) j
+
+    hs : kepts cs ≡ true
+    hs = and_right (known k) (kepts cs) h
+
+    gs : kepts ds ≡ true
+    gs = and_right (known l) (kepts ds) g
+
+    by_place : Test (nat_eq (place k) (place l)) → SameAt (node k cs) (node l ds) y z
+    by_place (no' p) = absurd (kind_apart c k l cs ds o st sl i j p hs gs (node_walk false k refl r) (node_walk false l refl s) m n)
+    by_place (yes' p) =
+        let e : k ≡ l = sym (stated_nth k st) ∙ (ap (nth stated_kinds) (eq_nat {a = place k} {b = place l} p) ∙ stated_nth l sl) in
+        let good = or_else (not (in_homes c (homes k))) _ (for_stated (row_told c) (all_rows c o) k st) (ap not i) in
+        let s' : IsRead w false c x (node k ds) z = subst (λ l. IsRead w false c x (node l ds) z) (sym e) s in
+        let q = kind_same c k cs ds o i good (node_walk false k refl r) (node_walk false k refl s') a hs gs m n in
+        record { tree = λ i. node (e i) (q.trees i); place = q.place }
+
+one_node : (k : Kind) (cs : Forest) → All cs → One (node k cs)
+one_node k cs a = record { one = by_other }
+  where
+    by_other : (c : Nonterminal) (u : Tree) {v w : Surroundings} {x y z : Place} → is_own c ≡ true → kept (node k cs) ≡ true → kept u ≡ true → IsRead v false c x (node k cs) y → IsRead w false c x u z → meets (want_of c) y ≡ true → meets (want_of c) z ≡ true → SameAt (node k cs) u y z
+    by_other c (leaf s t) o h g r p m n = absurd (own_leaf c s t o (and_left (leaf_in c s t) _ p.is))
+    by_other c (list ts) o h g r p m n = let bad = p.is in cc
+    by_other c (node l ds) o h g r p m n = node_one c k l cs ds o a h g r p m n
+
+mutual
+  pub each : (t : Tree) → Each t
+  each (leaf s t) = each_leaf
+  each (node k cs) = each_node (one_node k cs (alls cs))
+  each (list ts) = alls ts
+
+  alls : (ts : Forest) → All ts
+  alls none = each_none
+  alls (part t ts) = each_part (each t) (alls ts)
+
+-- ---- a whole text
+
+ended_found : (y : Place) → ended_at y ≡ true → IsTrue (is_found y)
+ended_found Lost e = cc
+ended_found (At q e' rest) e = refl
+
+end_idle : (y : Place) → ended_at y ≡ true → meets idle y ≡ true
+end_idle y e = (λ i. idle_at (end_kind y e i) (text_at y)) ∙ by_end (text_at y)
+  where
+    by_end : (t : Text) → idle_at 14 t ≡ true
+    by_end t = refl
+
+whole_read : {goal : Goal} {text : Text} (t : Tree) → Reads goal text t → IsRead outside false WholeProgram (At [] AfterExpr text) t (scan (At [] AfterExpr text) (spelled t))
+whole_read {text = text} t r = record {
+  is = and_left (is WholeProgram t) _ r.read;
+  is_legal = r.is_legal;
+  scans = refl;
+  found = ended_found (scan (At [] AfterExpr text) (spelled t)) (and_right (is WholeProgram t) _ r.read);
+}
+
+abbrev program_of : Goal → ProgramKind
+program_of goals.Module = Module
+program_of goals.Script = Script
+
+roots_same : (goal : Goal) {v w : Surroundings} {x y z : Place} (cs ds : Forest) → All cs → kepts cs ≡ true → kepts ds ≡ true → IsRead v false WholeProgram x (node (program (program_of goal)) cs) y → IsRead w false WholeProgram x (node (program (program_of goal)) ds) z
+    → meets idle y ≡ true → meets idle z ≡ true → node (program (program_of goal)) cs ≡ node (program (program_of goal)) ds
+roots_same goals.Module cs ds a h k r s m n =
+    let p = node_walk false (program Module) refl r in
+    let q = node_walk false (program Module) refl s in
+    ap (node (program Module)) (body_same TopLines Item (InModuleCode ∷ []) (rule (program Module)) cs ds refl refl refl refl (λ ds ts h. h) p.keeps q.keeps a h k p.walk q.walk m n).trees
+roots_same goals.Script cs ds a h k r s m n =
+    let p = node_walk false (program Script) refl r in
+    let q = node_walk false (program Script) refl s in
+    ap (node (program Script)) (body_same TopLines Stmt (InCode ∷ []) (rule (program Script)) cs ds refl refl refl refl (λ ds ts h. h) p.keeps q.keeps a h k p.walk q.walk m n).trees
+
+-- the root of a program
+record Root (goal : Goal) (t : Tree) : Type 0 where
+  parts : Forest
+  is_root : t ≡ node (program (program_of goal)) parts
+
+root : (goal : Goal) (t : Tree) → is_goal goal t ≡ true → Root goal t
+root goals.Module (node (program Module) cs) h = record { parts = cs; is_root = refl }
+root goals.Script (node (program Script) cs) h = record { parts = cs; is_root = refl }
+root _ t h = cc
+
+pub one_reading : (goal : Goal) (text : Text) (t u : Tree) → kept t ≡ true → kept u ≡ true → Reads goal text t → Reads goal text u → t ≡ u
+one_reading goal text t u h k r s =
+    let a = root goal t r.of_goal in
+    let b = root goal u s.of_goal in
+    let x = At [] AfterExpr text in
+    let y = scan x (spelled t) in
+    let z = scan x (spelled u) in
+    let e = roots_same goal a.parts b.parts (alls a.parts) (and_right (known (program (program_of goal))) _ (subst (λ t. kept t ≡ true) a.is_root h)) (and_right (known (program (program_of goal))) _ (subst (λ u. kept u ≡ true) b.is_root k))
+    (subst (λ t. IsRead outside false WholeProgram x t y) a.is_root (whole_read t r)) (subst (λ u. IsRead outside false WholeProgram x u z) b.is_root (whole_read u s))
+    (end_idle y (and_right (is WholeProgram t) _ r.read)) (end_idle z (and_right (is WholeProgram u) _ s.read)) in
+    a.is_root ∙ (e ∙ sym b.is_root)
