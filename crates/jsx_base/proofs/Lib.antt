@@ -13,5 +13,6 @@ pub mod LineParts
 pub mod Ranges
 pub mod Remarks
 pub mod Spans
+pub mod SpanLines
 pub mod SpotAt
 pub mod Walks

@@ -15,6 +15,7 @@ mod source;
 mod source_file;
 mod source_map;
 mod source_mapper;
+mod span_laws;
 
 pub use comments::{Comment, CommentKind, Comments, SingleThreadedComments};
 pub use file_name::FileName;
@@ -28,3 +29,4 @@ pub use source::{Failed, MemSource, Source, StdSource};
 pub use source_file::SourceFile;
 pub use source_map::SourceMap;
 pub use source_mapper::{FileLines, LineInfo, LinesError, Loc, SourceMapper};
+pub use span_laws::lines_hold_text;
