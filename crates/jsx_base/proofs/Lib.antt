@@ -15,4 +15,7 @@ pub mod Remarks
 pub mod Spans
 pub mod SpanLines
 pub mod SpotAt
+pub mod Strings
+pub mod Templates
 pub mod Walks
+pub mod WholeTokens
