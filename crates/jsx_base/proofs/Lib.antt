@@ -18,6 +18,10 @@ pub mod Longest
 pub mod Ranges
 pub mod Remarks
 pub mod Spans
+pub mod SpanLines
 pub mod SpotAt
 pub mod TokenStates
+pub mod Strings
+pub mod Templates
 pub mod Walks
+pub mod WholeTokens

@@ -1,4 +1,5 @@
 pub mod Token
+pub mod LiteralParts
 pub mod Calls
 pub mod Comments
 pub mod MultiSpan

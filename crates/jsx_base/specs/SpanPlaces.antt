@@ -1,5 +1,5 @@
 -- Spans in the files of a source map.
-use Rattle.std.specs.Prelude.{ℕ, ◌+◌, ◌-◌, List, ◌++◌, codes, decimal, [], Bool, Option, Some, None, cond, ◌&&◌, nat_eq, nat_le, min, max, drop, length, map, slice_get}
+use Rattle.std.specs.Prelude.{◌≡◌, ℕ, ◌+◌, ◌-◌, List, [], ◌∷◌, ◌++◌, codes, decimal, Bool, Option, Some, None, cond, ◌&&◌, nat_eq, nat_le, min, max, take, drop, length, map, slice_get}
 use Rattle.std.specs.List.{range_with_len}
 use Rattle.std.specs.Option.{option_map, unwrap_or}
 use Rattle.jsx_base.specs.declared.place.Span.{Span}
@@ -84,6 +84,20 @@ line_col before = (line_of before, col_of before)
 
 abbrev pub lines_in : Span → File → LinesData
 lines_in sp file = record { file = file; lines = lines_between file (line_col (front_at file (low sp))) (line_col (front_at file (high sp))) }
+
+-- what a line of a span holds of its file
+abbrev pub held_by : File → LineData → List ℕ
+held_by file line = drop line.start_col (take line.end_col (unwrap_or (slice_get (lines file.text) line.index) []))
+
+-- lines, with LF between them
+abbrev pub joined : List (List ℕ) → List ℕ
+joined [] = []
+joined (line ∷ []) = line
+joined (line ∷ next ∷ more) = line ++ 10 ∷ joined (next ∷ more)
+
+-- the lines of a span, with LF between them, hold its text
+abbrev pub LinesHoldText : Type 0
+LinesHoldText = (file : File) (sp : Span) → joined (map (held_by file) (lines_in sp file).lines) ≡ text_between sp file
 
 abbrev pub span_lines : List File → Span → Option LinesData
 span_lines files sp = option_map (lines_in sp) (span_file files sp)

@@ -15,6 +15,8 @@ mod source;
 mod source_file;
 mod source_map;
 mod source_mapper;
+mod span_laws;
+mod token_laws;
 
 pub use comments::{Comment, CommentKind, Comments, SingleThreadedComments};
 pub use file_name::FileName;
@@ -28,3 +30,5 @@ pub use source::{Failed, MemSource, Source, StdSource};
 pub use source_file::SourceFile;
 pub use source_map::SourceMap;
 pub use source_mapper::{FileLines, LineInfo, LinesError, Loc, SourceMapper};
+pub use span_laws::lines_hold_text;
+pub use token_laws::{strings_are_parts, templates_are_parts};

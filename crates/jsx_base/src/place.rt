@@ -36,9 +36,10 @@ impl Span {
         }
     }
 
-    /// Whether it is `DUMMY_SP`.
+    /// Whether it is `DUMMY_SP`, from the place 0 to the place 0.
     pub fn is_dummy(self) -> bool
-        ensures { IsTrue result ↔ (self ≡ DUMMY_SP) }
+        ensures dummy { IsTrue result ↔ (self ≡ DUMMY_SP) }
+        ensures zero { IsTrue result ↔ ((self.lo.0 ≡ 0) × (self.hi.0 ≡ 0)) }
     {
         self == DUMMY_SP
     }

@@ -1,11 +1,11 @@
 //! How reports are handled, and how an end is told.
 
-ghost use Rattle.std.specs.Prelude.{◌≡◌, Some, codes};
+ghost use Rattle.std.specs.Prelude.{◌≡◌, Some, false, codes};
 
 use std::fmt;
 
 /// What a handler does with reports. All are false at first.
-#[derive(Clone, Copy, Debug, Default, PartialEq, Eq)]
+#[derive(Clone, Copy, Debug, PartialEq, Eq)]
 pub struct HandlerFlags {
     /// Warnings are printed.
     pub can_emit_warnings: bool,
@@ -17,6 +17,20 @@ pub struct HandlerFlags {
     pub report_delayed_bugs: bool,
     /// Places in macros of other crates are shown.
     pub external_macro_backtrace: bool,
+}
+
+impl Default for HandlerFlags {
+    ghost is_default = { λ flags. flags ≡ record { can_emit_warnings = false; treat_err_as_bug = false; dont_buffer_diagnostics = false; report_delayed_bugs = false; external_macro_backtrace = false } };
+
+    fn default() -> HandlerFlags {
+        HandlerFlags {
+            can_emit_warnings: false,
+            treat_err_as_bug: false,
+            dont_buffer_diagnostics: false,
+            report_delayed_bugs: false,
+            external_macro_backtrace: false,
+        }
+    }
 }
 
 /// No further work makes sense.

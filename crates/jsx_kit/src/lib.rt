@@ -23,7 +23,7 @@ pub use pass::{AndThen, CompilerPass, Repeat};
 pub use plugin::{
     PLUGIN_TRANSFORM_AST_SCHEMA_VERSION, PluginCorePkgDiagnostics, PluginError,
     TransformPluginMetadataContext, TransformPluginMetadataContextKind, UnknownKey,
-    VersionedSerializable,
+    VersionedSerializable, ast_schema_version,
 };
 pub use sync::{HashMapExt, InsertError, Lock, LockCell, RwLock};
 pub use take::Take;

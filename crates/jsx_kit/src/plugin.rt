@@ -14,6 +14,13 @@ use std::collections::HashMap;
 /// The version of the tree's schema that plugins are built for.
 pub const PLUGIN_TRANSFORM_AST_SCHEMA_VERSION: u32 = 1;
 
+/// The version of the tree's schema that plugins are built for, which is 1.
+pub fn ast_schema_version() -> u32
+    ensures { result ≡ 1 }
+{
+    PLUGIN_TRANSFORM_AST_SCHEMA_VERSION
+}
+
 /// What a plugin says of the core package that it was built with.
 #[derive(Debug, PartialEq, Eq, Serialize, Drop)]
 pub struct PluginCorePkgDiagnostics {

@@ -2,9 +2,13 @@
 
 ghost use Rattle.std.specs.Prelude.{◌≡◌, IfOk, IsOk, Result};
 ghost use Rattle.std.specs.Borrow.{sem};
+ghost use Rattle.std.specs.Cmp.Rules.{comparing};
 ghost use Rattle.std.specs.Fn.{FnOnceReturnsAt, FnOnceReturnsAtMut};
+ghost use Rattle.std.specs.Ordering.{on};
+ghost use Rattle.std.proofs.Common.{rules};
 
 use std::alloc::{AllocError, Global};
+use std::cmp::Ordering;
 use std::collections::HashMap;
 use std::hash::{BuildHasher, Hash};
 
@@ -149,7 +153,7 @@ impl<T: Clone> RwLock<T> {
 }
 
 /// A value that is set and got as a whole. Cells are compared by their values.
-#[derive(Debug, Default, PartialEq, Eq, PartialOrd, Ord, Drop)]
+#[derive(Debug, Default, Drop)]
 pub struct LockCell<T: Copy> {
     value: T,
 }
@@ -171,6 +175,44 @@ impl<T: Copy> LockCell<T> {
         ensures { result ≡ self.now.value }
     {
         self.value
+    }
+}
+
+impl<T: PartialEq + Copy> PartialEq for LockCell<T> {
+    ghost eq = { on (λ cell. cell.value) T.eq };
+
+    ghost laws = { Prim.search (comparing, rules) };
+
+    fn eq(&self, other: &LockCell<T>) -> bool {
+        self.value == other.value
+    }
+}
+
+impl<T: Eq + Copy> Eq for LockCell<T> {
+    ghost laws = { Prim.search (comparing, rules) };
+}
+
+impl<T: PartialOrd + Copy> PartialOrd for LockCell<T> {
+    ghost partial_cmp = { on (λ cell. cell.value) T.partial_cmp };
+
+    ghost laws = { Prim.search (comparing, rules) };
+
+    fn partial_cmp(&self, other: &LockCell<T>) -> Option<Ordering> {
+        self.value.partial_cmp(&other.value)
+    }
+}
+
+impl<T: Ord + Copy> Ord for LockCell<T> {
+    ghost cmp = { on (λ cell. cell.value) T.cmp };
+
+    ghost total = { Prim.search (comparing, rules) };
+
+    ghost matches_partial_cmp = { Prim.search (comparing, rules) };
+
+    ghost matches_eq = { Prim.search (comparing, rules) };
+
+    fn cmp(&self, other: &LockCell<T>) -> Ordering {
+        self.value.cmp(&other.value)
     }
 }
 

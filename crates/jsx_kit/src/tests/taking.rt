@@ -1,6 +1,6 @@
 //! Calls that can want memory succeed while there is some, and generic code meets its types.
 
-ghost use Rattle.std.specs.Prelude.{◌≡◌, codes};
+ghost use Rattle.std.specs.Prelude.{codes};
 
 use crate::pass::{AndThen, CompilerPass, Repeat};
 use crate::sync::{HashMapExt, InsertError, Lock, LockCell, RwLock};
@@ -129,26 +129,12 @@ fn passes_are_named_and_locks_show_what_was_written(rt: HostRuntime) {
     assert!(rt; shared_lock_is_copied(rt.alloc()).unwrap_or(false));
 }
 
-// The order of cells is that of their values.
-fn order_of_cells<T: Ord + Copy>(a: &LockCell<T>, b: &LockCell<T>) -> Ordering
-    ensures { result ≡ T.cmp a.now.value b.now.value }
-{
-    a.cmp(b)
-}
-
-// So is their equality.
-fn cells_are_equal<T: PartialEq + Copy>(a: &LockCell<T>, b: &LockCell<T>) -> bool
-    ensures { result ≡ T.eq a.now.value b.now.value }
-{
-    *a == *b
-}
-
 fn cells_compare_by_value() -> bool {
     let mut cell = LockCell::new(1u8);
     let other = LockCell::new(2u8);
-    let before = order_of_cells(&cell, &other);
+    let before = cell.cmp(&other);
     cell.set(2);
-    before == Ordering::Less && cell.get() == 2 && cells_are_equal(&cell, &other) && cell >= other
+    before == Ordering::Less && cell.get() == 2 && cell == other && cell >= other
 }
 
 fn is_refused(map: &mut HashMap<u8, u8>, key: u8, value: u8) -> bool {
