@@ -1,2 +1,3 @@
 pub mod Grids
 mod GridExamples
+mod PageExamples

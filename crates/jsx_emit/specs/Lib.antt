@@ -1,2 +1,3 @@
 pub mod Annotation
 pub mod Grid
+pub mod Page
