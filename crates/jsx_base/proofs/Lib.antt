@@ -11,7 +11,7 @@ pub mod Gains
 pub mod LineAt
 pub mod LineParts
 pub mod Ranges
-pub mod Remarks
+pub mod PlacedComments
 pub mod Spans
 pub mod SpanLines
 pub mod SpotAt
