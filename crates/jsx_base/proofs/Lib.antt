@@ -16,7 +16,7 @@ pub mod LineAt
 pub mod LineParts
 pub mod Longest
 pub mod Ranges
-pub mod Remarks
+pub mod PlacedComments
 pub mod Spans
 pub mod SpanLines
 pub mod SpotAt

@@ -46,7 +46,7 @@ abbrev pub is_marked : List ℕ → ℕ → Bool
 is_marked marked place = list_any (nat_eq place) marked
 
 -- comments by place, and the marked places
-pub record Remarks : Type 0 where
+pub record PlacedComments : Type 0 where
   pub lists : Lists
   pub marked : List ℕ
 

@@ -1,6 +1,6 @@
 -- The numbers that are still free.
 use Rattle.std.specs.Prelude.{ℕ}
 
-pub record FreeNumbers : Type 0 where
+pub record FreeMarksAndPlaces : Type 0 where
   pub next_mark : ℕ
   pub next_pos : ℕ

@@ -18,6 +18,6 @@ pub record MemorySink : Type 0 where
   pub writes : Calls
 
 -- a sink in memory that never fails: what it holds, and how many bytes more fit
-pub record Held : Type 0 where
+pub record QuietMemorySink : Type 0 where
   pub holds : List ℕ
   pub room : ℕ

@@ -3,7 +3,7 @@
 ghost use Rattle.std.specs.Prelude.{◌≡◌, ◌+◌, ◌^◌, ◌<◌, ◌↔◌, Contains, IfOk, IsTrue};
 ghost use Rattle.std.specs.Bool.{OnTrue, OnFalse};
 ghost use Rattle.jsx_base.specs.Calls.{NextFails};
-ghost use Rattle.jsx_base.specs.Faults.{one_more};
+ghost use Rattle.jsx_base.specs.Faults.{next_count};
 
 use std::alloc::{AllocError, Global};
 use std::marker::Model;
@@ -48,7 +48,7 @@ impl Calls {
     pub fn next_fails(&mut self) -> bool
         ensures listed { IsTrue result ↔ NextFails self.old }
         ensures same_list { self.new.fail ≡ self.old.fail }
-        ensures next { self.new.next ≡ one_more self.old.next }
+        ensures next { self.new.next ≡ next_count self.old.next }
         ensures fault { OnTrue result (self.new.faults ≡ self.old.faults + 1) }
         ensures no_fault { OnFalse result (self.new.faults ≡ self.old.faults) }
     {

@@ -39,9 +39,9 @@ pub struct Globals {
 
 impl Model for Globals {
     ghost use Rattle.std.specs.Prelude.{◌≤◌};
-    ghost use Rattle.jsx_base.specs.Globals.{FreeNumbers};
+    ghost use Rattle.jsx_base.specs.Globals.{FreeMarksAndPlaces};
 
-    ghost Value = { FreeNumbers };
+    ghost Value = { FreeMarksAndPlaces };
 
     ghost view = { λ globals. record { next_mark = globals.next_mark; next_pos = globals.next_pos } };
 

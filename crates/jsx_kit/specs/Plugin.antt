@@ -11,8 +11,8 @@ use Rattle.jsx_kit.specs.declared.plugin.PluginError.{PluginError}
 use Rattle.jsx_kit.specs.declared.plugin.PluginError.TheVariants.{SizeInteropFailure, Deserialize, Serialize}
 
 -- the kind of a number
-abbrev pub kind_of : ℕ → Result TransformPluginMetadataContextKind UnknownKey
-kind_of key =
+abbrev pub kind_of_key : ℕ → Result TransformPluginMetadataContextKind UnknownKey
+kind_of_key key =
     if key == 1 then Ok Filename
     else if key == 2 then Ok Env
     else if key == 3 then Ok Cwd

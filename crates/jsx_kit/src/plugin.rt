@@ -4,7 +4,7 @@ ghost use Rattle.std.specs.Prelude.{◌≡◌, ◌↔◌, IfOk, MatchOption};
 ghost use Rattle.std.specs.String.{string_bytes};
 ghost use Rattle.std.specs.Option.{option_map};
 ghost use Rattle.std.specs.HashMap.{IsEmpty};
-ghost use Rattle.jsx_kit.specs.Plugin.{kind_of, text_of, SamePackage, SameError};
+ghost use Rattle.jsx_kit.specs.Plugin.{kind_of_key, text_of, SamePackage, SameError};
 
 use crate::collections::AHashMap;
 use serde::Serialize;
@@ -59,7 +59,7 @@ pub struct UnknownKey(pub u32);
 impl TransformPluginMetadataContextKind {
     /// The kind of a number: 1 is `Filename`, 2 `Env`, 3 `Cwd`, and any other is an `UnknownKey`.
     pub fn from_key(key: u32) -> Result<TransformPluginMetadataContextKind, UnknownKey>
-        ensures { result ≡ kind_of key }
+        ensures { result ≡ kind_of_key key }
     {
         match key {
             1 => Ok(TransformPluginMetadataContextKind::Filename),

@@ -12,7 +12,7 @@ use Rattle.jsx_report.specs.declared.error.HandlerError.{HandlerError}
 use Rattle.jsx_report.specs.declared.error.HandlerError.TheVariants.{Emit, ExplicitBug, FatalError, Memory}
 use Rattle.jsx_report.specs.Emitter.{PrintsPrefix, PrintsAll, PrintsFront, ShowAlike, is_empty}
 use Rattle.jsx_report.specs.Books.{Books, is_news, booked, news, booked_all, news_all}
-use Rattle.jsx_report.specs.Handler.{KeepsSettings, OnWent, Reports, answer_to, books_of, emitter_of}
+use Rattle.jsx_report.specs.Handler.{KeepsSettings, UnlessRefused, Reports, answer_to, books_of, emitter_of}
 use Rattle.jsx_report.specs.Ending.{HandsSome, and_then, answer_all}
 
 pub booked_all-append : (f : HandlerFlags) (b : Books) (rs ss : List Report) → booked_all f b (rs ++ ss) ≡ booked_all f (booked_all f b rs) ss
@@ -68,7 +68,7 @@ answers_end e f g b m done r later flags before went step =
     sym (answers-append f b done (r ∷ later) went ∙ ap (λ (x : Result (Unit {0}) HandlerError). and_then x (answer_all f (booked f (booked_all f b done) r) later)) here)
 
 -- the answer, where the next report ended it
-pub answer_ended : (e : HandlerError) (f g : HandlerFlags) (b m : Books) (done : List Report) (r : Report) (later : List Report) → g ≡ f → m ≡ booked_all f b done → answer_all f b done ≡ Ok tt → OnWent {T = Unit {0}} (Err e) (Err e ≡ answer_to g m r) → OnWent {T = Unit {0}} (Err e) (Err e ≡ answer_all f b (done ++ r ∷ later))
+pub answer_ended : (e : HandlerError) (f g : HandlerFlags) (b m : Books) (done : List Report) (r : Report) (later : List Report) → g ≡ f → m ≡ booked_all f b done → answer_all f b done ≡ Ok tt → UnlessRefused {T = Unit {0}} (Err e) (Err e ≡ answer_to g m r) → UnlessRefused {T = Unit {0}} (Err e) (Err e ≡ answer_all f b (done ++ r ∷ later))
 answer_ended ExplicitBug f g b m done r later flags before went step = answers_end ExplicitBug f g b m done r later flags before went step
 answer_ended FatalError f g b m done r later flags before went step = answers_end FatalError f g b m done r later flags before went step
 answer_ended (Emit e) f g b m done r later flags before went step = tt
@@ -79,7 +79,7 @@ first_answers e f g b m done r flags before step =
     step ∙ ap (λ (x : HandlerFlags). answer_to x m r) flags ∙ ap (λ (x : Books). answer_to f x r) before ∙ sym (then_end (answer_to f (booked_all f b done) r))
 
 -- the answer is that of the report which ended it
-pub answer_first : (e : HandlerError) (f g : HandlerFlags) (b m : Books) (done : List Report) (r : Report) → g ≡ f → m ≡ booked_all f b done → OnWent {T = Unit {0}} (Err e) (Err e ≡ answer_to g m r) → OnWent {T = Unit {0}} (Err e) (Err e ≡ answer_all f (booked_all f b done) (r ∷ []))
+pub answer_first : (e : HandlerError) (f g : HandlerFlags) (b m : Books) (done : List Report) (r : Report) → g ≡ f → m ≡ booked_all f b done → UnlessRefused {T = Unit {0}} (Err e) (Err e ≡ answer_to g m r) → UnlessRefused {T = Unit {0}} (Err e) (Err e ≡ answer_all f (booked_all f b done) (r ∷ []))
 answer_first ExplicitBug f g b m done r flags before step = first_answers ExplicitBug f g b m done r flags before step
 answer_first FatalError f g b m done r flags before step = first_answers FatalError f g b m done r flags before step
 answer_first (Emit e) f g b m done r flags before step = tt

@@ -10,7 +10,7 @@ use Rattle.jsx_report.specs.declared.error.HandlerError.{HandlerError}
 use Rattle.jsx_report.specs.Emitter.{PrintsAll, is_empty}
 use Rattle.jsx_report.specs.Books.{Books, is_news, entered, booked, news, booked_all, news_all}
 use Rattle.jsx_report.specs.Handler.{OnEmit, answer_to, books_of, emitter_of}
-use Rattle.jsx_report.specs.Ending.{HandsSome, and_then, answer_all, first_of, gone, waiting}
+use Rattle.jsx_report.specs.Ending.{HandsSome, and_then, answer_all, first_of, entered_reports, waiting}
 
 waiting_if : (b : Bool) (x : List Report) (m n : Books) → (if b then waiting x m else waiting x n) ≡ waiting x (if b then m else n)
 waiting_if true x m n = refl
@@ -40,7 +40,7 @@ module _ {E : Type 0} (text : E → Option Text) (faults : E → ℕ) (explains 
   put_back done rest old mid x y result put h =
       let b = books_of old in
       let taken = map report_of x.items in
-      let went = gone result done rest in
+      let went = entered_reports result done rest in
       record {
         whole = h.whole;
         booked = ap (λ (d : List Report). waiting d (books_of mid)) put ∙ ap (λ (it : Books). waiting rest it) (h.booked ∙ booked_all_waiting old.flags taken b went);

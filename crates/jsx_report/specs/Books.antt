@@ -1,7 +1,7 @@
 -- The books of a handler: which reports were printed, and what was counted.
 use Rattle.std.specs.Prelude.{ℕ, Bool, not, ◌&&◌, if◌then◌else◌, List, [], ◌∷◌, ◌++◌, Option, Some, None}
 use Rattle.std.specs.List.{list_any}
-use Rattle.jsx_base.specs.Faults.{one_more}
+use Rattle.jsx_base.specs.Faults.{next_count}
 use Rattle.jsx_diag.specs.declared.flags.HandlerFlags.{HandlerFlags}
 use Rattle.jsx_diag.specs.Level.{is_error_level, is_cancelled_level}
 use Rattle.jsx_diag.specs.Data.{Code, Report}
@@ -39,7 +39,7 @@ is_news books report = not (is_cancelled_level report.level) && not (knows_repor
 
 -- the number of errors after a report, which may be one
 abbrev pub counted : HandlerFlags → Bool → ℕ → ℕ
-counted flags is_error count = if is_error && not flags.treat_err_as_bug then one_more count else count
+counted flags is_error count = if is_error && not flags.treat_err_as_bug then next_count count else count
 
 -- a report that was printed is entered
 abbrev pub entered : HandlerFlags → Books → Report → Books

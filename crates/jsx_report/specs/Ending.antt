@@ -13,7 +13,7 @@ use Rattle.jsx_report.specs.declared.error.HandlerError.TheVariants.{Emit, Expli
 use Rattle.jsx_report.specs.Emitter.{PrintsAll, PrintsFront, is_empty}
 use Rattle.jsx_report.specs.Books.{Books, booked, booked_all, news_all}
 use Rattle.jsx_report.specs.Made.{plain_report}
-use Rattle.jsx_report.specs.Handler.{KeepsSettings, OnEmit, OnFault, OnWent, answer_to, books_of, emitter_of}
+use Rattle.jsx_report.specs.Handler.{KeepsSettings, OnEmit, OnFault, UnlessRefused, answer_to, books_of, emitter_of}
 
 -- the first of the reports
 abbrev pub first_of : List Report → List Report
@@ -21,12 +21,12 @@ first_of [] = []
 first_of (report ∷ reports) = report ∷ []
 
 -- The reports that were entered: those before, and the one that ended it, where that went well and shows a bug.
-abbrev pub gone : {T : Type 0} → Result T HandlerError → List Report → List Report → List Report
-gone (Ok x) done rest = done
-gone (Err ExplicitBug) done rest = done ++ first_of rest
-gone (Err FatalError) done rest = done ++ first_of rest
-gone (Err (Emit e)) done rest = done
-gone (Err Memory) done rest = done
+abbrev pub entered_reports : {T : Type 0} → Result T HandlerError → List Report → List Report → List Report
+entered_reports (Ok x) done rest = done
+entered_reports (Err ExplicitBug) done rest = done ++ first_of rest
+entered_reports (Err FatalError) done rest = done ++ first_of rest
+entered_reports (Err (Emit e)) done rest = done
+entered_reports (Err Memory) done rest = done
 
 -- no page was cut off
 abbrev pub OnQuiet : {T : Type 0} → Result T HandlerError → Type 0 → Type 0
@@ -57,9 +57,9 @@ module _ {E : Type 0} (text : E → Option Text) (faults : E → ℕ) (explains 
   -- it is the one that was refused, or that shows a bug.
   pub record HandsSome {T : Type 0} (leave : Books → Books) (done rest : List Report) (old new : Handler E) (result : Result T HandlerError) : Type 0 where
     pub whole : OnOk result (rest ≡ [])
-    pub booked : books_of new ≡ leave (booked_all old.flags (books_of old) (gone result done rest))
+    pub booked : books_of new ≡ leave (booked_all old.flags (books_of old) (entered_reports result done rest))
     pub between : Option Text
-    pub printed : PrintsAll (shows (emitter_of old) old.flags) (news_all old.flags (books_of old) (gone result done rest)) (text (emitter_of old)) between
+    pub printed : PrintsAll (shows (emitter_of old) old.flags) (news_all old.flags (books_of old) (entered_reports result done rest)) (text (emitter_of old)) between
     pub quiet : OnQuiet result (text (emitter_of new) ≡ between)
     pub prefix : OnFault result (PrintsFront (shows (emitter_of old) old.flags) rest between (text (emitter_of new)))
     pub cause : OnFault result (Rose (faults (emitter_of old)) (faults (emitter_of new)))
@@ -75,7 +75,7 @@ module _ {E : Type 0} (text : E → Option Text) (faults : E → ℕ) (explains 
     -- none of those before shows a bug, an error is that of a report, and the first of the rest answers so
     pub fine : answer_all old.flags (books_of old) done ≡ Ok tt
     pub stops : OnErr result (IsTrue (not (is_empty rest)))
-    pub answered : OnWent result (without_value result ≡ answer_all old.flags (booked_all old.flags (books_of old) done) (first_of rest))
+    pub answered : UnlessRefused result (without_value result ≡ answer_all old.flags (booked_all old.flags (books_of old) done) (first_of rest))
 
 -- the books, in which these bugs wait
 abbrev pub waiting : List Report → Books → Books

@@ -55,12 +55,12 @@ as_fatal (Ok x) = Ok (record {})
 as_fatal (Err e) = Err e
 
 -- the report went well: neither the emitter refused it nor was memory wanting
-abbrev pub OnWent : {T : Type 0} → Result T HandlerError → Type 0 → Type 0
-OnWent (Ok x) P = P
-OnWent (Err ExplicitBug) P = P
-OnWent (Err FatalError) P = P
-OnWent (Err (Emit e)) P = ⊤
-OnWent (Err Memory) P = ⊤
+abbrev pub UnlessRefused : {T : Type 0} → Result T HandlerError → Type 0 → Type 0
+UnlessRefused (Ok x) P = P
+UnlessRefused (Err ExplicitBug) P = P
+UnlessRefused (Err FatalError) P = P
+UnlessRefused (Err (Emit e)) P = ⊤
+UnlessRefused (Err Memory) P = ⊤
 
 -- it didn't go well
 abbrev pub OnRefused : {T : Type 0} → Result T HandlerError → Type 0 → Type 0
@@ -113,9 +113,9 @@ module _ {E : Type 0} (text : E → Option Text) (faults : E → ℕ) (explains 
 
   -- These reports, of which there is at most one, are to be printed, and the books are to be so after it. Where that is
   -- refused, the books are as before.
-  pub record Hands {T : Type 0} (reports : List Report) (after : Books) (old new : Handler E) (result : Result T HandlerError) : Type 0 where
-    pub booked : OnWent result (books_of new ≡ after)
-    pub printed : OnWent result (PrintsAll (shows (emitter_of old) old.flags) reports (text (emitter_of old)) (text (emitter_of new)))
+  pub record HandsIn {T : Type 0} (reports : List Report) (after : Books) (old new : Handler E) (result : Result T HandlerError) : Type 0 where
+    pub booked : UnlessRefused result (books_of new ≡ after)
+    pub printed : UnlessRefused result (PrintsAll (shows (emitter_of old) old.flags) reports (text (emitter_of old)) (text (emitter_of new)))
     pub kept : OnRefused result (books_of new ≡ books_of old)
     pub asked : OnEmit result (IsTrue (not (is_empty reports)))
     pub cause : OnFault result (Rose (faults (emitter_of old)) (faults (emitter_of new)))
@@ -125,8 +125,8 @@ module _ {E : Type 0} (text : E → Option Text) (faults : E → ℕ) (explains 
 
   -- The report is handed in: where it is news, it is printed and entered.
   abbrev pub Reports : {T : Type 0} → Report → Handler E → Handler E → Result T HandlerError → Type 0
-  Reports report old new result = Hands (news (books_of old) report) (booked old.flags (books_of old) report) old new result
+  Reports report old new result = HandsIn (news (books_of old) report) (booked old.flags (books_of old) report) old new result
 
   -- The report is entered as a bug that waits.
   abbrev pub Delays : {T : Type 0} → Report → Handler E → Handler E → Result T HandlerError → Type 0
-  Delays report old new result = Hands (delayed_news old.flags (books_of old) report) (delayed_after old.flags (books_of old) report) old new result
+  Delays report old new result = HandsIn (delayed_news old.flags (books_of old) report) (delayed_after old.flags (books_of old) report) old new result

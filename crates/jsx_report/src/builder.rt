@@ -30,7 +30,7 @@ impl<'a, E: Emitter> DiagnosticBuilder<'a, E> {
     ghost use Rattle.jsx_diag.specs.Adds.{new_report};
     ghost use Rattle.jsx_report.specs.contracts.handler.Handler.{the_row};
     ghost use Rattle.jsx_report.specs.Made.{as_bug, is_at_once, plain_report};
-    ghost use Rattle.jsx_report.specs.Handler.{Delays, Hands, OnWent, Reports, answer_delayed, answer_to, books_of};
+    ghost use Rattle.jsx_report.specs.Handler.{Delays, HandsIn, UnlessRefused, Reports, answer_delayed, answer_to, books_of};
     ghost use Rattle.jsx_report.specs.Builder.{diagnostic_of, suggests};
 
     /// A report of one plain message, which points nowhere.
@@ -119,7 +119,7 @@ impl<'a, E: Emitter> DiagnosticBuilder<'a, E> {
         self
     }
 
-    /// Hands the report to the handler: where it is news, it is printed and entered. A cancelled one is
+    /// HandsIn the report to the handler: where it is news, it is printed and entered. A cancelled one is
     /// nothing.
     ///
     /// # Errors
@@ -128,7 +128,7 @@ impl<'a, E: Emitter> DiagnosticBuilder<'a, E> {
     /// want of memory. After the last two the books are as before.
     pub fn emit(self) -> Result<(), HandlerError>
         ensures reports { Reports E.text E.faults E.explains E.shows (report_of (diagnostic_of self.entry)) self.entry.handler.now self.exit.0.now result }
-        ensures answer { OnWent result (result ≡ answer_to self.entry.handler.now.flags (books_of self.entry.handler.now) (report_of (diagnostic_of self.entry))) }
+        ensures answer { UnlessRefused result (result ≡ answer_to self.entry.handler.now.flags (books_of self.entry.handler.now) (report_of (diagnostic_of self.entry))) }
     {
         let DiagnosticBuilder {
             handler,
@@ -146,7 +146,7 @@ impl<'a, E: Emitter> DiagnosticBuilder<'a, E> {
     /// Those of `emit` where it is emitted, or `Memory` for want of memory. The list is then as before.
     pub fn buffer(self, buffered_diagnostics: &mut Vec<Diagnostic>) -> Result<(), HandlerError>
         ensures reports { IsTrue (is_at_once self.entry.handler.now.flags) → Reports E.text E.faults E.explains E.shows (report_of (diagnostic_of self.entry)) self.entry.handler.now self.exit.0.now result }
-        ensures answer { IsTrue (is_at_once self.entry.handler.now.flags) → OnWent result (result ≡ answer_to self.entry.handler.now.flags (books_of self.entry.handler.now) (report_of (diagnostic_of self.entry))) }
+        ensures answer { IsTrue (is_at_once self.entry.handler.now.flags) → UnlessRefused result (result ≡ answer_to self.entry.handler.now.flags (books_of self.entry.handler.now) (report_of (diagnostic_of self.entry))) }
         ensures same_list { IsTrue (is_at_once self.entry.handler.now.flags) → buffered_diagnostics.new.items ≡ buffered_diagnostics.old.items }
 
         ensures added { IsFalse (is_at_once self.entry.handler.now.flags) → OnOk result (map report_of buffered_diagnostics.new.items ≡ map report_of buffered_diagnostics.old.items ++ report_of (diagnostic_of self.entry) ∷ []) }
@@ -176,7 +176,7 @@ impl<'a, E: Emitter> DiagnosticBuilder<'a, E> {
     /// `Memory` for want of memory. After the last two the books are as before.
     pub fn delay_as_bug(self) -> Result<(), HandlerError>
         ensures delays { Delays E.text E.faults E.explains E.shows (as_bug (report_of (diagnostic_of self.entry))) self.entry.handler.now self.exit.0.now result }
-        ensures answer { OnWent result (result ≡ answer_delayed self.entry.handler.now.flags (books_of self.entry.handler.now) (as_bug (report_of (diagnostic_of self.entry)))) }
+        ensures answer { UnlessRefused result (result ≡ answer_delayed self.entry.handler.now.flags (books_of self.entry.handler.now) (as_bug (report_of (diagnostic_of self.entry)))) }
     {
         let DiagnosticBuilder {
             handler,
@@ -189,8 +189,8 @@ impl<'a, E: Emitter> DiagnosticBuilder<'a, E> {
 
     // Prints the report, whether it is news or not, and enters nothing.
     pub(crate) fn print(self) -> Result<(), HandlerError>
-        ensures hands { Hands E.text E.faults E.explains E.shows (report_of (diagnostic_of self.entry) ∷ []) (books_of self.entry.handler.now) self.entry.handler.now self.exit.0.now result }
-        ensures answer { OnWent result (result ≡ Ok tt) }
+        ensures hands { HandsIn E.text E.faults E.explains E.shows (report_of (diagnostic_of self.entry) ∷ []) (books_of self.entry.handler.now) self.entry.handler.now self.exit.0.now result }
+        ensures answer { UnlessRefused result (result ≡ Ok tt) }
     {
         let DiagnosticBuilder {
             handler,

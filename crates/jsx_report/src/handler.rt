@@ -13,7 +13,7 @@ use indexmap::IndexSet;
 use jsx_diag::{Diagnostic, DiagnosticId, HandlerFlags};
 use std::alloc::Global;
 
-/// Hands reports to an emitter, each once, and keeps the books.
+/// HandsIn reports to an emitter, each once, and keeps the books.
 #[derive(Drop)]
 pub struct Handler<E: Emitter> {
     pub flags: HandlerFlags,

@@ -6,7 +6,7 @@ use Rattle.jsx_tree.specs.Kinds.{ConstWord, Module, Var, Declarator, Call, Membe
 use Rattle.jsx_tree.specs.Normal.{nf}
 use Rattle.react_compile.specs.Made.{quoted}
 use Rattle.react_compile.specs.Element.{expr, text, spread, plain, spread_child, default_settings, bare_element, written, called}
-use Rattle.react_compile.specs.StandsFor.{has_jsx, StandsFor, same_leaf, same_list, same_node, lowered, no_more, one_more, makes, literal_for, no_entries, no_children}
+use Rattle.react_compile.specs.StandsFor.{has_jsx, StandsFor, same_leaf, same_list, same_node, lowered, no_more, next_stands, makes, literal_for, no_entries, no_children}
 
 -- ---- made texts
 
@@ -89,4 +89,4 @@ value_stands : StandsFor default_settings (element "div") (call (leaf StringLite
 value_stands = lowered refl refl (makes (literal_for (codes "div")) no_entries no_children refl refl refl refl refl refl refl)
 
 program_stands : StandsFor default_settings (constant (element "div")) (constant (call (leaf StringLiteral (codes "\"div\"")) (name "null"))) []
-program_stands = same_node (program Module) refl (one_more (same_list no_more) (one_more (same_list (one_more (same_node (statement (Var ConstWord)) refl (one_more (same_list (one_more (same_node (statement Declarator) refl (one_more (same_leaf IdentifierName (codes "x")) (one_more (same_list (one_more value_stands no_more)) no_more))) no_more)) no_more)) no_more)) no_more))
+program_stands = same_node (program Module) refl (next_stands (same_list no_more) (next_stands (same_list (next_stands (same_node (statement (Var ConstWord)) refl (next_stands (same_list (next_stands (same_node (statement Declarator) refl (next_stands (same_leaf IdentifierName (codes "x")) (next_stands (same_list (next_stands value_stands no_more)) no_more))) no_more)) no_more)) no_more)) no_more))

@@ -9,7 +9,7 @@ use Rattle.jsx_tree.specs.Spelling.{spelled, each_said, gathered}
 use Rattle.jsx_tree.specs.Reading.{Place, At, scan, token_at}
 use Rattle.jsx_tree.specs.Grammar.{Commas, pun, heads}
 use Rattle.jsx_tree.proofs.Laws.{scan_append}
-use Rattle.react_compile.specs.Printed.{tag_code, code_of, listed, further, lowered, each_lowered}
+use Rattle.react_compile.specs.Printed.{tag_code, tree_code, listed, further, lowered, each_lowered}
 use Rattle.react_compile.proofs.Tests.{there, same_is, no, unlike, unlike'}
 use Rattle.react_compile.proofs.Words.{Lead, at_once, behind_blank, lead, Word, word_token, word_of_leaf}
 use Rattle.react_compile.proofs.Literals.{a_string, a_number, literal_of_leaf, literal_first, begins_literal, string_again, number_again, Behind, comma, closing, semicolon, opening, dot, name_stops}
@@ -86,30 +86,30 @@ further_text : (code more rest : Text) → (codes ", " ++ (code ++ more)) ++ res
 further_text code more rest = ap (λ y. 44 ∷ 32 ∷ y) (append_assoc code more rest)
 
 mutual
-  pub expr_scan : (l : Lead) (q : Text) (e : Ending) {t : Tree} → IsExpr t → {rest : Text} → Behind (is_number t) rest → Reaches (At q e (lead l (code_of t ++ rest))) (spelled (lowered t)) rest
+  pub expr_scan : (l : Lead) (q : Text) (e : Ending) {t : Tree} → IsExpr t → {rest : Text} → Behind (is_number t) rest → Reaches (At q e (lead l (tree_code t ++ rest))) (spelled (lowered t)) rest
   expr_scan l q e (name {x = x} w k) {rest} b = record { last = x; is = name_at l q e x rest (word_of_leaf x w) (name_stops b) }
   expr_scan l q e (string {x = x} w) {rest} b = record { last = x; is = string_leaf_at l q e x rest w }
   expr_scan l q e (number {x = x} w) {rest} b = record { last = x; is = number_at l q e x w b }
   expr_scan l q e (element {t = t} g) {rest} b = record { last = codes ")"; is = element_scan l q e t rest g }
   expr_scan l q e (call {f = f} {ts = ts} h hs) {rest} b =
-      let place = At q e (lead l (code_of f ++ (40 ∷ (listed ts ++ (41 ∷ rest))))) in
+      let place = At q e (lead l (tree_code f ++ (40 ∷ (listed ts ++ (41 ∷ rest))))) in
       let tail = Count ∷ pun "(" ∷ (gathered Commas (each_said (each_lowered ts)) ++ (pun ")" ∷ End ∷ [])) in
       let r : Reaches place (spelled (lowered f)) (40 ∷ (listed ts ++ (41 ∷ rest))) = expr_scan l q e h (opening (listed ts ++ (41 ∷ rest))) in
       record {
         last = codes ")";
-        is = ap (λ y. scan (At q e (lead l y)) (Begin ∷ (spelled (lowered f) ++ tail))) (call_text (code_of f) (listed ts) rest)
+        is = ap (λ y. scan (At q e (lead l y)) (Begin ∷ (spelled (lowered f) ++ tail))) (call_text (tree_code f) (listed ts) rest)
             ∙ scan_append place (spelled (lowered f)) tail
             ∙ ap (λ x. scan x tail) r.is
             ∙ ap (λ y. scan (token_at y Punctuator (codes "(")) (gathered Commas (each_said (each_lowered ts)) ++ (pun ")" ∷ End ∷ []))) (open_token (same r.last []) (listed ts ++ (41 ∷ rest)))
             ∙ args_scan hs rest;
       }
   expr_scan l q e (member {o = o} {x = x} h n w) {rest} b =
-      let place = At q e (lead l (code_of o ++ (46 ∷ (x ++ rest)))) in
+      let place = At q e (lead l (tree_code o ++ (46 ∷ (x ++ rest)))) in
       let tail = Count ∷ pun "." ∷ One ∷ Tok Operator IdentifierName x ∷ End ∷ [] in
       let r : Reaches place (spelled (lowered o)) (46 ∷ (x ++ rest)) = expr_scan l q e h (subst (λ c. Behind c (46 ∷ (x ++ rest))) (sym n) (dot (x ++ rest))) in
       record {
         last = x;
-        is = ap (λ y. scan (At q e (lead l y)) (Begin ∷ (spelled (lowered o) ++ tail))) (append_assoc (code_of o) (46 ∷ x) rest)
+        is = ap (λ y. scan (At q e (lead l y)) (Begin ∷ (spelled (lowered o) ++ tail))) (append_assoc (tree_code o) (46 ∷ x) rest)
             ∙ scan_append place (spelled (lowered o)) tail
             ∙ ap (λ y. scan y tail) r.is
             ∙ ap (λ y. scan (token_at y Punctuator (codes ".")) (One ∷ Tok Operator IdentifierName x ∷ End ∷ [])) (dot_token (same r.last []) x rest (word_of_leaf x w))
@@ -120,9 +120,9 @@ mutual
   args_scan no_exprs rest = refl
   args_scan (next_expr {t = t} {ts = ts} h hs) rest =
       let tail = more_signs ts ++ (pun ")" ∷ End ∷ []) in
-      let place = At (codes "(") AfterExpr (code_of t ++ (further ts ++ (41 ∷ rest))) in
+      let place = At (codes "(") AfterExpr (tree_code t ++ (further ts ++ (41 ∷ rest))) in
       let r : Reaches place (spelled (lowered t)) (further ts ++ (41 ∷ rest)) = expr_scan at_once (codes "(") AfterExpr h (behind_further ts rest) in
-      ap (λ y. scan (At (codes "(") AfterExpr y) (gathered Commas (each_said (each_lowered (part t ts))) ++ (pun ")" ∷ End ∷ []))) (append_assoc (code_of t) (further ts) (41 ∷ rest))
+      ap (λ y. scan (At (codes "(") AfterExpr y) (gathered Commas (each_said (each_lowered (part t ts))) ++ (pun ")" ∷ End ∷ []))) (append_assoc (tree_code t) (further ts) (41 ∷ rest))
       ∙ ap (λ y. scan place (y ++ (pun ")" ∷ End ∷ []))) (gather t ts)
       ∙ ap (scan place) (append_assoc (spelled (lowered t)) (more_signs ts) (pun ")" ∷ End ∷ []))
       ∙ scan_append place (spelled (lowered t)) tail
@@ -133,10 +133,10 @@ mutual
   more_scan q no_exprs rest = ap (λ y. scan (token_at y Punctuator (codes ")")) (End ∷ [])) (close_token (same q []) rest)
   more_scan q (next_expr {t = t} {ts = ts} h hs) rest =
       let tail = more_signs ts ++ (pun ")" ∷ End ∷ []) in
-      let place = At (codes ",") AfterExpr (32 ∷ (code_of t ++ (further ts ++ (41 ∷ rest)))) in
+      let place = At (codes ",") AfterExpr (32 ∷ (tree_code t ++ (further ts ++ (41 ∷ rest)))) in
       let r : Reaches place (spelled (lowered t)) (further ts ++ (41 ∷ rest)) = expr_scan behind_blank (codes ",") AfterExpr h (behind_further ts rest) in
-      ap (λ y. scan (At q AfterExpr y) (more_signs (part t ts) ++ (pun ")" ∷ End ∷ []))) (further_text (code_of t) (further ts) (41 ∷ rest))
-      ∙ ap (λ y. scan (token_at y Punctuator (codes ",")) (Space ∷ ((spelled (lowered t) ++ more_signs ts) ++ (pun ")" ∷ End ∷ [])))) (comma_token (same q []) (32 ∷ (code_of t ++ (further ts ++ (41 ∷ rest)))))
+      ap (λ y. scan (At q AfterExpr y) (more_signs (part t ts) ++ (pun ")" ∷ End ∷ []))) (further_text (tree_code t) (further ts) (41 ∷ rest))
+      ∙ ap (λ y. scan (token_at y Punctuator (codes ",")) (Space ∷ ((spelled (lowered t) ++ more_signs ts) ++ (pun ")" ∷ End ∷ [])))) (comma_token (same q []) (32 ∷ (tree_code t ++ (further ts ++ (41 ∷ rest)))))
       ∙ ap (scan place) (append_assoc (spelled (lowered t)) (more_signs ts) (pun ")" ∷ End ∷ []))
       ∙ scan_append place (spelled (lowered t)) tail
       ∙ ap (λ x. scan x tail) r.is
@@ -164,7 +164,7 @@ name_free x w k = go (same x (codes "{")) (same x (codes "function")) (same x (c
     go false true c e f g = no (sym (ap is_value_word (same_is x (codes "function") f)) ∙ k)
     go false false true e f g = no (sym (ap is_value_word (same_is x (codes "class") g)) ∙ k)
 
-pub head_free : (l : Lead) {t : Tree} → IsExpr t → {rest : Text} → Behind (is_number t) rest → is_head (token Operator false (lead l (code_of t ++ rest))).raw ≡ false
+pub head_free : (l : Lead) {t : Tree} → IsExpr t → {rest : Text} → Behind (is_number t) rest → is_head (token Operator false (lead l (tree_code t ++ rest))).raw ≡ false
 head_free l (name {x = x} w k) {rest} b = ap (λ y. is_head y.raw) (word_token false l x rest (word_of_leaf x w) (name_stops b)) ∙ name_free x (word_of_leaf x w) k
 head_free l (string {x = x} w) {rest} b =
     let t = literal_of_leaf a_string x w in
@@ -175,6 +175,6 @@ head_free l (number {x = x} w) {rest} b =
 head_free l (element {t = t} g) {rest} b =
     ap (λ y. is_head (token Operator false (lead l y)).raw) (element_text t rest) ∙ ap (λ y. is_head y.raw) (react_token false l (tag_code t ++ (codes ", null)" ++ rest)))
 head_free l (call {f = f} {ts = ts} h hs) {rest} b =
-    ap (λ y. is_head (token Operator false (lead l y)).raw) (call_text (code_of f) (listed ts) rest) ∙ head_free l h (opening (listed ts ++ (41 ∷ rest)))
+    ap (λ y. is_head (token Operator false (lead l y)).raw) (call_text (tree_code f) (listed ts) rest) ∙ head_free l h (opening (listed ts ++ (41 ∷ rest)))
 head_free l (member {o = o} {x = x} h n w) {rest} b =
-    ap (λ y. is_head (token Operator false (lead l y)).raw) (append_assoc (code_of o) (46 ∷ x) rest) ∙ head_free l h (subst (λ c. Behind c (46 ∷ (x ++ rest))) (sym n) (dot (x ++ rest)))
+    ap (λ y. is_head (token Operator false (lead l y)).raw) (append_assoc (tree_code o) (46 ∷ x) rest) ∙ head_free l h (subst (λ c. Behind c (46 ∷ (x ++ rest))) (sym n) (dot (x ++ rest)))

@@ -65,7 +65,7 @@ plain c h =
 
 pub data AllPlain : Text → Type 0 where
   no_more : AllPlain []
-  one_more : {c : ℕ} {t : Text} → Plain c → AllPlain t → AllPlain (c ∷ t)
+  next_plain : {c : ℕ} {t : Text} → Plain c → AllPlain t → AllPlain (c ∷ t)
 
 goes_jsx : (c : ℕ) (t : Text) → runs InJsxName (c ∷ t) ≡ true → ((is_part c || nat_eq c 45) ≡ true) × (runs InJsxName t ≡ true)
 goes_jsx c t h = go (is_part c || nat_eq c 45) h
@@ -76,14 +76,14 @@ goes_jsx c t h = go (is_part c || nat_eq c 45) h
 
 all_plain : (t : Text) → runs InJsxName t ≡ true → AllPlain t
 all_plain [] h = no_more
-all_plain (c ∷ t) h = let g = goes_jsx c t h in one_more (plain c (or_right (is_start c) _ g.0)) (all_plain t g.1)
+all_plain (c ∷ t) h = let g = goes_jsx c t h in next_plain (plain c (or_right (is_start c) _ g.0)) (all_plain t g.1)
 
 pub plain_tag : (x : Text) → TagName x → AllPlain x
-plain_tag x g = subst AllPlain (sym g.is) (one_more (plain g.first (or_left _ (is_part g.first || nat_eq g.first 45) g.starts)) (all_plain g.others g.runs_on))
+plain_tag x g = subst AllPlain (sym g.is) (next_plain (plain g.first (or_left _ (is_part g.first || nat_eq g.first 45) g.starts)) (all_plain g.others g.runs_on))
 
 itself_all : (t : Text) → AllPlain t → escaped_all t ≡ t
 itself_all [] no_more = refl
-itself_all (c ∷ t) (one_more p ps) = ap (λ x. x ++ escaped_all t) p.itself ∙ ap (λ x. c ∷ x) (itself_all t ps)
+itself_all (c ∷ t) (next_plain p ps) = ap (λ x. x ++ escaped_all t) p.itself ∙ ap (λ x. c ∷ x) (itself_all t ps)
 
 -- nothing in it needs an escape
 pub quoted_plain : (t : Text) → AllPlain t → quoted t ≡ 34 ∷ (t ++ 34 ∷ [])
@@ -91,11 +91,11 @@ quoted_plain t p = ap (λ x. 34 ∷ (x ++ 34 ∷ [])) (itself_all t p)
 
 runs_plain : (t : Text) → AllPlain t → runs (InString 34) (t ++ 34 ∷ []) ≡ true
 runs_plain [] no_more = refl
-runs_plain (c ∷ t) (one_more p ps) = rw p.goes_on (runs_plain t ps)
+runs_plain (c ∷ t) (next_plain p ps) = rw p.goes_on (runs_plain t ps)
 
 last_plain : (t : Text) → AllPlain t → last_state (InString 34) (t ++ 34 ∷ []) ≡ Done StringLiteral
 last_plain [] no_more = refl
-last_plain (c ∷ t) (one_more p ps) = rw p.goes_on (last_plain t ps)
+last_plain (c ∷ t) (next_plain p ps) = rw p.goes_on (last_plain t ps)
 
 stops_done : (k : TokenKind) (rest : Text) → stops (Done k) rest ≡ true
 stops_done k [] = refl

@@ -15,9 +15,9 @@ use Rattle.jsx_tree.specs.Stage.{ReadsSoFar}
 use Rattle.react_compile.specs.Made.{quoted}
 use Rattle.react_compile.specs.Element as element
 use Rattle.react_compile.specs.Element.{is_lower, default_settings, expr, text}
-use Rattle.react_compile.specs.StandsFor.{StandsFor, same_leaf, same_list, same_node, lowered as by_call, InOrder, no_more, one_more, makes, expression_for, literal_for, no_entries, no_children}
+use Rattle.react_compile.specs.StandsFor.{StandsFor, same_leaf, same_list, same_node, lowered as by_call, InOrder, no_more, next_stands, makes, expression_for, literal_for, no_entries, no_children}
 use Rattle.react_compile.specs.Compiles.{IsCodeFor}
-use Rattle.react_compile.specs.Printed.{is_string_tag, element_call, name as name_leaf, code_of, lowered, each_lowered}
+use Rattle.react_compile.specs.Printed.{is_string_tag, element_call, name as name_leaf, tree_code, lowered, each_lowered}
 use Rattle.react_compile.proofs.Tests.{cond_true, cond_false}
 use Rattle.react_compile.proofs.Words.{at_once}
 use Rattle.react_compile.proofs.Printable.{IsExpr, name, string, number, call, member, element as an_element, AreExprs, no_exprs, next_expr, initialized, AreDeclarators, no_declarators, next_declarator, constant, run, AreItems, no_items, next_item, IsModule, of_items}
@@ -71,7 +71,7 @@ not_empty_lowered _ = refl
 
 in_order : {t u : Tree} (ts us : Forest) → is_empty t ≡ false → is_empty u ≡ false → StandsFor default_settings t u [] → InOrder default_settings (without_empty ts) (without_empty us) []
     → InOrder default_settings (without_empty (part t ts)) (without_empty (part u us)) []
-in_order ts us e f s h = rw (e, f) (one_more s h)
+in_order ts us e f s h = rw (e, f) (next_stands s h)
 
 mutual
   stands_expr : {t : Tree} → IsExpr t → StandsFor default_settings (nf t) (nf (lowered t)) []
@@ -79,8 +79,8 @@ mutual
   stands_expr (string {x = x} w) = same_leaf StringLiteral x
   stands_expr (number {x = x} w) = same_leaf NumericLiteral x
   stands_expr (an_element {t = t} g) = stands_element t
-  stands_expr (call h hs) = same_node (expression Call) refl (one_more (stands_expr h) (one_more (same_list (stand_exprs hs)) no_more))
-  stands_expr (member {x = x} h n w) = same_node (expression Member) refl (one_more (stands_expr h) (one_more (same_leaf IdentifierName x) no_more))
+  stands_expr (call h hs) = same_node (expression Call) refl (next_stands (stands_expr h) (next_stands (same_list (stand_exprs hs)) no_more))
+  stands_expr (member {x = x} h n w) = same_node (expression Member) refl (next_stands (stands_expr h) (next_stands (same_leaf IdentifierName x) no_more))
 
   stand_exprs : {ts : Forest} → AreExprs ts → InOrder default_settings (without_empty (each_made plain_node ts)) (without_empty (each_made plain_node (each_lowered ts))) []
   stand_exprs no_exprs = no_more
@@ -89,28 +89,28 @@ mutual
 stand_declarators : {ds : Forest} → AreDeclarators ds → InOrder default_settings (without_empty (each_made plain_node ds)) (without_empty (each_made plain_node (each_lowered ds))) []
 stand_declarators no_declarators = no_more
 stand_declarators (next_declarator (initialized {x = x} w b h) hs) =
-    one_more (same_node (statement Declarator) refl (one_more (same_leaf IdentifierName x) (one_more (same_list (one_more (stands_expr h) no_more)) no_more))) (stand_declarators hs)
+    next_stands (same_node (statement Declarator) refl (next_stands (same_leaf IdentifierName x) (next_stands (same_list (next_stands (stands_expr h) no_more)) no_more))) (stand_declarators hs)
 
 stand_items : {ts : Forest} → AreItems ts → InOrder default_settings (without_empty (each_made plain_node ts)) (without_empty (each_made plain_node (each_lowered ts))) []
 stand_items no_items = no_more
-stand_items (next_item (constant h hs) is') = one_more (same_node (statement (Var ConstWord)) refl (one_more (same_list (stand_declarators (next_declarator h hs))) no_more)) (stand_items is')
-stand_items (next_item (run h n) is') = one_more (same_node (statement ExprStmt) refl (one_more (stands_expr h) no_more)) (stand_items is')
+stand_items (next_item (constant h hs) is') = next_stands (same_node (statement (Var ConstWord)) refl (next_stands (same_list (stand_declarators (next_declarator h hs))) no_more)) (stand_items is')
+stand_items (next_item (run h n) is') = next_stands (same_node (statement ExprStmt) refl (next_stands (stands_expr h) no_more)) (stand_items is')
 
 stands_module : {t : Tree} → IsModule t → StandsFor default_settings (nf t) (nf (lowered t)) []
-stands_module (of_items hs) = same_node (program Module) refl (one_more (same_list no_more) (one_more (same_list (stand_items hs)) no_more))
+stands_module (of_items hs) = same_node (program Module) refl (next_stands (same_list no_more) (next_stands (same_list (stand_items hs)) no_more))
 
 -- ---- the code
 
-reads_module : {t : Tree} → IsModule t → Reads goals.Module (code_of t) (lowered t)
+reads_module : {t : Tree} → IsModule t → Reads goals.Module (tree_code t) (lowered t)
 reads_module (of_items {ts} hs) = record {
   of_goal = refl;
-  read = ap (λ b. b && ended_at (scan (At [] AfterExpr (code_of (node (program Module) (part (list none) (part (list ts) none))))) (spelled (lowered (node (program Module) (part (list none) (part (list ts) none))))))) (fits_module (of_items hs))
+  read = ap (λ b. b && ended_at (scan (At [] AfterExpr (tree_code (node (program Module) (part (list none) (part (list ts) none))))) (spelled (lowered (node (program Module) (part (list none) (part (list ts) none))))))) (fits_module (of_items hs))
       ∙ items_scan at_once [] AfterExpr hs;
   is_legal = legal_module (of_items hs);
 }
 
 -- The code of a module that reads stands for it.
-pub code_stands : {Z : Type 0} (code : String Z) (t : Tree) → chars (string_bytes code) ≡ code_of t → (source : Text) → ReadsSoFar source t → IsCodeFor t (string_bytes code)
+pub code_stands : {Z : Type 0} (code : String Z) (t : Tree) → chars (string_bytes code) ≡ tree_code t → (source : Text) → ReadsSoFar source t → IsCodeFor t (string_bytes code)
 code_stands code t e source h =
     let m : IsModule t = module_of t h in
     record {

@@ -39,34 +39,34 @@ abbrev pub jsx_code : Jsx → Text
 jsx_code (jsxs.Element at a) = element_code (tag_text a)
 
 abbrev mutual
-  pub code_of : Tree → Text
-  code_of (leaf k t) = t
-  code_of (node (program Module) (part (list ds) (part (list ts) none))) = lines ds ++ lines ts
-  code_of (node (program Directive) (part t none)) = code_of t ++ codes ";"
-  code_of (node (statement (Var w)) (part (list ds) none)) = vars w ++ (codes " " ++ (listed ds ++ codes ";"))
-  code_of (node (statement Declarator) (part p (part i none))) = code_of p ++ initializer i
-  code_of (node (statement ExprStmt) (part e none)) = code_of e ++ codes ";"
-  code_of (node (expression Call) (part f (part (list as') none))) = code_of f ++ (codes "(" ++ (listed as' ++ codes ")"))
-  code_of (node (expression Member) (part a (part b none))) = code_of a ++ (codes "." ++ code_of b)
-  code_of (node (jsx Element) (part (leaf JsxName t) as')) = element_code t
-  code_of t = []
+  pub tree_code : Tree → Text
+  tree_code (leaf k t) = t
+  tree_code (node (program Module) (part (list ds) (part (list ts) none))) = lines ds ++ lines ts
+  tree_code (node (program Directive) (part t none)) = tree_code t ++ codes ";"
+  tree_code (node (statement (Var w)) (part (list ds) none)) = vars w ++ (codes " " ++ (listed ds ++ codes ";"))
+  tree_code (node (statement Declarator) (part p (part i none))) = tree_code p ++ initializer i
+  tree_code (node (statement ExprStmt) (part e none)) = tree_code e ++ codes ";"
+  tree_code (node (expression Call) (part f (part (list as') none))) = tree_code f ++ (codes "(" ++ (listed as' ++ codes ")"))
+  tree_code (node (expression Member) (part a (part b none))) = tree_code a ++ (codes "." ++ tree_code b)
+  tree_code (node (jsx Element) (part (leaf JsxName t) as')) = element_code t
+  tree_code t = []
 
   pub initializer : Tree → Text
-  initializer (list (part e ts)) = codes " = " ++ code_of e
+  initializer (list (part e ts)) = codes " = " ++ tree_code e
   initializer t = []
 
   pub listed : Forest → Text
   listed none = []
-  listed (part t ts) = code_of t ++ further ts
+  listed (part t ts) = tree_code t ++ further ts
 
   pub further : Forest → Text
   further none = []
-  further (part t ts) = codes ", " ++ (code_of t ++ further ts)
+  further (part t ts) = codes ", " ++ (tree_code t ++ further ts)
 
   -- each on a line of its own
   pub lines : Forest → Text
   lines none = []
-  lines (part t ts) = code_of t ++ (codes "\n" ++ lines ts)
+  lines (part t ts) = tree_code t ++ (codes "\n" ++ lines ts)
 
 abbrev pub module_code : declared.Module → Text
 module_code m = lines (forest (map directive m.directives.items)) ++ lines (forest (map view_item m.body.items))

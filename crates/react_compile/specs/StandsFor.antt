@@ -39,7 +39,7 @@ mutual
 
   pub data InOrder (g : Settings) : Forest → Forest → List Added → Type 0 where
     no_more : InOrder g none none []
-    one_more : {t u : Tree} {ts us : Forest} {a b : List Added} → StandsFor g t u a → InOrder g ts us b → InOrder g (part t ts) (part u us) (a ++ b)
+    next_stands : {t u : Tree} {ts us : Forest} {a b : List Added} → StandsFor g t u a → InOrder g ts us b → InOrder g (part t ts) (part u us) (a ++ b)
 
   -- an element that is made stands for one that is written, part for part
   pub data MakesElem (g : Settings) : Elem → Elem → List Added → Type 0 where

@@ -10,7 +10,7 @@ ghost use Rattle.jsx_tree.specs.Nonterminals.{has_dash};
 ghost use Rattle.jsx_tree.specs.Grammar.{vars};
 ghost use Rattle.jsx_tree.specs.View.{text_of, forest, optional_of, word_of, view_expr, view_access, view_pat, view_stmt, view_item, directive, view};
 ghost use Rattle.react_compile.specs.Element.{is_lower};
-ghost use Rattle.react_compile.specs.Printed.{is_ascii, is_string_tag, tag_code, tag_text, element_code, jsx_code, code_of, initializer, listed, lines, module_code};
+ghost use Rattle.react_compile.specs.Printed.{is_ascii, is_string_tag, tag_code, tag_text, element_code, jsx_code, tree_code, initializer, listed, lines, module_code};
 
 use jsx_tree::{
     Access, DeclareWord, Expr, Ident, Item, Jsx, Module, Pat, Program, Stmt, Tag, Text,
@@ -93,7 +93,7 @@ impl Code {
     #[cycle(print)]
     #[tactic(auto, using(crate::proofs::Printing::printing))]
     fn expr(&mut self, expr: &Expr<'_>) -> Result<(), AllocError>
-        ensures { OnOk result (self.new ≡ self.old ++ code_of (view_expr expr.now)) }
+        ensures { OnOk result (self.new ≡ self.old ++ tree_code (view_expr expr.now)) }
     {
         match expr {
             Expr::Ident(_, name) => self.ident(name),
@@ -106,7 +106,7 @@ impl Code {
     #[cycle(print)]
     #[tactic(auto, using(crate::proofs::Printing::printing))]
     fn access(&mut self, access: &Access<'_>) -> Result<(), AllocError>
-        ensures { OnOk result (self.new ≡ self.old ++ code_of (view_access access.now)) }
+        ensures { OnOk result (self.new ≡ self.old ++ tree_code (view_access access.now)) }
     {
         match access {
             Access::Call(_, callee, arguments) => {
@@ -139,7 +139,7 @@ impl Code {
 
     #[tactic(auto, using(crate::proofs::Printing::printing))]
     fn pat(&mut self, pat: &Pat<'_>) -> Result<(), AllocError>
-        ensures { OnOk result (self.new ≡ self.old ++ code_of (view_pat pat.now)) }
+        ensures { OnOk result (self.new ≡ self.old ++ tree_code (view_pat pat.now)) }
     {
         match pat {
             Pat::Ident(_, name) => self.ident(name),
@@ -188,7 +188,7 @@ impl Code {
 
     #[tactic(auto, using(crate::proofs::Printing::printing))]
     fn stmt(&mut self, stmt: &Stmt<'_>) -> Result<(), AllocError>
-        ensures { OnOk result (self.new ≡ self.old ++ code_of (view_stmt stmt.now)) }
+        ensures { OnOk result (self.new ≡ self.old ++ tree_code (view_stmt stmt.now)) }
     {
         match stmt {
             Stmt::Var(_, word, declarators) => {
@@ -278,14 +278,14 @@ pub(crate) fn print(alloc: Global, program: &Program<'_>) -> Result<String, Allo
     // The code of a module that reads stands for it.
     ensures code { IfOk result (λ code. (source : token.Text) → ReadsSoFar source (view program.now) → IsCodeFor (view program.now) (string_bytes code)) }
     // Its characters; a module without items has none.
-    ensures printed { IfOk result (λ code. chars (string_bytes code) ≡ code_of (view program.now)) }
+    ensures printed { IfOk result (λ code. chars (string_bytes code) ≡ tree_code (view program.now)) }
 {
-    code_of(alloc, program)
+    program_text(alloc, program)
 }
 
 #[tactic(auto, using(crate::proofs::Printing::whole))]
-fn code_of(alloc: Global, program: &Program<'_>) -> Result<String, AllocError>
-    ensures { IfOk result (λ code. chars (string_bytes code) ≡ code_of (view program.now)) }
+fn program_text(alloc: Global, program: &Program<'_>) -> Result<String, AllocError>
+    ensures { IfOk result (λ code. chars (string_bytes code) ≡ tree_code (view program.now)) }
 {
     match program {
         Program::Module(module) => {

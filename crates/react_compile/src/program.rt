@@ -4,7 +4,7 @@ ghost use Rattle.std.specs.Prelude.{◌≡◌, ◌⊎◌, ◌≢◌, ◌≤◌, 
 ghost use Rattle.jsx_base.specs.Faults.{Rose};
 ghost use Rattle.jsx_base.specs.Sink.{Gains, GainsPrefix};
 ghost use Rattle.jsx_tree.specs.Kinds.{Tree};
-ghost use Rattle.react_compile.specs.Status.{code_of, IsTold};
+ghost use Rattle.react_compile.specs.Status.{exit_code, IsTold};
 ghost use Rattle.react_compile.specs.Compiles.{IsSource};
 ghost use Rattle.react_compile.specs.Run.{WritesCode, WritesPrefix, TakesFew, KeepsTold, TellsSyntaxError, TellsTooBig, TellsPrefix, TellsSyntaxPrefix, GainsCode, GainsCodePrefix, IsValid, bad_words, read_fault, out_of_memory, syntax_error, max_source};
 
@@ -33,7 +33,7 @@ pub enum Status {
 impl Status {
     /// The exit status.
     pub fn code(self) -> u8
-        ensures { result ≡ code_of self }
+        ensures { result ≡ exit_code self }
     {
         match self {
             Status::Done => 0,

@@ -22,9 +22,9 @@ pub struct SingleThreadedComments {
 
 impl Model for SingleThreadedComments {
     ghost use Rattle.std.specs.Prelude.{map};
-    ghost use Rattle.jsx_base.specs.Comments.{Remarks, entry_data};
+    ghost use Rattle.jsx_base.specs.Comments.{PlacedComments, entry_data};
 
-    ghost Value = { Remarks };
+    ghost Value = { PlacedComments };
 
     ghost view = { λ c. record { lists = map entry_data c.leading.entries; marked = c.pure_places.keys } };
 }

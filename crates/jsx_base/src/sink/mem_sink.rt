@@ -2,7 +2,7 @@
 
 ghost use Rattle.std.specs.Prelude.{◌≡◌, ◌+◌, ◌≤◌, ◌↔◌, [], ◌++◌, length, Some, IfOk, IsErr, OnOk, OnErr};
 ghost use Rattle.jsx_base.specs.Calls.{NextFails};
-ghost use Rattle.jsx_base.specs.Faults.{one_more};
+ghost use Rattle.jsx_base.specs.Faults.{next_count};
 
 use crate::calls::Calls;
 use crate::{Failed, Sink};
@@ -75,7 +75,7 @@ impl Sink for MemSink {
         ensures room_kept { OnErr result (self.new.room ≡ self.old.room) }
 
         ensures same_list { self.new.writes.fail ≡ self.old.writes.fail }
-        ensures next { self.new.writes.next ≡ one_more self.old.writes.next }
+        ensures next { self.new.writes.next ≡ next_count self.old.writes.next }
         ensures fault { OnErr result (self.new.writes.faults ≡ self.old.writes.faults + 1) }
         ensures no_fault { OnOk result (self.new.writes.faults ≡ self.old.writes.faults) }
     {

@@ -14,9 +14,9 @@ pub struct QuietSink {
 
 impl Model for QuietSink {
     ghost use Rattle.std.specs.Prelude.{◌-◌, vec_len, vec_capacity};
-    ghost use Rattle.jsx_base.specs.Sink.{Held};
+    ghost use Rattle.jsx_base.specs.Sink.{QuietMemorySink};
 
-    ghost Value = { Held };
+    ghost Value = { QuietMemorySink };
 
     ghost view = { λ s. record { holds = s.bytes.items; room = vec_capacity s.bytes - vec_len s.bytes } };
 }

@@ -2,7 +2,7 @@
 
 ghost use Rattle.std.specs.Prelude.{◌≡◌, ◌≤◌, ◌-◌, ◌^◌, ℕ, length, take, None, IsOk, OnOk, OnErr};
 ghost use Rattle.std.specs.Io.KnownBytes.{Appends};
-ghost use Rattle.jsx_base.specs.Faults.{one_more};
+ghost use Rattle.jsx_base.specs.Faults.{next_count};
 
 use crate::{Failed, Sink};
 use std::alloc::AllocError;
@@ -53,7 +53,7 @@ impl<W: Write> Sink for StdSink<W> {
         ensures all { OnOk result (Appends (W.contents (writer self.old)) (W.contents (writer self.new)) bytes.now) }
         ensures prefix { OnErr result ((n : ℕ) ×
             Appends (W.contents (writer self.old)) (W.contents (writer self.new)) (take n bytes.now)) }
-        ensures fault { OnErr result (failed_writes self.new ≡ one_more (failed_writes self.old)) }
+        ensures fault { OnErr result (failed_writes self.new ≡ next_count (failed_writes self.old)) }
         ensures never_falls { failed_writes self.old ≤ failed_writes self.new }
         ensures no_fault { OnOk result (failed_writes self.new ≡ failed_writes self.old) }
     {

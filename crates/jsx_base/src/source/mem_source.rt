@@ -2,7 +2,7 @@
 
 ghost use Rattle.std.specs.Prelude.{◌≡◌, ◌+◌, ◌↔◌, ◌++◌, length, take, drop, min, Some, IfOk, IsErr, OnOk, OnErr};
 ghost use Rattle.jsx_base.specs.Calls.{NextFails};
-ghost use Rattle.jsx_base.specs.Faults.{one_more};
+ghost use Rattle.jsx_base.specs.Faults.{next_count};
 
 use crate::calls::Calls;
 use crate::{Failed, Source};
@@ -72,7 +72,7 @@ impl Source for MemSource {
         ensures buffer_kept { OnErr result (buf.new ≡ buf.old) }
 
         ensures same_list { self.new.reads.fail ≡ self.old.reads.fail }
-        ensures next { self.new.reads.next ≡ one_more self.old.reads.next }
+        ensures next { self.new.reads.next ≡ next_count self.old.reads.next }
         ensures fault { OnErr result (self.new.reads.faults ≡ self.old.reads.faults + 1) }
         ensures no_fault { OnOk result (self.new.reads.faults ≡ self.old.reads.faults) }
     {

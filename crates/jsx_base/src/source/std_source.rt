@@ -2,7 +2,7 @@
 
 ghost use Rattle.std.specs.Prelude.{◌≡◌, ◌≤◌, length, None, IfOk, OnOk, OnErr};
 ghost use Rattle.std.specs.Io.KnownBytes.{ReadConsumes};
-ghost use Rattle.jsx_base.specs.Faults.{one_more};
+ghost use Rattle.jsx_base.specs.Faults.{next_count};
 
 use crate::{Failed, Source};
 use std::io::Read;
@@ -38,7 +38,7 @@ impl<R: Read> Source for StdSource<R> {
     fn read(&mut self, buf: &mut [u8]) -> Result<usize, Failed>
         ensures fits { IfOk result (λ n. n ≤ length buf.old) }
         ensures bytes { ReadConsumes (R.remaining (reader self.old)) (R.remaining (reader self.new)) result buf.new }
-        ensures fault { OnErr result (failed_reads self.new ≡ one_more (failed_reads self.old)) }
+        ensures fault { OnErr result (failed_reads self.new ≡ next_count (failed_reads self.old)) }
         ensures never_falls { failed_reads self.old ≤ failed_reads self.new }
         ensures no_fault { OnOk result (failed_reads self.new ≡ failed_reads self.old) }
     {

@@ -12,13 +12,13 @@ impl<E: Emitter> Handler<E> {
     ghost use Rattle.std.specs.Prelude.{◌≡◌, None};
     ghost use Rattle.jsx_base.specs.MultiSpan.{spans_of};
     ghost use Rattle.jsx_report.specs.Made.{bug_or, plain_report, report_at, unimplemented};
-    ghost use Rattle.jsx_report.specs.Handler.{OnWent, refusal, Reports, bug_or_ok};
+    ghost use Rattle.jsx_report.specs.Handler.{UnlessRefused, refusal, Reports, bug_or_ok};
 
     /// Reports a bug of the program that points nowhere. Answers `ExplicitBug`, or `Emit` where the
     /// emitter refused it, or `Memory` for want of memory. After the last two the books are as before.
     pub fn bug(&mut self, msg: &str) -> HandlerError
         ensures reports { Reports E.text E.faults E.explains E.shows (plain_report Level.Bug msg.now) self.old self.new (refusal result) }
-        ensures answer { OnWent (refusal result) (result ≡ HandlerError.ExplicitBug) }
+        ensures answer { UnlessRefused (refusal result) (result ≡ HandlerError.ExplicitBug) }
     {
         match self.report_plain(Level::Bug, msg) {
             Ok(()) => HandlerError::ExplicitBug,
@@ -30,7 +30,7 @@ impl<E: Emitter> Handler<E> {
     /// emitter refused it, or `Memory` for want of memory. After the last two the books are as before.
     pub fn span_bug(&mut self, sp: MultiSpan, msg: &str) -> HandlerError
         ensures reports { Reports E.text E.faults E.explains E.shows (report_at Level.Bug None msg.now (spans_of sp)) self.old self.new (refusal result) }
-        ensures answer { OnWent (refusal result) (result ≡ HandlerError.ExplicitBug) }
+        ensures answer { UnlessRefused (refusal result) (result ≡ HandlerError.ExplicitBug) }
     {
         match self.report_at(Level::Bug, None, msg, sp) {
             Ok(()) => HandlerError::ExplicitBug,
@@ -42,7 +42,7 @@ impl<E: Emitter> Handler<E> {
     /// emitter refused it, or `Memory` for want of memory. After the last two the books are as before.
     pub fn unimpl(&mut self, msg: &str) -> HandlerError
         ensures reports { Reports E.text E.faults E.explains E.shows (plain_report Level.Bug (unimplemented msg.now)) self.old self.new (refusal result) }
-        ensures answer { OnWent (refusal result) (result ≡ HandlerError.ExplicitBug) }
+        ensures answer { UnlessRefused (refusal result) (result ≡ HandlerError.ExplicitBug) }
     {
         match unimplemented_text(self.allocator(), msg) {
             Ok(text) => self.bug(text.as_str()),
@@ -54,7 +54,7 @@ impl<E: Emitter> Handler<E> {
     /// emitter refused it, or `Memory` for want of memory. After the last two the books are as before.
     pub fn span_unimpl(&mut self, sp: MultiSpan, msg: &str) -> HandlerError
         ensures reports { Reports E.text E.faults E.explains E.shows (report_at Level.Bug None (unimplemented msg.now) (spans_of sp)) self.old self.new (refusal result) }
-        ensures answer { OnWent (refusal result) (result ≡ HandlerError.ExplicitBug) }
+        ensures answer { UnlessRefused (refusal result) (result ≡ HandlerError.ExplicitBug) }
     {
         match unimplemented_text(self.allocator(), msg) {
             Ok(text) => self.span_bug(sp, text.as_str()),
@@ -70,7 +70,7 @@ impl<E: Emitter> Handler<E> {
     /// last two the books are as before.
     pub fn err(&mut self, msg: &str) -> Result<(), HandlerError>
         ensures reports { Reports E.text E.faults E.explains E.shows (plain_report (bug_or self.old.flags Level.Error) msg.now) self.old self.new result }
-        ensures answer { OnWent result (result ≡ bug_or_ok self.old.flags tt) }
+        ensures answer { UnlessRefused result (result ≡ bug_or_ok self.old.flags tt) }
     {
         if self.flags.treat_err_as_bug {
             return Err(self.bug(msg));
@@ -87,7 +87,7 @@ impl<E: Emitter> Handler<E> {
     /// last two the books are as before.
     pub fn fatal(&mut self, msg: &str) -> Result<FatalError, HandlerError>
         ensures reports { Reports E.text E.faults E.explains E.shows (plain_report (bug_or self.old.flags Level.Fatal) msg.now) self.old self.new result }
-        ensures answer { OnWent result (result ≡ bug_or_ok self.old.flags (record {})) }
+        ensures answer { UnlessRefused result (result ≡ bug_or_ok self.old.flags (record {})) }
     {
         if self.flags.treat_err_as_bug {
             return Err(self.bug(msg));

@@ -15,7 +15,7 @@ impl<E: Emitter> Handler<E> {
     ghost use Rattle.jsx_diag.specs.Adds.{new_report, nowhere};
     ghost use Rattle.jsx_report.specs.contracts.handler.Handler.{the_row};
     ghost use Rattle.jsx_report.specs.Made.{heard, plain_report, report_at};
-    ghost use Rattle.jsx_report.specs.Handler.{Hands, OnWent, books_of};
+    ghost use Rattle.jsx_report.specs.Handler.{HandsIn, UnlessRefused, books_of};
     ghost use Rattle.jsx_report.specs.Builder.{diagnostic_of, suggests};
 
     /// A cancelled report.
@@ -275,8 +275,8 @@ impl<E: Emitter> Handler<E> {
     ///
     /// `Emit` where the emitter refused it.
     pub fn force_print_db(db: DiagnosticBuilder<'_, E>) -> Result<(), HandlerError>
-        ensures hands { Hands E.text E.faults E.explains E.shows (report_of (diagnostic_of db.entry) ∷ []) (books_of db.entry.handler.now) db.entry.handler.now db.exit.0.now result }
-        ensures answer { OnWent result (result ≡ Ok tt) }
+        ensures hands { HandsIn E.text E.faults E.explains E.shows (report_of (diagnostic_of db.entry) ∷ []) (books_of db.entry.handler.now) db.entry.handler.now db.exit.0.now result }
+        ensures answer { UnlessRefused result (result ≡ Ok tt) }
     {
         db.print()
     }

@@ -12,7 +12,7 @@ impl<E: Emitter> Handler<E> {
     ghost use Rattle.jsx_diag.specs.Data.{report_of};
     ghost use Rattle.jsx_report.specs.Made.{report_at};
     ghost use Rattle.jsx_report.specs.declared.handler.Handler.{Handler};
-    ghost use Rattle.jsx_report.specs.Handler.{Delays, KeepsRest, OnRefused, OnWent, Reports, answer_delayed, answer_to, books_of, bug_or_ok};
+    ghost use Rattle.jsx_report.specs.Handler.{Delays, KeepsRest, OnRefused, UnlessRefused, Reports, answer_delayed, answer_to, books_of, bug_or_ok};
 
     /// Enters a bug at these spans that waits. It is printed at once where the flags say so. Where they
     /// say that errors are bugs, this is `span_bug`.
@@ -24,7 +24,7 @@ impl<E: Emitter> Handler<E> {
     pub fn delay_span_bug(&mut self, sp: MultiSpan, msg: &str) -> Result<(), HandlerError>
         ensures delays { IsFalse self.old.flags.treat_err_as_bug → Delays E.text E.faults E.explains E.shows (report_at Level.Bug None msg.now (spans_of sp)) self.old self.new result }
         ensures reports { IsTrue self.old.flags.treat_err_as_bug → Reports E.text E.faults E.explains E.shows (report_at Level.Bug None msg.now (spans_of sp)) self.old self.new result }
-        ensures answer { OnWent result (result ≡ bug_or_ok self.old.flags tt) }
+        ensures answer { UnlessRefused result (result ≡ bug_or_ok self.old.flags tt) }
     {
         if self.flags.treat_err_as_bug {
             return Err(self.span_bug(sp, msg));
@@ -38,7 +38,7 @@ impl<E: Emitter> Handler<E> {
     // Enters a bug that waits, and prints it at once where the flags say so.
     pub(crate) fn delay(&mut self, diagnostic: Diagnostic) -> Result<(), HandlerError>
         ensures delays { Delays E.text E.faults E.explains E.shows (report_of diagnostic) self.old self.new result }
-        ensures answer { OnWent result (result ≡ answer_delayed self.old.flags (books_of self.old) (report_of diagnostic)) }
+        ensures answer { UnlessRefused result (result ≡ answer_delayed self.old.flags (books_of self.old) (report_of diagnostic)) }
     {
         if self.flags.report_delayed_bugs {
             return self.delay_and_report(diagnostic);
@@ -53,7 +53,7 @@ impl<E: Emitter> Handler<E> {
     fn delay_and_report(&mut self, diagnostic: Diagnostic) -> Result<(), HandlerError>
         requires { IsTrue self.old.flags.report_delayed_bugs }
         ensures delays { Delays E.text E.faults E.explains E.shows (report_of diagnostic) self.old self.new result }
-        ensures answer { OnWent result (result ≡ answer_to self.old.flags (books_of self.old) (report_of diagnostic)) }
+        ensures answer { UnlessRefused result (result ≡ answer_to self.old.flags (books_of self.old) (report_of diagnostic)) }
     {
         match self.push_copy(&diagnostic) {
             Ok(()) => self.report_waiting(diagnostic),
@@ -67,7 +67,7 @@ impl<E: Emitter> Handler<E> {
     // Prints a bug that was put behind the others that wait, and takes it back where that is refused.
     fn report_waiting(&mut self, diagnostic: Diagnostic) -> Result<(), HandlerError>
         ensures delays { (before : Handler E) → IsTrue before.flags.report_delayed_bugs → KeepsRest before self.old → books_of self.old ≡ record (books_of before) { delayed = (books_of before).delayed ++ report_of diagnostic ∷ [] } → Delays E.text E.faults E.explains E.shows (report_of diagnostic) before self.new result }
-        ensures answer { OnWent result (result ≡ answer_to self.old.flags (books_of self.old) (report_of diagnostic)) }
+        ensures answer { UnlessRefused result (result ≡ answer_to self.old.flags (books_of self.old) (report_of diagnostic)) }
     {
         let answer = self.report(diagnostic);
         self.taken_back(answer)
@@ -85,10 +85,10 @@ impl<E: Emitter> Handler<E> {
         }
     }
 
-    // Hands on the answer to a report. Where it was refused, the last of the bugs that wait is taken back.
+    // HandsIn on the answer to a report. Where it was refused, the last of the bugs that wait is taken back.
     fn taken_back(&mut self, answer: Result<(), HandlerError>) -> Result<(), HandlerError>
         ensures same { result ≡ answer }
-        ensures went { OnWent answer (self.new ≡ self.old) }
+        ensures went { UnlessRefused answer (self.new ≡ self.old) }
         ensures refused { OnRefused answer (books_of self.new ≡ record (books_of self.old) { delayed = take (length (books_of self.old).delayed - 1) (books_of self.old).delayed }) }
         ensures rest { KeepsRest self.old self.new }
     {

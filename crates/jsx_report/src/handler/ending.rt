@@ -20,7 +20,7 @@ struct Stop {
 impl<E: Emitter> Handler<E> {
     ghost use Rattle.std.specs.Prelude.{◌≡◌, ◌≢◌, ◌<◌, [], ◌∷◌, not, length, map, nat_eq, if◌then◌else◌, Ok, IsTrue, IsFalse, IsOk, IfOk, IfErr, OnOk};
     ghost use Rattle.jsx_diag.specs.Data.{report_of};
-    ghost use Rattle.jsx_report.specs.Handler.{OnWent, Reports, answer_to, books_of, bug_or_ok, emitter_of, refusal};
+    ghost use Rattle.jsx_report.specs.Handler.{UnlessRefused, Reports, answer_to, books_of, bug_or_ok, emitter_of, refusal};
     ghost use Rattle.jsx_report.specs.Made.{plain_report};
     ghost use Rattle.jsx_report.specs.Emitter.{is_empty};
     ghost use Rattle.jsx_report.specs.Ending.{ClosesOrWants, HandsAll, HandsSome, IsClosing, answer_all, as_booked, count_text, first_of, waiting, without_value};
@@ -37,7 +37,7 @@ impl<E: Emitter> Handler<E> {
     pub fn finish(&mut self) -> Result<bool, HandlerError>
         ensures any { IfOk result (λ any. any ≡ not (is_empty (books_of self.old).delayed)) }
         ensures hands { (books_of self.old).count ≡ 0 → HandsAll E.text E.faults E.explains E.shows waiting (books_of self.old).delayed self.old self.new result }
-        ensures answer { (books_of self.old).count ≡ 0 → OnWent result (without_value result ≡ answer_all self.old.flags (books_of self.old) (books_of self.old).delayed) }
+        ensures answer { (books_of self.old).count ≡ 0 → UnlessRefused result (without_value result ≡ answer_all self.old.flags (books_of self.old) (books_of self.old).delayed) }
         ensures counted { (books_of self.old).count ≢ 0 → IsOk result }
         ensures kept { (books_of self.old).count ≢ 0 → self.new ≡ self.old }
     {
@@ -62,7 +62,7 @@ impl<E: Emitter> Handler<E> {
         ensures nothing { (books_of self.old).count ≡ 0 → (result ≡ Ok tt) × (self.new ≡ self.old) }
         ensures bug { (books_of self.old).count ≢ 0 → IsTrue self.old.flags.treat_err_as_bug → Reports E.text E.faults E.explains E.shows (plain_report Level.Bug (count_text (books_of self.old).count)) self.old self.new result }
         ensures closes { (books_of self.old).count ≢ 0 → IsFalse self.old.flags.treat_err_as_bug → ClosesOrWants E.text E.faults E.explains E.shows self.old self.new result }
-        ensures answer { OnWent result (result ≡ (if nat_eq (books_of self.old).count 0 then Ok tt else bug_or_ok self.old.flags tt)) }
+        ensures answer { UnlessRefused result (result ≡ (if nat_eq (books_of self.old).count 0 then Ok tt else bug_or_ok self.old.flags tt)) }
     {
         if self.err_count == 0 {
             return Ok(());
@@ -76,7 +76,7 @@ impl<E: Emitter> Handler<E> {
     // Reports as a bug how many errors were counted.
     fn count_bug(&mut self) -> HandlerError
         ensures reports { Reports E.text E.faults E.explains E.shows (plain_report Level.Bug (count_text (books_of self.old).count)) self.old self.new (refusal result) }
-        ensures answer { OnWent (refusal result) (result ≡ HandlerError.ExplicitBug) }
+        ensures answer { UnlessRefused (refusal result) (result ≡ HandlerError.ExplicitBug) }
     {
         match count_text(self.allocator(), self.err_count) {
             Ok(message) => self.bug(message.as_str()),
@@ -84,11 +84,11 @@ impl<E: Emitter> Handler<E> {
         }
     }
 
-    // Hands in the reports that a run with errors ends with, where errors aren't bugs.
+    // HandsIn in the reports that a run with errors ends with, where errors aren't bugs.
     fn close(&mut self) -> Result<(), HandlerError>
         requires { IsFalse self.old.flags.treat_err_as_bug }
         ensures closes { ClosesOrWants E.text E.faults E.explains E.shows self.old self.new result }
-        ensures answer { OnWent result (result ≡ Ok tt) }
+        ensures answer { UnlessRefused result (result ≡ Ok tt) }
     {
         match self.closing_reports() {
             Ok(reports) => self.report_closing(&reports),
@@ -120,11 +120,11 @@ impl<E: Emitter> Handler<E> {
         push_explanations(alloc, reports, &names)
     }
 
-    // Hands in these reports, where errors aren't bugs.
+    // HandsIn in these reports, where errors aren't bugs.
     fn report_closing(&mut self, reports: &[Diagnostic]) -> Result<(), HandlerError>
         requires { IsFalse self.old.flags.treat_err_as_bug }
         ensures hands { HandsAll E.text E.faults E.explains E.shows as_booked (map report_of reports.now) self.old self.new result }
-        ensures answer { OnWent result (result ≡ Ok tt) }
+        ensures answer { UnlessRefused result (result ≡ Ok tt) }
     {
         match self.report_each(reports) {
             Ok(()) => Ok(()),
@@ -132,10 +132,10 @@ impl<E: Emitter> Handler<E> {
         }
     }
 
-    // Hands in the bugs that waited. From the first on that is refused or shows a bug, they wait further.
+    // HandsIn in the bugs that waited. From the first on that is refused or shows a bug, they wait further.
     fn report_delayed(&mut self) -> Result<(), HandlerError>
         ensures hands { HandsAll E.text E.faults E.explains E.shows waiting (books_of self.old).delayed self.old self.new result }
-        ensures answer { OnWent result (result ≡ answer_all self.old.flags (books_of self.old) (books_of self.old).delayed) }
+        ensures answer { UnlessRefused result (result ≡ answer_all self.old.flags (books_of self.old) (books_of self.old).delayed) }
     {
         let none = Vec::new(self.allocator());
         let mut bugs = mem::replace(&mut self.delayed, none);
@@ -149,12 +149,12 @@ impl<E: Emitter> Handler<E> {
         }
     }
 
-    // Hands in copies of these reports, up to the first that is refused or shows a bug.
+    // HandsIn in copies of these reports, up to the first that is refused or shows a bug.
     fn report_each(&mut self, reports: &[Diagnostic]) -> Result<(), Stop>
         ensures hands { HandsSome E.text E.faults E.explains E.shows (λ books. books) (done_of result (map report_of reports.now)) (rest_of result (map report_of reports.now)) self.old self.new (stop_answer result) }
-        ensures answer { OnWent (stop_answer result) (stop_answer result ≡ answer_all self.old.flags (books_of self.old) (map report_of reports.now)) }
+        ensures answer { UnlessRefused (stop_answer result) (stop_answer result ≡ answer_all self.old.flags (books_of self.old) (map report_of reports.now)) }
         ensures fine { answer_all self.old.flags (books_of self.old) (done_of result (map report_of reports.now)) ≡ Ok tt }
-        ensures answered { OnWent (stop_answer result) (stop_answer result ≡ answer_all self.old.flags (booked_all self.old.flags (books_of self.old) (done_of result (map report_of reports.now))) (first_of (rest_of result (map report_of reports.now)))) }
+        ensures answered { UnlessRefused (stop_answer result) (stop_answer result ≡ answer_all self.old.flags (booked_all self.old.flags (books_of self.old) (done_of result (map report_of reports.now))) (first_of (rest_of result (map report_of reports.now)))) }
         ensures within { IfErr result (λ stop. stop.done < length reports.now) }
     {
         let mut done = 0;
@@ -167,10 +167,10 @@ impl<E: Emitter> Handler<E> {
         Ok(())
     }
 
-    // Hands in a copy of a report.
+    // HandsIn in a copy of a report.
     fn report_copy(&mut self, report: &Diagnostic) -> Result<(), HandlerError>
         ensures reports { Reports E.text E.faults E.explains E.shows (report_of report.now) self.old self.new result }
-        ensures answer { OnWent result (result ≡ answer_to self.old.flags (books_of self.old) (report_of report.now)) }
+        ensures answer { UnlessRefused result (result ≡ answer_to self.old.flags (books_of self.old) (report_of report.now)) }
     {
         match report.try_clone(self.allocator()) {
             Ok(copy) => self.report(copy),

@@ -10,7 +10,7 @@ impl<E: Emitter> Handler<E> {
     ghost use Rattle.jsx_base.specs.MultiSpan.{spans_of};
     ghost use Rattle.jsx_diag.specs.Data.{code_of};
     ghost use Rattle.jsx_report.specs.Made.{heard, is_off, plain_report, report_at};
-    ghost use Rattle.jsx_report.specs.Handler.{OnWent, Reports, answer_stopping, answer_to, as_fatal, books_of, continues, stop_after};
+    ghost use Rattle.jsx_report.specs.Handler.{UnlessRefused, Reports, answer_stopping, answer_to, as_fatal, books_of, continues, stop_after};
 
     /// Reports a message of this level at these spans. A warning is nothing where warnings are off.
     ///
@@ -21,7 +21,7 @@ impl<E: Emitter> Handler<E> {
     /// last two the books are as before.
     pub fn emit(&mut self, msp: &MultiSpan, msg: &str, lvl: Level) -> Result<(), HandlerError>
         ensures reports { Reports E.text E.faults E.explains E.shows (report_at (heard self.old.flags lvl) None msg.now (spans_of msp.now)) self.old self.new result }
-        ensures answer { OnWent result (result ≡ (if is_off self.old.flags lvl then Ok tt else answer_stopping self.old.flags (continues self.old) (books_of self.old) (report_at lvl None msg.now (spans_of msp.now)))) }
+        ensures answer { UnlessRefused result (result ≡ (if is_off self.old.flags lvl then Ok tt else answer_stopping self.old.flags (continues self.old) (books_of self.old) (report_at lvl None msg.now (spans_of msp.now)))) }
         ensures off { IsTrue (is_off self.old.flags lvl) → result ≡ Ok tt }
     {
         self.emit_copied(msp, msg, None, lvl)
@@ -42,7 +42,7 @@ impl<E: Emitter> Handler<E> {
         lvl: Level,
     ) -> Result<(), HandlerError>
         ensures reports { Reports E.text E.faults E.explains E.shows (report_at (heard self.old.flags lvl) (Some (code_of code)) msg.now (spans_of msp.now)) self.old self.new result }
-        ensures answer { OnWent result (result ≡ (if is_off self.old.flags lvl then Ok tt else answer_stopping self.old.flags (continues self.old) (books_of self.old) (report_at lvl (Some (code_of code)) msg.now (spans_of msp.now)))) }
+        ensures answer { UnlessRefused result (result ≡ (if is_off self.old.flags lvl then Ok tt else answer_stopping self.old.flags (continues self.old) (books_of self.old) (report_at lvl (Some (code_of code)) msg.now (spans_of msp.now)))) }
         ensures off { IsTrue (is_off self.old.flags lvl) → result ≡ Ok tt }
     {
         self.emit_copied(msp, msg, Some(code), lvl)
@@ -57,7 +57,7 @@ impl<E: Emitter> Handler<E> {
     /// last two the books are as before.
     pub fn span_err(&mut self, sp: MultiSpan, msg: &str) -> Result<(), HandlerError>
         ensures reports { Reports E.text E.faults E.explains E.shows (report_at Level.Error None msg.now (spans_of sp)) self.old self.new result }
-        ensures answer { OnWent result (result ≡ answer_stopping self.old.flags (continues self.old) (books_of self.old) (report_at Level.Error None msg.now (spans_of sp))) }
+        ensures answer { UnlessRefused result (result ≡ answer_stopping self.old.flags (continues self.old) (books_of self.old) (report_at Level.Error None msg.now (spans_of sp))) }
     {
         self.emit_at(sp, msg, None, Level::Error)
     }
@@ -76,7 +76,7 @@ impl<E: Emitter> Handler<E> {
         code: DiagnosticId,
     ) -> Result<(), HandlerError>
         ensures reports { Reports E.text E.faults E.explains E.shows (report_at Level.Error (Some (code_of code)) msg.now (spans_of sp)) self.old self.new result }
-        ensures answer { OnWent result (result ≡ answer_stopping self.old.flags (continues self.old) (books_of self.old) (report_at Level.Error (Some (code_of code)) msg.now (spans_of sp))) }
+        ensures answer { UnlessRefused result (result ≡ answer_stopping self.old.flags (continues self.old) (books_of self.old) (report_at Level.Error (Some (code_of code)) msg.now (spans_of sp))) }
     {
         self.emit_at(sp, msg, Some(code), Level::Error)
     }
@@ -90,7 +90,7 @@ impl<E: Emitter> Handler<E> {
     /// last two the books are as before.
     pub fn span_warn(&mut self, sp: MultiSpan, msg: &str) -> Result<(), HandlerError>
         ensures reports { Reports E.text E.faults E.explains E.shows (report_at (heard self.old.flags Level.Warning) None msg.now (spans_of sp)) self.old self.new result }
-        ensures answer { OnWent result (result ≡ (if is_off self.old.flags Level.Warning then Ok tt else answer_stopping self.old.flags (continues self.old) (books_of self.old) (report_at Level.Warning None msg.now (spans_of sp)))) }
+        ensures answer { UnlessRefused result (result ≡ (if is_off self.old.flags Level.Warning then Ok tt else answer_stopping self.old.flags (continues self.old) (books_of self.old) (report_at Level.Warning None msg.now (spans_of sp)))) }
         ensures off { IsTrue (is_off self.old.flags Level.Warning) → result ≡ Ok tt }
     {
         self.emit_at(sp, msg, None, Level::Warning)
@@ -110,7 +110,7 @@ impl<E: Emitter> Handler<E> {
         code: DiagnosticId,
     ) -> Result<(), HandlerError>
         ensures reports { Reports E.text E.faults E.explains E.shows (report_at (heard self.old.flags Level.Warning) (Some (code_of code)) msg.now (spans_of sp)) self.old self.new result }
-        ensures answer { OnWent result (result ≡ (if is_off self.old.flags Level.Warning then Ok tt else answer_stopping self.old.flags (continues self.old) (books_of self.old) (report_at Level.Warning (Some (code_of code)) msg.now (spans_of sp)))) }
+        ensures answer { UnlessRefused result (result ≡ (if is_off self.old.flags Level.Warning then Ok tt else answer_stopping self.old.flags (continues self.old) (books_of self.old) (report_at Level.Warning (Some (code_of code)) msg.now (spans_of sp)))) }
         ensures off { IsTrue (is_off self.old.flags Level.Warning) → result ≡ Ok tt }
     {
         self.emit_at(sp, msg, Some(code), Level::Warning)
@@ -125,7 +125,7 @@ impl<E: Emitter> Handler<E> {
     /// last two the books are as before.
     pub fn span_bug_no_panic(&mut self, sp: MultiSpan, msg: &str) -> Result<(), HandlerError>
         ensures reports { Reports E.text E.faults E.explains E.shows (report_at Level.Bug None msg.now (spans_of sp)) self.old self.new result }
-        ensures answer { OnWent result (result ≡ answer_stopping self.old.flags (continues self.old) (books_of self.old) (report_at Level.Bug None msg.now (spans_of sp))) }
+        ensures answer { UnlessRefused result (result ≡ answer_stopping self.old.flags (continues self.old) (books_of self.old) (report_at Level.Bug None msg.now (spans_of sp))) }
     {
         self.emit_at(sp, msg, None, Level::Bug)
     }
@@ -139,7 +139,7 @@ impl<E: Emitter> Handler<E> {
     /// last two the books are as before.
     pub fn span_note_without_error(&mut self, sp: MultiSpan, msg: &str) -> Result<(), HandlerError>
         ensures reports { Reports E.text E.faults E.explains E.shows (report_at Level.Note None msg.now (spans_of sp)) self.old self.new result }
-        ensures answer { OnWent result (result ≡ answer_stopping self.old.flags (continues self.old) (books_of self.old) (report_at Level.Note None msg.now (spans_of sp))) }
+        ensures answer { UnlessRefused result (result ≡ answer_stopping self.old.flags (continues self.old) (books_of self.old) (report_at Level.Note None msg.now (spans_of sp))) }
     {
         self.emit_at(sp, msg, None, Level::Note)
     }
@@ -153,7 +153,7 @@ impl<E: Emitter> Handler<E> {
     /// last two the books are as before.
     pub fn span_fatal(&mut self, sp: MultiSpan, msg: &str) -> Result<FatalError, HandlerError>
         ensures reports { Reports E.text E.faults E.explains E.shows (report_at Level.Fatal None msg.now (spans_of sp)) self.old self.new result }
-        ensures answer { OnWent result (result ≡ as_fatal (answer_stopping self.old.flags (continues self.old) (books_of self.old) (report_at Level.Fatal None msg.now (spans_of sp)))) }
+        ensures answer { UnlessRefused result (result ≡ as_fatal (answer_stopping self.old.flags (continues self.old) (books_of self.old) (report_at Level.Fatal None msg.now (spans_of sp)))) }
     {
         match self.emit_at(sp, msg, None, Level::Fatal) {
             Ok(()) => Ok(FatalError),
@@ -175,7 +175,7 @@ impl<E: Emitter> Handler<E> {
         code: DiagnosticId,
     ) -> Result<FatalError, HandlerError>
         ensures reports { Reports E.text E.faults E.explains E.shows (report_at Level.Fatal (Some (code_of code)) msg.now (spans_of sp)) self.old self.new result }
-        ensures answer { OnWent result (result ≡ as_fatal (answer_stopping self.old.flags (continues self.old) (books_of self.old) (report_at Level.Fatal (Some (code_of code)) msg.now (spans_of sp)))) }
+        ensures answer { UnlessRefused result (result ≡ as_fatal (answer_stopping self.old.flags (continues self.old) (books_of self.old) (report_at Level.Fatal (Some (code_of code)) msg.now (spans_of sp)))) }
     {
         match self.emit_at(sp, msg, Some(code), Level::Fatal) {
             Ok(()) => Ok(FatalError),
@@ -191,7 +191,7 @@ impl<E: Emitter> Handler<E> {
     /// want of memory. After the last two the books are as before.
     pub fn failure(&mut self, msg: &str) -> Result<(), HandlerError>
         ensures reports { Reports E.text E.faults E.explains E.shows (plain_report Level.FailureNote msg.now) self.old self.new result }
-        ensures answer { OnWent result (result ≡ answer_to self.old.flags (books_of self.old) (plain_report Level.FailureNote msg.now)) }
+        ensures answer { UnlessRefused result (result ≡ answer_to self.old.flags (books_of self.old) (plain_report Level.FailureNote msg.now)) }
     {
         self.report_plain(Level::FailureNote, msg)
     }
@@ -204,7 +204,7 @@ impl<E: Emitter> Handler<E> {
     /// want of memory. After the last two the books are as before.
     pub fn warn(&mut self, msg: &str) -> Result<(), HandlerError>
         ensures reports { Reports E.text E.faults E.explains E.shows (plain_report Level.Warning msg.now) self.old self.new result }
-        ensures answer { OnWent result (result ≡ answer_to self.old.flags (books_of self.old) (plain_report Level.Warning msg.now)) }
+        ensures answer { UnlessRefused result (result ≡ answer_to self.old.flags (books_of self.old) (plain_report Level.Warning msg.now)) }
     {
         self.report_plain(Level::Warning, msg)
     }
@@ -217,7 +217,7 @@ impl<E: Emitter> Handler<E> {
     /// want of memory. After the last two the books are as before.
     pub fn note_without_error(&mut self, msg: &str) -> Result<(), HandlerError>
         ensures reports { Reports E.text E.faults E.explains E.shows (plain_report Level.Note msg.now) self.old self.new result }
-        ensures answer { OnWent result (result ≡ answer_to self.old.flags (books_of self.old) (plain_report Level.Note msg.now)) }
+        ensures answer { UnlessRefused result (result ≡ answer_to self.old.flags (books_of self.old) (plain_report Level.Note msg.now)) }
     {
         self.report_plain(Level::Note, msg)
     }
@@ -231,7 +231,7 @@ impl<E: Emitter> Handler<E> {
         lvl: Level,
     ) -> Result<(), HandlerError>
         ensures reports { Reports E.text E.faults E.explains E.shows (report_at (heard self.old.flags lvl) (option_map code_of code) msg.now (spans_of msp.now)) self.old self.new result }
-        ensures answer { OnWent result (result ≡ (if is_off self.old.flags lvl then Ok tt else answer_stopping self.old.flags (continues self.old) (books_of self.old) (report_at lvl (option_map code_of code) msg.now (spans_of msp.now)))) }
+        ensures answer { UnlessRefused result (result ≡ (if is_off self.old.flags lvl then Ok tt else answer_stopping self.old.flags (continues self.old) (books_of self.old) (report_at lvl (option_map code_of code) msg.now (spans_of msp.now)))) }
         ensures off { IsTrue (is_off self.old.flags lvl) → result ≡ Ok tt }
     {
         if self.is_off(lvl) {
@@ -252,7 +252,7 @@ impl<E: Emitter> Handler<E> {
         lvl: Level,
     ) -> Result<(), HandlerError>
         ensures reports { Reports E.text E.faults E.explains E.shows (report_at (heard self.old.flags lvl) (option_map code_of code) msg.now (spans_of sp)) self.old self.new result }
-        ensures answer { OnWent result (result ≡ (if is_off self.old.flags lvl then Ok tt else answer_stopping self.old.flags (continues self.old) (books_of self.old) (report_at lvl (option_map code_of code) msg.now (spans_of sp)))) }
+        ensures answer { UnlessRefused result (result ≡ (if is_off self.old.flags lvl then Ok tt else answer_stopping self.old.flags (continues self.old) (books_of self.old) (report_at lvl (option_map code_of code) msg.now (spans_of sp)))) }
         ensures off { IsTrue (is_off self.old.flags lvl) → result ≡ Ok tt }
     {
         if self.is_off(lvl) {
@@ -270,7 +270,7 @@ impl<E: Emitter> Handler<E> {
         lvl: Level,
     ) -> Result<(), HandlerError>
         ensures reports { Reports E.text E.faults E.explains E.shows (report_at lvl (option_map code_of code) msg.now (spans_of sp)) self.old self.new result }
-        ensures answer { OnWent result (result ≡ answer_stopping self.old.flags (continues self.old) (books_of self.old) (report_at lvl (option_map code_of code) msg.now (spans_of sp))) }
+        ensures answer { UnlessRefused result (result ≡ answer_stopping self.old.flags (continues self.old) (books_of self.old) (report_at lvl (option_map code_of code) msg.now (spans_of sp))) }
     {
         match self.report_at(lvl, code, msg, sp) {
             Ok(()) => self.stop_if_asked(),

@@ -16,12 +16,12 @@ impl<E: Emitter> Handler<E> {
     ghost use Rattle.jsx_base.specs.MultiSpan.{spans_of};
     ghost use Rattle.jsx_report.specs.Made.{plain_report, report_at};
     ghost use Rattle.jsx_report.specs.Books.{counted, entered, is_news, knows_report};
-    ghost use Rattle.jsx_report.specs.Handler.{Hands, KeepsRest, OnWent, Reports, answer_to, answer_entered, books_of, continues, emitter_of};
+    ghost use Rattle.jsx_report.specs.Handler.{HandsIn, KeepsRest, UnlessRefused, Reports, answer_to, answer_entered, books_of, continues, emitter_of};
 
     // Prints a report and enters it, where it is news.
     pub(crate) fn report(&mut self, report: Diagnostic) -> Result<(), HandlerError>
         ensures reports { Reports E.text E.faults E.explains E.shows (report_of report) self.old self.new result }
-        ensures answer { OnWent result (result ≡ answer_to self.old.flags (books_of self.old) (report_of report)) }
+        ensures answer { UnlessRefused result (result ≡ answer_to self.old.flags (books_of self.old) (report_of report)) }
     {
         if self.is_news(&report) {
             return self.report_news(report);
@@ -40,8 +40,8 @@ impl<E: Emitter> Handler<E> {
     // Prints a report that is news, and enters it.
     fn report_news(&mut self, report: Diagnostic) -> Result<(), HandlerError>
         requires { is_news (books_of self.old) (report_of report) ≡ true }
-        ensures hands { Hands E.text E.faults E.explains E.shows (report_of report ∷ []) (entered self.old.flags (books_of self.old) (report_of report)) self.old self.new result }
-        ensures answer { OnWent result (result ≡ answer_entered self.old.flags (is_error_level report.level)) }
+        ensures hands { HandsIn E.text E.faults E.explains E.shows (report_of report ∷ []) (entered self.old.flags (books_of self.old) (report_of report)) self.old self.new result }
+        ensures answer { UnlessRefused result (result ≡ answer_entered self.old.flags (is_error_level report.level)) }
     {
         match self.print_new(&report) {
             Ok(code) => self.enter(report, code),
@@ -55,8 +55,8 @@ impl<E: Emitter> Handler<E> {
     // Prints a report that is to be entered, when there is room for it and its code, and answers a copy of
     // the code.
     fn print_new(&mut self, report: &Diagnostic) -> Result<Option<DiagnosticId>, HandlerError>
-        ensures hands { Hands E.text E.faults E.explains E.shows (report_of report.now ∷ []) (books_of self.old) self.old self.new result }
-        ensures answer { OnWent result (IsOk result) }
+        ensures hands { HandsIn E.text E.faults E.explains E.shows (report_of report.now ∷ []) (books_of self.old) self.old self.new result }
+        ensures answer { UnlessRefused result (IsOk result) }
         ensures code { IfOk result (λ code. option_map code_of code ≡ (report_of report.now).code) }
         ensures room { OnOk result (0 < spare self.new.reports) }
         ensures room_for_code { OnOk result (0 < spare self.new.seen) }
@@ -132,7 +132,7 @@ impl<E: Emitter> Handler<E> {
     // The same for a report of one plain message, which points nowhere.
     pub(super) fn report_plain(&mut self, level: Level, msg: &str) -> Result<(), HandlerError>
         ensures reports { Reports E.text E.faults E.explains E.shows (plain_report level msg.now) self.old self.new result }
-        ensures answer { OnWent result (result ≡ answer_to self.old.flags (books_of self.old) (plain_report level msg.now)) }
+        ensures answer { UnlessRefused result (result ≡ answer_to self.old.flags (books_of self.old) (plain_report level msg.now)) }
     {
         match Diagnostic::new(self.allocator(), level, msg) {
             Ok(report) => self.report(report),
@@ -149,7 +149,7 @@ impl<E: Emitter> Handler<E> {
         span: MultiSpan,
     ) -> Result<(), HandlerError>
         ensures reports { Reports E.text E.faults E.explains E.shows (report_at level (option_map code_of code) msg.now (spans_of span)) self.old self.new result }
-        ensures answer { OnWent result (result ≡ answer_to self.old.flags (books_of self.old) (report_at level (option_map code_of code) msg.now (spans_of span))) }
+        ensures answer { UnlessRefused result (result ≡ answer_to self.old.flags (books_of self.old) (report_at level (option_map code_of code) msg.now (spans_of span))) }
     {
         match made_at(self.allocator(), level, code, msg, span) {
             Ok(report) => self.report(report),
@@ -159,8 +159,8 @@ impl<E: Emitter> Handler<E> {
 
     // Prints a report, whether it is news or not, and enters nothing.
     pub(crate) fn print(&mut self, report: &Diagnostic) -> Result<(), HandlerError>
-        ensures hands { Hands E.text E.faults E.explains E.shows (report_of report.now ∷ []) (books_of self.old) self.old self.new result }
-        ensures answer { OnWent result (result ≡ Ok tt) }
+        ensures hands { HandsIn E.text E.faults E.explains E.shows (report_of report.now ∷ []) (books_of self.old) self.old self.new result }
+        ensures answer { UnlessRefused result (result ≡ Ok tt) }
         ensures only { self.new ≡ record self.old { emitter = emitter_of self.new } }
     {
         self.emitter.emit(report, &self.flags)?;

@@ -2,7 +2,7 @@ use Rattle.std.proofs.Common.{true≢false, subst, sym, ◌∙◌, refl}
 use Rattle.std.specs.Str.Iter.{HasSubslice}
 use Rattle.std.proofs.lemmas.Str.Pattern.{contains_text}
 use Rattle.jsx_base.specs.Comments.{comment_data}
-use Rattle.jsx_base.proofs.Remarks.{any_at, none_more, none_of_all}
+use Rattle.jsx_base.proofs.PlacedComments.{any_at, none_more, none_of_all}
 use Rattle.jsx_base.proofs.comments.single_threaded.one_contains.Goals as goal
 
 pub returns-then-contains : goal.returns-then-contains

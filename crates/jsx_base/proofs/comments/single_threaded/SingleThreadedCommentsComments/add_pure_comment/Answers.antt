@@ -1,6 +1,6 @@
 use Rattle.std.proofs.Common.{ap, ◌∙◌, ◌||◌, nat_eq}
 use Rattle.jsx_base.specs.Comments.{is_marked}
-use Rattle.jsx_base.proofs.Remarks.{marked_more}
+use Rattle.jsx_base.proofs.PlacedComments.{marked_more}
 use Rattle.jsx_base.proofs.comments.single_threaded.SingleThreadedCommentsComments.add_pure_comment.Goals as goal
 
 pub returns-clause-marked : goal.returns-clause-marked

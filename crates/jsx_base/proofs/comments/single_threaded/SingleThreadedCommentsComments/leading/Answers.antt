@@ -1,6 +1,6 @@
 use Rattle.std.proofs.Common.{map, sym, ap, ◌∙◌}
 use Rattle.jsx_base.specs.Comments.{comment_data, comments_at, held}
-use Rattle.jsx_base.proofs.Remarks.{comments_at-entries}
+use Rattle.jsx_base.proofs.PlacedComments.{comments_at-entries}
 use Rattle.jsx_base.proofs.comments.single_threaded.SingleThreadedCommentsComments.leading.Goals as goal
 
 pub returns-in-Some : goal.returns-in-Some
