@@ -1,4 +1,4 @@
--- What `parenthesise` gives has the form that the productions ask, and each part begins as it may: a tree that is formed fits, where the static rules hold.
+-- What `parenthesise` makes of a sound tree fits: it has the form that the productions ask, keeps the static rules, and each part begins as it may.
 use Rattle.std.proofs.Common.{◌≡◌, [], true, false, sym, refl, ap, ◌∙◌}
 use Rattle.std.proofs.lemmas.Bool.{false≢true, and_parts, and_from}
 use Rattle.std.specs.Prelude.{IsTrue}

@@ -1,4 +1,4 @@
--- Kinds that may begin with any name stand where no tree that mustn't.
+-- Kinds that may begin with any name, as a property or a method, stand at no place where a tree may not begin so.
 use Rattle.std.proofs.Common.{◌≡◌, true}
 use Rattle.std.proofs.lemmas.Bool.{false≢true}
 use Rattle.jsx_base.specs.Token.{NoSubstitution, TemplateHead}
