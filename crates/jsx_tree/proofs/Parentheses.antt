@@ -24,5 +24,6 @@ pub mod RulesKept
 pub mod LawsKept
 pub mod Loose
 pub mod Idempotent
+pub mod LaidForms
 pub mod Unneeded
 pub mod Programs

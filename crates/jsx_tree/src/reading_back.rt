@@ -36,7 +36,14 @@ pub fn marks_read_back()
 /// A tree that is sound fits once parentheses are put: each expression is one of its place's level, no statement begins as
 /// another one, no string statement is a directive, and no `in` stands open in the head of a `for`.
 pub fn parentheses_fit()
-    ensures { (t : Tree) → IsTrue (is_sound t) → IsTrue (fits (parenthesise t)) }
+    ensures fits { (t : Tree) → IsTrue (is_sound t) → IsTrue (fits (parenthesise t)) }
+    ensures goal { (goal : Goal) (t : Tree) → IsTrue (is_goal goal t) → IsTrue (is_goal goal (parenthesise t)) }
+{}
+
+/// So a sound program, printed in parentheses, is read as a program that says the same.
+pub fn sound_programs_read_back()
+    ensures reads { (goal : Goal) (t : Tree) → IsTrue (is_goal goal t) → IsTrue (is_sound t) → Reads goal (printed (parenthesise t)) (laid_tree (parenthesise t)) }
+    ensures same { (t : Tree) → IsTrue (is_sound t) → nf (laid_tree (parenthesise t)) ≡ nf t }
 {}
 
 /// No pair is put where none is needed: a program that fits as it is laid stays as it is.
@@ -49,7 +56,14 @@ pub fn parentheses_say_nothing()
     ensures { (t : Tree) → nf (parenthesise t) ≡ nf t }
 {}
 
-/// A normal form is its own: of each tree that the grammar has, and of each that it has but for parentheses.
+/// What layout writes in another form says the same: of each tree that the grammar has, and of each that it has but for
+/// parentheses.
+pub fn laying_says_nothing()
+    ensures of_the_grammar { (c : Nonterminal) (t : Tree) → IsTrue (is c t) → nf (laid_tree t) ≡ nf t }
+    ensures but_for_parentheses { (t : Tree) → IsTrue (formed t) → nf (laid_tree t) ≡ nf t }
+{}
+
+/// A normal form is its own, of the same trees.
 pub fn normal_form_is_normal()
     ensures of_the_grammar { (c : Nonterminal) (t : Tree) → IsTrue (is c t) → nf (nf t) ≡ nf t }
     ensures but_for_parentheses { (t : Tree) → IsTrue (formed t) → nf (nf t) ≡ nf t }

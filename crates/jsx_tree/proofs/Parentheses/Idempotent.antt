@@ -47,11 +47,11 @@ in_node : Tree → Forest
 in_node (node k cs) = cs
 in_node t = none
 
-head_is : (t u : Tree) (ts us : Forest) → part t ts ≡ part u us → t ≡ u
+pub head_is : (t u : Tree) (ts us : Forest) → part t ts ≡ part u us → t ≡ u
 unfolding first
 head_is t u ts us h = ap (first t) h
 
-tail_is : (t u : Tree) (ts us : Forest) → part t ts ≡ part u us → ts ≡ us
+pub tail_is : (t u : Tree) (ts us : Forest) → part t ts ≡ part u us → ts ≡ us
 unfolding behind
 tail_is t u ts us h = ap behind h
 
@@ -177,13 +177,13 @@ each_again f n e g ts h i = ap (λ us. each f (without_empty us)) (normal ts h) 
 
 -- ---- nodes
 
-abbrev nfs : Kind → Forest → Forest
+abbrev pub nfs : Kind → Forest → Forest
 nfs k cs = mades plain_node (positions k) cs
 
 node_stays : (k : Kind) (ds : Forest) → AllStay (positions k) ds → plain_node k ds ≡ node k ds → nf (node k ds) ≡ node k ds
 node_stays k ds h e = ap (plain_node k) (stay (positions k) ds h) ∙ e
 
-abbrev rest : List Position → List Position
+abbrev pub rest : List Position → List Position
 rest [] = []
 rest (s ∷ ss) = ss
 

@@ -13,7 +13,8 @@ use Rattle.jsx_tree.specs.Sound.{may_stand, may_shape, loose, loose_slots, loose
 use Rattle.jsx_tree.proofs.ReadBack.Basics.{clash}
 use Rattle.jsx_tree.proofs.Parentheses.Bare.{bare_node, bare, lays, bares, turns, laid_stays, bare_stays, firm, clear, all_clear, nowhere, no_list}
 use Rattle.jsx_tree.proofs.Parentheses.Seen.{At, Same, firm_by, first_at, rest_at, each_at, no_more, slots_of, one_of, rest_of, here_same, here_list}
-use Rattle.jsx_tree.proofs.Parentheses.PlaceTests.{ends_open, shut, last_one, last_shut}
+use Rattle.jsx_tree.proofs.ReadBack.RowChecks.{is_tail}
+use Rattle.jsx_tree.proofs.Parentheses.PlaceTests.{shut, last_one, last_shut}
 use Rattle.jsx_tree.proofs.Parentheses.PlaceTable.{row_facts}
 
 -- laid, or with the pairs off
@@ -25,7 +26,7 @@ form_stays : (w : Bool) (k : Kind) (cs : Forest) → turns k ≡ false → form 
 form_stays false k cs o = laid_stays k cs o
 form_stays true k cs o = bare_stays k cs o
 
-not_open : (c : Nonterminal) (k : Kind) (cs : Forest) → shut c ≡ true → may_stand c (node k cs) ≡ true → ends_open k ≡ false
+not_open : (c : Nonterminal) (k : Kind) (cs : Forest) → shut c ≡ true → may_stand c (node k cs) ≡ true → is_tail k ≡ false
 not_open c (statement If) cs s m = nowhere (asks c) _ s m
 not_open c (statement While) cs s m = nowhere (asks c) _ s m
 not_open c (statement For) cs s m = nowhere (asks c) _ s m
@@ -34,23 +35,23 @@ not_open c (statement ForOf) cs s m = nowhere (asks c) _ s m
 not_open c (statement Label) cs s m = nowhere (asks c) _ s m
 not_open c k cs s m = refl
 
-no_if : (k : Kind) → ends_open k ≡ false → is_if k ≡ false
+no_if : (k : Kind) → is_tail k ≡ false → is_if k ≡ false
 no_if (statement If) h = absurd (true≢false h)
 no_if k h = refl
 
-ends_shut : (k : Kind) → ends_open k ≡ false → (not (trails (production k)) || last_shut (positions k)) ≡ true
+ends_shut : (k : Kind) → is_tail k ≡ false → (not (trails (production k)) || last_shut (positions k)) ≡ true
 ends_shut k e =
-    ⊎_elim (λ p. clash (ends_open k) p e) (λ p. p)
-    (or_cases (ends_open k) (not (trails (production k)) || last_shut (positions k)) (row_facts k).shut_end)
+    ⊎_elim (λ p. clash (is_tail k) p e) (λ p. p)
+    (or_cases (is_tail k) (not (trails (production k)) || last_shut (positions k)) (row_facts k).shut_end)
 
 trailing : (b l : Bool) (i : Bool) (ds : Forest) → (not b || l) ≡ true → i ≡ false → (l ≡ true → last_open false ds ≡ false) → (b && last_open i ds) ≡ false
 trailing false l i ds h e f = refl
 trailing true l i ds h e f = ap (λ j. last_open j ds) e ∙ f h
 
-plain_end : (k : Kind) (ds : Forest) → ends_open k ≡ false → (last_shut (positions k) ≡ true → last_open false ds ≡ false) → open_if (node k ds) ≡ false
+plain_end : (k : Kind) (ds : Forest) → is_tail k ≡ false → (last_shut (positions k) ≡ true → last_open false ds ≡ false) → open_if (node k ds) ≡ false
 plain_end k ds e f = trailing (trails (production k)) (last_shut (positions k)) (is_if k) ds (ends_shut k e) (no_if k e) f
 
-end_node : (w : Bool) (k : Kind) (cs : Forest) → ends_open k ≡ false → (last_shut (positions k) ≡ true → last_open false (mades (form w) (positions k) cs) ≡ false) → open_if (form w k (mades (form w) (positions k) cs)) ≡ false
+end_node : (w : Bool) (k : Kind) (cs : Forest) → is_tail k ≡ false → (last_shut (positions k) ≡ true → last_open false (mades (form w) (positions k) cs) ≡ false) → open_if (form w k (mades (form w) (positions k) cs)) ≡ false
 end_node false (expression Parenthesized) cs e f = refl
 end_node true (expression Parenthesized) none e f = refl
 end_node true (expression Parenthesized) (part t none) e f = f refl

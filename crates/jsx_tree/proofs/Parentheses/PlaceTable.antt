@@ -6,7 +6,8 @@ use Rattle.jsx_tree.specs.Kinds.{Kind, program, statement, function, expression,
 use Rattle.jsx_tree.specs.Grammar.{production}
 use Rattle.jsx_tree.specs.Form.{positions}
 use Rattle.jsx_tree.specs.StaticRules.{trails}
-use Rattle.jsx_tree.proofs.Parentheses.PlaceTests.{ends_open, last_shut, last_one, no_bodies, all_firm, knowns, is_for, no_inits, row_kept}
+use Rattle.jsx_tree.proofs.ReadBack.RowChecks.{is_tail}
+use Rattle.jsx_tree.proofs.Parentheses.PlaceTests.{last_shut, last_one, no_bodies, all_firm, knowns, is_for, no_inits, row_kept}
 
 all_kept : (k : Kind) → row_kept k ≡ true
 all_kept (program Module) = refl
@@ -45,7 +46,7 @@ all_kept (jsx Element) = refl
 all_kept _ = refl
 
 pub record RowKept (k : Kind) : Type 0 where
-  pub shut_end : (ends_open k || (not (trails (production k)) || last_shut (positions k))) ≡ true
+  pub shut_end : (is_tail k || (not (trails (production k)) || last_shut (positions k))) ≡ true
   pub one_end : (not (trails (production k)) || last_one (positions k)) ≡ true
   pub bodies : (no_bodies (positions k) || all_firm (positions k)) ≡ true
   pub contexts : knowns k (positions k) ≡ true
@@ -53,7 +54,7 @@ pub record RowKept (k : Kind) : Type 0 where
 
 pub row_facts : (k : Kind) → RowKept k
 row_facts k =
-    let a = and_parts (ends_open k || (not (trails (production k)) || last_shut (positions k))) _ (all_kept k) in
+    let a = and_parts (is_tail k || (not (trails (production k)) || last_shut (positions k))) _ (all_kept k) in
     let b = and_parts (not (trails (production k)) || last_one (positions k)) _ a.1 in
     let c = and_parts (no_bodies (positions k) || all_firm (positions k)) _ b.1 in
     let d = and_parts (knowns k (positions k)) (is_for k || no_inits (positions k)) c.1 in

@@ -1,26 +1,17 @@
 -- What each row is asked, so that pairs change nothing that its static rules look at.
 use Rattle.std.proofs.Common.{List, [], ◌∷◌, Bool, true, false}
 use Rattle.std.specs.Prelude.{not, ◌&&◌, ◌||◌}
-use Rattle.jsx_tree.specs.Kinds.{Kind, program, statement, function, Script, FunctionBody, If, While, For, ForIn, ForOf, Label, ClassDecl, ClassExpr, Method, Getter, Setter}
+use Rattle.jsx_tree.specs.Kinds.{Kind, program, statement, function, Script, FunctionBody, For, Label, ClassDecl, ClassExpr, Method, Getter, Setter}
 use Rattle.jsx_tree.specs.Nonterminals.{Nonterminal, SubStmt, Stmt, Item, Body, in_homes}
 use Rattle.jsx_tree.specs.Grammar.{Context, InMethod, InMembers, InLabel, InCode, production}
 use Rattle.jsx_tree.specs.Form.{Form, Several, Position, position, positions}
 use Rattle.jsx_tree.specs.Parentheses.{is_init}
 use Rattle.jsx_tree.specs.StaticRules.{trails}
 use Rattle.jsx_tree.specs.Sound.{lax}
+use Rattle.jsx_tree.proofs.ReadBack.RowChecks.{is_tail}
 use Rattle.jsx_tree.proofs.Parentheses.Bare.{firm}
 
--- the kinds at whose end an `if` may stand open
-abbrev pub ends_open : Kind → Bool
-ends_open (statement If) = true
-ends_open (statement While) = true
-ends_open (statement For) = true
-ends_open (statement ForIn) = true
-ends_open (statement ForOf) = true
-ends_open (statement Label) = true
-ends_open k = false
-
--- a place where none of them stands
+-- a place where no kind stands at whose end an `if` may stand open
 abbrev pub shut : Nonterminal → Bool
 shut c = not (in_homes (lax c) (SubStmt ∷ Stmt ∷ Item ∷ []))
 
@@ -94,5 +85,5 @@ no_inits (position f c g b a ∷ ss) = not (is_init c) && no_inits ss
 
 abbrev pub row_kept : Kind → Bool
 row_kept k =
-    (ends_open k || (not (trails (production k)) || last_shut (positions k))) && ((not (trails (production k)) || last_one (positions k))
+    (is_tail k || (not (trails (production k)) || last_shut (positions k))) && ((not (trails (production k)) || last_one (positions k))
     && ((no_bodies (positions k) || all_firm (positions k)) && (knowns k (positions k) && (is_for k || no_inits (positions k)))))

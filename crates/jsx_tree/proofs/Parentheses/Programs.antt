@@ -1,9 +1,13 @@
--- What `parenthesise` gives has the form that the productions ask, and each part begins as it may: a tree that is formed fits, where the static rules hold.
+-- What `parenthesise` makes of a sound tree fits: it has the form that the productions ask, keeps the static rules, and each part begins as it may.
 use Rattle.std.proofs.Common.{◌≡◌, [], true, false, sym, refl, ap, ◌∙◌}
-use Rattle.std.proofs.lemmas.Bool.{and_parts, and_from}
-use Rattle.jsx_tree.specs.Kinds.{Tree}
+use Rattle.std.proofs.lemmas.Bool.{false≢true, and_parts, and_from}
+use Rattle.std.specs.Prelude.{IsTrue}
+use Rattle.jsx_tree.specs.declared.text.Goal.{Goal}
+use Rattle.jsx_tree.specs.declared.text.Goal.TheVariants as goals
+use Rattle.jsx_tree.specs.Program.{is_goal}
+use Rattle.jsx_tree.specs.Kinds.{Module, Script, program, node, Tree}
 use Rattle.jsx_tree.specs.Nonterminals.{WholeProgram}
-use Rattle.jsx_tree.specs.Normal.{laid_tree, remade}
+use Rattle.jsx_tree.specs.Normal.{laid_tree, remade, nf}
 use Rattle.jsx_tree.specs.Form.{is}
 use Rattle.jsx_tree.specs.Parentheses.{dress, special, parenthesise}
 use Rattle.jsx_tree.specs.StaticRules.{outside}
@@ -17,7 +21,9 @@ use Rattle.jsx_tree.proofs.Parentheses.Laying.{laid_is}
 use Rattle.jsx_tree.proofs.Parentheses.Begins.{begun, dress_begun}
 use Rattle.jsx_tree.proofs.Parentheses.BeginsKept.{special_begun, shield_begun}
 use Rattle.jsx_tree.proofs.Parentheses.Held.{laid_held}
-use Rattle.jsx_tree.proofs.Parentheses.NormalForms.{bare_same}
+use Rattle.jsx_tree.proofs.Parentheses.NormalForms.{bare_same, parenthesise_same}
+use Rattle.jsx_tree.proofs.Parentheses.Idempotent.{loose_named}
+use Rattle.jsx_tree.proofs.Parentheses.LaidForms.{laid_nf}
 use Rattle.jsx_tree.proofs.Parentheses.LawsKept.{lawful_same}
 use Rattle.jsx_tree.proofs.Parentheses.Loose.{may_of, loose_of}
 
@@ -63,3 +69,14 @@ pub dressed_fits : (t : Tree) → is_sound t ≡ true → fits (parenthesise t) 
 dressed_fits t h =
     let p = and_parts (formed t) (lawful outside (laid_tree t)) h in
     and_from _ _ (dressed_is t p.0) (and_from _ _ (legal_of outside (laid_tree (parenthesise t)) (lawful_kept t p.0 p.1) (dressed_mended t p.0)) (dressed_held t p.0))
+
+-- and is under the same goal
+pub dressed_goal : (goal : Goal) (t : Tree) → IsTrue (is_goal goal t) → IsTrue (is_goal goal (parenthesise t))
+dressed_goal goals.Module (node (program Module) cs) g = refl
+dressed_goal goals.Script (node (program Script) cs) g = refl
+dressed_goal goals.Module _ g = absurd (false≢true g)
+dressed_goal goals.Script _ g = absurd (false≢true g)
+
+-- its normal form, laid, is the tree's
+pub dressed_same : (t : Tree) → formed t ≡ true → nf (laid_tree (parenthesise t)) ≡ nf t
+dressed_same t h = laid_nf (parenthesise t) (loose_named WholeProgram (parenthesise t) (loose_of WholeProgram (parenthesise t) (dressed_fine t h).1)) ∙ parenthesise_same t

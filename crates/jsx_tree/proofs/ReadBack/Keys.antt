@@ -1,316 +1,78 @@
--- Kinds that may begin with any name stand where no tree that mustn't.
-use Rattle.std.proofs.Common.{◌≡◌, true}
-use Rattle.std.proofs.lemmas.Bool.{false≢true}
+-- Kinds that may begin with any name, as a property or a method, stand at no place where a tree may not begin so.
+use Rattle.std.proofs.Common.{◌≡◌, [], ◌∷◌, Bool, true, ⊎_elim, refl}
+use Rattle.std.proofs.lemmas.Bool.{false≢true, and_parts, or_cases, both_ways, not-true}
+use Rattle.std.specs.Prelude.{not, ◌&&◌, ◌||◌}
 use Rattle.jsx_base.specs.Token.{NoSubstitution, TemplateHead}
 use Rattle.jsx_tree.specs.Kinds.{Kind, program, function, expression, Specifier, SpecifierAs, Imported, Exported, From, Method, Field, InObject, InClass, Static, PropertyPat, Binds, Assigns, Property, NameLink}
-use Rattle.jsx_tree.specs.Nonterminals.{Nonterminal, Expr, MemberObject, DotObject, SimpleTarget, Ident, BindingIdent, StringOnly, Pat, NullishLeft, NewCallee, TemplatePart, Stmt, Item, DirectiveOnly, CaseClause, BlockOnly, in_homes, homes}
+use Rattle.jsx_tree.specs.Nonterminals.{Nonterminal, Pat, TemplatePart, Specifiers, PatProp, ObjectMember, ClassMember, ChainLink, in_homes, homes}
 use Rattle.jsx_tree.proofs.ReadBack.RowChecks.{elseless, is_keyed}
 
+-- none of their homes
+abbrev keyless : Nonterminal → Bool
+keyless c =
+    not (in_homes c (Specifiers Imported ∷ [])) && (not (in_homes c (Specifiers Exported ∷ [])) && (not (in_homes c (Specifiers From ∷ [])) && (not (in_homes c (PatProp Binds ∷ [])) && (not (in_homes c (PatProp Assigns ∷ []))
+    && (not (in_homes c (ObjectMember ∷ [])) && (not (in_homes c (ClassMember ∷ [])) && (not (in_homes c (ChainLink ∷ [])) && not (in_homes c []))))))))
+
+all_keyless : (c : Nonterminal) → (not (elseless c) || keyless c) ≡ true
+all_keyless (TemplatePart NoSubstitution) = refl
+all_keyless (TemplatePart TemplateHead) = refl
+all_keyless (TemplatePart s) = refl
+all_keyless (Pat Binds) = refl
+all_keyless (Pat Assigns) = refl
+all_keyless _ = refl
+
+record Keyless (c : Nonterminal) : Type 0 where
+  pub imported : in_homes c (Specifiers Imported ∷ []) ≡ true → ⊥
+  pub exported : in_homes c (Specifiers Exported ∷ []) ≡ true → ⊥
+  pub from : in_homes c (Specifiers From ∷ []) ≡ true → ⊥
+  pub bound : in_homes c (PatProp Binds ∷ []) ≡ true → ⊥
+  pub assigned : in_homes c (PatProp Assigns ∷ []) ≡ true → ⊥
+  pub member : in_homes c (ObjectMember ∷ []) ≡ true → ⊥
+  pub class_member : in_homes c (ClassMember ∷ []) ≡ true → ⊥
+  pub link : in_homes c (ChainLink ∷ []) ≡ true → ⊥
+  pub homeless : in_homes c [] ≡ true → ⊥
+
+never : (b : Bool) → not b ≡ true → b ≡ true → ⊥
+never b n h = both_ways b (not-true b n) h
+
+keyless_of : (c : Nonterminal) → elseless c ≡ true → Keyless c
+keyless_of c e =
+    let a = ⊎_elim (λ n. absurd (never (elseless c) n e)) (λ p. p) (or_cases (not (elseless c)) (keyless c) (all_keyless c)) in
+    let p1 = and_parts (not (in_homes c (Specifiers Imported ∷ []))) _ a in
+    let p2 = and_parts (not (in_homes c (Specifiers Exported ∷ []))) _ p1.1 in
+    let p3 = and_parts (not (in_homes c (Specifiers From ∷ []))) _ p2.1 in
+    let p4 = and_parts (not (in_homes c (PatProp Binds ∷ []))) _ p3.1 in
+    let p5 = and_parts (not (in_homes c (PatProp Assigns ∷ []))) _ p4.1 in
+    let p6 = and_parts (not (in_homes c (ObjectMember ∷ []))) _ p5.1 in
+    let p7 = and_parts (not (in_homes c (ClassMember ∷ []))) _ p6.1 in
+    let p8 = and_parts (not (in_homes c (ChainLink ∷ []))) _ p7.1 in
+    record {
+      imported = never _ p1.0;
+      exported = never _ p2.0;
+      from = never _ p3.0;
+      bound = never _ p4.0;
+      assigned = never _ p5.0;
+      member = never _ p6.0;
+      class_member = never _ p7.0;
+      link = never _ p8.0;
+      homeless = never _ p8.1;
+    }
+
 pub no_keyed : (c : Nonterminal) (k : Kind) → is_keyed k ≡ true → elseless c ≡ true → in_homes c (homes k) ≡ true → ⊥
-no_keyed (Expr n) (program (Specifier Imported)) i e h = false≢true h
-no_keyed (Expr n) (program (Specifier Exported)) i e h = false≢true h
-no_keyed (Expr n) (program (Specifier From)) i e h = false≢true h
-no_keyed (Expr n) (program (SpecifierAs Imported)) i e h = false≢true h
-no_keyed (Expr n) (program (SpecifierAs Exported)) i e h = false≢true h
-no_keyed (Expr n) (program (SpecifierAs From)) i e h = false≢true h
-no_keyed (Expr n) (function (Method InObject)) i e h = false≢true h
-no_keyed (Expr n) (function (Method InClass)) i e h = false≢true h
-no_keyed (Expr n) (function (Method Static)) i e h = false≢true h
-no_keyed (Expr n) (function (Field InObject)) i e h = false≢true h
-no_keyed (Expr n) (function (Field InClass)) i e h = false≢true h
-no_keyed (Expr n) (function (Field Static)) i e h = false≢true h
-no_keyed (Expr n) (function (PropertyPat Binds)) i e h = false≢true h
-no_keyed (Expr n) (function (PropertyPat Assigns)) i e h = false≢true h
-no_keyed (Expr n) (expression Property) i e h = false≢true h
-no_keyed (Expr n) (expression (NameLink q)) i e h = false≢true h
-no_keyed (Expr n) _ i e h = false≢true i
-no_keyed MemberObject (program (Specifier Imported)) i e h = false≢true h
-no_keyed MemberObject (program (Specifier Exported)) i e h = false≢true h
-no_keyed MemberObject (program (Specifier From)) i e h = false≢true h
-no_keyed MemberObject (program (SpecifierAs Imported)) i e h = false≢true h
-no_keyed MemberObject (program (SpecifierAs Exported)) i e h = false≢true h
-no_keyed MemberObject (program (SpecifierAs From)) i e h = false≢true h
-no_keyed MemberObject (function (Method InObject)) i e h = false≢true h
-no_keyed MemberObject (function (Method InClass)) i e h = false≢true h
-no_keyed MemberObject (function (Method Static)) i e h = false≢true h
-no_keyed MemberObject (function (Field InObject)) i e h = false≢true h
-no_keyed MemberObject (function (Field InClass)) i e h = false≢true h
-no_keyed MemberObject (function (Field Static)) i e h = false≢true h
-no_keyed MemberObject (function (PropertyPat Binds)) i e h = false≢true h
-no_keyed MemberObject (function (PropertyPat Assigns)) i e h = false≢true h
-no_keyed MemberObject (expression Property) i e h = false≢true h
-no_keyed MemberObject (expression (NameLink q)) i e h = false≢true h
-no_keyed MemberObject _ i e h = false≢true i
-no_keyed DotObject (program (Specifier Imported)) i e h = false≢true h
-no_keyed DotObject (program (Specifier Exported)) i e h = false≢true h
-no_keyed DotObject (program (Specifier From)) i e h = false≢true h
-no_keyed DotObject (program (SpecifierAs Imported)) i e h = false≢true h
-no_keyed DotObject (program (SpecifierAs Exported)) i e h = false≢true h
-no_keyed DotObject (program (SpecifierAs From)) i e h = false≢true h
-no_keyed DotObject (function (Method InObject)) i e h = false≢true h
-no_keyed DotObject (function (Method InClass)) i e h = false≢true h
-no_keyed DotObject (function (Method Static)) i e h = false≢true h
-no_keyed DotObject (function (Field InObject)) i e h = false≢true h
-no_keyed DotObject (function (Field InClass)) i e h = false≢true h
-no_keyed DotObject (function (Field Static)) i e h = false≢true h
-no_keyed DotObject (function (PropertyPat Binds)) i e h = false≢true h
-no_keyed DotObject (function (PropertyPat Assigns)) i e h = false≢true h
-no_keyed DotObject (expression Property) i e h = false≢true h
-no_keyed DotObject (expression (NameLink q)) i e h = false≢true h
-no_keyed DotObject _ i e h = false≢true i
-no_keyed SimpleTarget (program (Specifier Imported)) i e h = false≢true h
-no_keyed SimpleTarget (program (Specifier Exported)) i e h = false≢true h
-no_keyed SimpleTarget (program (Specifier From)) i e h = false≢true h
-no_keyed SimpleTarget (program (SpecifierAs Imported)) i e h = false≢true h
-no_keyed SimpleTarget (program (SpecifierAs Exported)) i e h = false≢true h
-no_keyed SimpleTarget (program (SpecifierAs From)) i e h = false≢true h
-no_keyed SimpleTarget (function (Method InObject)) i e h = false≢true h
-no_keyed SimpleTarget (function (Method InClass)) i e h = false≢true h
-no_keyed SimpleTarget (function (Method Static)) i e h = false≢true h
-no_keyed SimpleTarget (function (Field InObject)) i e h = false≢true h
-no_keyed SimpleTarget (function (Field InClass)) i e h = false≢true h
-no_keyed SimpleTarget (function (Field Static)) i e h = false≢true h
-no_keyed SimpleTarget (function (PropertyPat Binds)) i e h = false≢true h
-no_keyed SimpleTarget (function (PropertyPat Assigns)) i e h = false≢true h
-no_keyed SimpleTarget (expression Property) i e h = false≢true h
-no_keyed SimpleTarget (expression (NameLink q)) i e h = false≢true h
-no_keyed SimpleTarget _ i e h = false≢true i
-no_keyed Ident (program (Specifier Imported)) i e h = false≢true h
-no_keyed Ident (program (Specifier Exported)) i e h = false≢true h
-no_keyed Ident (program (Specifier From)) i e h = false≢true h
-no_keyed Ident (program (SpecifierAs Imported)) i e h = false≢true h
-no_keyed Ident (program (SpecifierAs Exported)) i e h = false≢true h
-no_keyed Ident (program (SpecifierAs From)) i e h = false≢true h
-no_keyed Ident (function (Method InObject)) i e h = false≢true h
-no_keyed Ident (function (Method InClass)) i e h = false≢true h
-no_keyed Ident (function (Method Static)) i e h = false≢true h
-no_keyed Ident (function (Field InObject)) i e h = false≢true h
-no_keyed Ident (function (Field InClass)) i e h = false≢true h
-no_keyed Ident (function (Field Static)) i e h = false≢true h
-no_keyed Ident (function (PropertyPat Binds)) i e h = false≢true h
-no_keyed Ident (function (PropertyPat Assigns)) i e h = false≢true h
-no_keyed Ident (expression Property) i e h = false≢true h
-no_keyed Ident (expression (NameLink q)) i e h = false≢true h
-no_keyed Ident _ i e h = false≢true i
-no_keyed BindingIdent (program (Specifier Imported)) i e h = false≢true h
-no_keyed BindingIdent (program (Specifier Exported)) i e h = false≢true h
-no_keyed BindingIdent (program (Specifier From)) i e h = false≢true h
-no_keyed BindingIdent (program (SpecifierAs Imported)) i e h = false≢true h
-no_keyed BindingIdent (program (SpecifierAs Exported)) i e h = false≢true h
-no_keyed BindingIdent (program (SpecifierAs From)) i e h = false≢true h
-no_keyed BindingIdent (function (Method InObject)) i e h = false≢true h
-no_keyed BindingIdent (function (Method InClass)) i e h = false≢true h
-no_keyed BindingIdent (function (Method Static)) i e h = false≢true h
-no_keyed BindingIdent (function (Field InObject)) i e h = false≢true h
-no_keyed BindingIdent (function (Field InClass)) i e h = false≢true h
-no_keyed BindingIdent (function (Field Static)) i e h = false≢true h
-no_keyed BindingIdent (function (PropertyPat Binds)) i e h = false≢true h
-no_keyed BindingIdent (function (PropertyPat Assigns)) i e h = false≢true h
-no_keyed BindingIdent (expression Property) i e h = false≢true h
-no_keyed BindingIdent (expression (NameLink q)) i e h = false≢true h
-no_keyed BindingIdent _ i e h = false≢true i
-no_keyed StringOnly (program (Specifier Imported)) i e h = false≢true h
-no_keyed StringOnly (program (Specifier Exported)) i e h = false≢true h
-no_keyed StringOnly (program (Specifier From)) i e h = false≢true h
-no_keyed StringOnly (program (SpecifierAs Imported)) i e h = false≢true h
-no_keyed StringOnly (program (SpecifierAs Exported)) i e h = false≢true h
-no_keyed StringOnly (program (SpecifierAs From)) i e h = false≢true h
-no_keyed StringOnly (function (Method InObject)) i e h = false≢true h
-no_keyed StringOnly (function (Method InClass)) i e h = false≢true h
-no_keyed StringOnly (function (Method Static)) i e h = false≢true h
-no_keyed StringOnly (function (Field InObject)) i e h = false≢true h
-no_keyed StringOnly (function (Field InClass)) i e h = false≢true h
-no_keyed StringOnly (function (Field Static)) i e h = false≢true h
-no_keyed StringOnly (function (PropertyPat Binds)) i e h = false≢true h
-no_keyed StringOnly (function (PropertyPat Assigns)) i e h = false≢true h
-no_keyed StringOnly (expression Property) i e h = false≢true h
-no_keyed StringOnly (expression (NameLink q)) i e h = false≢true h
-no_keyed StringOnly _ i e h = false≢true i
-no_keyed (Pat Binds) (program (Specifier Imported)) i e h = false≢true h
-no_keyed (Pat Binds) (program (Specifier Exported)) i e h = false≢true h
-no_keyed (Pat Binds) (program (Specifier From)) i e h = false≢true h
-no_keyed (Pat Binds) (program (SpecifierAs Imported)) i e h = false≢true h
-no_keyed (Pat Binds) (program (SpecifierAs Exported)) i e h = false≢true h
-no_keyed (Pat Binds) (program (SpecifierAs From)) i e h = false≢true h
-no_keyed (Pat Binds) (function (Method InObject)) i e h = false≢true h
-no_keyed (Pat Binds) (function (Method InClass)) i e h = false≢true h
-no_keyed (Pat Binds) (function (Method Static)) i e h = false≢true h
-no_keyed (Pat Binds) (function (Field InObject)) i e h = false≢true h
-no_keyed (Pat Binds) (function (Field InClass)) i e h = false≢true h
-no_keyed (Pat Binds) (function (Field Static)) i e h = false≢true h
-no_keyed (Pat Binds) (function (PropertyPat Binds)) i e h = false≢true h
-no_keyed (Pat Binds) (function (PropertyPat Assigns)) i e h = false≢true h
-no_keyed (Pat Binds) (expression Property) i e h = false≢true h
-no_keyed (Pat Binds) (expression (NameLink q)) i e h = false≢true h
-no_keyed (Pat Binds) _ i e h = false≢true i
-no_keyed (Pat Assigns) (program (Specifier Imported)) i e h = false≢true h
-no_keyed (Pat Assigns) (program (Specifier Exported)) i e h = false≢true h
-no_keyed (Pat Assigns) (program (Specifier From)) i e h = false≢true h
-no_keyed (Pat Assigns) (program (SpecifierAs Imported)) i e h = false≢true h
-no_keyed (Pat Assigns) (program (SpecifierAs Exported)) i e h = false≢true h
-no_keyed (Pat Assigns) (program (SpecifierAs From)) i e h = false≢true h
-no_keyed (Pat Assigns) (function (Method InObject)) i e h = false≢true h
-no_keyed (Pat Assigns) (function (Method InClass)) i e h = false≢true h
-no_keyed (Pat Assigns) (function (Method Static)) i e h = false≢true h
-no_keyed (Pat Assigns) (function (Field InObject)) i e h = false≢true h
-no_keyed (Pat Assigns) (function (Field InClass)) i e h = false≢true h
-no_keyed (Pat Assigns) (function (Field Static)) i e h = false≢true h
-no_keyed (Pat Assigns) (function (PropertyPat Binds)) i e h = false≢true h
-no_keyed (Pat Assigns) (function (PropertyPat Assigns)) i e h = false≢true h
-no_keyed (Pat Assigns) (expression Property) i e h = false≢true h
-no_keyed (Pat Assigns) (expression (NameLink q)) i e h = false≢true h
-no_keyed (Pat Assigns) _ i e h = false≢true i
-no_keyed NullishLeft (program (Specifier Imported)) i e h = false≢true h
-no_keyed NullishLeft (program (Specifier Exported)) i e h = false≢true h
-no_keyed NullishLeft (program (Specifier From)) i e h = false≢true h
-no_keyed NullishLeft (program (SpecifierAs Imported)) i e h = false≢true h
-no_keyed NullishLeft (program (SpecifierAs Exported)) i e h = false≢true h
-no_keyed NullishLeft (program (SpecifierAs From)) i e h = false≢true h
-no_keyed NullishLeft (function (Method InObject)) i e h = false≢true h
-no_keyed NullishLeft (function (Method InClass)) i e h = false≢true h
-no_keyed NullishLeft (function (Method Static)) i e h = false≢true h
-no_keyed NullishLeft (function (Field InObject)) i e h = false≢true h
-no_keyed NullishLeft (function (Field InClass)) i e h = false≢true h
-no_keyed NullishLeft (function (Field Static)) i e h = false≢true h
-no_keyed NullishLeft (function (PropertyPat Binds)) i e h = false≢true h
-no_keyed NullishLeft (function (PropertyPat Assigns)) i e h = false≢true h
-no_keyed NullishLeft (expression Property) i e h = false≢true h
-no_keyed NullishLeft (expression (NameLink q)) i e h = false≢true h
-no_keyed NullishLeft _ i e h = false≢true i
-no_keyed NewCallee (program (Specifier Imported)) i e h = false≢true h
-no_keyed NewCallee (program (Specifier Exported)) i e h = false≢true h
-no_keyed NewCallee (program (Specifier From)) i e h = false≢true h
-no_keyed NewCallee (program (SpecifierAs Imported)) i e h = false≢true h
-no_keyed NewCallee (program (SpecifierAs Exported)) i e h = false≢true h
-no_keyed NewCallee (program (SpecifierAs From)) i e h = false≢true h
-no_keyed NewCallee (function (Method InObject)) i e h = false≢true h
-no_keyed NewCallee (function (Method InClass)) i e h = false≢true h
-no_keyed NewCallee (function (Method Static)) i e h = false≢true h
-no_keyed NewCallee (function (Field InObject)) i e h = false≢true h
-no_keyed NewCallee (function (Field InClass)) i e h = false≢true h
-no_keyed NewCallee (function (Field Static)) i e h = false≢true h
-no_keyed NewCallee (function (PropertyPat Binds)) i e h = false≢true h
-no_keyed NewCallee (function (PropertyPat Assigns)) i e h = false≢true h
-no_keyed NewCallee (expression Property) i e h = false≢true h
-no_keyed NewCallee (expression (NameLink q)) i e h = false≢true h
-no_keyed NewCallee _ i e h = false≢true i
-no_keyed (TemplatePart NoSubstitution) (program (Specifier Imported)) i e h = false≢true h
-no_keyed (TemplatePart NoSubstitution) (program (Specifier Exported)) i e h = false≢true h
-no_keyed (TemplatePart NoSubstitution) (program (Specifier From)) i e h = false≢true h
-no_keyed (TemplatePart NoSubstitution) (program (SpecifierAs Imported)) i e h = false≢true h
-no_keyed (TemplatePart NoSubstitution) (program (SpecifierAs Exported)) i e h = false≢true h
-no_keyed (TemplatePart NoSubstitution) (program (SpecifierAs From)) i e h = false≢true h
-no_keyed (TemplatePart NoSubstitution) (function (Method InObject)) i e h = false≢true h
-no_keyed (TemplatePart NoSubstitution) (function (Method InClass)) i e h = false≢true h
-no_keyed (TemplatePart NoSubstitution) (function (Method Static)) i e h = false≢true h
-no_keyed (TemplatePart NoSubstitution) (function (Field InObject)) i e h = false≢true h
-no_keyed (TemplatePart NoSubstitution) (function (Field InClass)) i e h = false≢true h
-no_keyed (TemplatePart NoSubstitution) (function (Field Static)) i e h = false≢true h
-no_keyed (TemplatePart NoSubstitution) (function (PropertyPat Binds)) i e h = false≢true h
-no_keyed (TemplatePart NoSubstitution) (function (PropertyPat Assigns)) i e h = false≢true h
-no_keyed (TemplatePart NoSubstitution) (expression Property) i e h = false≢true h
-no_keyed (TemplatePart NoSubstitution) (expression (NameLink q)) i e h = false≢true h
-no_keyed (TemplatePart NoSubstitution) _ i e h = false≢true i
-no_keyed (TemplatePart TemplateHead) (program (Specifier Imported)) i e h = false≢true h
-no_keyed (TemplatePart TemplateHead) (program (Specifier Exported)) i e h = false≢true h
-no_keyed (TemplatePart TemplateHead) (program (Specifier From)) i e h = false≢true h
-no_keyed (TemplatePart TemplateHead) (program (SpecifierAs Imported)) i e h = false≢true h
-no_keyed (TemplatePart TemplateHead) (program (SpecifierAs Exported)) i e h = false≢true h
-no_keyed (TemplatePart TemplateHead) (program (SpecifierAs From)) i e h = false≢true h
-no_keyed (TemplatePart TemplateHead) (function (Method InObject)) i e h = false≢true h
-no_keyed (TemplatePart TemplateHead) (function (Method InClass)) i e h = false≢true h
-no_keyed (TemplatePart TemplateHead) (function (Method Static)) i e h = false≢true h
-no_keyed (TemplatePart TemplateHead) (function (Field InObject)) i e h = false≢true h
-no_keyed (TemplatePart TemplateHead) (function (Field InClass)) i e h = false≢true h
-no_keyed (TemplatePart TemplateHead) (function (Field Static)) i e h = false≢true h
-no_keyed (TemplatePart TemplateHead) (function (PropertyPat Binds)) i e h = false≢true h
-no_keyed (TemplatePart TemplateHead) (function (PropertyPat Assigns)) i e h = false≢true h
-no_keyed (TemplatePart TemplateHead) (expression Property) i e h = false≢true h
-no_keyed (TemplatePart TemplateHead) (expression (NameLink q)) i e h = false≢true h
-no_keyed (TemplatePart TemplateHead) _ i e h = false≢true i
-no_keyed Stmt (program (Specifier Imported)) i e h = false≢true h
-no_keyed Stmt (program (Specifier Exported)) i e h = false≢true h
-no_keyed Stmt (program (Specifier From)) i e h = false≢true h
-no_keyed Stmt (program (SpecifierAs Imported)) i e h = false≢true h
-no_keyed Stmt (program (SpecifierAs Exported)) i e h = false≢true h
-no_keyed Stmt (program (SpecifierAs From)) i e h = false≢true h
-no_keyed Stmt (function (Method InObject)) i e h = false≢true h
-no_keyed Stmt (function (Method InClass)) i e h = false≢true h
-no_keyed Stmt (function (Method Static)) i e h = false≢true h
-no_keyed Stmt (function (Field InObject)) i e h = false≢true h
-no_keyed Stmt (function (Field InClass)) i e h = false≢true h
-no_keyed Stmt (function (Field Static)) i e h = false≢true h
-no_keyed Stmt (function (PropertyPat Binds)) i e h = false≢true h
-no_keyed Stmt (function (PropertyPat Assigns)) i e h = false≢true h
-no_keyed Stmt (expression Property) i e h = false≢true h
-no_keyed Stmt (expression (NameLink q)) i e h = false≢true h
-no_keyed Stmt _ i e h = false≢true i
-no_keyed Item (program (Specifier Imported)) i e h = false≢true h
-no_keyed Item (program (Specifier Exported)) i e h = false≢true h
-no_keyed Item (program (Specifier From)) i e h = false≢true h
-no_keyed Item (program (SpecifierAs Imported)) i e h = false≢true h
-no_keyed Item (program (SpecifierAs Exported)) i e h = false≢true h
-no_keyed Item (program (SpecifierAs From)) i e h = false≢true h
-no_keyed Item (function (Method InObject)) i e h = false≢true h
-no_keyed Item (function (Method InClass)) i e h = false≢true h
-no_keyed Item (function (Method Static)) i e h = false≢true h
-no_keyed Item (function (Field InObject)) i e h = false≢true h
-no_keyed Item (function (Field InClass)) i e h = false≢true h
-no_keyed Item (function (Field Static)) i e h = false≢true h
-no_keyed Item (function (PropertyPat Binds)) i e h = false≢true h
-no_keyed Item (function (PropertyPat Assigns)) i e h = false≢true h
-no_keyed Item (expression Property) i e h = false≢true h
-no_keyed Item (expression (NameLink q)) i e h = false≢true h
-no_keyed Item _ i e h = false≢true i
-no_keyed DirectiveOnly (program (Specifier Imported)) i e h = false≢true h
-no_keyed DirectiveOnly (program (Specifier Exported)) i e h = false≢true h
-no_keyed DirectiveOnly (program (Specifier From)) i e h = false≢true h
-no_keyed DirectiveOnly (program (SpecifierAs Imported)) i e h = false≢true h
-no_keyed DirectiveOnly (program (SpecifierAs Exported)) i e h = false≢true h
-no_keyed DirectiveOnly (program (SpecifierAs From)) i e h = false≢true h
-no_keyed DirectiveOnly (function (Method InObject)) i e h = false≢true h
-no_keyed DirectiveOnly (function (Method InClass)) i e h = false≢true h
-no_keyed DirectiveOnly (function (Method Static)) i e h = false≢true h
-no_keyed DirectiveOnly (function (Field InObject)) i e h = false≢true h
-no_keyed DirectiveOnly (function (Field InClass)) i e h = false≢true h
-no_keyed DirectiveOnly (function (Field Static)) i e h = false≢true h
-no_keyed DirectiveOnly (function (PropertyPat Binds)) i e h = false≢true h
-no_keyed DirectiveOnly (function (PropertyPat Assigns)) i e h = false≢true h
-no_keyed DirectiveOnly (expression Property) i e h = false≢true h
-no_keyed DirectiveOnly (expression (NameLink q)) i e h = false≢true h
-no_keyed DirectiveOnly _ i e h = false≢true i
-no_keyed CaseClause (program (Specifier Imported)) i e h = false≢true h
-no_keyed CaseClause (program (Specifier Exported)) i e h = false≢true h
-no_keyed CaseClause (program (Specifier From)) i e h = false≢true h
-no_keyed CaseClause (program (SpecifierAs Imported)) i e h = false≢true h
-no_keyed CaseClause (program (SpecifierAs Exported)) i e h = false≢true h
-no_keyed CaseClause (program (SpecifierAs From)) i e h = false≢true h
-no_keyed CaseClause (function (Method InObject)) i e h = false≢true h
-no_keyed CaseClause (function (Method InClass)) i e h = false≢true h
-no_keyed CaseClause (function (Method Static)) i e h = false≢true h
-no_keyed CaseClause (function (Field InObject)) i e h = false≢true h
-no_keyed CaseClause (function (Field InClass)) i e h = false≢true h
-no_keyed CaseClause (function (Field Static)) i e h = false≢true h
-no_keyed CaseClause (function (PropertyPat Binds)) i e h = false≢true h
-no_keyed CaseClause (function (PropertyPat Assigns)) i e h = false≢true h
-no_keyed CaseClause (expression Property) i e h = false≢true h
-no_keyed CaseClause (expression (NameLink q)) i e h = false≢true h
-no_keyed CaseClause _ i e h = false≢true i
-no_keyed BlockOnly (program (Specifier Imported)) i e h = false≢true h
-no_keyed BlockOnly (program (Specifier Exported)) i e h = false≢true h
-no_keyed BlockOnly (program (Specifier From)) i e h = false≢true h
-no_keyed BlockOnly (program (SpecifierAs Imported)) i e h = false≢true h
-no_keyed BlockOnly (program (SpecifierAs Exported)) i e h = false≢true h
-no_keyed BlockOnly (program (SpecifierAs From)) i e h = false≢true h
-no_keyed BlockOnly (function (Method InObject)) i e h = false≢true h
-no_keyed BlockOnly (function (Method InClass)) i e h = false≢true h
-no_keyed BlockOnly (function (Method Static)) i e h = false≢true h
-no_keyed BlockOnly (function (Field InObject)) i e h = false≢true h
-no_keyed BlockOnly (function (Field InClass)) i e h = false≢true h
-no_keyed BlockOnly (function (Field Static)) i e h = false≢true h
-no_keyed BlockOnly (function (PropertyPat Binds)) i e h = false≢true h
-no_keyed BlockOnly (function (PropertyPat Assigns)) i e h = false≢true h
-no_keyed BlockOnly (expression Property) i e h = false≢true h
-no_keyed BlockOnly (expression (NameLink q)) i e h = false≢true h
-no_keyed BlockOnly _ i e h = false≢true i
-no_keyed _ k i e h = false≢true e
+no_keyed c (program (Specifier Imported)) i e h = (keyless_of c e).imported h
+no_keyed c (program (Specifier Exported)) i e h = (keyless_of c e).exported h
+no_keyed c (program (Specifier From)) i e h = (keyless_of c e).from h
+no_keyed c (program (SpecifierAs Imported)) i e h = (keyless_of c e).imported h
+no_keyed c (program (SpecifierAs Exported)) i e h = (keyless_of c e).exported h
+no_keyed c (program (SpecifierAs From)) i e h = (keyless_of c e).from h
+no_keyed c (function (Method InObject)) i e h = (keyless_of c e).member h
+no_keyed c (function (Method InClass)) i e h = (keyless_of c e).class_member h
+no_keyed c (function (Method Static)) i e h = (keyless_of c e).class_member h
+no_keyed c (function (Field InObject)) i e h = (keyless_of c e).homeless h
+no_keyed c (function (Field InClass)) i e h = (keyless_of c e).class_member h
+no_keyed c (function (Field Static)) i e h = (keyless_of c e).class_member h
+no_keyed c (function (PropertyPat Binds)) i e h = (keyless_of c e).bound h
+no_keyed c (function (PropertyPat Assigns)) i e h = (keyless_of c e).assigned h
+no_keyed c (expression Property) i e h = (keyless_of c e).member h
+no_keyed c (expression (NameLink q)) i e h = (keyless_of c e).link h
+no_keyed c _ i e h = false≢true i

@@ -1,4 +1,4 @@
--- What a row lets come next does come next.
+-- What may come next behind a tree, a list or a row: the words in which rows are walked.
 use Rattle.std.proofs.Common.{◌≡◌, ℕ, List, [], ◌∷◌, ◌++◌, Bool, true, false, not, ◌||◌, ◌&&◌, codes, refl, sym, ap, ◌∙◌, subst}
 use Rattle.std.specs.Prelude.{nat_eq}
 use Rattle.std.proofs.lemmas.Bool.{false≢true, and_parts, and_from, or_parts, eqb-true, false_from_ne_true, not-true, not_from_false, or_left, or_right, or_from, and_left, and_right}

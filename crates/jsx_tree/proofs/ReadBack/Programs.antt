@@ -145,7 +145,7 @@ mutual
       let r = and_parts (held c [] t) (held_each c ts) h in
       and_from (is_formed Single t) (sound c [] t && sound_each c ts) (one_formed c t p.0) (and_from (sound c [] t) (sound_each c ts) (sound_of c [] v t (one_taken c t p.0) q.0 m.0 r.0) (each_sound c v ts q.1 m.1 r.1))
 
--- ---- the two laws together, for a program
+-- ---- so a program reads back
 
 abbrev pub is_program_tree : Tree → Bool
 is_program_tree (leaf s x) = false

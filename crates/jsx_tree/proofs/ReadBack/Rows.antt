@@ -199,7 +199,6 @@ before_good Spaced x v h g = g
 before_good Dotted x v h g = g
 before_good JsxChildren x v h g = absurd (false≢true h)
 
--- behind the last item: a hole has its comma
 -- the last item, where x are its signs
 last_good : (s : ListShape) (x k : List Sign) (v : Ahead) → is_code_shape s ≡ true → good (x ++ (behind_signs s ++ k)) v ≡ true → (is_holey s ≡ true → good (pun "," ∷ k) v ≡ true) → good ((before s x ++ behind s x) ++ k) v ≡ true
 last_good Elisions [] k v h g q = q refl

@@ -1,4 +1,4 @@
--- A list of signs that joins scans what it lays: the first law, each token read as that token, and the second, for lists of signs.
+-- A list of signs that joins scans what it lays: each token is read as that token, and so the list to its end.
 use Rattle.std.proofs.Common.{◌≡◌, ℕ, suc, List, [], ◌∷◌, ◌++◌, Bool, true, false, cond, not, ◌||◌, ◌&&◌, codes, refl, sym, ap, ◌∙◌, subst}
 use Rattle.std.specs.Prelude.{nat_eq}
 use Rattle.std.proofs.lemmas.Bool.{false≢true, and_parts, and_from, or_parts, eqb-true, eq-eqb, false_from_ne_true, not-true, or_from, and_left, and_right}
@@ -92,7 +92,7 @@ open_of g v h =
     two true e f = absurd (false≢true (sym e))
     two false e f = let p = and_parts (same g []) v.void f in (same_is g [] p.0, p.1)
 
--- ---- the first law: a token is read behind its gap, before what may follow it
+-- ---- a token is read behind its gap, before what may follow it
 
 mode_is : (m n : Mode) → is_mode m n ≡ true → m ≡ n
 mode_is Operand Operand h = refl
@@ -398,7 +398,7 @@ none_ahead (Count ∷ ms) i n q bare g ts h p o = none_ahead ms i n q bare g ts 
 none_ahead (One ∷ ms) i n q bare g ts h p o = none_ahead ms i n q bare g ts h p o
 none_ahead (End ∷ ms) i n q bare g ts h p o = none_ahead ms i n q bare g ts h p o
 
--- ---- the second law, for lists of signs
+-- ---- lists of signs
 
 pub taken : (s : TokenKind) (t rest : Text) → token_at (it s t rest) s t ≡ At t AfterExpr rest
 taken s t rest = ap (λ b. go_if b (At t AfterExpr rest)) (and_from (is_kind s s) (same t t) (eq-eqb (kind_number s) (kind_number s) refl) (same_self t))

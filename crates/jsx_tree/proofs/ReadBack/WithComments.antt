@@ -1,4 +1,4 @@
--- The same with comments and marks before tokens.
+-- A list of signs that joins scans what it lays with comments before its tokens.
 use Rattle.std.proofs.Common.{◌≡◌, ℕ, suc, List, [], ◌∷◌, ◌++◌, Bool, true, false, not, ◌||◌, ◌&&◌, codes, refl, sym, ap, ◌∙◌, subst}
 use Rattle.std.specs.Prelude.{nat_eq}
 use Rattle.std.proofs.lemmas.Bool.{false≢true, and_parts, eqb-true, or_left, not-true, or_right, or_from}
@@ -15,7 +15,7 @@ use Rattle.jsx_tree.proofs.ReadBack.CommentGaps.{Gap, Comments, gap_pad, gap_nil
 use Rattle.jsx_tree.proofs.ReadBack.Signs.{append, append_nil, indent_pad, Gaps, gaps_follow, found, Found, first_next, either_way, apart_head, head_char, slash_raw, operand_slash, not_among, taken, comma_no, all_follow_semi, it}
 use Rattle.jsx_tree.proofs.ReadBack.Basics.{all_first, clash}
 
--- ---- the first law behind any gap
+-- ---- a token is read behind any gap
 
 or_nothing : (b : Bool) → (b || false) ≡ b
 or_nothing true = refl
@@ -215,7 +215,7 @@ none_ahead f c (Count ∷ ms) i n q bare g l ts h w p o = none_ahead f c ms i n 
 none_ahead f c (One ∷ ms) i n q bare g l ts h w p o = none_ahead f c ms i n q bare g l ts h w p o
 none_ahead f c (End ∷ ms) i n q bare g l ts h w p o = none_ahead f c ms i n q bare g l ts h w p o
 
--- ---- the second law, for lists of signs
+-- ---- lists of signs
 
 abbrev Done : Text → Ending → List Sign → Text → Type 0
 Done q e ms text = ended_at (scan (At q e text) ms) ≡ true
