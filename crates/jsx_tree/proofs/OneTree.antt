@@ -36,5 +36,6 @@ mod Lists
 mod Declarators
 mod Same
 mod Directives
+mod Prefixes
 mod Trees
 pub mod Decided

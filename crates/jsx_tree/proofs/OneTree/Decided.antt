@@ -24,12 +24,12 @@ known_program (Specifier x) h = cc
 known_program (SpecifierAs x) h = cc
 known_program ExportNames h = cc
 known_program ExportFrom h = cc
-known_program ExportAll h = cc
-known_program ExportAllAs h = cc
-known_program ExportDecl h = cc
-known_program ExportDefaultFn h = cc
+known_program ExportAll h = refl
+known_program ExportAllAs h = refl
+known_program ExportDecl h = refl
+known_program ExportDefaultFn h = refl
 known_program ExportDefaultClass h = cc
-known_program ExportDefaultExpr h = cc
+known_program ExportDefaultExpr h = refl
 
 known_statement : (k : StatementKind) → decides_statement k ≡ true → known (statement k) ≡ true
 known_statement Block h = refl
