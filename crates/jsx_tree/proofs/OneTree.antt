@@ -34,6 +34,7 @@ mod Begins
 mod Rows
 mod Lists
 mod Declarators
+mod Specifiers
 mod Same
 mod Directives
 mod Prefixes

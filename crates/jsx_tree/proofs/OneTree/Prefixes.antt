@@ -22,8 +22,8 @@ use Rattle.jsx_tree.proofs.OneTree.Apart.{at_sign, at_part, at_end}
 use Rattle.jsx_tree.proofs.OneTree.Next.{unless_kept}
 use Rattle.jsx_tree.proofs.OneTree.Spines.{home_of}
 use Rattle.jsx_tree.proofs.OneTree.StatementList.{for_stated}
-use Rattle.jsx_tree.proofs.OneTree.Parts.{known, kept, kepts, word_read}
-use Rattle.jsx_tree.proofs.OneTree.Wants.{still, meets, is_seen}
+use Rattle.jsx_tree.proofs.OneTree.Parts.{known, kept, kepts, wordy, word_read, word_same}
+use Rattle.jsx_tree.proofs.OneTree.Wants.{Want, still, other, is_calm, implies, implied, meets, is_at, is_seen}
 use Rattle.jsx_tree.proofs.OneTree.Begins.{Front, token', expr', name', front, fits, front_fits, at_seen}
 use Rattle.jsx_tree.proofs.OneTree.Rows.{own_leaf, own_kind}
 
@@ -122,3 +122,24 @@ rows_clash (W.piece a (Fixed (Tok Operator k t)) ∷ ps) (W.piece b (Part c) ∷
     let q = at_part j in
     part_clash k t c q.tree h (took k t x p.moves p.found) (and_left (kept q.tree) _ (subst (λ us. kepts us ≡ true) q.is g)) q.read (subst (λ z. meets still z ≡ true) (sym (at_end q.walk).1) m)
 rows_clash _ _ h g i j m = cc
+
+-- ---- a word that ends its row, and one that goes on
+
+abbrev pub words_apart : Want → List W.Piece → List W.Piece → Bool
+words_apart e (W.piece a (Part c) ∷ []) (W.piece b (Part d) ∷ W.piece g (Fixed (Tok Operator k t)) ∷ qs) = wordy c && (wordy d && (implies e (other k t) && not (is_calm (other k t))))
+words_apart e ps qs = false
+
+pub words_clash : {V V' : List Context → Surroundings} (e : Want) (ps qs : List W.Piece) {x y z : Place} {ts us : Forest} → words_apart e ps qs ≡ true → kepts ts ≡ true → kepts us ≡ true → W.Walk IsRead V ps x ts y → W.Walk IsRead V' qs x us z → meets e y ≡ true → ⊥
+words_clash e (W.piece a (Part c) ∷ []) (W.piece b (Part d) ∷ W.piece g (Fixed (Tok Operator k t)) ∷ qs) h f f' i j m =
+    let p = at_part i in
+    let n = at_end p.walk in
+    let q = at_part j in
+    let s = at_sign q.walk in
+    let o = and_right (wordy c) _ h in
+    let w = word_same (word_read c p.tree (and_left (wordy c) _ h) (and_left (kept p.tree) _ (subst (λ ts. kepts ts ≡ true) p.is f)) p.read) (word_read d q.tree (and_left (wordy d) _ o) (and_left (kept q.tree) _ (subst (λ ts. kepts ts ≡ true) q.is f')) q.read) in
+    let r = implied e (other k t) p.next (and_left (implies e (other k t)) _ (and_right (wordy d) _ o)) no_calm (subst (λ z. meets e z ≡ true) (sym n.1) m) in
+    never (is_at p.next k t) (at_seen (subst (λ z. Seen z k t) (sym w.place) (took k t q.next s.moves s.found))) (not_is _ r)
+  where
+    no_calm : {P : Type 0} → false ≡ true → P
+    no_calm h = cc
+words_clash e _ _ h f f' i j m = cc

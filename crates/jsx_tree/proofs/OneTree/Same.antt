@@ -14,6 +14,10 @@ use Rattle.jsx_tree.specs.Form.{enough}
 use Rattle.jsx_tree.specs.StaticRules.{Surroundings}
 use Rattle.jsx_tree.specs.Reading.{Place, Lost, At, forth, scan}
 use Rattle.jsx_tree.proofs.Tokens.{and_left, and_right, same_is}
+use Rattle.jsx_tree.specs.Signs.{Pad}
+use Rattle.jsx_tree.specs.Kinds.{Side, Imported}
+use Rattle.jsx_tree.specs.Nonterminals.{Specifiers}
+use Rattle.jsx_tree.proofs.OneTree.Specifiers.{specifiers_same}
 use Rattle.jsx_tree.specs.Walk as W
 use Rattle.jsx_tree.specs.Walk.{is_found, is_heard, heard, keep, pieces, IsRead}
 use Rattle.jsx_tree.proofs.OneTree.Readings.{kind_at, text_at, broken}
@@ -300,6 +304,15 @@ abbrev pub shuts : Production → Bool
 shuts (Fixed (Tok Operator Punctuator u) ∷ ps) = same u (codes ")")
 shuts ps = false
 
+abbrev pub is_specifiers : Nonterminal → Bool
+is_specifiers (Specifiers s) = true
+is_specifiers c = false
+
+abbrev pub braces_shut : Production → Bool
+braces_shut (Fixed (Tok Operator Punctuator u) ∷ ps) = same u (codes "}")
+braces_shut (Fixed Pad ∷ ps) = braces_shut ps
+braces_shut ps = false
+
 abbrev pub list_ends : Production → Bool
 list_ends (Fixed (Tok Operator Punctuator u) ∷ ps) = same u (codes ";")
 list_ends (Fixed Semicolon ∷ ps) = true
@@ -308,7 +321,7 @@ list_ends ps = false
 abbrev pub many_good : Want → ListShape → Nonterminal → Production → Bool
 many_good e s c ps =
     (liney s && (is_listed c && follow e ps (stop_of c)))
-    || ((is_commas s && (is_param c && shuts ps)) || (is_dense s && (is_declarators c && list_ends ps)))
+    || ((is_commas s && (is_param c && shuts ps)) || ((is_commas s && (is_specifiers c && braces_shut ps)) || (is_dense s && (is_declarators c && list_ends ps))))
 
 commas_is : (s : ListShape) → is_commas s ≡ true → s ≡ Commas
 commas_is Commas h = refl
@@ -325,6 +338,27 @@ param_is _ h = cc
 declarators_is : (c : Nonterminal) → is_declarators c ≡ true → c ≡ Declarators
 declarators_is Declarators h = refl
 declarators_is _ h = cc
+
+side_of : Nonterminal → Side
+side_of (Specifiers s) = s
+side_of c = Imported
+
+specifiers_is : (c : Nonterminal) → is_specifiers c ≡ true → c ≡ Specifiers (side_of c)
+unfolding side_of
+specifiers_is (Specifiers s) h = refl
+specifiers_is _ h = cc
+
+brace_seen : {V : List Context → Surroundings} (a : List Context) {x z : Place} {ts : Forest} (ps : Production) → braces_shut ps ≡ true → W.Walk IsRead V (pieces a ps) x ts z → Seen x Punctuator (codes "}")
+brace_seen a {x} (Fixed (Tok Operator Punctuator u) ∷ ps) h w =
+    let s = signed (Tok Operator Punctuator u) ps a w in
+    let r : Seen x Punctuator u = took Punctuator u x s.moves (s.found refl) in
+    record { kind = r.kind; text = r.text ∙ same_is u (codes "}") h }
+brace_seen a (Fixed Pad ∷ ps) h w = brace_seen a ps h w
+brace_seen a (Fixed (Tok Operator _ u) ∷ ps) h w = cc
+brace_seen a (Fixed (Tok _ k u) ∷ ps) h w = cc
+brace_seen a (Fixed _ ∷ ps) h w = cc
+brace_seen a (_ ∷ ps) h w = cc
+brace_seen a [] h w = cc
 
 shut_seen : {V : List Context → Surroundings} (a : List Context) {x z : Place} {ts : Forest} (ps : Production) → shuts ps ≡ true → W.Walk IsRead V (pieces a ps) x ts z → Seen x Punctuator (codes ")")
 shut_seen a {x} (Fixed (Tok Operator Punctuator u) ∷ ps) h w =
@@ -372,13 +406,21 @@ many_same {a = a} e s c ps {x} {y} {z} ts us h o k l g g' i j p q = by_lines (te
         let c' = declarators_is c (and_left (is_declarators c) _ t) in
         declarators_same ts us (subst (λ s. enough s ts ≡ true) s' g) (subst (λ s. enough s us ≡ true) s' g') o k l (move_shape s' c' i) (move_shape s' c' j) (list_end a ps (and_right (is_declarators c) _ t) p.walk) (list_end a ps (and_right (is_declarators c) _ t) q.walk)
 
-    by_commas : Test (is_commas s && (is_param c && shuts ps)) → ((is_commas s && (is_param c && shuts ps)) || (is_dense s && (is_declarators c && list_ends ps))) ≡ true → SameRow ts us y z
+    by_specifiers : Test (is_commas s && (is_specifiers c && braces_shut ps)) → ((is_commas s && (is_specifiers c && braces_shut ps)) || (is_dense s && (is_declarators c && list_ends ps))) ≡ true → SameRow ts us y z
+    by_specifiers (yes' b) r =
+        let t = and_right (is_commas s) _ b in
+        let s' = commas_is s (and_left (is_commas s) _ b) in
+        let c' = specifiers_is c (and_left (is_specifiers c) _ t) in
+        specifiers_same (side_of c) ts us o k l (move_shape s' c' i) (move_shape s' c' j) (brace_seen a ps (and_right (is_specifiers c) _ t) p.walk) (brace_seen a ps (and_right (is_specifiers c) _ t) q.walk)
+    by_specifiers (no' b) r = by_dense (or_else (is_commas s && (is_specifiers c && braces_shut ps)) _ r b)
+
+    by_commas : Test (is_commas s && (is_param c && shuts ps)) → ((is_commas s && (is_param c && shuts ps)) || ((is_commas s && (is_specifiers c && braces_shut ps)) || (is_dense s && (is_declarators c && list_ends ps)))) ≡ true → SameRow ts us y z
     by_commas (yes' b) r =
         let t = and_right (is_commas s) _ b in
         let s' = commas_is s (and_left (is_commas s) _ b) in
         let c' = param_is c (and_left (is_param c) _ t) in
         params_same ts us k l (move_shape s' c' i) (move_shape s' c' j) (shut_seen a ps (and_right (is_param c) _ t) p.walk) (shut_seen a ps (and_right (is_param c) _ t) q.walk)
-    by_commas (no' b) r = by_dense (or_else (is_commas s && (is_param c && shuts ps)) _ r b)
+    by_commas (no' b) r = by_specifiers (test (is_commas s && (is_specifiers c && braces_shut ps))) (or_else (is_commas s && (is_param c && shuts ps)) _ r b)
 
     by_lines : Test (liney s && (is_listed c && follow e ps (stop_of c))) → SameRow ts us y z
     by_lines (yes' b) =

@@ -1,6 +1,6 @@
 -- The kinds of statements, and of what stands in them, in a list.
 use Rattle.std.specs.Prelude.{ℕ, zero, suc, List, [], ◌∷◌, Bool, true, false}
-use Rattle.jsx_tree.specs.Kinds.{Script, Module, FunctionBody, Directive, ExportAll, ExportAllAs, ExportDecl, ExportDefaultFn, ExportDefaultExpr, Var, VarWord, LetWord, ConstWord, Block, Declarator, Empty, ExprStmt, If, Do, While, Continue, Break, Return, Throw, Debugger, Label, Switch, Case, Default, Try, Catch, FunctionDecl, Kind, program, statement}
+use Rattle.jsx_tree.specs.Kinds.{Script, Module, FunctionBody, Directive, ExportAll, ExportAllAs, ExportDecl, ExportDefaultFn, ExportDefaultExpr, ExportNames, Specifier, SpecifierAs, Imported, Exported, From, Var, VarWord, LetWord, ConstWord, Block, Declarator, Empty, ExprStmt, If, Do, While, Continue, Break, Return, Throw, Debugger, Label, Switch, Case, Default, Try, Catch, FunctionDecl, Kind, program, statement}
 
 abbrev pub stated : Kind → Bool
 stated (program Script) = true
@@ -12,6 +12,13 @@ stated (program ExportAllAs) = true
 stated (program ExportDecl) = true
 stated (program ExportDefaultFn) = true
 stated (program ExportDefaultExpr) = true
+stated (program ExportNames) = true
+stated (program (Specifier Imported)) = true
+stated (program (Specifier Exported)) = true
+stated (program (Specifier From)) = true
+stated (program (SpecifierAs Imported)) = true
+stated (program (SpecifierAs Exported)) = true
+stated (program (SpecifierAs From)) = true
 stated (statement Block) = true
 stated (statement (Var VarWord)) = true
 stated (statement (Var LetWord)) = true
@@ -46,33 +53,40 @@ place (program ExportAllAs) = 5
 place (program ExportDecl) = 6
 place (program ExportDefaultFn) = 7
 place (program ExportDefaultExpr) = 8
-place (statement Block) = 9
-place (statement (Var VarWord)) = 10
-place (statement (Var LetWord)) = 11
-place (statement (Var ConstWord)) = 12
-place (statement Declarator) = 13
-place (statement Empty) = 14
-place (statement ExprStmt) = 15
-place (statement If) = 16
-place (statement Do) = 17
-place (statement While) = 18
-place (statement Continue) = 19
-place (statement Break) = 20
-place (statement Return) = 21
-place (statement Throw) = 22
-place (statement Debugger) = 23
-place (statement Label) = 24
-place (statement Switch) = 25
-place (statement Case) = 26
-place (statement Default) = 27
-place (statement Try) = 28
-place (statement Catch) = 29
-place (statement FunctionDecl) = 30
+place (program ExportNames) = 9
+place (program (Specifier Imported)) = 10
+place (program (Specifier Exported)) = 11
+place (program (Specifier From)) = 12
+place (program (SpecifierAs Imported)) = 13
+place (program (SpecifierAs Exported)) = 14
+place (program (SpecifierAs From)) = 15
+place (statement Block) = 16
+place (statement (Var VarWord)) = 17
+place (statement (Var LetWord)) = 18
+place (statement (Var ConstWord)) = 19
+place (statement Declarator) = 20
+place (statement Empty) = 21
+place (statement ExprStmt) = 22
+place (statement If) = 23
+place (statement Do) = 24
+place (statement While) = 25
+place (statement Continue) = 26
+place (statement Break) = 27
+place (statement Return) = 28
+place (statement Throw) = 29
+place (statement Debugger) = 30
+place (statement Label) = 31
+place (statement Switch) = 32
+place (statement Case) = 33
+place (statement Default) = 34
+place (statement Try) = 35
+place (statement Catch) = 36
+place (statement FunctionDecl) = 37
 place k = 0
 
 abbrev pub stated_kinds : List Kind
 stated_kinds =
-    program Script ∷ program Module ∷ program FunctionBody ∷ program Directive ∷ program ExportAll ∷ program ExportAllAs ∷ program ExportDecl ∷ program ExportDefaultFn ∷ program ExportDefaultExpr ∷ statement Block ∷ statement (Var VarWord) ∷ statement (Var LetWord) ∷ statement (Var ConstWord) ∷ statement Declarator ∷ statement Empty ∷ statement ExprStmt ∷ statement If ∷ statement Do ∷ statement While ∷ statement Continue ∷ statement Break ∷ statement Return ∷ statement Throw ∷ statement Debugger ∷ statement Label ∷ statement Switch ∷ statement Case ∷ statement Default ∷ statement Try ∷ statement Catch ∷ statement FunctionDecl ∷ []
+    program Script ∷ program Module ∷ program FunctionBody ∷ program Directive ∷ program ExportAll ∷ program ExportAllAs ∷ program ExportDecl ∷ program ExportDefaultFn ∷ program ExportDefaultExpr ∷ program ExportNames ∷ program (Specifier Imported) ∷ program (Specifier Exported) ∷ program (Specifier From) ∷ program (SpecifierAs Imported) ∷ program (SpecifierAs Exported) ∷ program (SpecifierAs From) ∷ statement Block ∷ statement (Var VarWord) ∷ statement (Var LetWord) ∷ statement (Var ConstWord) ∷ statement Declarator ∷ statement Empty ∷ statement ExprStmt ∷ statement If ∷ statement Do ∷ statement While ∷ statement Continue ∷ statement Break ∷ statement Return ∷ statement Throw ∷ statement Debugger ∷ statement Label ∷ statement Switch ∷ statement Case ∷ statement Default ∷ statement Try ∷ statement Catch ∷ statement FunctionDecl ∷ []
 
 abbrev pub nth : List Kind → ℕ → Kind
 nth [] n = program Script

@@ -5,8 +5,8 @@ use Rattle.jsx_base.specs.Token.{Text, Operator, TokenKind, IdentifierName, Punc
 use Rattle.jsx_tree.specs.declared.text.Goal.{Goal}
 use Rattle.jsx_tree.specs.declared.text.Goal.TheVariants as goals
 use Rattle.jsx_tree.specs.Signs.{Tok, Semicolon, Unless, AfterExpr}
-use Rattle.jsx_tree.specs.Kinds.{ProgramKind, Module, Script, FunctionBody, ExprStmt, Label, Kind, program, statement, Tree, leaf, node, list, Forest, none, part}
-use Rattle.jsx_tree.specs.Nonterminals.{Nonterminal, Expr, Ident, Stmt, SubStmt, Item, Declaration, BlockOnly, CatchClause, CaseClause, Declarators, Body, DirectiveOnly, WholeProgram, homes, in_homes, leaf_in, is_ident}
+use Rattle.jsx_tree.specs.Kinds.{Imported, Exported, From, ProgramKind, Module, Script, FunctionBody, ExprStmt, Label, Kind, program, statement, Tree, leaf, node, list, Forest, none, part}
+use Rattle.jsx_tree.specs.Nonterminals.{Nonterminal, Expr, Ident, Stmt, SubStmt, Item, Declaration, BlockOnly, CatchClause, CaseClause, Declarators, Body, DirectiveOnly, Specifiers, ImportBindings, WholeProgram, homes, in_homes, leaf_in, is_ident}
 use Rattle.jsx_tree.specs.Grammar.{heads, Context, Lines, TopLines, InCode, InModuleCode, production}
 use Rattle.jsx_tree.specs.Form.{admits, is, fits_below}
 use Rattle.jsx_tree.specs.StaticRules.{Surroundings, outside, rule}
@@ -36,12 +36,12 @@ use Rattle.jsx_tree.proofs.OneTree.Ends.{end_kind}
 use Rattle.jsx_tree.proofs.OneTree.Missing.{Behind, a_mark, a_brace, a_line, behind}
 use Rattle.jsx_tree.proofs.OneTree.Afters.{after_tok, after_tree}
 use Rattle.jsx_tree.proofs.OneTree.Parts.{known, kept, kepts, tame_of, SameAt, word_read}
-use Rattle.jsx_tree.proofs.OneTree.Wants.{idle, shutting, idle_at, meets, implied, mark, look_same}
+use Rattle.jsx_tree.proofs.OneTree.Wants.{parted, idle, shutting, idle_at, meets, implied, mark, look_same}
 use Rattle.jsx_tree.proofs.OneTree.Begins.{is_own, want_of, front, front_fits}
 use Rattle.jsx_tree.proofs.OneTree.Rows.{One, Each, each_leaf, each_node, each_none, each_part, All, own_leaf, own_kind}
 use Rattle.jsx_tree.proofs.OneTree.Lists.{SameRow}
 use Rattle.jsx_tree.proofs.OneTree.Same.{row_good, row_same}
-use Rattle.jsx_tree.proofs.OneTree.Prefixes.{front_apart, fronts_apart, rows_apart, rows_clash}
+use Rattle.jsx_tree.proofs.OneTree.Prefixes.{front_apart, fronts_apart, rows_apart, rows_clash, words_apart, words_clash}
 use Rattle.jsx_tree.proofs.OneTree.Directives.{body_same}
 
 -- ---- a label and an expression
@@ -114,6 +114,7 @@ label_pair k l = false
 -- the first tokens differ behind one that both have
 abbrev pub prefix_apart : Nonterminal → Kind → Kind → Bool
 prefix_apart Item k l = rows_apart (W.row false k) (W.row false l)
+prefix_apart (Specifiers s) k l = words_apart parted (W.row false k) (W.row false l)
 prefix_apart c k l = false
 
 abbrev pub pair_told : Nonterminal → Kind → Kind → Bool
@@ -148,6 +149,10 @@ all_pairs CaseClause o = refl
 all_pairs Declarators o = refl
 all_pairs Body o = refl
 all_pairs DirectiveOnly o = refl
+all_pairs (Specifiers Imported) o = refl
+all_pairs (Specifiers Exported) o = refl
+all_pairs (Specifiers From) o = refl
+all_pairs ImportBindings o = refl
 all_pairs _ o = cc
 
 all_rows : (c : Nonterminal) → is_own c ≡ true → every (row_told c) stated_kinds ≡ true
@@ -161,6 +166,10 @@ all_rows CaseClause o = refl
 all_rows Declarators o = refl
 all_rows Body o = refl
 all_rows DirectiveOnly o = refl
+all_rows (Specifiers Imported) o = refl
+all_rows (Specifiers Exported) o = refl
+all_rows (Specifiers From) o = refl
+all_rows ImportBindings o = refl
 all_rows _ o = cc
 
 label_is : (k l : Kind) → label_pair k l ≡ true → (k ≡ statement Label) × (l ≡ statement ExprStmt)
@@ -177,9 +186,10 @@ pair_apart {v} {w} {x} {y} {z} k l cs ds p h g a b =
 
 -- ---- a node
 
-prefix_clash : (c : Nonterminal) {V V' : List Context → Surroundings} {x y z : Place} {cs ds : Forest} (k l : Kind) → prefix_apart c k l ≡ true → kepts ds ≡ true → W.Walk IsRead V (W.row false k) x cs y → W.Walk IsRead V' (W.row false l) x ds z → meets (want_of c) z ≡ true → ⊥
-prefix_clash Item k l h g a b m = rows_clash (W.row false k) (W.row false l) h g a b m
-prefix_clash _ k l h g a b m = cc
+prefix_clash : (c : Nonterminal) {V V' : List Context → Surroundings} {x y z : Place} {cs ds : Forest} (k l : Kind) → prefix_apart c k l ≡ true → kepts cs ≡ true → kepts ds ≡ true → W.Walk IsRead V (W.row false k) x cs y → W.Walk IsRead V' (W.row false l) x ds z → meets (want_of c) y ≡ true → meets (want_of c) z ≡ true → ⊥
+prefix_clash Item k l h f g a b m m' = rows_clash (W.row false k) (W.row false l) h g a b m'
+prefix_clash (Specifiers s) k l h f g a b m m' = words_clash parted (W.row false k) (W.row false l) h f g a b m
+prefix_clash _ k l h f g a b m m' = cc
 
 kind_apart : (c : Nonterminal) {v w : Surroundings} {x y z : Place} (k l : Kind) (cs ds : Forest) → is_own c ≡ true → stated k ≡ true → stated l ≡ true → in_homes c (homes k) ≡ true → in_homes c (homes l) ≡ true → nat_eq (place k) (place l) ≡ false
     → kepts cs ≡ true → kepts ds ≡ true → IsNode IsRead v false k x cs y → IsNode IsRead w false l x ds z → meets (want_of c) y ≡ true → meets (want_of c) z ≡ true → ⊥
@@ -192,8 +202,8 @@ kind_apart c {x = x} k l cs ds o s t i j n h g a b m m' = by_front (test (front_
     rest = or_else (nat_eq (place k) (place l)) _ (or_else (not (in_homes c (homes l))) _ (or_else (not (in_homes c (homes k))) _ told (ap not i)) (ap not j)) n
 
     by_prefix : Test (prefix_apart c k l) → (prefix_apart c k l || prefix_apart c l k) ≡ true → ⊥
-    by_prefix (yes' p) r = prefix_clash c k l p g a.walk b.walk m'
-    by_prefix (no' p) r = prefix_clash c l k (or_else (prefix_apart c k l) _ r p) h b.walk a.walk m
+    by_prefix (yes' p) r = prefix_clash c k l p h g a.walk b.walk m m'
+    by_prefix (no' p) r = prefix_clash c l k (or_else (prefix_apart c k l) _ r p) g h b.walk a.walk m' m
 
     by_other : Test (label_pair l k) → (label_pair l k || (prefix_apart c k l || prefix_apart c l k)) ≡ true → ⊥
     by_other (yes' p) r = pair_apart l k ds cs p g h b a
@@ -218,6 +228,10 @@ body_want CatchClause x o h m = cc
 body_want CaseClause x o h m = cc
 body_want Declarators x o h m = cc
 body_want DirectiveOnly x o h m = cc
+body_want (Specifiers Imported) x o h m = cc
+body_want (Specifiers Exported) x o h m = cc
+body_want (Specifiers From) x o h m = cc
+body_want ImportBindings x o h m = cc
 body_want _ x o h m = cc
 
 kind_same : (c : Nonterminal) {v w : Surroundings} {x y z : Place} (k : Kind) (cs ds : Forest) → is_own c ≡ true → in_homes c (homes k) ≡ true → (is_body k || row_good false (want_of c) (production k)) ≡ true → IsNode IsRead v false k x cs y → IsNode IsRead w false k x ds z
