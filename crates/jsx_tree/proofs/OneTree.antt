@@ -34,7 +34,9 @@ mod Begins
 mod Rows
 mod Lists
 mod Declarators
+mod Specifiers
 mod Same
 mod Directives
+mod Prefixes
 mod Trees
 pub mod Decided

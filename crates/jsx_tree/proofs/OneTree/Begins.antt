@@ -4,7 +4,7 @@ use Rattle.std.specs.Prelude.{◌&&◌, ◌||◌, nat_eq, codes}
 use Rattle.jsx_base.specs.Token.{Text, Operator, TokenKind, IdentifierName, kind_number, among, same}
 use Rattle.jsx_tree.specs.Signs.{Tok, Unless, Count}
 use Rattle.jsx_tree.specs.Kinds.{Kind, Tree, Forest}
-use Rattle.jsx_tree.specs.Nonterminals.{Nonterminal, Expr, Ident, Stmt, SubStmt, Item, Declaration, BlockOnly, CatchClause, CaseClause, Declarators, Body, DirectiveOnly, homes, in_homes, leaf_in, is_ident}
+use Rattle.jsx_tree.specs.Nonterminals.{Nonterminal, Expr, Ident, Stmt, SubStmt, Item, Declaration, BlockOnly, CatchClause, CaseClause, Declarators, Body, DirectiveOnly, Specifiers, ImportBindings, homes, in_homes, leaf_in, is_ident}
 use Rattle.jsx_tree.specs.Grammar.{Context, Fixed, Part, Production, production}
 use Rattle.jsx_tree.specs.Form.{is}
 use Rattle.jsx_tree.specs.StaticRules.{Surroundings}
@@ -21,7 +21,7 @@ use Rattle.jsx_tree.proofs.OneTree.Apart.{at_sign, at_part}
 use Rattle.jsx_tree.proofs.OneTree.Next.{unless_kept}
 use Rattle.jsx_tree.proofs.OneTree.Afters.{after_tree}
 use Rattle.jsx_tree.proofs.OneTree.Parts.{kept, kepts, tame_of, whole_starts, word_read}
-use Rattle.jsx_tree.proofs.OneTree.Wants.{Want, anything, ended, still, idle, shutting, declared, other, meets, met, still_at, shutting_at, idle_at, is_look, look_met, is_at, is_seen, follow, follow_meets}
+use Rattle.jsx_tree.proofs.OneTree.Wants.{Want, parted, anything, ended, still, idle, shutting, declared, other, meets, met, still_at, shutting_at, idle_at, is_look, look_met, is_at, is_seen, follow, follow_meets}
 
 -- the places whose trees are read as rows, and what stands behind each of them
 abbrev pub is_own : Nonterminal → Bool
@@ -35,6 +35,8 @@ is_own CaseClause = true
 is_own Declarators = true
 is_own Body = true
 is_own DirectiveOnly = true
+is_own (Specifiers s) = true
+is_own ImportBindings = true
 is_own c = false
 
 abbrev pub want_of : Nonterminal → Want
@@ -45,6 +47,7 @@ want_of Declaration = still
 want_of CaseClause = idle
 want_of Declarators = declared
 want_of Body = shutting
+want_of (Specifiers s) = parted
 want_of c = anything
 
 -- what stands behind a list of them
@@ -187,6 +190,7 @@ front_meets still (token' k t) x l h g = look_met still k t x refl (is_seen x k 
 front_meets idle (token' k t) x l h g = look_met idle k t x refl (is_seen x k t g) h
 front_meets shutting (token' k t) x l h g = look_met shutting k t x refl (is_seen x k t g) h
 front_meets (ended n) (token' k t) x l h g = look_met (ended n) k t x refl (is_seen x k t g) h
+front_meets parted (token' k t) x l h g = look_met parted k t x refl (is_seen x k t g) h
 front_meets (other l' u) (token' k t) x l h g = look_met (other l' u) k t x refl (is_seen x k t g) h
 front_meets _ _ x l h g = cc
 

@@ -3,7 +3,7 @@ use Rattle.std.proofs.Common.{◌≡◌, true, false, refl}
 use Rattle.jsx_base.specs.Token.{TokenKind, IdentifierName, NumericLiteral, BigIntLiteral, StringLiteral, RegExpLiteral, NoSubstitution, TemplateHead, TemplateMiddle, TemplateTail, Elision}
 use Rattle.jsx_tree.specs.declared.text.Goal.{Goal}
 use Rattle.jsx_base.specs.Token.{Text}
-use Rattle.jsx_tree.specs.Kinds.{ProgramKind, StatementKind, FunctionKind, ExpressionKind, Kind, program, statement, function, expression, jsx, Tree, leaf, node, list, Forest, none, part, Add, And, Array, ArrayPat, Arrow, ArrowBlock, Assign, Assigns, AtLeast, AtMost, BareArrow, BareArrowBlock, Binary, Binds, BitAnd, BitOr, BitXor, Block, Break, Call, CallLink, Case, Catch, Chain, ClassDecl, ClassExpr, Complement, ComputedKey, Cond, ConstWord, Continue, Debugger, Declarator, Decrement, Default, Delete, Directive, Divide, Do, Empty, Equal, Exponentiate, ExportAll, ExportAllAs, ExportDecl, ExportDefaultClass, ExportDefaultExpr, ExportDefaultFn, ExportFrom, ExportNames, ExprStmt, Field, For, ForBinding, ForDeclaration, ForIn, ForOf, FunctionBody, FunctionDecl, FunctionExpr, Getter, Greater, If, Import, ImportAll, ImportBare, ImportBoth, ImportCall, ImportList, ImportMeta, InOp, Increment, Index, IndexLink, InstanceOf, Label, Less, LetWord, Member, Method, Module, Multiply, NameLink, Negative, New, NewTarget, NewWithoutArguments, Not, Nullish, Object, ObjectPat, OpAssign, Or, ParenTarget, Parenthesized, PlainTemplate, Positive, PostfixUpdate, PrefixUpdate, Property, PropertyPat, Remainder, RestPat, RestProperty, Return, Script, Seq, Setter, ShiftLeft, ShiftOut, ShiftRight, Shorthand, ShorthandInit, ShorthandPat, Specifier, SpecifierAs, Spread, StrictEqual, StrictUnequal, SubstitutedTemplate, Subtract, SuperCall, SuperIndex, SuperMember, Switch, Tagged, TemplateSpan, Throw, Try, TypeOf, Unary, Unequal, Var, VarWord, Void, While, WithInit}
+use Rattle.jsx_tree.specs.Kinds.{Imported, Exported, From, ProgramKind, StatementKind, FunctionKind, ExpressionKind, Kind, program, statement, function, expression, jsx, Tree, leaf, node, list, Forest, none, part, Add, And, Array, ArrayPat, Arrow, ArrowBlock, Assign, Assigns, AtLeast, AtMost, BareArrow, BareArrowBlock, Binary, Binds, BitAnd, BitOr, BitXor, Block, Break, Call, CallLink, Case, Catch, Chain, ClassDecl, ClassExpr, Complement, ComputedKey, Cond, ConstWord, Continue, Debugger, Declarator, Decrement, Default, Delete, Directive, Divide, Do, Empty, Equal, Exponentiate, ExportAll, ExportAllAs, ExportDecl, ExportDefaultClass, ExportDefaultExpr, ExportDefaultFn, ExportFrom, ExportNames, ExprStmt, Field, For, ForBinding, ForDeclaration, ForIn, ForOf, FunctionBody, FunctionDecl, FunctionExpr, Getter, Greater, If, Import, ImportAll, ImportBare, ImportBoth, ImportCall, ImportList, ImportMeta, InOp, Increment, Index, IndexLink, InstanceOf, Label, Less, LetWord, Member, Method, Module, Multiply, NameLink, Negative, New, NewTarget, NewWithoutArguments, Not, Nullish, Object, ObjectPat, OpAssign, Or, ParenTarget, Parenthesized, PlainTemplate, Positive, PostfixUpdate, PrefixUpdate, Property, PropertyPat, Remainder, RestPat, RestProperty, Return, Script, Seq, Setter, ShiftLeft, ShiftOut, ShiftRight, Shorthand, ShorthandInit, ShorthandPat, Specifier, SpecifierAs, Spread, StrictEqual, StrictUnequal, SubstitutedTemplate, Subtract, SuperCall, SuperIndex, SuperMember, Switch, Tagged, TemplateSpan, Throw, Try, TypeOf, Unary, Unequal, Var, VarWord, Void, While, WithInit}
 use Rattle.jsx_tree.specs.Program.{Reads}
 use Rattle.jsx_tree.specs.Decided.{decides_program, decides_statement, decides_function, decides_expression, decides, decides_leaf, is_decided, are_decided}
 use Rattle.jsx_tree.proofs.Tokens.{and_left, and_right, and_both}
@@ -20,16 +20,20 @@ known_program Import h = cc
 known_program ImportAll h = cc
 known_program ImportList h = cc
 known_program ImportBoth h = cc
-known_program (Specifier x) h = cc
-known_program (SpecifierAs x) h = cc
-known_program ExportNames h = cc
+known_program (Specifier Imported) h = refl
+known_program (Specifier Exported) h = refl
+known_program (Specifier From) h = refl
+known_program (SpecifierAs Imported) h = refl
+known_program (SpecifierAs Exported) h = refl
+known_program (SpecifierAs From) h = refl
+known_program ExportNames h = refl
 known_program ExportFrom h = cc
-known_program ExportAll h = cc
-known_program ExportAllAs h = cc
-known_program ExportDecl h = cc
-known_program ExportDefaultFn h = cc
+known_program ExportAll h = refl
+known_program ExportAllAs h = refl
+known_program ExportDecl h = refl
+known_program ExportDefaultFn h = refl
 known_program ExportDefaultClass h = cc
-known_program ExportDefaultExpr h = cc
+known_program ExportDefaultExpr h = refl
 
 known_statement : (k : StatementKind) → decides_statement k ≡ true → known (statement k) ≡ true
 known_statement Block h = refl

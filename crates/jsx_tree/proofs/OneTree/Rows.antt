@@ -2,8 +2,8 @@
 use Rattle.std.proofs.Common.{◌≡◌, zero, suc, Bool, true, false, not, List, refl, ◌∙◌, ap, subst, arith}
 use Rattle.std.specs.Prelude.{◌&&◌, ◌||◌}
 use Rattle.jsx_base.specs.Token.{Text, TokenKind, IdentifierName}
-use Rattle.jsx_tree.specs.Kinds.{Binds, Seq, Kind, expression, Tree, leaf, node, list, Forest, none, part}
-use Rattle.jsx_tree.specs.Nonterminals.{Nonterminal, Expr, Pat, Stmt, SubStmt, Item, Declaration, BlockOnly, CatchClause, CaseClause, Declarators, Body, DirectiveOnly, homes, in_homes, leaf_in}
+use Rattle.jsx_tree.specs.Kinds.{Imported, Exported, From, Binds, Seq, Kind, expression, Tree, leaf, node, list, Forest, none, part}
+use Rattle.jsx_tree.specs.Nonterminals.{Nonterminal, Expr, Pat, Stmt, SubStmt, Item, Declaration, BlockOnly, CatchClause, CaseClause, Declarators, Body, DirectiveOnly, Specifiers, ImportBindings, homes, in_homes, leaf_in}
 use Rattle.jsx_tree.specs.Grammar.{Context, Production}
 use Rattle.jsx_tree.specs.StaticRules.{Surroundings}
 use Rattle.jsx_tree.specs.Reading.{Place}
@@ -54,6 +54,10 @@ own_clean CaseClause o = refl
 own_clean Declarators o = refl
 own_clean Body o = refl
 own_clean DirectiveOnly o = refl
+own_clean (Specifiers Imported) o = refl
+own_clean (Specifiers Exported) o = refl
+own_clean (Specifiers From) o = refl
+own_clean ImportBindings o = refl
 own_clean _ o = cc
 
 own_seq : (c : Nonterminal) → is_own c ≡ true → in_homes c (homes (expression Seq)) ≡ false
@@ -67,6 +71,10 @@ own_seq CaseClause o = refl
 own_seq Declarators o = refl
 own_seq Body o = refl
 own_seq DirectiveOnly o = refl
+own_seq (Specifiers Imported) o = refl
+own_seq (Specifiers Exported) o = refl
+own_seq (Specifiers From) o = refl
+own_seq ImportBindings o = refl
 own_seq _ o = cc
 
 pub own_leaf : (c : Nonterminal) (s : TokenKind) (t : Text) → is_own c ≡ true → leaf_in c s t ≡ true → ⊥
@@ -90,6 +98,14 @@ own_leaf Body IdentifierName t o h = cc
 own_leaf Body _ t o h = cc
 own_leaf DirectiveOnly IdentifierName t o h = cc
 own_leaf DirectiveOnly _ t o h = cc
+own_leaf (Specifiers Imported) IdentifierName t o h = cc
+own_leaf (Specifiers Imported) _ t o h = cc
+own_leaf (Specifiers Exported) IdentifierName t o h = cc
+own_leaf (Specifiers Exported) _ t o h = cc
+own_leaf (Specifiers From) IdentifierName t o h = cc
+own_leaf (Specifiers From) _ t o h = cc
+own_leaf ImportBindings IdentifierName t o h = cc
+own_leaf ImportBindings _ t o h = cc
 own_leaf _ s t o h = cc
 
 -- what stands at such a place is a statement's kind
@@ -199,6 +215,8 @@ part_same {e = e} {ps} c {x} {y} {z} t u h f k l r s p q = by_whole (test (is_wh
         no_calm Declarators o h = cc
         no_calm Body o h = cc
         no_calm DirectiveOnly o h = cc
+        no_calm (Specifiers s) o h = cc
+        no_calm ImportBindings o h = cc
         no_calm _ o h = cc
 
     by_word : Test (wordy c) → (wordy c || (is_own c && follow e ps (want_of c))) ≡ true → SameAt t u y z

@@ -2,14 +2,22 @@
 use Rattle.std.proofs.Common.{◌≡◌, ℕ, Bool, true, false, not, cond, List, [], ◌∷◌, ◌++◌, refl, sym, ◌∙◌, ap, subst}
 use Rattle.std.specs.Prelude.{IsTrue, ◌&&◌, ◌||◌, nat_eq, codes}
 use Rattle.jsx_base.specs.Token.{Text, Operator, TokenKind, Punctuator, among, same, breaks}
+use Rattle.jsx_base.specs.Token.{kind_number, IdentifierName}
+use Rattle.jsx_tree.specs.Form.{is}
+use Rattle.jsx_tree.specs.Nonterminals.{leaf_in}
+use Rattle.jsx_tree.proofs.OneTree.Parts.{word_read}
 use Rattle.jsx_tree.specs.Signs.{Sign, Tok, Semicolon, TrailingComma, Unless, SameLine, Ends, AfterWord}
 use Rattle.jsx_tree.specs.Kinds.{Tree, list, Forest, none, part}
-use Rattle.jsx_tree.specs.Nonterminals.{Nonterminal, Expr, Ident, Declarators, Param, CaseClause, is_ident}
+use Rattle.jsx_tree.specs.Nonterminals.{Nonterminal, Expr, Ident, BindingIdent, Declarators, Param, CaseClause, is_ident}
 use Rattle.jsx_tree.specs.Grammar.{ListShape, Commas, NoTrailing, Context, Fixed, Part, Optional, Many, Within, Production, fixed}
 use Rattle.jsx_tree.specs.Form.{enough}
 use Rattle.jsx_tree.specs.StaticRules.{Surroundings}
 use Rattle.jsx_tree.specs.Reading.{Place, Lost, At, forth, scan}
 use Rattle.jsx_tree.proofs.Tokens.{and_left, and_right, same_is}
+use Rattle.jsx_tree.specs.Signs.{Pad}
+use Rattle.jsx_tree.specs.Kinds.{Side, Imported}
+use Rattle.jsx_tree.specs.Nonterminals.{Specifiers}
+use Rattle.jsx_tree.proofs.OneTree.Specifiers.{specifiers_same}
 use Rattle.jsx_tree.specs.Walk as W
 use Rattle.jsx_tree.specs.Walk.{is_found, is_heard, heard, keep, pieces, IsRead}
 use Rattle.jsx_tree.proofs.OneTree.Readings.{kind_at, text_at, broken}
@@ -79,9 +87,26 @@ is_ident_place c = false
 abbrev pub starty : Want → Production → Nonterminal → Bool
 starty e ps c = (is_whole c && follow e ps (ended 0)) || is_ident_place c
 
+-- a name that may be absent before a punctuator
+abbrev pub mark_first : Production → Bool
+mark_first (Fixed (Tok Operator k t) ∷ ps) = not (nat_eq (kind_number k) 0)
+mark_first (Within a ∷ ps) = mark_first ps
+mark_first ps = false
+
+abbrev pub is_name_place : Nonterminal → Bool
+is_name_place BindingIdent = true
+is_name_place c = false
+
+abbrev pub no_signs : List Sign → Bool
+no_signs [] = true
+no_signs ms = false
+
+abbrev pub head_name : List Sign → Nonterminal → Production → Bool
+head_name ms c ps = no_signs ms && (is_name_place c && mark_first ps)
+
 -- why it isn't both absent and present
 abbrev pub tells : Bool → Want → List Sign → Nonterminal → List Sign → List Text → Production → Bool
-tells d e m c b r ps = head_in r (heard m) || (head_other e ps (heard m) || (d && (head_line (heard m) && (semi_first ps && starty e (fixed b ++ ps) c))))
+tells d e m c b r ps = head_name (heard m) c ps || (head_in r (heard m) || (head_other e ps (heard m) || (d && (head_line (heard m) && (semi_first ps && starty e (fixed b ++ ps) c)))))
 
 ident_is : (c : Nonterminal) → is_ident_place c ≡ true → c ≡ Ident
 ident_is Ident h = refl
@@ -177,9 +202,43 @@ unscan {V} a (s ∷ b) ps {x} {y} {z} {ts} e f w = by_heard (test (is_heard s)) 
     by_heard (no' h) rest =
         subst (λ c. W.Walk IsRead V (keep c (W.piece a (Fixed s)) (pieces a (fixed b ++ ps))) x ts z) (sym h) (rest x ((λ i. scan x (keep (sym h i) s (heard b))) ∙ e))
 
+name_is : (c : Nonterminal) → is_name_place c ≡ true → c ≡ BindingIdent
+name_is BindingIdent h = refl
+name_is _ h = cc
+
+none_is : (ms : List Sign) → no_signs ms ≡ true → ms ≡ []
+none_is [] h = refl
+none_is (m ∷ ms) h = cc
+
+name_leaf : (s : TokenKind) (t : Text) → leaf_in BindingIdent s t ≡ true → kind_number s ≡ 0
+name_leaf IdentifierName t h = refl
+name_leaf _ t h = cc
+
+-- no name stands where this punctuator does
+mark_kind : {V : List Context → Surroundings} (a : List Context) (ps : Production) {x z : Place} {ts : Forest} → mark_first ps ≡ true → W.Walk IsRead V (pieces a ps) x ts z → nat_eq (kind_at x) 0 ≡ false
+mark_kind a (Fixed (Tok Operator k t) ∷ ps) {x} h w =
+    let s = signed (Tok Operator k t) ps a w in
+    let r : Seen x k t = took k t x s.moves (s.found refl) in
+    ap (λ n. nat_eq n 0) r.kind ∙ not_is _ h
+mark_kind a (Within b ∷ ps) h w = mark_kind (b ∷ a) ps h w
+mark_kind a (Fixed (Tok _ k t) ∷ ps) h w = cc
+mark_kind a (Fixed _ ∷ ps) h w = cc
+mark_kind a (_ ∷ ps) h w = cc
+mark_kind a [] h w = cc
+
+name_apart : {V : List Context → Surroundings} {v : Surroundings} (a : List Context) (ms : List Sign) (c : Nonterminal) (ps : Production) (x : Place) {y z w : Place} {ts : Forest} (t : Tree) → head_name ms c ps ≡ true → W.Walk IsRead V (pieces a ps) x ts w → scan x ms ≡ y → kept t ≡ true → IsRead v false c y t z → ⊥
+name_apart {v = v} a ms c ps x {y} {z} t h w e k r =
+    let o = and_right (no_signs ms) _ h in
+    let back : x ≡ y = ap (scan x) (sym (none_is ms (and_left (no_signs ms) _ h))) ∙ e in
+    let r' = subst (λ c. IsRead v false c y t z) (name_is c (and_left (is_name_place c) _ o)) r in
+    let n = word_read BindingIdent t refl k r' in
+    let s : Seen y n.kind n.text = took n.kind n.text y n.moves n.found in
+    let d = name_leaf n.kind n.text (and_left (leaf_in BindingIdent n.kind n.text) _ (subst (λ t. is BindingIdent t ≡ true) n.is_leaf r'.is)) in
+    never (nat_eq (kind_at x) 0) (ap (λ x. nat_eq (kind_at x) 0) back ∙ ap (λ n. nat_eq n 0) (s.kind ∙ d)) (mark_kind a ps (and_right (is_name_place c) _ o) w)
+
 absent_present : {V V' : List Context → Surroundings} {v : Surroundings} {a : List Context} (d : Bool) (e : Want) (m : List Sign) (c : Nonterminal) (b : List Sign) (r : List Text) (ps : Production) (x : Place) {n y z : Place} (t : Tree) → tells d e m c b r ps ≡ true
     → (d ≡ true → worded x ≡ true) → forth (Unless r) x ≡ n → IsTrue (is_found n) → Rest V a e ps n → scan x (heard m) ≡ y → kept t ≡ true → IsRead v false c y t z → Rest V' a e (fixed b ++ ps) z → ⊥
-absent_present {V = V} {a = a} d e m c b r ps x {n} {y} {z} t h w f g p i k j q = by_in (test (head_in r (heard m)))
+absent_present {V = V} {a = a} d e m c b r ps x {n} {y} {z} t h w f g p i k j q = by_name (test (head_name (heard m) c ps))
   where
     same' : x ≡ n
     same' = look_same (Unless r) x n refl f g
@@ -200,9 +259,13 @@ absent_present {V = V} {a = a} d e m c b r ps x {n} {y} {z} t h w f g p i k j q 
     by_other (yes' o) u = other_apart e ps (heard m) x y o rest i (read_start j)
     by_other (no' o) u = by_line (or_else (head_other e ps (heard m)) _ u o)
 
-    by_in : Test (head_in r (heard m)) → ⊥
-    by_in (yes' o) = in_apart r (heard m) x n y o f g i (read_start j)
-    by_in (no' o) = by_other (test (head_other e ps (heard m))) (or_else (head_in r (heard m)) _ h o)
+    by_in : Test (head_in r (heard m)) → (head_in r (heard m) || (head_other e ps (heard m) || (d && (head_line (heard m) && (semi_first ps && starty e (fixed b ++ ps) c))))) ≡ true → ⊥
+    by_in (yes' o) u = in_apart r (heard m) x n y o f g i (read_start j)
+    by_in (no' o) u = by_other (test (head_other e ps (heard m))) (or_else (head_in r (heard m)) _ u o)
+
+    by_name : Test (head_name (heard m) c ps) → ⊥
+    by_name (yes' o) = name_apart a (heard m) c ps x t o rest.walk i k j
+    by_name (no' o) = by_in (test (head_in r (heard m))) (or_else (head_name (heard m) c ps) _ h o)
 
 unscanned : {V : List Context → Surroundings} {a : List Context} {e : Want} (b : List Sign) (ps : Production) (x : Place) {y : Place} → scan x (heard b) ≡ y → IsTrue (is_found y) → Rest V a e ps y → Rest V a e (fixed b ++ ps) x
 unscanned {a = a} b ps x g f r = record { trees = r.trees; end = r.end; walk = unscan a b ps {x = x} g f r.walk; good = r.good; ends = r.ends }
@@ -241,6 +304,15 @@ abbrev pub shuts : Production → Bool
 shuts (Fixed (Tok Operator Punctuator u) ∷ ps) = same u (codes ")")
 shuts ps = false
 
+abbrev pub is_specifiers : Nonterminal → Bool
+is_specifiers (Specifiers s) = true
+is_specifiers c = false
+
+abbrev pub braces_shut : Production → Bool
+braces_shut (Fixed (Tok Operator Punctuator u) ∷ ps) = same u (codes "}")
+braces_shut (Fixed Pad ∷ ps) = braces_shut ps
+braces_shut ps = false
+
 abbrev pub list_ends : Production → Bool
 list_ends (Fixed (Tok Operator Punctuator u) ∷ ps) = same u (codes ";")
 list_ends (Fixed Semicolon ∷ ps) = true
@@ -249,7 +321,7 @@ list_ends ps = false
 abbrev pub many_good : Want → ListShape → Nonterminal → Production → Bool
 many_good e s c ps =
     (liney s && (is_listed c && follow e ps (stop_of c)))
-    || ((is_commas s && (is_param c && shuts ps)) || (is_dense s && (is_declarators c && list_ends ps)))
+    || ((is_commas s && (is_param c && shuts ps)) || ((is_commas s && (is_specifiers c && braces_shut ps)) || (is_dense s && (is_declarators c && list_ends ps))))
 
 commas_is : (s : ListShape) → is_commas s ≡ true → s ≡ Commas
 commas_is Commas h = refl
@@ -266,6 +338,27 @@ param_is _ h = cc
 declarators_is : (c : Nonterminal) → is_declarators c ≡ true → c ≡ Declarators
 declarators_is Declarators h = refl
 declarators_is _ h = cc
+
+side_of : Nonterminal → Side
+side_of (Specifiers s) = s
+side_of c = Imported
+
+specifiers_is : (c : Nonterminal) → is_specifiers c ≡ true → c ≡ Specifiers (side_of c)
+unfolding side_of
+specifiers_is (Specifiers s) h = refl
+specifiers_is _ h = cc
+
+brace_seen : {V : List Context → Surroundings} (a : List Context) {x z : Place} {ts : Forest} (ps : Production) → braces_shut ps ≡ true → W.Walk IsRead V (pieces a ps) x ts z → Seen x Punctuator (codes "}")
+brace_seen a {x} (Fixed (Tok Operator Punctuator u) ∷ ps) h w =
+    let s = signed (Tok Operator Punctuator u) ps a w in
+    let r : Seen x Punctuator u = took Punctuator u x s.moves (s.found refl) in
+    record { kind = r.kind; text = r.text ∙ same_is u (codes "}") h }
+brace_seen a (Fixed Pad ∷ ps) h w = brace_seen a ps h w
+brace_seen a (Fixed (Tok Operator _ u) ∷ ps) h w = cc
+brace_seen a (Fixed (Tok _ k u) ∷ ps) h w = cc
+brace_seen a (Fixed _ ∷ ps) h w = cc
+brace_seen a (_ ∷ ps) h w = cc
+brace_seen a [] h w = cc
 
 shut_seen : {V : List Context → Surroundings} (a : List Context) {x z : Place} {ts : Forest} (ps : Production) → shuts ps ≡ true → W.Walk IsRead V (pieces a ps) x ts z → Seen x Punctuator (codes ")")
 shut_seen a {x} (Fixed (Tok Operator Punctuator u) ∷ ps) h w =
@@ -313,13 +406,21 @@ many_same {a = a} e s c ps {x} {y} {z} ts us h o k l g g' i j p q = by_lines (te
         let c' = declarators_is c (and_left (is_declarators c) _ t) in
         declarators_same ts us (subst (λ s. enough s ts ≡ true) s' g) (subst (λ s. enough s us ≡ true) s' g') o k l (move_shape s' c' i) (move_shape s' c' j) (list_end a ps (and_right (is_declarators c) _ t) p.walk) (list_end a ps (and_right (is_declarators c) _ t) q.walk)
 
-    by_commas : Test (is_commas s && (is_param c && shuts ps)) → ((is_commas s && (is_param c && shuts ps)) || (is_dense s && (is_declarators c && list_ends ps))) ≡ true → SameRow ts us y z
+    by_specifiers : Test (is_commas s && (is_specifiers c && braces_shut ps)) → ((is_commas s && (is_specifiers c && braces_shut ps)) || (is_dense s && (is_declarators c && list_ends ps))) ≡ true → SameRow ts us y z
+    by_specifiers (yes' b) r =
+        let t = and_right (is_commas s) _ b in
+        let s' = commas_is s (and_left (is_commas s) _ b) in
+        let c' = specifiers_is c (and_left (is_specifiers c) _ t) in
+        specifiers_same (side_of c) ts us o k l (move_shape s' c' i) (move_shape s' c' j) (brace_seen a ps (and_right (is_specifiers c) _ t) p.walk) (brace_seen a ps (and_right (is_specifiers c) _ t) q.walk)
+    by_specifiers (no' b) r = by_dense (or_else (is_commas s && (is_specifiers c && braces_shut ps)) _ r b)
+
+    by_commas : Test (is_commas s && (is_param c && shuts ps)) → ((is_commas s && (is_param c && shuts ps)) || ((is_commas s && (is_specifiers c && braces_shut ps)) || (is_dense s && (is_declarators c && list_ends ps)))) ≡ true → SameRow ts us y z
     by_commas (yes' b) r =
         let t = and_right (is_commas s) _ b in
         let s' = commas_is s (and_left (is_commas s) _ b) in
         let c' = param_is c (and_left (is_param c) _ t) in
         params_same ts us k l (move_shape s' c' i) (move_shape s' c' j) (shut_seen a ps (and_right (is_param c) _ t) p.walk) (shut_seen a ps (and_right (is_param c) _ t) q.walk)
-    by_commas (no' b) r = by_dense (or_else (is_commas s && (is_param c && shuts ps)) _ r b)
+    by_commas (no' b) r = by_specifiers (test (is_commas s && (is_specifiers c && braces_shut ps))) (or_else (is_commas s && (is_param c && shuts ps)) _ r b)
 
     by_lines : Test (liney s && (is_listed c && follow e ps (stop_of c))) → SameRow ts us y z
     by_lines (yes' b) =

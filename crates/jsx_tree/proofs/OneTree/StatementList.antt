@@ -1,7 +1,7 @@
 -- Each of these kinds stands in their list.
 use Rattle.std.proofs.Common.{◌≡◌, Bool, true, refl}
 use Rattle.std.specs.Prelude.{ℕ}
-use Rattle.jsx_tree.specs.Kinds.{Script, Module, FunctionBody, Directive, Var, VarWord, LetWord, ConstWord, Block, Declarator, Empty, ExprStmt, If, Do, While, Continue, Break, Return, Throw, Debugger, Label, Switch, Case, Default, Try, Catch, FunctionDecl, Kind, program, statement}
+use Rattle.jsx_tree.specs.Kinds.{Script, Module, FunctionBody, Directive, ExportAll, ExportAllAs, ExportDecl, ExportDefaultFn, ExportDefaultExpr, ExportNames, Specifier, SpecifierAs, Imported, Exported, From, Var, VarWord, LetWord, ConstWord, Block, Declarator, Empty, ExprStmt, If, Do, While, Continue, Break, Return, Throw, Debugger, Label, Switch, Case, Default, Try, Catch, FunctionDecl, Kind, program, statement}
 use Rattle.jsx_tree.proofs.OneTree.Statements.{stated, place, stated_kinds, nth}
 use Rattle.jsx_tree.proofs.OneTree.Checks.{every}
 use Rattle.jsx_tree.proofs.Tokens.{and_left, and_right}
@@ -13,6 +13,18 @@ stated_nth (program Script) h = refl
 stated_nth (program Module) h = refl
 stated_nth (program FunctionBody) h = refl
 stated_nth (program Directive) h = refl
+stated_nth (program ExportAll) h = refl
+stated_nth (program ExportAllAs) h = refl
+stated_nth (program ExportDecl) h = refl
+stated_nth (program ExportDefaultFn) h = refl
+stated_nth (program ExportDefaultExpr) h = refl
+stated_nth (program ExportNames) h = refl
+stated_nth (program (Specifier Imported)) h = refl
+stated_nth (program (Specifier Exported)) h = refl
+stated_nth (program (Specifier From)) h = refl
+stated_nth (program (SpecifierAs Imported)) h = refl
+stated_nth (program (SpecifierAs Exported)) h = refl
+stated_nth (program (SpecifierAs From)) h = refl
 stated_nth (statement Block) h = refl
 stated_nth (statement (Var VarWord)) h = refl
 stated_nth (statement (Var LetWord)) h = refl

@@ -1,25 +1,26 @@
 -- A text has one tree: two kinds at one place begin with tokens that differ, and one kind reads its row in one way.
 use Rattle.std.proofs.Common.{◌≡◌, Bool, true, false, not, List, [], ◌∷◌, refl, sym, ◌∙◌, ap, subst, arith}
-use Rattle.std.specs.Prelude.{IsTrue, ◌&&◌, ◌||◌, nat_eq, nat_le, codes}
-use Rattle.jsx_base.specs.Token.{Text, Operator, TokenKind, IdentifierName, Punctuator, kind_number, among, same, breaks}
+use Rattle.std.specs.Prelude.{IsTrue, ◌||◌, nat_eq, nat_le, codes}
+use Rattle.jsx_base.specs.Token.{Text, Operator, TokenKind, IdentifierName, Punctuator, same, breaks}
 use Rattle.jsx_tree.specs.declared.text.Goal.{Goal}
 use Rattle.jsx_tree.specs.declared.text.Goal.TheVariants as goals
 use Rattle.jsx_tree.specs.Signs.{Tok, Semicolon, Unless, AfterExpr}
-use Rattle.jsx_tree.specs.Kinds.{ProgramKind, Module, Script, FunctionBody, ExprStmt, Label, Kind, program, statement, Tree, leaf, node, list, Forest, none, part}
-use Rattle.jsx_tree.specs.Nonterminals.{Nonterminal, Expr, Ident, Stmt, SubStmt, Item, Declaration, BlockOnly, CatchClause, CaseClause, Declarators, Body, DirectiveOnly, WholeProgram, homes, in_homes, leaf_in, is_ident}
-use Rattle.jsx_tree.specs.Grammar.{heads, Lines, TopLines, InCode, InModuleCode, production}
+use Rattle.jsx_tree.specs.Kinds.{Imported, Exported, From, ProgramKind, Module, Script, FunctionBody, ExprStmt, Label, Kind, program, statement, Tree, leaf, node, list, Forest, none, part}
+use Rattle.jsx_tree.specs.Nonterminals.{Nonterminal, Expr, Ident, Stmt, SubStmt, Item, Declaration, BlockOnly, CatchClause, CaseClause, Declarators, Body, DirectiveOnly, Specifiers, ImportBindings, WholeProgram, homes, in_homes, leaf_in, is_ident}
+use Rattle.jsx_tree.specs.Grammar.{heads, Context, Lines, TopLines, InCode, InModuleCode, production}
 use Rattle.jsx_tree.specs.Form.{admits, is, fits_below}
 use Rattle.jsx_tree.specs.StaticRules.{Surroundings, outside, rule}
 use Rattle.jsx_tree.specs.Spelling.{spelled}
 use Rattle.jsx_tree.specs.Reading.{Place, Lost, At, forth, scan, continues, ended_at}
 use Rattle.jsx_tree.specs.Program.{is_goal, Reads}
 use Rattle.jsx_tree.proofs.Tokens.{and_left, and_right}
+use Rattle.jsx_tree.specs.Walk as W
 use Rattle.jsx_tree.specs.Walk.{is_found, IsRead, IsNode}
 use Rattle.jsx_tree.proofs.OneTree.Statements.{stated, place, stated_kinds, nth}
 use Rattle.jsx_tree.proofs.OneTree.Readings as R
 use Rattle.jsx_tree.proofs.OneTree.Readings.{Whole, single, several, calm, reach_of, kind_at, text_at, broken}
-use Rattle.jsx_tree.proofs.OneTree.Checks.{every, starts, same_token}
-use Rattle.jsx_tree.proofs.OneTree.Facts.{never, or_else, not_is, Test, yes', no', test, eq_nat, Seen, took}
+use Rattle.jsx_tree.proofs.OneTree.Checks.{every}
+use Rattle.jsx_tree.proofs.OneTree.Facts.{never, or_else, Test, yes', no', test, eq_nat, Seen, took}
 use Rattle.jsx_tree.proofs.OneTree.Growths.{split}
 use Rattle.jsx_tree.proofs.OneTree.Pairs.{ends, two_tokens}
 use Rattle.jsx_tree.proofs.OneTree.Agreeing.{passes}
@@ -35,45 +36,13 @@ use Rattle.jsx_tree.proofs.OneTree.Ends.{end_kind}
 use Rattle.jsx_tree.proofs.OneTree.Missing.{Behind, a_mark, a_brace, a_line, behind}
 use Rattle.jsx_tree.proofs.OneTree.Afters.{after_tok, after_tree}
 use Rattle.jsx_tree.proofs.OneTree.Parts.{known, kept, kepts, tame_of, SameAt, word_read}
-use Rattle.jsx_tree.proofs.OneTree.Wants.{idle, shutting, idle_at, meets, implied, mark, is_seen, look_same}
-use Rattle.jsx_tree.proofs.OneTree.Begins.{is_own, want_of, Front, token', expr', name', front, fits, front_fits}
+use Rattle.jsx_tree.proofs.OneTree.Wants.{parted, idle, shutting, idle_at, meets, implied, mark, look_same}
+use Rattle.jsx_tree.proofs.OneTree.Begins.{is_own, want_of, front, front_fits}
 use Rattle.jsx_tree.proofs.OneTree.Rows.{One, Each, each_leaf, each_node, each_none, each_part, All, own_leaf, own_kind}
 use Rattle.jsx_tree.proofs.OneTree.Lists.{SameRow}
 use Rattle.jsx_tree.proofs.OneTree.Same.{row_good, row_same}
+use Rattle.jsx_tree.proofs.OneTree.Prefixes.{front_apart, fronts_apart, rows_apart, rows_clash, words_apart, words_clash}
 use Rattle.jsx_tree.proofs.OneTree.Directives.{body_same}
-
--- ---- fronts that differ
-
-abbrev pub front_apart : Front → Front → Bool
-front_apart (token' k t) (token' l u) = not (same_token k t l u)
-front_apart (token' k t) (expr' ts) = not (starts (kind_number k) t) || among t ts
-front_apart (expr' ts) (token' k t) = not (starts (kind_number k) t) || among t ts
-front_apart (token' k t) name' = not (nat_eq (kind_number k) 0 && is_ident t)
-front_apart name' (token' k t) = not (nat_eq (kind_number k) 0 && is_ident t)
-front_apart f g = false
-
-token_expr : (k : TokenKind) (t : Text) (ts : List Text) (x : Place) → (not (starts (kind_number k) t) || among t ts) ≡ true → fits (token' k t) x ≡ true → fits (expr' ts) x ≡ true → ⊥
-token_expr k t ts x h f g = by_start (test (not (starts (kind_number k) t)))
-  where
-    s : Seen x k t
-    s = is_seen x k t f
-
-    by_start : Test (not (starts (kind_number k) t)) → ⊥
-    by_start (yes' n) = never (starts (kind_number k) t) ((λ i. starts (sym s.kind i) (sym s.text i)) ∙ and_left (starts (kind_at x) (text_at x)) _ g) (not_is _ n)
-    by_start (no' n) = never (among t ts) (or_else (not (starts (kind_number k) t)) _ h n) (ap (λ u. among u ts) (sym s.text) ∙ not_is _ (and_right (starts (kind_at x) (text_at x)) _ g))
-
-token_name : (k : TokenKind) (t : Text) (x : Place) → not (nat_eq (kind_number k) 0 && is_ident t) ≡ true → fits (token' k t) x ≡ true → fits name' x ≡ true → ⊥
-token_name k t x h f g =
-    let s = is_seen x k t f in
-    never (nat_eq (kind_number k) 0 && is_ident t) ((λ i. nat_eq (sym s.kind i) 0 && is_ident (sym s.text i)) ∙ g) (not_is _ h)
-
-fronts_apart : (f g : Front) (x : Place) → front_apart f g ≡ true → fits f x ≡ true → fits g x ≡ true → ⊥
-fronts_apart (token' k t) (token' l u) x h f g = two_tokens (is_seen x k t f) (is_seen x l u g) (not_is _ h)
-fronts_apart (token' k t) (expr' ts) x h f g = token_expr k t ts x h f g
-fronts_apart (expr' ts) (token' k t) x h f g = token_expr k t ts x h g f
-fronts_apart (token' k t) name' x h f g = token_name k t x h f g
-fronts_apart name' (token' k t) x h f g = token_name k t x h g f
-fronts_apart _ _ x h f g = cc
 
 -- ---- a label and an expression
 
@@ -142,10 +111,16 @@ abbrev pub label_pair : Kind → Kind → Bool
 label_pair (statement Label) (statement ExprStmt) = true
 label_pair k l = false
 
+-- the first tokens differ behind one that both have
+abbrev pub prefix_apart : Nonterminal → Kind → Kind → Bool
+prefix_apart Item k l = rows_apart (W.row false k) (W.row false l)
+prefix_apart (Specifiers s) k l = words_apart parted (W.row false k) (W.row false l)
+prefix_apart c k l = false
+
 abbrev pub pair_told : Nonterminal → Kind → Kind → Bool
 pair_told c k l =
     not (in_homes c (homes k)) || (not (in_homes c (homes l)) || (nat_eq (place k) (place l)
-    || (front_apart (front (want_of c) (production k)) (front (want_of c) (production l)) || (label_pair k l || label_pair l k))))
+    || (front_apart (front (want_of c) (production k)) (front (want_of c) (production l)) || (label_pair k l || (label_pair l k || (prefix_apart c k l || prefix_apart c l k))))))
 
 abbrev pub pairs_told : Nonterminal → Bool
 pairs_told c = every (λ k. every (pair_told c k) stated_kinds) stated_kinds
@@ -174,6 +149,10 @@ all_pairs CaseClause o = refl
 all_pairs Declarators o = refl
 all_pairs Body o = refl
 all_pairs DirectiveOnly o = refl
+all_pairs (Specifiers Imported) o = refl
+all_pairs (Specifiers Exported) o = refl
+all_pairs (Specifiers From) o = refl
+all_pairs ImportBindings o = refl
 all_pairs _ o = cc
 
 all_rows : (c : Nonterminal) → is_own c ≡ true → every (row_told c) stated_kinds ≡ true
@@ -187,6 +166,10 @@ all_rows CaseClause o = refl
 all_rows Declarators o = refl
 all_rows Body o = refl
 all_rows DirectiveOnly o = refl
+all_rows (Specifiers Imported) o = refl
+all_rows (Specifiers Exported) o = refl
+all_rows (Specifiers From) o = refl
+all_rows ImportBindings o = refl
 all_rows _ o = cc
 
 label_is : (k l : Kind) → label_pair k l ≡ true → (k ≡ statement Label) × (l ≡ statement ExprStmt)
@@ -203,6 +186,11 @@ pair_apart {v} {w} {x} {y} {z} k l cs ds p h g a b =
 
 -- ---- a node
 
+prefix_clash : (c : Nonterminal) {V V' : List Context → Surroundings} {x y z : Place} {cs ds : Forest} (k l : Kind) → prefix_apart c k l ≡ true → kepts cs ≡ true → kepts ds ≡ true → W.Walk IsRead V (W.row false k) x cs y → W.Walk IsRead V' (W.row false l) x ds z → meets (want_of c) y ≡ true → meets (want_of c) z ≡ true → ⊥
+prefix_clash Item k l h f g a b m m' = rows_clash (W.row false k) (W.row false l) h g a b m'
+prefix_clash (Specifiers s) k l h f g a b m m' = words_clash parted (W.row false k) (W.row false l) h f g a b m
+prefix_clash _ k l h f g a b m m' = cc
+
 kind_apart : (c : Nonterminal) {v w : Surroundings} {x y z : Place} (k l : Kind) (cs ds : Forest) → is_own c ≡ true → stated k ≡ true → stated l ≡ true → in_homes c (homes k) ≡ true → in_homes c (homes l) ≡ true → nat_eq (place k) (place l) ≡ false
     → kepts cs ≡ true → kepts ds ≡ true → IsNode IsRead v false k x cs y → IsNode IsRead w false l x ds z → meets (want_of c) y ≡ true → meets (want_of c) z ≡ true → ⊥
 kind_apart c {x = x} k l cs ds o s t i j n h g a b m m' = by_front (test (front_apart (front (want_of c) (production k)) (front (want_of c) (production l))))
@@ -210,12 +198,20 @@ kind_apart c {x = x} k l cs ds o s t i j n h g a b m m' = by_front (test (front_
     told : pair_told c k l ≡ true
     told = for_stated (pair_told c k) (for_stated (λ k. every (pair_told c k) stated_kinds) (all_pairs c o) k s) l t
 
-    rest : (front_apart (front (want_of c) (production k)) (front (want_of c) (production l)) || (label_pair k l || label_pair l k)) ≡ true
+    rest : (front_apart (front (want_of c) (production k)) (front (want_of c) (production l)) || (label_pair k l || (label_pair l k || (prefix_apart c k l || prefix_apart c l k)))) ≡ true
     rest = or_else (nat_eq (place k) (place l)) _ (or_else (not (in_homes c (homes l))) _ (or_else (not (in_homes c (homes k))) _ told (ap not i)) (ap not j)) n
 
-    by_label : Test (label_pair k l) → (label_pair k l || label_pair l k) ≡ true → ⊥
+    by_prefix : Test (prefix_apart c k l) → (prefix_apart c k l || prefix_apart c l k) ≡ true → ⊥
+    by_prefix (yes' p) r = prefix_clash c k l p h g a.walk b.walk m m'
+    by_prefix (no' p) r = prefix_clash c l k (or_else (prefix_apart c k l) _ r p) g h b.walk a.walk m' m
+
+    by_other : Test (label_pair l k) → (label_pair l k || (prefix_apart c k l || prefix_apart c l k)) ≡ true → ⊥
+    by_other (yes' p) r = pair_apart l k ds cs p g h b a
+    by_other (no' p) r = by_prefix (test (prefix_apart c k l)) (or_else (label_pair l k) _ r p)
+
+    by_label : Test (label_pair k l) → (label_pair k l || (label_pair l k || (prefix_apart c k l || prefix_apart c l k))) ≡ true → ⊥
     by_label (yes' p) r = pair_apart k l cs ds p h g a b
-    by_label (no' p) r = pair_apart l k ds cs (or_else (label_pair k l) _ r p) g h b a
+    by_label (no' p) r = by_other (test (label_pair l k)) (or_else (label_pair k l) _ r p)
 
     by_front : Test (front_apart (front (want_of c) (production k)) (front (want_of c) (production l))) → ⊥
     by_front (yes' p) = fronts_apart (front (want_of c) (production k)) (front (want_of c) (production l)) x p (front_fits (want_of c) (production k) [] a.walk h m) (front_fits (want_of c) (production l) [] b.walk g m')
@@ -232,6 +228,10 @@ body_want CatchClause x o h m = cc
 body_want CaseClause x o h m = cc
 body_want Declarators x o h m = cc
 body_want DirectiveOnly x o h m = cc
+body_want (Specifiers Imported) x o h m = cc
+body_want (Specifiers Exported) x o h m = cc
+body_want (Specifiers From) x o h m = cc
+body_want ImportBindings x o h m = cc
 body_want _ x o h m = cc
 
 kind_same : (c : Nonterminal) {v w : Surroundings} {x y z : Place} (k : Kind) (cs ds : Forest) → is_own c ≡ true → in_homes c (homes k) ≡ true → (is_body k || row_good false (want_of c) (production k)) ≡ true → IsNode IsRead v false k x cs y → IsNode IsRead w false k x ds z

@@ -42,6 +42,8 @@ pub data Want : Type 0 where
   shutting : Want
   -- behind a declarator
   declared : Want
+  -- behind an item of a list in braces
+  parted : Want
   -- not this token
   other : TokenKind → Text → Want
 
@@ -50,6 +52,9 @@ still_at k t = not (nat_eq k 0 && among t (codes "catch" ∷ codes "finally" ∷
 
 abbrev pub shutting_at : ℕ → Text → Bool
 shutting_at k t = nat_eq k 1 && same t (codes "}")
+
+abbrev pub parted_at : ℕ → Text → Bool
+parted_at k t = nat_eq k 1 && (same t (codes ",") || same t (codes "}"))
 
 abbrev pub idle_at : ℕ → Text → Bool
 idle_at k t = shutting_at k t || (nat_eq k 14 || (nat_eq k 0 && (same t (codes "case") || same t (codes "default"))))
@@ -73,6 +78,7 @@ meets still x = still_at (kind_at x) (text_at x)
 meets idle x = idle_at (kind_at x) (text_at x)
 meets shutting x = shutting_at (kind_at x) (text_at x)
 meets declared x = is_declared x
+meets parted x = parted_at (kind_at x) (text_at x)
 meets (other k t) x = not (is_at x k t)
 
 -- the same of a token that is read
@@ -83,6 +89,7 @@ met still k t = still_at (kind_number k) t
 met idle k t = idle_at (kind_number k) t
 met shutting k t = shutting_at (kind_number k) t
 met declared k t = same_token k t Punctuator (codes ",") || same_token k t Punctuator (codes ";")
+met parted k t = parted_at (kind_number k) t
 met (other l u) k t = not (same_token k t l u)
 
 or_left : (a b : Bool) → a ≡ true → (a || b) ≡ true
@@ -112,6 +119,7 @@ look_met still k t x l s h = (λ i. still_at (s.kind i) (s.text i)) ∙ h
 look_met idle k t x l s h = (λ i. idle_at (s.kind i) (s.text i)) ∙ h
 look_met shutting k t x l s h = (λ i. shutting_at (s.kind i) (s.text i)) ∙ h
 look_met (other l' u) k t x l s h = (λ i. not (nat_eq (s.kind i) (kind_number l') && same (s.text i) u)) ∙ h
+look_met parted k t x l s h = (λ i. parted_at (s.kind i) (s.text i)) ∙ h
 look_met declared k t x l s h = cc
 
 pub seen_met : (w : Want) (k : TokenKind) (t : Text) (x : Place) → IsTrue (is_found (forth (Tok Operator k t) x)) → met w k t ≡ true → meets w x ≡ true
@@ -120,6 +128,7 @@ seen_met (ended n) k t x f h = look_met (ended n) k t x refl (seen k t x f) h
 seen_met still k t x f h = look_met still k t x refl (seen k t x f) h
 seen_met idle k t x f h = look_met idle k t x refl (seen k t x f) h
 seen_met shutting k t x f h = look_met shutting k t x refl (seen k t x f) h
+seen_met parted k t x f h = look_met parted k t x refl (seen k t x f) h
 seen_met (other l u) k t x f h = look_met (other l u) k t x refl (seen k t x f) h
 seen_met declared k t x f h = by_comma (test (same_token k t Punctuator (codes ",")))
   where
@@ -144,6 +153,8 @@ implies declared declared = true
 implies declared (ended n) = nat_le 1 n
 implies declared (other k t) = same_token k t Punctuator (codes "=")
 implies still (other k t) = nat_eq (kind_number k) 0 && among t (codes "catch" ∷ codes "finally" ∷ [])
+implies parted parted = true
+implies parted (other k t) = nat_eq (kind_number k) 0
 implies e w = false
 
 shut_still : (k : ℕ) (t : Text) → shutting_at k t ≡ true → still_at k t ≡ true
@@ -180,6 +191,15 @@ still_other x k t h m = by_at (test (is_at x k t))
     by_at (yes' a) =
         let s = is_seen x k t a in
         absurd (never (nat_eq (kind_number k) 0 && among t (codes "catch" ∷ codes "finally" ∷ [])) h (not_is _ ((λ i. still_at (sym s.kind i) (sym s.text i)) ∙ m)))
+
+parted_other : (x : Place) (k : TokenKind) (t : Text) → nat_eq (kind_number k) 0 ≡ true → parted_at (kind_at x) (text_at x) ≡ true → not (is_at x k t) ≡ true
+parted_other x k t h m = by_at (test (is_at x k t))
+  where
+    by_at : Test (is_at x k t) → not (is_at x k t) ≡ true
+    by_at (no' n) = ap not n
+    by_at (yes' a) =
+        let s = is_seen x k t a in
+        absurd (never (nat_eq (kind_at x) 1) (and_left (nat_eq (kind_at x) 1) _ m) (ap (λ n. nat_eq n 1) (s.kind ∙ eq_nat {a = kind_number k} {b = 0} h)))
 
 declared_calm : (x : Place) → after x ≡ true → is_declared x ≡ true → calm 1 x ≡ true
 declared_calm x a h = by_comma (test (is_found (forth comma x)))
@@ -251,6 +271,8 @@ implied shutting still x h a m = shut_still (kind_at x) (text_at x) m
 implied declared declared x h a m = m
 implied declared (ended n) x h a m = calm_more 1 n x (le_nat h) (declared_calm x (a refl) m)
 implied declared (other k t) x h a m = declared_other x k t h m
+implied parted parted x h a m = m
+implied parted (other k t) x h a m = parted_other x k t h m
 implied _ _ x h a m = cc
 
 -- ---- signs
