@@ -1,17 +1,20 @@
--- The lines of a span hold its text.
-use Rattle.std.proofs.Common.{◌≡◌, ℕ, zero, suc, ◌+◌, ◌-◌, ◌<◌, ◌≤◌, Bool, true, false, cond, nat_eq, nat_le, List, [], ◌∷◌, ◌++◌, length, map, take, drop, refl, sym, ap, ◌∙◌, subst, arith}
+-- What the lines of a span hold, and what two spans as one hold.
+use Rattle.std.proofs.Common.{min, max, ◌&&◌, Some, None, append_assoc, append-nil, ◌≡◌, ℕ, zero, suc, ◌+◌, ◌-◌, ◌<◌, ◌≤◌, Bool, true, false, cond, nat_eq, nat_le, List, [], ◌∷◌, ◌++◌, length, map, take, drop, refl, sym, ap, ◌∙◌, subst, arith}
 use Rattle.std.specs.Prelude.{slice_get}
 use Rattle.std.specs.List.{range_with_len}
 use Rattle.std.specs.Option.{unwrap_or}
 use Rattle.std.specs.Char.{len_utf8}
 use Rattle.std.proofs.lemmas.Bool.Decides.{Decides-eqb}
-use Rattle.std.proofs.lemmas.Bool.{le-leb}
+use Rattle.std.proofs.lemmas.Bool.{le-leb, lt-leb}
 use borrow.Author.Tests.{leb-true}
 use Rattle.std.proofs.lemmas.List.{drop-take, length-drop, length-take}
 use Rattle.std.proofs.Math.Seq.{take-length}
-use Rattle.jsx_base.specs.Lines.{before_first, lines, last_line, front}
-use Rattle.jsx_base.specs.Files.{File, front_at}
-use Rattle.jsx_base.specs.SpanPlaces.{low, high, LinesHoldText, line_between, line_col, held_by, joined}
+use Rattle.jsx_base.specs.Lines.{before_first, lines, last_line, front, size, line_of}
+use Rattle.jsx_base.specs.Files.{File, front_at, holds}
+use Rattle.jsx_base.specs.declared.place.Span.{Span}
+use Rattle.std.proofs.lemmas.Str.{len_utf8_bounds}
+use Rattle.jsx_base.proofs.LineParts.{size-append, front_append}
+use Rattle.jsx_base.specs.SpanPlaces.{low, high, begin_of, meets, HoldsBoth, MergedHoldBoth, LinesHoldText, line_between, line_col, held_by, joined}
 
 -- a list of lines that has one
 record Cons (ls : List (List ℕ)) : Type 0 where
@@ -246,3 +249,95 @@ lines_hold_text file sp =
     let p : List ℕ = front_at file (low sp) in
     let q : List ℕ = front_at file (high sp) in
     ap joined (map-held file (line_col p) (line_col q) (range_with_len (length (lines p) - 1) (length (lines q) - (length (lines p) - 1)))) ∙ held_by_lines file.text (low sp - file.start) (high sp - file.start) (omega arith)
+
+front-none : (t : List ℕ) → front t 0 ≡ []
+front-none [] = refl
+front-none (c ∷ t) = ap (λ b. cond b (c ∷ front t (0 - len_utf8 c)) []) (lt-leb (len_utf8 c) 0 (let k : 1 ≤ len_utf8 c = (len_utf8_bounds c).0 in omega (arith, k)))
+
+-- a front is found again by its size
+front_by_size : (t : List ℕ) (n : ℕ) → front t (size (front t n)) ≡ front t n
+front_by_size t n =
+    let f : List ℕ = front t n in
+    let r : List ℕ = drop (length f) t in
+    let whole : t ≡ f ++ r = front_of_text t n in
+    let none : front r (size f - size f) ≡ [] = (let z : size f - size f ≡ 0 = omega arith in ap (λ k. front r k) z ∙ front-none r) in
+    ap (λ u. front u (size f)) whole ∙ front_append f r (size f) (omega arith) ∙ ap (λ u. f ++ u) none ∙ append-nil f
+
+front_at_begin : (file : File) (pos : ℕ) → front_at file (begin_of file pos) ≡ front_at file pos
+front_at_begin file pos =
+    let z : file.start + size (front_at file pos) - file.start ≡ size (front_at file pos) = omega arith in
+    ap (λ k. front file.text k) z ∙ front_by_size file.text (pos - file.start)
+
+-- one front goes on with another that takes no fewer bytes
+goes_on : (t : List ℕ) (n m : ℕ) → size (front t n) ≤ size (front t m) → front t m ≡ front t n ++ drop (length (front t n)) (front t m)
+goes_on t n m h =
+    let f : List ℕ = front t n in
+    let g : List ℕ = front t m in
+    let k : front t (size g) ≡ front t (size f) ++ drop (length (front t (size f))) (front t (size g)) = longer_front t (size f) (size g) h in
+    let e : front t (size f) ≡ f = front_by_size t n in
+    let d : front t (size g) ≡ g = front_by_size t m in
+    cc
+
+longer_size : (t : List ℕ) (n m : ℕ) → n ≤ m → size (front t n) ≤ size (front t m)
+longer_size t n m h =
+    let e : size (front t m) ≡ size (front t n) + size (drop (length (front t n)) (front t m)) = ap size (longer_front t n m h) ∙ size-append (front t n) (drop (length (front t n)) (front t m)) in
+    omega (arith, e)
+
+dropped : (a b : List ℕ) → drop (length a) (a ++ b) ≡ b
+dropped [] b = refl
+dropped (c ∷ a) b = dropped a b
+
+one_line : (p s : List ℕ) → length (lines p) ≡ length (lines (p ++ s)) → length (lines s) ≡ 1
+one_line p s h =
+    let a : ℕ = back (lines p) in
+    let c : ℕ = length (last_line (lines p)) in
+    omega (arith, h, suc_back (lines p) (some_line p), sym (length-cut_first c (drop a (lines (p ++ s)))) ∙ ap length (rest_lines p s), length-drop a (lines (p ++ s)))
+
+test_of : {A : Type 0} (b : Bool) (x y : A) → cond b (Some x) None ≡ Some y → b ≡ true
+test_of true x y h = refl
+test_of false x y h = cc
+
+value_of : {A : Type 0} (b : Bool) (x y : A) → cond b (Some x) None ≡ Some y → x ≡ y
+value_of true x y h = cc
+value_of false x y h = cc
+
+and_second : (a b : Bool) → (a && b) ≡ true → b ≡ true
+and_second true b h = h
+and_second false b h = cc
+
+and_first : (a b : Bool) → (a && b) ≡ true → a ≡ true
+and_first true b h = refl
+and_first false b h = h
+
+holds_both : (file : File) (left right : Span) → meets left right file ≡ true → HoldsBoth left right (record { lo = record { 0 = begin_of file (low left) }; hi = record { 0 = begin_of file (high right) } }) file
+holds_both file left right met =
+    let t : List ℕ = file.text in
+    let a : List ℕ = front_at file (low left) in
+    let b : List ℕ = front_at file (high left) in
+    let c : List ℕ = front_at file (low right) in
+    let d : List ℕ = front_at file (high right) in
+    let lines_met : line_of b ≡ line_of c = (Decides-eqb (line_of b) (line_of c)).0 (and_first (nat_eq (line_of b) (line_of c)) (nat_le (begin_of file (high left)) (begin_of file (low right))) met) in
+    let met_at : begin_of file (high left) ≤ begin_of file (low right) = leb-true (begin_of file (high left)) (begin_of file (low right)) (and_second (nat_eq (line_of b) (line_of c)) (nat_le (begin_of file (high left)) (begin_of file (low right))) met) in
+    let b_is : b ≡ a ++ drop (length a) b = longer_front t (low left - file.start) (high left - file.start) (omega arith) in
+    let c_is : c ≡ b ++ drop (length b) c = goes_on t (high left - file.start) (low right - file.start) (omega (arith, met_at)) in
+    let d_is : d ≡ c ++ drop (length c) d = longer_front t (low right - file.start) (high right - file.start) (omega arith) in
+    let up : size a ≤ size b = longer_size t (low left - file.start) (high left - file.start) (omega arith) in
+    let down : size c ≤ size d = longer_size t (low right - file.start) (high right - file.start) (omega arith) in
+    let lo_is : min (begin_of file (low left)) (begin_of file (high right)) ≡ begin_of file (low left) = omega (arith, met_at, up, down) in
+    let hi_is : max (begin_of file (low left)) (begin_of file (high right)) ≡ begin_of file (high right) = omega (arith, met_at, up, down) in
+    let lo_front : front_at file (min (begin_of file (low left)) (begin_of file (high right))) ≡ a = ap (λ k. front_at file k) lo_is ∙ front_at_begin file (low left) in
+    let hi_front : front_at file (max (begin_of file (low left)) (begin_of file (high right))) ≡ d = ap (λ k. front_at file k) hi_is ∙ front_at_begin file (high right) in
+    let whole : d ≡ a ++ (drop (length a) b ++ (drop (length b) c ++ drop (length c) d)) =
+    d_is ∙ ap (λ u. u ++ drop (length c) d) c_is ∙ append_assoc b (drop (length b) c) (drop (length c) d) ∙ ap (λ u. u ++ (drop (length b) c ++ drop (length c) d)) b_is ∙ append_assoc a (drop (length a) b) (drop (length b) c ++ drop (length c) d) in
+    record {
+      between = drop (length b) c;
+      on_one_line = one_line b (drop (length b) c) (lines_met ∙ ap line_of c_is);
+      text = ap (λ u. drop (length u) (front_at file (max (begin_of file (low left)) (begin_of file (high right))))) lo_front ∙ ap (λ u. drop (length a) u) (hi_front ∙ whole) ∙ dropped a (drop (length a) b ++ (drop (length b) c ++ drop (length c) d));
+    }
+
+pub merged_hold_both : MergedHoldBoth
+merged_hold_both file left right sp h =
+    let one : Span = record { lo = record { 0 = begin_of file (low left) }; hi = record { 0 = begin_of file (high right) } } in
+    let test : Bool = holds (low right) file && (holds (high right) file && meets left right file) in
+    let met : meets left right file ≡ true = and_second (holds (high right) file) (meets left right file) (and_second (holds (low right) file) (holds (high right) file && meets left right file) (test_of test one sp h)) in
+    subst (λ (s : Span). HoldsBoth left right s file) (value_of test one sp h) (holds_both file left right met)

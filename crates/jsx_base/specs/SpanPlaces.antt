@@ -55,6 +55,15 @@ merged_in left right (Some file) =
 abbrev pub merged : List File → Span → Span → Option Span
 merged files left right = merged_in left right (span_file files left)
 
+-- two spans as one: the first one's text, what stands behind it on its line, and the second one's text
+pub record HoldsBoth (left right sp : Span) (file : File) : Type 0 where
+  pub between : List ℕ
+  pub on_one_line : line_of between ≡ 1
+  pub text : text_between sp file ≡ text_between left file ++ (between ++ text_between right file)
+
+abbrev pub MergedHoldBoth : Type 0
+MergedHoldBoth = (file : File) (left right sp : Span) → merged_in left right (Some file) ≡ Some sp → HoldsBoth left right sp file
+
 -- a line of a span: its number from 0, and its columns
 pub record LineData : Type 0 where
   pub index : ℕ

@@ -30,5 +30,5 @@ pub use source::{Failed, MemSource, Source, StdSource};
 pub use source_file::SourceFile;
 pub use source_map::SourceMap;
 pub use source_mapper::{FileLines, LineInfo, LinesError, Loc, SourceMapper};
-pub use span_laws::lines_hold_text;
+pub use span_laws::{lines_hold_text, merged_hold_both};
 pub use token_laws::{strings_are_parts, templates_are_parts};
