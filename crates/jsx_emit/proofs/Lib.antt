@@ -1,3 +1,5 @@
 pub mod Grids
 mod GridExamples
 mod PageExamples
+mod LayoutExamples
+mod ShowsExamples

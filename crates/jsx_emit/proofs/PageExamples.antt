@@ -9,7 +9,8 @@ use Rattle.jsx_base.specs.Files.{File}
 use Rattle.jsx_diag.specs.declared.level.Level.TheVariants.{Error, Warning}
 use Rattle.jsx_diag.specs.declared.level.Style.TheVariants.{NoStyle}
 use Rattle.jsx_diag.specs.Data.{Text, Report, ErrorCode}
-use Rattle.jsx_emit.specs.Page.{Look, Reach, page, page_of}
+use Rattle.std.specs.Option.{option_map}
+use Rattle.jsx_emit.specs.Page.{Look, Reach, page, page_text, told_of}
 
 plain : Look
 plain = record { ui_testing = false; skip_filename = false; offset_line = λ line. line }
@@ -193,24 +194,27 @@ on_line : List ℕ → ℕ → ℕ → ℕ → Reach
 unfolding file
 on_line text col begin end = record { first = record { file = file text; line = 1; col = col; col_display = begin }; last = record { file = file text; line = 1; col = col + 1; col_display = end } }
 
+line_told : Look → Reach → Text → Option Text → Option Text
+line_told look reach message label = option_map (λ page. page_text (page ++ [] ∷ [])) (told_of look 1 reach message label)
+
 -- U+4E2D takes three bytes and two columns
-wide_character : page_of plain (on_line (97 ∷ 20013 ∷ 98 ∷ []) 1 1 3) (codes "m") None ≡ shown_lines (codes "error: m" ∷ codes " --> x.js:1:2" ∷ codes "  |" ∷ (codes "1 | a" ++ 228 ∷ 184 ∷ 173 ∷ codes "b") ∷ codes "  |  ^^" ∷ [] ∷ [])
-unfolding on_line shown_lines file plain digits lib.Utf8.encode
+wide_character : line_told plain (on_line (97 ∷ 20013 ∷ 98 ∷ []) 1 1 3) (codes "m") None ≡ shown_lines (codes "error: m" ∷ codes " --> x.js:1:2" ∷ codes "  |" ∷ (codes "1 | a" ++ 228 ∷ 184 ∷ 173 ∷ codes "b") ∷ codes "  |  ^^" ∷ [] ∷ [])
+unfolding line_told on_line shown_lines file plain digits lib.Utf8.encode
 wide_character = refl
 
 -- what stands behind it begins two columns later
-behind_wide_character : page_of plain (on_line (97 ∷ 20013 ∷ 98 ∷ []) 2 3 4) (codes "m") None ≡ shown_lines (codes "error: m" ∷ codes " --> x.js:1:3" ∷ codes "  |" ∷ (codes "1 | a" ++ 228 ∷ 184 ∷ 173 ∷ codes "b") ∷ codes "  |    ^" ∷ [] ∷ [])
-unfolding on_line shown_lines file plain digits lib.Utf8.encode
+behind_wide_character : line_told plain (on_line (97 ∷ 20013 ∷ 98 ∷ []) 2 3 4) (codes "m") None ≡ shown_lines (codes "error: m" ∷ codes " --> x.js:1:3" ∷ codes "  |" ∷ (codes "1 | a" ++ 228 ∷ 184 ∷ 173 ∷ codes "b") ∷ codes "  |    ^" ∷ [] ∷ [])
+unfolding line_told on_line shown_lines file plain digits lib.Utf8.encode
 behind_wide_character = refl
 
 -- U+0301 combines with the letter before it and takes no column
-combining_character : page_of plain (on_line (101 ∷ 769 ∷ 98 ∷ []) 2 1 2) (codes "m") None ≡ shown_lines (codes "error: m" ∷ codes " --> x.js:1:3" ∷ codes "  |" ∷ (codes "1 | e" ++ 204 ∷ 129 ∷ codes "b") ∷ codes "  |  ^" ∷ [] ∷ [])
-unfolding on_line shown_lines file plain digits lib.Utf8.encode
+combining_character : line_told plain (on_line (101 ∷ 769 ∷ 98 ∷ []) 2 1 2) (codes "m") None ≡ shown_lines (codes "error: m" ∷ codes " --> x.js:1:3" ∷ codes "  |" ∷ (codes "1 | e" ++ 204 ∷ 129 ∷ codes "b") ∷ codes "  |  ^" ∷ [] ∷ [])
+unfolding line_told on_line shown_lines file plain digits lib.Utf8.encode
 combining_character = refl
 
 -- alone it has no width, and one column is marked
-combining_alone : page_of plain (on_line (101 ∷ 769 ∷ 98 ∷ []) 1 1 1) (codes "m") None ≡ shown_lines (codes "error: m" ∷ codes " --> x.js:1:2" ∷ codes "  |" ∷ (codes "1 | e" ++ 204 ∷ 129 ∷ codes "b") ∷ codes "  |  ^" ∷ [] ∷ [])
-unfolding on_line shown_lines file plain digits lib.Utf8.encode
+combining_alone : line_told plain (on_line (101 ∷ 769 ∷ 98 ∷ []) 1 1 1) (codes "m") None ≡ shown_lines (codes "error: m" ∷ codes " --> x.js:1:2" ∷ codes "  |" ∷ (codes "1 | e" ++ 204 ∷ 129 ∷ codes "b") ∷ codes "  |  ^" ∷ [] ∷ [])
+unfolding line_told on_line shown_lines file plain digits lib.Utf8.encode
 combining_alone = refl
 
 -- ---- where there is no such page

@@ -1,3 +1,5 @@
 pub mod Annotation
 pub mod Grid
 pub mod Page
+pub mod Layout
+pub mod Shows

@@ -2,16 +2,16 @@
 use Rattle.std.specs.Prelude.{ℕ, ◌+◌, ◌-◌, List, [], ◌∷◌, ◌++◌, Option, Some, None, Bool, true, false, not, ◌&&◌, cond, nat_eq, nat_lt, length, map, take, replicate, codes, decimal, slice_get}
 use Rattle.std.specs.Char.{is_whitespace}
 use Rattle.std.specs.List.{flat_map, list_all, list_any, range_with_len}
-use Rattle.std.specs.Option.{unwrap_or, is_none}
+use Rattle.std.specs.Option.{unwrap_or, is_none, option_map}
 use Rattle.std.specs.Str.{encode_utf8_all}
 use Rattle.jsx_base.specs.declared.place.Span.{Span}
 use Rattle.jsx_base.specs.Files.{File, Place, place_in}
 use Rattle.jsx_base.specs.Lines.{lines}
-use Rattle.jsx_base.specs.MultiSpan.{is_span}
+use Rattle.jsx_base.specs.MultiSpan.{Spans, is_span}
 use Rattle.jsx_base.specs.SpanPlaces.{low, high, span_file, shown}
 use Rattle.jsx_diag.specs.declared.level.Level.{Level}
 use Rattle.jsx_diag.specs.declared.level.Level.TheVariants as level
-use Rattle.jsx_diag.specs.Data.{Text, Piece, Report}
+use Rattle.jsx_diag.specs.Data.{Text, Piece, Code, Report}
 
 -- how pages are made: whether numbers of lines and places are left out, and which number is shown for a line
 pub record Look : Type 0 where
@@ -114,13 +114,13 @@ abbrev pub span_lines : Look → ℕ → Reach → Option Text → List Text
 span_lines look w reach label =
     cond (nat_eq reach.first.line reach.last.line) (one_line look w reach label) (several_lines look w reach label)
 
--- the lines of a page, of which the last is empty
-abbrev pub page_lines : Look → Reach → Text → Option Text → List Text
-page_lines look reach message label =
+-- the lines of an error, where the numbers take w cells
+abbrev pub error_lines : Look → ℕ → Reach → Text → Option Text → List Text
+error_lines look w reach message label =
     (codes "error: " ++ message)
-    ∷ place_line look (number_width look reach.last.line) reach.first
-    ∷ (blanks (number_width look reach.last.line + 1) ++ codes "|")
-    ∷ (span_lines look (number_width look reach.last.line) reach label ++ ([] ∷ []))
+    ∷ place_line look w reach.first
+    ∷ (blanks (w + 1) ++ codes "|")
+    ∷ span_lines look w reach label
 
 -- ---- the page
 
@@ -150,10 +150,6 @@ is_error level.Help = false
 is_error level.Cancelled = false
 is_error level.FailureNote = false
 
--- an error with a message and spans alone
-abbrev pub is_plain : Report → Bool
-is_plain report = is_error report.level && (is_none report.code && (nat_eq (length report.children) 0 && nat_eq (length report.suggestions) 0))
-
 -- the span that is the only one, and no dummy
 abbrev pub sole_span : List Span → Option Span
 sole_span [] = None
@@ -167,18 +163,30 @@ sole_label sp (label ∷ []) =
     cond (is_span sp label.0 && (not (nat_eq (length label.1) 0) && not (list_any (λ b. nat_eq b 10) label.1))) (Some (Some label.1)) None
 sole_label sp (label ∷ next ∷ more) = None
 
-abbrev pub page_of : Look → Reach → Text → Option Text → Option Text
-page_of look reach message label = cond (has_end reach) (Some (page_text (page_lines look reach message label))) None
+abbrev pub told_of : Look → ℕ → Reach → Text → Option Text → Option (List Text)
+told_of look w reach message label = cond (has_end reach) (Some (error_lines look w reach message label)) None
 
-abbrev pub page_in : Look → Option File → Span → Text → Option (Option Text) → Option Text
-page_in look None sp message label = None
-page_in look (Some file) sp message None = None
-page_in look (Some file) sp message (Some label) = page_of look (reach_in file sp) message label
+abbrev pub told_in : Look → (Reach → ℕ) → Option File → Span → Text → Option (Option Text) → Option (List Text)
+told_in look width None sp message label = None
+told_in look width (Some file) sp message None = None
+told_in look width (Some file) sp message (Some label) = told_of look (width (reach_in file sp)) (reach_in file sp) message label
 
-abbrev pub page_at : Look → List File → Option Span → Report → Option Text
-page_at look files None report = None
-page_at look files (Some sp) report = page_in look (span_file files sp) sp (message_text report.message) (sole_label sp report.span.labels)
+abbrev pub told_at : Look → (Reach → ℕ) → List File → Option Span → Text → Spans → Option (List Text)
+told_at look width files None message spans = None
+told_at look width files (Some sp) message spans = told_in look width (span_file files sp) sp message (sole_label sp spans.labels)
 
--- the page of a report over these files, where it is an error with one span and at most one label, which is that span's
+-- the lines of an error without a code, with one span and at most one label, which is that span's
+abbrev pub told : Look → (Reach → ℕ) → List File → Level → Option Code → Text → Spans → Option (List Text)
+told look width files level code message spans =
+    cond (is_error level && is_none code) (told_at look width files (sole_span spans.primary) message spans) None
+
+-- the numbers take as many cells as that of the span's last line
+abbrev pub own_width : Look → Reach → ℕ
+own_width look reach = number_width look reach.last.line
+
+-- the page of such an error without notes and suggestions, which ends with an empty line
 abbrev pub page : Look → List File → Report → Option Text
-page look files report = cond (is_plain report) (page_at look files (sole_span report.span.primary) report) None
+page look files report =
+    cond (nat_eq (length report.children) 0 && nat_eq (length report.suggestions) 0)
+    (option_map (λ page. page_text (page ++ [] ∷ [])) (told look (own_width look) files report.level report.code (message_text report.message) report.span))
+    None

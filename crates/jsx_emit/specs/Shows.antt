@@ -1,0 +1,219 @@
+-- When a text is a page of a report. What isn't said here of a page may be drawn in any way.
+use Rattle.std.specs.Prelude.{◌≡◌, ℕ, ◌+◌, List, [], ◌∷◌, ◌++◌, Option, Some, None, Bool, true, false, not, ◌&&◌, ◌||◌, cond, nat_eq, nat_le, length, map, take, filter, codes, IsTrue, IsFalse, slice_get, MatchOption}
+use Rattle.std.specs.Bool.{MatchBool}
+use Rattle.std.specs.List.{flat_map, list_all, range_with_len}
+use Rattle.std.specs.Option.{unwrap_or, is_none, option_map, option_eq}
+use Rattle.std.specs.Str.{chars, encode_utf8_all}
+use Rattle.jsx_base.specs.declared.place.Span.{Span}
+use Rattle.jsx_base.specs.Files.{File, Place}
+use Rattle.jsx_base.specs.Lines.{lines}
+use Rattle.jsx_base.specs.MultiSpan.{Spans}
+use Rattle.jsx_base.specs.SpanPlaces.{low, high}
+use Rattle.jsx_diag.specs.declared.level.Level.{Level}
+use Rattle.jsx_diag.specs.Level.{is_failure_level}
+use Rattle.jsx_diag.specs.Data.{Text, Code, Edit, Suggestion, Child, Report}
+use Rattle.jsx_diag.specs.Splice.{by_start, Spliced, spliced, refusal}
+use Rattle.jsx_emit.specs.Page.{Look, blanks, number, number_width, line_chars, place_line, spaced, page_text, message_text, told, page}
+use Rattle.jsx_emit.specs.Layout.{header, place_before, Spot, spots, is_single, primary_place, ShownLine, shown_lines, last_line_of, Placed, placed, is_covered, may_mark, end_col, greatest, label_row, label_col, label_chars, may_be_hidden, has_no_span, note_lines, pointed, apart}
+
+-- the files, the span that stands for one that a macro made, and the line that stands for one of a documentation comment
+pub record Map : Type 0 where
+  pub files : List File
+  pub call_span : Span → Span
+  pub offset_line : ℕ → ℕ
+
+-- how an emitter is set
+pub record Setting : Type 0 where
+  pub map : Option Map
+  pub short : Bool
+  pub ui_testing : Bool
+  pub skip_filename : Bool
+
+abbrev pub look_of : Setting → (ℕ → ℕ) → Look
+look_of set offset = record { ui_testing = set.ui_testing; skip_filename = set.skip_filename; offset_line = offset }
+
+-- ---- rows
+
+-- rows of characters as a text: each tab becomes four spaces, and each row ends with LF
+abbrev pub rows_text : List (List ℕ) → Text
+rows_text rows = flat_map (λ row. encode_utf8_all (spaced row) ++ 10 ∷ []) rows
+
+abbrev pub cell_at : List (List ℕ) → ℕ → ℕ → Option ℕ
+cell_at rows row col = slice_get (unwrap_or (slice_get rows row) []) col
+
+-- a row shows a line: its number, a bar, and its text behind cells of which nothing is said
+pub record ShowsLine (look : Look) (w : ℕ) (it : ShownLine) (row : List ℕ) : Type 0 where
+  pub gutter : List ℕ
+  pub is : row ≡ number look w it.line ++ (codes " |" ++ (gutter ++ line_chars it.file it.line))
+
+-- the spans of a line
+abbrev pub at_line : ShownLine → List Spot → List Spot
+at_line it spots = filter (λ spot. nat_eq spot.file.start it.file.start && nat_eq spot.reach.first.line it.line) spots
+
+abbrev pub is_some_of : (ℕ → Bool) → Option ℕ → Bool
+is_some_of test None = false
+is_some_of test (Some c) = test c
+
+-- where a span covers a column, the cell in the row under the line has the mark of a shortest one
+abbrev pub is_marked : ℕ → List Spot → List (List ℕ) → ℕ → Bool
+is_marked w spots under col = not (is_covered col spots) || is_some_of (may_mark col spots) (cell_at under 0 (w + 3 + col))
+
+-- the column behind the last span
+abbrev pub columns : List Spot → ℕ
+columns spots = greatest (map end_col spots)
+
+-- a cell of a label has its character, unless an underline or another label may cover it
+abbrev pub has_cell : ℕ → List Spot → List (List ℕ) → Placed → ℕ → Bool
+has_cell w spots under it k =
+    may_be_hidden (label_row it) (label_col it + k) spots
+    || option_eq nat_eq (cell_at under (label_row it) (w + 3 + (label_col it + k))) (slice_get (label_chars it) k)
+
+abbrev pub has_label : ℕ → List Spot → List (List ℕ) → Placed → Bool
+has_label w spots under it = list_all (has_cell w spots under it) (range_with_len 0 (length (label_chars it)))
+
+pub record Marked (w : ℕ) (spots : List Spot) (under : List (List ℕ)) : Type 0 where
+  pub underlined : IsTrue (list_all (is_marked w spots under) (range_with_len 0 (columns spots)))
+  pub labels : IsTrue (list_all (has_label w spots under) (placed spots))
+
+-- where each span lies on one line, the spans of this line are marked under it
+abbrev pub MarkedAt : ℕ → List Spot → ShownLine → List (List ℕ) → Type 0
+MarkedAt w spots it under = IsTrue (list_all is_single spots) → Marked w (at_line it spots) under
+
+-- the lines stand in order, each with the marks of its spans
+abbrev pub Stand : Look → ℕ → List Spot → List ShownLine → List (List ℕ) → Type 0
+Stand look w spots [] rows = Unit {0}
+Stand look w spots (it ∷ more) rows =
+    (before : List (List ℕ)) × (row : List ℕ) × (under : List (List ℕ))
+    × (rows ≡ before ++ row ∷ under) × ShowsLine look w it row × MarkedAt w spots it under × Stand look w spots more under
+
+-- ---- the part of a report's own
+
+-- behind the header: nothing where the first primary span is in no file, else its place and the lines
+abbrev pub Behind : Look → ℕ → List Spot → Option Place → List (List ℕ) → Type 0
+Behind look w spots None rows = rows ≡ []
+Behind look w spots (Some place) rows =
+    (more : List (List ℕ)) × (rows ≡ chars (place_line look w place) ∷ more) × Stand look w spots (shown_lines place.file.start spots) more
+
+-- the lines are those that are told, where they are
+abbrev pub IsTold : Option (List Text) → Text → Type 0
+IsTold told text = MatchOption told (Unit {0}) (λ lines. text ≡ page_text lines)
+
+pub record OwnPart (look : Look) (files : List File) (w : ℕ) (level : Level) (code : Option Code) (message : Text) (spans : Spans) (text : Text) : Type 0 where
+  pub told : IsTold (told look (λ _. w) files level code message spans) text
+  pub rows : List (List ℕ)
+  pub is : text ≡ rows_text (chars (header level code message) ∷ rows)
+  pub behind : Behind look w (spots files spans) (primary_place files spans.primary) rows
+
+-- ---- the parts of notes
+
+-- the spans that a note shows
+abbrev pub note_spans : Child → Spans
+note_spans it = unwrap_or it.render_span it.span
+
+-- a note that points nowhere stands behind `=`, another as a report without code; nothing is said of a failure note
+abbrev pub NotePart : Look → List File → ℕ → Child → Text → Type 0
+NotePart look files w it text =
+    MatchBool (is_failure_level it.level) (Unit {0})
+    (MatchBool (has_no_span (note_spans it))
+    (text ≡ flat_map (λ line. spaced line ++ 10 ∷ []) (note_lines w it.level (message_text it.message)))
+    (OwnPart look files w it.level None (message_text it.message) (note_spans it) text))
+
+-- ---- the parts of suggestions
+
+-- no part begins before the one before it ends
+abbrev pub in_turn : List Edit → Bool
+in_turn [] = true
+in_turn (part ∷ []) = true
+in_turn (part ∷ next ∷ more) = nat_le (high part.span) (low next.span) && in_turn (next ∷ more)
+
+abbrev pub text_of : Option Spliced → List ℕ
+text_of None = []
+text_of (Some it) = it.text
+
+-- the texts that a suggestion shows: none where its lines are refused or its parts overlap
+abbrev pub shown_texts : List File → Suggestion → List (List ℕ)
+shown_texts files it =
+    cond (is_none (refusal files it.substitutions) && list_all (λ way. in_turn (by_start way)) it.substitutions)
+    (map (λ way. text_of (spliced files way)) it.substitutions)
+    []
+
+-- the first six lines of each of the first four
+abbrev pub shown_texts_lines : List File → Suggestion → List (List ℕ)
+shown_texts_lines files it = flat_map (λ text. take 6 (lines text)) (take 4 (shown_texts files it))
+
+-- rows in order, of which each ends with its line
+abbrev pub EndWith : List (List ℕ) → List (List ℕ) → Type 0
+EndWith [] rows = Unit {0}
+EndWith (line ∷ more) rows =
+    (before : List (List ℕ)) × (front : List ℕ) × (after : List (List ℕ)) × (rows ≡ before ++ (front ++ line) ∷ after) × EndWith more after
+
+abbrev pub first_of : List (List ℕ) → List ℕ
+first_of [] = []
+first_of (line ∷ more) = line
+
+pub record SuggestionPart (files : List File) (it : Suggestion) (text : Text) : Type 0 where
+  pub behind : List ℕ
+  pub rows : List (List ℕ)
+  pub is : text ≡ rows_text ((codes "help: " ++ (first_of (lines (chars it.msg)) ++ behind)) ∷ rows)
+  pub texts : EndWith (shown_texts_lines files it) rows
+
+-- ---- the whole
+
+-- texts of which each stands for its item
+abbrev pub Each : {X : Type 0} → (X → Text → Type 0) → List X → Text → Type 0
+Each Part [] text = text ≡ []
+Each Part (it ∷ more) text = (first : Text) × (rest : Text) × (text ≡ first ++ rest) × Part it first × Each Part more rest
+
+-- the line between a report and its notes
+abbrev pub before_notes : ℕ → List Child → Text
+before_notes w [] = []
+before_notes w (it ∷ more) = blanks (w + 1) ++ codes "|\n"
+
+-- the width of the numbers of a report's lines
+abbrev pub report_width : Look → List File → Report → ℕ
+report_width look files report = number_width look (last_line_of files (pointed report) report.children)
+
+-- its own part, its notes, its suggestions, and an empty line
+pub record Whole (look : Look) (files : List File) (report : Report) (text : Text) : Type 0 where
+  pub own : Text
+  pub notes : Text
+  pub suggestions : Text
+  pub is : text ≡ own ++ (before_notes (report_width look files report) report.children ++ (notes ++ (suggestions ++ 10 ∷ [])))
+  pub own_part : OwnPart look files (report_width look files report) report.level report.code (message_text report.message) (pointed report) own
+  pub note_parts : Each (NotePart look files (report_width look files report)) report.children notes
+  pub suggestion_parts : Each (SuggestionPart files) (apart report) suggestions
+
+-- the header comes first
+pub record Headed (report : Report) (text : Text) : Type 0 where
+  pub rest : Text
+  pub is : text ≡ spaced (header report.level report.code (message_text report.message)) ++ rest
+
+-- the page is the one that is told line by line, where that is
+abbrev pub IsPage : Look → List File → Report → Text → Type 0
+IsPage look files report text = MatchOption (page look files report) (Unit {0}) (λ page. text ≡ page)
+
+pub record Long (look : Look) (files : List File) (report : Report) (text : Text) : Type 0 where
+  pub page : IsPage look files report text
+  pub headed : Headed report text
+  pub whole : IsFalse (is_failure_level report.level) → Whole look files report text
+
+-- the header alone, behind the place where there is one
+abbrev pub short_text : Look → Option Place → Report → Text
+short_text look place report =
+    spaced (unwrap_or (option_map (place_before look) place) [] ++ header report.level report.code (message_text report.message)) ++ 10 ∷ []
+
+abbrev pub id_line : ℕ → ℕ
+id_line line = line
+
+abbrev pub ShowsOver : Setting → Option Map → Report → Text → Type 0
+ShowsOver set None report text =
+    MatchBool set.short (text ≡ short_text (look_of set id_line) None report) (Headed report text)
+ShowsOver set (Some map) report text =
+    ((sp : Span) → map.call_span sp ≡ sp)
+    → MatchBool set.short
+    (text ≡ short_text (look_of set map.offset_line) (primary_place map.files (pointed report).primary) report)
+    (Long (look_of set map.offset_line) map.files report text)
+
+-- a text is a page of a report; over a map that moves spans each text is
+abbrev pub Shows : Setting → Report → Text → Type 0
+Shows set report text = ShowsOver set set.map report text
