@@ -15,6 +15,8 @@ pub mod Program
 pub mod Stage
 pub mod Walk
 pub mod Stops
+pub mod Language
+pub mod SoFar
 pub mod Answers
 pub mod Texts
 pub mod Grows
