@@ -1,160 +1,127 @@
--- A module is the run of its statements.
-use Rattle.std.proofs.Common.{◌≡◌, true, false, not, List, [], ◌∷◌, refl, sym, ◌∙◌, ap, subst}
-use Rattle.std.specs.Prelude.{IsTrue, ◌&&◌}
-use Rattle.jsx_base.specs.Token.{Text}
-use Rattle.jsx_tree.specs.Signs.{AfterExpr, End}
-use Rattle.jsx_tree.specs.Kinds.{Module, Kind, program, Tree, leaf, node, list, Forest, none, part}
-use Rattle.jsx_tree.specs.Nonterminals.{Item, DirectiveOnly, WholeProgram, in_homes, homes}
-use Rattle.jsx_tree.specs.Grammar.{InModuleCode, TopLines}
-use Rattle.jsx_tree.specs.Form.{Several, is, last_only, admits, shaped, fits_below, fit_slots, fit_each, positions}
-use Rattle.jsx_tree.specs.Spelling.{spelled, each_said, gathered}
-use Rattle.jsx_tree.specs.Reading.{Place, At, scan, ended_at}
-use Rattle.jsx_tree.specs.StaticRules.{Surroundings, outside, enter, legal, each_legal, first_of_list, is_string_stmt}
-use Rattle.jsx_tree.specs.Stage.{ReadsSoFar, has_kind, in_stage, in_stages, each_in_stage, with_semicolons}
-use Rattle.jsx_tree.specs.View.{forest}
-use Rattle.jsx_syntax.specs.Pieces.{is_found, Run, stop, more}
-use Rattle.jsx_syntax.specs.Answers.{ToEnd, NoRun, NoTree}
-use Rattle.jsx_tree.proofs.Tokens.{and_left, and_right, and_both, found_first}
-use Rattle.jsx_syntax.proofs.Signs.{scan_both, plain_too, found_end}
-use Rattle.jsx_syntax.proofs.Whole.{Staged, module', constant, bound, evaluation, call, member, element, staged, three, trees_of, forest_back, statement_past}
-use Rattle.jsx_syntax.proofs.Runs.{one_run, all_fit, all_staged, all_legal, all_before, first_is_none, gathered_more, all_scan}
+-- A whole text in the language so far.
+use Rattle.std.proofs.Common.{◌≡◌, true, false, [], refl, sym, ◌∙◌, ap, subst}
+use Rattle.std.specs.Prelude.{codes}
+use Rattle.jsx_base.specs.Token.{Text, Operator, IdentifierName, StringLiteral}
+use Rattle.jsx_tree.specs.declared.text.Goal.TheVariants as goals
+use Rattle.jsx_tree.specs.Signs.{Unless}
+use Rattle.jsx_tree.specs.Kinds.{ConstWord, Module, Var, ExprStmt, program, statement, Tree, leaf, node, list, Forest, none, part}
+use Rattle.jsx_tree.specs.Nonterminals.{Expr, Item, DirectiveOnly, WholeProgram}
+use Rattle.jsx_tree.specs.Grammar.{TopLines, Part, heads}
+use Rattle.jsx_tree.specs.Form.{is}
+use Rattle.jsx_tree.specs.Spelling.{spelled}
+use Rattle.jsx_tree.specs.Reading.{Place, scan, ended_at}
+use Rattle.jsx_tree.specs.StaticRules.{Surroundings, outside, first_of_list, is_string_stmt}
+use Rattle.jsx_tree.specs.Stage.{has_kind, limits, with_semicolons, ReadsSoFar}
+use Rattle.jsx_tree.specs.Walk.{Given, Past, Items, nil, last, more, sign, tree, many, Walk, done, next, around}
+use Rattle.jsx_tree.specs.Texts.{start}
+use Rattle.jsx_tree.specs.Language.{Whole}
+use Rattle.jsx_tree.specs.Answers.{Barred, ToEnd}
+use Rattle.jsx_tree.specs.SoFar.{Staged, row_so_far, so_far, in_module}
+use Rattle.jsx_tree.proofs.Tokens.{and_left, and_right, and_both}
+use Rattle.jsx_tree.proofs.Rows.Bridge.{found_at}
+use Rattle.jsx_tree.proofs.Rows.Texts.{program_walk}
+use Rattle.jsx_tree.proofs.Rows.Stopping.{not_is, never_stops, stays}
+use Rattle.jsx_tree.proofs.Rows.Guarded.{weaken_items, whole_items}
+use Rattle.jsx_tree.proofs.Rows.Closers.{Shut, shut_reading}
+use Rattle.jsx_tree.proofs.Rows.Optionals.{end_shut}
+use Rattle.jsx_tree.proofs.Rows.Lines.{found_end}
+use Rattle.jsx_tree.proofs.Rows.SoFar.{of_so_far, plain_too}
+use Rattle.jsx_syntax.proofs.Homes.{taken_by, home_of, no_list, no_directives}
+use Rattle.jsx_syntax.proofs.Items.{item_ends, item_kind, const_sign}
 
-abbrev pub begin : Text → Place
-begin text = At [] AfterExpr text
+-- ---- no statement is a string alone
+
+no_string : (ts : Forest) → limits (statement ExprStmt) ts ≡ true → is_string_stmt (node (statement ExprStmt) ts) ≡ false
+no_string none h = refl
+no_string (part (leaf StringLiteral t) none) h = cc
+no_string (part (leaf StringLiteral t) (part u us)) h = cc
+no_string (part (leaf _ t) us) h = refl
+no_string (part (node k ts) us) h = refl
+no_string (part (list ts) us) h = refl
+
+item_string : {v : Surroundings} {x y : Place} (t : Tree) → Staged v false Item x t y → is_string_stmt t ≡ false
+item_string (leaf k t) r = refl
+item_string (list ts) r = refl
+item_string (node k ts) r = item_kind k ts (taken_by r) (home_of r) (λ e. ap (λ l. is_string_stmt (node l ts)) e) (λ e. ap (λ l. is_string_stmt (node l ts)) e ∙ no_string ts (subst (λ l. limits l ts ≡ true) e (and_left (limits k ts) _ (and_right (has_kind k) _ r.staged))))
+
+items_string : {v : Surroundings} {x y : Place} {ts : Forest} → Items (Whole so_far) v TopLines Item x ts y → first_of_list is_string_stmt ts ≡ false
+items_string (nil f) = refl
+items_string (last {t = t} r e f) = item_string t r.reads
+items_string (more {t = t} n r e all) = item_string t r.reads
+
+-- ---- statements to the end are a module
 
 abbrev pub module_of : Forest → Tree
 module_of ts = node (program Module) (part (list none) (part (list ts) none))
 
-scan_module : (x : Place) (ts : Forest) → scan x (with_semicolons (spelled (module_of ts))) ≡ scan x (with_semicolons (gathered TopLines (each_said ts)))
-scan_module x ts = scan_both x (gathered TopLines (each_said ts)) (End ∷ [])
+staged_module : {text : Text} {ts : Forest} → (a : ToEnd so_far in_module Item (start text) ts) → Staged outside false WholeProgram (start text) (module_of ts) a.end
+staged_module a = of_so_far.to_node (program Module) refl (record {
+  walk = next (many refl (nil refl)) (next (many refl (weaken_items (λ v b c x t y r. r.reads) a.items)) (done (found_end a.end a.ended)));
+  keeps = and_both _ _ (not_is _ (items_string a.items)) refl;
+})
 
-pub reads_module : {text : Text} {ts : List Tree} {y : Place} → Run (begin text) ts y → ended_at y ≡ true → ReadsSoFar text (module_of (forest ts))
-reads_module {text} {ts} {y} r e =
-    let scanned : scan (begin text) (with_semicolons (spelled (module_of (forest ts)))) ≡ y = scan_module (begin text) (forest ts) ∙ all_scan r in
-    let ended : ended_at (scan (begin text) (with_semicolons (spelled (module_of (forest ts))))) ≡ true = ap ended_at scanned ∙ e in
-    let plain = plain_too (spelled (module_of (forest ts))) (begin text) (found_end _ ended) in
+pub module_reads : {text : Text} {ts : Forest} → ToEnd so_far in_module Item (start text) ts → ReadsSoFar text (module_of ts)
+module_reads a =
+    let s = staged_module a in
+    record { reads = record { of_goal = refl; read = and_both _ _ s.reads.is (ap ended_at s.reads.scans ∙ a.ended); is_legal = s.reads.is_legal }; staged = s.staged; semicolons = ap ended_at s.semicolons ∙ a.ended }
+
+-- ---- and every module that reads is statements to the end
+
+pub record Statements (text : Text) (t : Tree) : Type 0 where
+  pub parts : Forest
+  pub is : t ≡ module_of parts
+  pub leads : ToEnd so_far in_module Item (start text) parts
+
+whole_text : {text : Text} {t : Tree} → ReadsSoFar text t → Staged outside false WholeProgram (start text) t (scan (start text) (with_semicolons (spelled t)))
+whole_text {text} {t} r =
+    let f = found_end _ r.semicolons in
+    record { reads = record { is = and_left (is WholeProgram t) (ended_at (scan (start text) (spelled t))) r.reads.read; is_legal = r.reads.is_legal; scans = plain_too (spelled t) (start text) f; found = f }; staged = r.staged; semicolons = refl }
+
+directive_whole : {v : Surroundings} {x y : Place} {t : Tree} → Staged v false DirectiveOnly x t y → Whole so_far v false DirectiveOnly x t y
+directive_whole {y = y} r = record { reads = r; ends_there = of_so_far.ends_there DirectiveOnly y (never_stops DirectiveOnly y refl) }
+
+record NoItems (x y : Place) (ts : Forest) : Type 0 where
+  place : x ≡ y
+  is : ts ≡ none
+
+directives_none : {v : Surroundings} {x y : Place} {ts : Forest} → Items Staged v TopLines DirectiveOnly x ts y → NoItems x y ts
+directives_none (nil f) = record { place = refl; is = refl }
+directives_none (last r e f) = absurd (no_directives.no _ _ (tree (directive_whole r)))
+directives_none (more n r e all) = absurd (no_directives.no _ _ (tree (directive_whole r)))
+
+split_walk : {text : Text} {ps : Forest} {y : Place} → Walk Staged (around outside ps) (row_so_far (program Module)) (start text) ps y → ended_at y ≡ true → Statements text (node (program Module) ps)
+split_walk {y = y} (next (many {ts = ds} e all) (next (many {ts = ts} e' items) (done f))) h =
+    let d = directives_none all in
     record {
-      reads = record {
-        of_goal = refl;
-        read = and_both _ _ (and_both _ _ (all_before r) (and_both _ _ (all_fit r) refl)) (ap ended_at plain ∙ ended);
-        is_legal = and_both _ _ (ap not (first_is_none r)) (and_both _ _ (all_legal (enter (part (list none) (part (list (forest ts)) none)) InModuleCode outside) r) refl);
-      };
-      staged = and_both _ _ (all_staged r) refl;
-      semicolons = ended;
+      parts = ts;
+      is = ap (λ us. node (program Module) (part (list us) (part (list ts) none))) d.is;
+      leads = record { end = y; items = subst (λ p. Items (Whole so_far) in_module TopLines Item p ts y) (sym d.place) (whole_items of_so_far refl (item_ends y) items); ended = h };
     }
 
--- ---- and back
+pub module_statements : {text : Text} {t : Tree} → ReadsSoFar text t → Statements text t
+module_statements {text} {t} r =
+    let p = program_walk {goal = goals.Module} t r.reads in
+    let q = subst (λ u. ReadsSoFar text u) p.is r in
+    let s = split_walk (of_so_far.from_node (program Module) (whole_text q)).walk q.semicolons in
+    record { parts = s.parts; is = p.is ∙ s.is; leads = s.leads }
 
-run_forest : (v : Surroundings) (ts : Forest) {x y : Place} → fit_each Item ts ≡ true → each_in_stage Item ts ≡ true → each_legal v ts ≡ true → scan x (with_semicolons (gathered TopLines (each_said ts))) ≡ y → IsTrue (is_found y) → Run x (trees_of ts) y
-unfolding trees_of
-run_forest v none {x} {y} m s l e f = subst (λ p. Run x [] p) e stop
-run_forest v (part t ts) {x} {y} m s l e f =
-    let m1 = and_right (admits Item t) (fits_below Item t && fit_each Item ts) m in
-    let z = scan x (with_semicolons (spelled t)) in
-    let e' : scan z (with_semicolons (gathered TopLines (each_said ts))) ≡ y = sym (gathered_more x (spelled t) (each_said ts)) ∙ e in
-    let found = found_first (with_semicolons (gathered TopLines (each_said ts))) z (subst (λ p. IsTrue (is_found p)) (sym e') f) in
-    more (statement_past v t (and_left (admits Item t) _ m) (and_left (fits_below Item t) _ m1) (and_left (in_stage Item t) _ s) (and_left (legal v t) _ l) refl found)
-    (run_forest v ts (and_right (fits_below Item t) _ m1) (and_right (in_stage Item t) _ s) (and_right (legal v t) _ l) e' f)
+-- ---- nothing stands at the end
 
-no_directive : {k : Kind} → Staged k → in_homes DirectiveOnly (homes k) ≡ true → ⊥
-no_directive module' h = cc
-no_directive constant h = cc
-no_directive bound h = cc
-no_directive evaluation h = cc
-no_directive call h = cc
-no_directive member h = cc
-no_directive element h = cc
+pub none_at_end : {v : Surroundings} {x : Place} → ended_at x ≡ true → Barred so_far v (Part Item) x
+none_at_end {v} {x} e = record { no = λ g y p. at g y p }
+  where
+    shut : Shut x
+    shut = end_shut x e
 
-no_directives : (b : Tree) → shaped (Several TopLines) DirectiveOnly b ≡ true → fits_below DirectiveOnly b ≡ true → in_stage DirectiveOnly b ≡ true → b ≡ list none
-no_directives (list none) h f s = refl
-no_directives (list (part (leaf k t) ts)) h f s = cc
-no_directives (list (part (node k cs) ts)) h f s = absurd (no_directive (staged k (and_left (has_kind k) _ (and_left _ _ s))) (and_left _ _ f))
-no_directives (list (part (list us) ts)) h f s = cc
-no_directives (leaf k t) h f s = cc
-no_directives (node k cs) h f s = cc
+    item : {y : Place} (t : Tree) → Staged v false Item x t y → ⊥
+    item (leaf k t) r = let bad = r.staged in cc
+    item (list ts) r = no_list r
+    item {y} (node k ts) r = item_kind k ts (taken_by r) (home_of r)
+        (λ e. shut.no Operator IdentifierName (codes "const") refl (const_sign (of_so_far.from_node (statement (Var ConstWord)) (subst (λ l. Staged v false Item x (node l ts) y) e r)).walk))
+        (λ e. evaluation (of_so_far.from_node (statement ExprStmt) (subst (λ l. Staged v false Item x (node l ts) y) e r)).walk)
+      where
+        evaluation : {us : Forest} {V : _} → Walk Staged V (row_so_far (statement ExprStmt)) x us y → ⊥
+        evaluation {V = V} (next (sign e f) (next {y = z} (tree {t = u} q) w)) = shut_reading refl shut (subst (λ p. Staged (V []) false (Expr 0) p u z) (sym e ∙ stays (Unless heads) x refl (found_at e f)) q).reads
 
-record IsList (b : Tree) : Type 0 where
-  trees : Forest
-  is : b ≡ list trees
-
-is_list : (b : Tree) → shaped (Several TopLines) Item b ≡ true → IsList b
-is_list (list ts) h = record { trees = ts; is = refl }
-is_list (leaf k t) h = cc
-is_list (node k cs) h = cc
-
-record IsModule (t : Tree) : Type 0 where
-  trees : Forest
-  is : t ≡ module_of trees
-
-module_parts : (cs : Forest) → fit_slots (positions (program Module)) cs ≡ true → in_stages (positions (program Module)) cs ≡ true → IsModule (node (program Module) cs)
-module_parts none m s = cc
-module_parts (part a none) m s = let bad = (three (shaped (Several TopLines) DirectiveOnly a) (fits_below DirectiveOnly a) false m).2 in cc
-module_parts (part a (part b (part c cs))) m s =
-    let m1 = (three (shaped (Several TopLines) DirectiveOnly a) (fits_below DirectiveOnly a) (shaped (Several TopLines) Item b && (fits_below Item b && false)) m).2 in
-    let bad = (three (shaped (Several TopLines) Item b) (fits_below Item b) false m1).2 in cc
-module_parts (part a (part b none)) m s =
-    let m1 = three (shaped (Several TopLines) DirectiveOnly a) (fits_below DirectiveOnly a) (shaped (Several TopLines) Item b && (fits_below Item b && true)) m in
-    let m2 = three (shaped (Several TopLines) Item b) (fits_below Item b) true m1.2 in
-    let n = no_directives a m1.0 m1.1 (and_left (in_stage DirectiveOnly a) (in_stage Item b && true) s) in
-    let l = is_list b m2.0 in
-    record { trees = l.trees; is = (λ i. node (program Module) (part (n i) (part (l.is i) none))) }
-
-module_kind : {k : Kind} → Staged k → (cs : Forest) → in_homes WholeProgram (homes k) ≡ true → fit_slots (positions k) cs ≡ true → in_stages (positions k) cs ≡ true → IsModule (node k cs)
-module_kind module' cs h m s = module_parts cs m s
-module_kind constant cs h m s = cc
-module_kind bound cs h m s = cc
-module_kind evaluation cs h m s = cc
-module_kind call cs h m s = cc
-module_kind member cs h m s = cc
-module_kind element cs h m s = cc
-
-is_module : (t : Tree) → is WholeProgram t ≡ true → in_stage WholeProgram t ≡ true → IsModule t
-is_module (leaf k u) h s = cc
-is_module (list ts) h s = cc
-is_module (node k cs) h s =
-    module_kind (staged k (and_left (has_kind k) _ s)) cs (and_left (in_homes WholeProgram (homes k)) _ h) (and_right (in_homes WholeProgram (homes k)) (fit_slots (positions k) cs) h)
-    (and_right _ (in_stages (positions k) cs) (and_right (has_kind k) _ s))
-
-pub record RunOf (text : Text) (t : Tree) : Type 0 where
-  pub trees : List Tree
-  pub end : Place
-  pub is : t ≡ module_of (forest trees)
-  pub run : Run (begin text) trees end
-  pub ended : ended_at end ≡ true
-
-run_module : (text : Text) (ts : Forest) → ReadsSoFar text (module_of ts) → RunOf text (module_of ts)
-run_module text ts r =
-    let v = enter (part (list none) (part (list ts) none)) InModuleCode outside in
-    let end = scan (begin text) (with_semicolons (gathered TopLines (each_said ts))) in
-    let same = scan_module (begin text) ts in
-    let ended : ended_at end ≡ true = ap ended_at (sym same) ∙ r.semicolons in
-    let fits : (last_only ts && (fit_each Item ts && true)) ≡ true = and_left _ _ r.reads.read in
-    let lawful : (each_legal v ts && true) ≡ true = and_right (not (first_of_list is_string_stmt ts)) (each_legal v ts && true) r.reads.is_legal in
-    record {
-      trees = trees_of ts;
-      end = end;
-      is = ap module_of (sym (forest_back ts));
-      run = run_forest v ts (and_left (fit_each Item ts) true (and_right (last_only ts) (fit_each Item ts && true) fits)) (and_left (each_in_stage Item ts) true r.staged) (and_left (each_legal v ts) true lawful) refl (found_end _ ended);
-      ended = ended;
-    }
-
-pub run_of : (text : Text) (t : Tree) → ReadsSoFar text t → RunOf text t
-run_of text t r =
-    let m = is_module t (and_left (is WholeProgram t) _ r.reads.read) r.staged in
-    subst (λ u. RunOf text u) (sym m.is) (run_module text m.trees (subst (ReadsSoFar text) m.is r))
-
-pub one_module : (text : Text) (t u : Tree) → ReadsSoFar text t → ReadsSoFar text u → t ≡ u
-one_module text t u p q =
-    let a = run_of text t p in
-    let b = run_of text u q in
-    a.is ∙ (ap (λ ts. module_of (forest ts)) (one_run a.run a.ended b.run b.ended) ∙ sym b.is)
-
--- ---- from the parser's begin
-
-pub whole : {text : Text} {x : Place} {ds ts : List Tree} → x ≡ begin text → ToEnd ts x → ds ≡ [] → ReadsSoFar text (node (program Module) (part (list (forest ds)) (part (list (forest ts)) none)))
-whole {text} {x} {ds} {ts} same e none' =
-    subst (λ us. ReadsSoFar text (node (program Module) (part (list (forest us)) (part (list (forest ts)) none)))) (sym none')
-    (reads_module (subst (λ p. Run p ts e.end) same e.run) e.ended)
-
-pub unread : {text : Text} {x : Place} → x ≡ begin text → NoRun x → NoTree text
-unread {text} {x} same n = record { no = λ t r. let o = run_of text t r in n.no o.trees (record { end = o.end; run = subst (λ p. Run p o.trees o.end) (sym same) o.run; ended = o.ended }) }
+    at : (g : Given) (y : Place) → Past (Whole so_far) v (Part Item) x g y → ⊥
+    at g y (tree {t = t} w) = item t w.reads

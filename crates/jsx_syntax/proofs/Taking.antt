@@ -6,7 +6,7 @@ use Rattle.std.specs.Bool.{Decides}
 use Rattle.std.proofs.lemmas.Bool.{false≢true, and_parts, eqb-true}
 use Rattle.jsx_base.specs.Token.{Text, Mode, TokenKind as Kind, NoToken, Blank, same, is_kind, kind_number, is_token, skips, skip, breaks, at_front, Punctuator, Operator, Tag, NumericLiteral, StringLiteral, JsxName, IdentifierName}
 use Rattle.jsx_base.specs.Lines.{size}
-use Rattle.jsx_tree.specs.Signs.{Tok, AfterExpr}
+use Rattle.jsx_tree.specs.Signs.{Ending, Tok, AfterExpr}
 use Rattle.jsx_tree.specs.Reading.{Lost, At, forth, go_if}
 use Rattle.jsx_tree.specs.Form.{is_leaf}
 use Rattle.jsx_lex.specs.declared.lexer.Lexer.{Lexer as Tokens}
@@ -20,6 +20,7 @@ use Rattle.jsx_syntax.specs.Here.{Here, place_of, left, kind_of, sign_of}
 use Rattle.jsx_syntax.specs.Seen.{IsNext, NoNext, here_of, next_token, is_it}
 use Rattle.jsx_syntax.specs.Spans.{begin_of, next_of}
 use Rattle.jsx_syntax.specs.Spelled.{IsMarkOf, fixed_mode, fixed_kind, fixed_text, leaf_mode}
+use Rattle.jsx_syntax.specs.declared.lexer.Ending.TheVariants as ending
 use Rattle.jsx_syntax.specs.declared.lexer.Fixed.{Fixed}
 use Rattle.jsx_syntax.specs.declared.lexer.Fixed.TheVariants as fixed
 use Rattle.jsx_syntax.specs.declared.lexer.Leaf.{Leaf}
@@ -35,7 +36,7 @@ use Rattle.jsx_syntax.proofs.Alone.{IsAlone, alone}
 token_is : {m : Mode} {h : Here} {t : Token} {b : Tokens} (k : Kind) (text : Text) → IsNext m h t b → is_token (next_token m h) k text ≡ is_it t k text
 token_is {t = t} k text n = λ i. is_kind (sym n.kind i) k && same (sym n.raw i) text
 
-pub taken_by : {m : Mode} {h : Here} {t : Token} {b : Tokens} (k : Kind) (text : Text) → IsNext m h t b → is_it t k text ≡ true → place_of (here_of t.raw.now b) ≡ forth (Tok m k text) (place_of h)
+pub taken_by : {m : Mode} {h : Here} {t : Token} {b : Tokens} (k : Kind) (text : Text) → IsNext m h t b → is_it t k text ≡ true → place_of (here_of t.raw.now ending.Expr b) ≡ forth (Tok m k text) (place_of h)
 taken_by {m} {h} {t} {b} k text n i =
     let raw : chars t.raw.now ≡ text = same_is (chars t.raw.now) text ((and_parts (is_kind (kind_read t.kind) k) _ i).1) in
     (λ j. At (raw j) AfterExpr (n.rest j)) ∙ sym (ap (λ x. go_if x (At text AfterExpr (next_token m h).rest)) (token_is k text n ∙ i))
@@ -58,14 +59,14 @@ parted {m} {h} n s e =
     sym (whole m first (skip h.rest) kind)
     ∙ (λ i. (sym (n.raw ∙ ap (λ x. x.raw) (skipped m h s)) i) ++ (sym (n.rest ∙ ap (λ x. x.rest) (skipped m h s)) i))
 
-pub begins_by : {m : Mode} {h : Here} {t : Token} {b : Tokens} → IsNext m h t b → skips m ≡ true → is_kind (kind_read t.kind) NoToken ≡ false → begin_of (here_of t.raw.now b) ≡ next_of h
+pub begins_by : {m : Mode} {h : Here} {t : Token} {b : Tokens} → IsNext m h t b → skips m ≡ true → is_kind (kind_read t.kind) NoToken ≡ false → begin_of (here_of t.raw.now ending.Expr b) ≡ next_of h
 begins_by n s e = (λ i. n.whole i - size (sym (parted n s e) i))
 
 full : (raw : Text) → same raw [] ≡ false → 0 < length raw
 full [] e = absurd (false≢true (sym e))
 full (c ∷ raw) e = omega arith
 
-pub shorter_by : {m : Mode} {h : Here} {t : Token} {b : Tokens} → IsNext m h t b → skips m ≡ true → is_kind (kind_read t.kind) NoToken ≡ false → same (chars t.raw.now) [] ≡ false → left (here_of t.raw.now b) < left h
+pub shorter_by : {m : Mode} {h : Here} {t : Token} {b : Tokens} → IsNext m h t b → skips m ≡ true → is_kind (kind_read t.kind) NoToken ≡ false → same (chars t.raw.now) [] ≡ false → left (here_of t.raw.now ending.Expr b) < left h
 shorter_by {h = h} {t = t} {b = b} n s e f =
     omega (arith, full (chars t.raw.now) f, skip_within h.rest, ap length (parted n s e), length-append (chars t.raw.now) (rest_of b))
 
@@ -184,3 +185,8 @@ leaf_it l t e = and_both _ _ e (same_self (chars t.raw.now))
 
 pub leaf_not : (l : Leaf) (t : Token) (text : Text) → is_kind (kind_read t.kind) (kind_of l) ≡ false → is_it t (kind_of l) text ≡ false
 leaf_not l t text e = ap (λ x. x && same (chars t.raw.now) text) e
+
+-- ---- what a missing semicolon would stand behind is nothing to the next token
+
+pub ends_on : {m : Mode} {h : Here} {t : Token} {b : Tokens} (e : Ending) → IsNext m h t b → IsNext m (record h { ending = e }) t b
+ends_on e n = record { kind = n.kind; raw = n.raw; spelled = n.spelled; rest = n.rest; end = n.end; whole = n.whole; read = n.read; unsettled = n.unsettled }

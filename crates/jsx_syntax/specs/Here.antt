@@ -1,22 +1,29 @@
 -- Where the lexer stands, and the tokens that the parser asks it for.
 use Rattle.std.specs.Prelude.{ℕ, codes, length}
 use Rattle.jsx_base.specs.Token.{Text, Operand, Operator, Tag, TokenKind, IdentifierName, Punctuator, NumericLiteral, StringLiteral, JsxName}
-use Rattle.jsx_tree.specs.Signs.{Sign, Tok, AfterExpr}
+use Rattle.jsx_tree.specs.Signs.{Sign, Tok, Ending, AfterExpr, AfterBinding}
 use Rattle.jsx_tree.specs.Spelling.{mode_of}
 use Rattle.jsx_tree.specs.Reading.{Place, At}
+use Rattle.jsx_syntax.specs.declared.lexer.Ending as code
+use Rattle.jsx_syntax.specs.declared.lexer.Ending.TheVariants as ending
 use Rattle.jsx_syntax.specs.declared.lexer.Fixed.{Fixed}
 use Rattle.jsx_syntax.specs.declared.lexer.Fixed.TheVariants as fixed
 use Rattle.jsx_syntax.specs.declared.lexer.Leaf.{Leaf}
 use Rattle.jsx_syntax.specs.declared.lexer.Leaf.TheVariants as leaf
 
--- behind a token, none at the text's begin, before the rest of the text; the whole text has so many bytes
+-- behind a token, none at the text's begin, with what a missing semicolon would stand behind, before the rest of the text; the whole text has so many bytes
 pub record Here : Type 0 where
   pub last : Text
+  pub ending : Ending
   pub rest : Text
   pub end : ℕ
 
 abbrev pub place_of : Here → Place
-place_of h = At h.last AfterExpr h.rest
+place_of h = At h.last h.ending h.rest
+
+abbrev pub ending_of : code.Ending → Ending
+ending_of ending.Expr = AfterExpr
+ending_of ending.Binding = AfterBinding
 
 -- how many characters are left
 abbrev pub left : Here → ℕ

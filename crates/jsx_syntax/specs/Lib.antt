@@ -2,6 +2,5 @@ pub mod Here
 pub mod Spans
 pub mod Seen
 pub mod Answers
-pub mod Pieces
 pub mod Gaps
 pub mod Spelled

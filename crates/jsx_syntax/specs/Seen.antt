@@ -8,12 +8,13 @@ use Rattle.jsx_lex.specs.declared.token.Token.{Token}
 use Rattle.jsx_lex.specs.declared.token.TokenKind.TheVariants as token_kind
 use Rattle.jsx_lex.specs.Kinds.{kind_of, is_punctuator, mode_of, spelling}
 use Rattle.jsx_lex.specs.Stand.{rest_of}
-use Rattle.jsx_syntax.specs.Here.{Here}
+use Rattle.jsx_syntax.specs.Here.{Here, ending_of}
+use Rattle.jsx_syntax.specs.declared.lexer.Ending.{Ending}
 use Rattle.jsx_syntax.specs.declared.seen.Seen.{Seen}
 
--- behind the text of a token, where a lexer stands
-abbrev pub here_of : List ℕ → Tokens → Here
-here_of last l = record { last = chars last; rest = rest_of l; end = length l.text.now }
+-- behind the text of a token, with what a missing semicolon would stand behind, where a lexer stands
+abbrev pub here_of : List ℕ → Ending → Tokens → Here
+here_of last e l = record { last = chars last; ending = ending_of e; rest = rest_of l; end = length l.text.now }
 
 -- the token that comes next in a mode
 abbrev pub next_token : Mode → Here → Lexeme

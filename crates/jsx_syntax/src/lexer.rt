@@ -3,10 +3,11 @@
 ghost use Rattle.std.specs.Prelude.{◌≡◌, ◌<◌, ◌^◌, ◌&&◌, IsTrue, IsFalse, IfSome, IfNone, MatchOption, false, true, length, []};
 ghost use Rattle.std.specs.Str.{chars};
 ghost use Rattle.jsx_base.specs.Token.{Text, same, is_kind};
+ghost use Rattle.jsx_tree.specs.Signs.{AfterExpr};
 ghost use Rattle.jsx_tree.specs.Reading.{Lost, forth, ended_at};
 ghost use Rattle.jsx_tree.specs.Form.{is_leaf};
 ghost use Rattle.jsx_lex.specs.Kinds.{is_punctuator, mode_of as mode_read, kind_of as kind_read, spelling};
-ghost use Rattle.jsx_syntax.specs.Here.{Here, place_of, left, sign_of, kind_of, leaf_sign};
+ghost use Rattle.jsx_syntax.specs.Here.{Here, place_of, ending_of, left, sign_of, kind_of, leaf_sign};
 ghost use Rattle.jsx_syntax.specs.Seen.{IsNext, IsSeen, NoNext, here_of, is_it};
 ghost use Rattle.jsx_syntax.specs.Spans.{Takes, begin_of, end_of, next_of};
 ghost use Rattle.jsx_syntax.specs.Spelled.{IsMarkOf, fixed_mode, fixed_kind, fixed_text, leaf_mode};
@@ -16,6 +17,14 @@ use crate::seen::{Seen, serves};
 use jsx_base::BytePos;
 use jsx_lex::{Lexer as Tokens, Mode, Token, TokenKind};
 use std::marker::Model;
+
+/// What a missing semicolon would stand behind.
+#[derive(Clone, Copy, Debug, PartialEq, Eq)]
+pub enum Ending {
+    Expr,
+    /// A name or pattern that is declared.
+    Binding,
+}
 
 /// A token with one spelling.
 #[derive(Clone, Copy, Debug, PartialEq, Eq)]
@@ -123,6 +132,8 @@ impl Leaf {
 pub struct Lexer<'s> {
     /// The text of the token that was taken last, empty at first.
     last: &'s str,
+    /// What a missing semicolon would stand behind.
+    ending: Ending,
     /// Behind that token.
     here: Tokens<'s>,
     /// The token that comes next, once it was looked at.
@@ -133,7 +144,7 @@ pub struct Lexer<'s> {
     ghost is_whole: { length here.text.now ≡ end },
     ghost is_first: { here.is_first ≡ same (chars last.now) [] },
     ghost is_unsettled: { here.is_on_new_line ≡ false },
-    ghost is_seen: { IsSeen (here_of last.now here) seen },
+    ghost is_seen: { IsSeen (here_of last.now ending here) seen },
 }
 
 impl<'s> Model for Lexer<'s> {
@@ -142,7 +153,7 @@ impl<'s> Model for Lexer<'s> {
 
     ghost Value = { Here };
 
-    ghost view = { λ l. here_of l.last.now l.here };
+    ghost view = { λ l. here_of l.last.now l.ending l.here };
 }
 
 impl<'s> Lexer<'s> {
@@ -150,10 +161,12 @@ impl<'s> Lexer<'s> {
         requires { length text.now < 0xFFFF_0000 }
         ensures last { result.last ≡ [] }
         ensures rest { result.rest ≡ chars text.now }
+        ensures ending { result.ending ≡ AfterExpr }
         ensures end { result.end ≡ length text.now }
     {
         Lexer {
             last: "",
+            ending: Ending::Expr,
             here: Tokens::new(text),
             seen: None,
             end: text.len(),
@@ -200,11 +213,19 @@ impl<'s> Lexer<'s> {
         requires read { seen.now.behind.is_first ≡ false }
         requires unsettled { seen.now.behind.is_on_new_line ≡ false }
         requires full { same (chars seen.now.token.raw.now) [] ≡ false }
-        ensures { self.new ≡ here_of seen.now.token.raw.now seen.now.behind }
+        ensures { self.new ≡ here_of seen.now.token.raw.now Ending.Expr seen.now.behind }
     {
         self.last = seen.token.raw;
+        self.ending = Ending::Expr;
         self.here = seen.behind;
         self.seen = None;
+    }
+
+    /// Says what a missing semicolon would stand behind.
+    pub fn ends(&mut self, ending: Ending)
+        ensures { self.new ≡ record self.old { ending = ending_of ending } }
+    {
+        self.ending = ending;
     }
 
     /// Whether nothing but blanks, line ends and whole comments is left.

@@ -4,14 +4,14 @@ ghost use Rattle.std.specs.Prelude.{◌≡◌, ◌<◌, ◌≤◌, IfOk, IfErr, 
 ghost use Rattle.std.specs.Str.{chars};
 ghost use Rattle.jsx_tree.specs.Kinds.{Tree};
 ghost use Rattle.jsx_tree.specs.Stage.{ReadsSoFar};
-ghost use Rattle.jsx_tree.specs.Grammar.{TopLines};
 ghost use Rattle.jsx_tree.specs.View.{forest, view, view_item};
-ghost use Rattle.jsx_tree.specs.Spans.{IsTold, placed_in};
-ghost use Rattle.jsx_tree.specs.Told.{tales, told, told_item};
 ghost use Rattle.jsx_base.specs.Token.{Text};
 ghost use Rattle.jsx_syntax.specs.Here.{place_of};
-ghost use Rattle.jsx_syntax.specs.Answers.{Refused, ToEnd, NoRun, NoTree, IsWithin};
-ghost use Rattle.jsx_syntax.specs.Spans.{IsPlacedList, Spans, program_at};
+ghost use Rattle.jsx_tree.specs.Nonterminals as grammar;
+ghost use Rattle.jsx_tree.specs.Answers.{OnlyToEnd, NoneToEnd};
+ghost use Rattle.jsx_tree.specs.SoFar.{in_module, so_far};
+ghost use Rattle.jsx_syntax.specs.Answers.{Refused, NoTree, IsWithin};
+ghost use Rattle.jsx_syntax.specs.Spans.{Spans, program_at};
 
 use crate::error::ParseError;
 use crate::lexer::Lexer;
@@ -22,9 +22,8 @@ use std::alloc::Global;
 
 /// The statements up to the end of the text.
 fn items<'s>(alloc: Global, lexer: &mut Lexer<'s>) -> Result<Vec<Item<'s>>, ParseError>
-    ensures read { IfOk result (λ v. ToEnd (map view_item v.items) (place_of lexer.old)) }
-    ensures placed { IfOk result (λ v. IsPlacedList TopLines (tales (map told_item v.items)) (forest (map view_item v.items)) lexer.old lexer.new) }
-    ensures refused { Refused result (NoRun (place_of lexer.old)) }
+    ensures read { IfOk result (λ v. OnlyToEnd so_far in_module grammar.Item (place_of lexer.old) (forest (map view_item v.items))) }
+    ensures refused { Refused result (NoneToEnd so_far in_module grammar.Item (place_of lexer.old)) }
 {
     let mut items = Vec::new(alloc);
     'statements: while !lexer.is_at_end() {

@@ -1,55 +1,68 @@
 //! Statements.
 
-ghost use Rattle.std.specs.Prelude.{◌≡◌, ◌<◌, IfOk, OnOk, map};
+ghost use Rattle.std.specs.Prelude.{◌≡◌, ◌<◌, IfOk, OnOk, IsTrue, map};
+ghost use Rattle.jsx_tree.specs.Kinds.{ConstWord, Var, ExprStmt, statement, list, none, part};
+ghost use Rattle.jsx_tree.specs.Nonterminals as grammar;
+ghost use Rattle.jsx_tree.specs.Grammar.{Part};
+ghost use Rattle.jsx_tree.specs.StaticRules.{all_of, has_init};
 ghost use Rattle.jsx_tree.specs.Stage.{is_string};
-ghost use Rattle.jsx_tree.specs.Grammar.{NoTrailing};
 ghost use Rattle.jsx_tree.specs.View.{forest, view_expr, view_pat, view_stmt};
-ghost use Rattle.jsx_tree.specs.Told.{tales, told_expr, told_pat, told_stmt};
-ghost use Rattle.jsx_syntax.specs.Here.{place_of, left, sign_of};
-ghost use Rattle.jsx_syntax.specs.declared.lexer.Fixed.TheVariants as fixed;
-ghost use Rattle.jsx_syntax.specs.Pieces.{Past, Bindings, one, template, kind_of, behind_const};
-ghost use Rattle.jsx_syntax.specs.Pieces as piece;
-ghost use Rattle.jsx_syntax.specs.Answers.{Barred, NoWalk, Refused, Built};
-ghost use Rattle.jsx_syntax.specs.Spans.{IsPlaced, IsPlacedBehind, IsPlacedList, Spans, begin_of, end_of, expr_at, next_of, pat_at, stmt_at};
+ghost use Rattle.jsx_tree.specs.Walk.{one};
+ghost use Rattle.jsx_tree.specs.Answers.{Only, Barred, OnlyRow, NoNode, BuiltNode};
+ghost use Rattle.jsx_tree.specs.SoFar.{behind_const, in_module, row_so_far, so_far};
+ghost use Rattle.jsx_syntax.specs.Here.{place_of, left};
+ghost use Rattle.jsx_syntax.specs.Answers.{Refused};
+ghost use Rattle.jsx_syntax.specs.Spans.{Spans, begin_of, end_of, expr_at, next_of, pat_at, stmt_at};
 
 use crate::error::ParseError;
 use crate::expression::{expression, start_of};
-use crate::lexer::{Fixed, Lexer};
+use crate::lexer::{Ending, Fixed, Lexer};
 use crate::parser::{binding_identifier, expect, give_up, span_to};
 use jsx_tree::{DeclareWord, Expr, LiteralKind, Pat, Stmt};
 use std::alloc::Global;
 
-/// A variable and its initializer: `a = b`.
+/// A variable, with an initializer or without: `a = b`.
 fn declarator<'s>(alloc: Global, lexer: &mut Lexer<'s>) -> Result<Pat<'s>, ParseError>
-    ensures read { IfOk result (λ p. Built (template piece.Bound) (kind_of piece.Bound) (view_pat p) (place_of lexer.old) (place_of lexer.new)) }
+    ensures read { IfOk result (λ p. Only so_far in_module (Part grammar.Declarators) (place_of lexer.old) (one (view_pat p)) (place_of lexer.new)) }
     ensures span { IfOk result (λ p. Spans (pat_at p) (next_of lexer.old) (end_of lexer.new)) }
     ensures placed { IfOk result (λ p. IsPlaced (told_pat p) (view_pat p) lexer.old lexer.new) }
     ensures shorter { OnOk result (left lexer.new < left lexer.old) }
-    ensures refused { Refused result (NoWalk (template piece.Bound) (place_of lexer.old)) }
+    ensures refused { Refused result (Barred so_far in_module (Part grammar.Declarators) (place_of lexer.old)) }
 {
     let name = binding_identifier(lexer)?;
     let lo = lexer.last_place();
-    expect(lexer, Fixed::Equals)?;
+    lexer.ends(Ending::Binding);
+    let name = Box::new(alloc, name)?;
+    if !lexer.take(Fixed::Equals) {
+        return Ok(Pat::Binding(span_to(lo, lexer), name, None));
+    }
     let value = expression(alloc, lexer)?;
-    Ok(Pat::Binding(
-        span_to(lo, lexer),
-        Box::new(alloc, name)?,
-        Some(Box::new(alloc, value)?),
-    ))
+    Ok(Pat::Binding(span_to(lo, lexer), name, Some(Box::new(alloc, value)?)))
 }
 
-/// One declarator or more, with commas between: `a = b, c = d`.
+/// Whether a variable has an initializer.
+fn is_initialized(declarator: &Pat) -> bool
+    ensures { result ≡ has_init ConstWord (view_pat declarator.now) }
+{
+    !matches!(declarator, Pat::Binding(_, _, None))
+}
+
+/// One declarator or more behind the word `const`, with commas between, and the semicolon: `a = b, c = d;`.
 fn declarators<'s>(alloc: Global, lexer: &mut Lexer<'s>) -> Result<Vec<Pat<'s>>, ParseError>
-    ensures read { IfOk result (λ v. Bindings (place_of lexer.old) (map view_pat v.items) (place_of lexer.new)) }
-    ensures placed { IfOk result (λ v. IsPlacedList NoTrailing (tales (map told_pat v.items)) (forest (map view_pat v.items)) lexer.old lexer.new) }
+    ensures read { IfOk result (λ v. OnlyRow so_far in_module behind_const (place_of lexer.old) (part (list (forest (map view_pat v.items))) none) (place_of lexer.new)) }
+    ensures initialized { IfOk result (λ v. IsTrue (all_of (has_init ConstWord) (forest (map view_pat v.items)))) }
     ensures shorter { OnOk result (left lexer.new < left lexer.old) }
-    ensures refused { Refused result (Barred piece.Declarators (place_of lexer.old)) }
+    ensures refused { Refused result (NoNode so_far in_module behind_const (statement (Var ConstWord)) (place_of lexer.old)) }
 {
     let mut all = Vec::with_capacity(alloc, 1)?;
     'declarators: loop {
         let next = declarator(alloc, lexer)?;
+        if !is_initialized(&next) {
+            return Err(give_up(lexer));
+        }
         all.push(next)?;
         if !lexer.take(Fixed::Comma) {
+            expect(lexer, Fixed::Semicolon)?;
             return Ok(all);
         }
     }
@@ -57,15 +70,14 @@ fn declarators<'s>(alloc: Global, lexer: &mut Lexer<'s>) -> Result<Vec<Pat<'s>>,
 
 /// A lexical declaration behind its word: `const a = b, c = d;`.
 fn lexical_declaration<'s>(alloc: Global, lexer: &mut Lexer<'s>) -> Result<Stmt<'s>, ParseError>
-    ensures read { IfOk result (λ s. Built behind_const (kind_of piece.Constant) (view_stmt s) (place_of lexer.old) (place_of lexer.new)) }
+    ensures read { IfOk result (λ s. BuiltNode so_far in_module behind_const (statement (Var ConstWord)) (view_stmt s) (place_of lexer.old) (place_of lexer.new)) }
     ensures span { IfOk result (λ s. Spans (stmt_at s) (begin_of lexer.old) (end_of lexer.new)) }
     ensures placed { IfOk result (λ s. IsPlacedBehind (sign_of fixed.Const) lexer.old (told_stmt s) (view_stmt s) lexer.new) }
     ensures shorter { OnOk result (left lexer.new < left lexer.old) }
-    ensures refused { Refused result (NoWalk behind_const (place_of lexer.old)) }
+    ensures refused { Refused result (NoNode so_far in_module behind_const (statement (Var ConstWord)) (place_of lexer.old)) }
 {
     let lo = lexer.last_place();
     let all = declarators(alloc, lexer)?;
-    expect(lexer, Fixed::Semicolon)?;
     Ok(Stmt::Var(span_to(lo, lexer), DeclareWord::Const, all))
 }
 
@@ -75,30 +87,18 @@ fn is_string(expr: &Expr) -> bool
     matches!(expr, Expr::Literal(_, LiteralKind::Str, _))
 }
 
-/// An expression that is no string alone.
-fn value<'s>(alloc: Global, lexer: &mut Lexer<'s>) -> Result<Expr<'s>, ParseError>
-    ensures read { IfOk result (λ e. Past piece.NoString (place_of lexer.old) (one (view_expr e)) (place_of lexer.new)) }
-    ensures span { IfOk result (λ e. Spans (expr_at e) (next_of lexer.old) (end_of lexer.new)) }
-    ensures placed { IfOk result (λ e. IsPlaced (told_expr e) (view_expr e) lexer.old lexer.new) }
-    ensures shorter { OnOk result (left lexer.new < left lexer.old) }
-    ensures refused { Refused result (Barred piece.NoString (place_of lexer.old)) }
-{
-    let value = expression(alloc, lexer)?;
-    if is_string(&value) {
-        return Err(give_up(lexer));
-    }
-    Ok(value)
-}
-
-/// An expression statement: `a(b);`.
+/// An expression statement: `a(b);`. A string alone isn't one.
 fn expression_statement<'s>(alloc: Global, lexer: &mut Lexer<'s>) -> Result<Stmt<'s>, ParseError>
-    ensures read { IfOk result (λ s. Built (template piece.Evaluation) (kind_of piece.Evaluation) (view_stmt s) (place_of lexer.old) (place_of lexer.new)) }
+    ensures read { IfOk result (λ s. BuiltNode so_far in_module (row_so_far (statement ExprStmt)) (statement ExprStmt) (view_stmt s) (place_of lexer.old) (place_of lexer.new)) }
     ensures span { IfOk result (λ s. Spans (stmt_at s) (next_of lexer.old) (end_of lexer.new)) }
     ensures placed { IfOk result (λ s. IsPlaced (told_stmt s) (view_stmt s) lexer.old lexer.new) }
     ensures shorter { OnOk result (left lexer.new < left lexer.old) }
-    ensures refused { Refused result (NoWalk (template piece.Evaluation) (place_of lexer.old)) }
+    ensures refused { Refused result (NoNode so_far in_module (row_so_far (statement ExprStmt)) (statement ExprStmt) (place_of lexer.old)) }
 {
-    let expr = value(alloc, lexer)?;
+    let expr = expression(alloc, lexer)?;
+    if is_string(&expr) {
+        return Err(give_up(lexer));
+    }
     expect(lexer, Fixed::Semicolon)?;
     let span = span_to(start_of(&expr), lexer);
     Ok(Stmt::Expr(span, Box::new(alloc, expr)?))
@@ -106,15 +106,15 @@ fn expression_statement<'s>(alloc: Global, lexer: &mut Lexer<'s>) -> Result<Stmt
 
 /// A statement.
 pub fn statement<'s>(alloc: Global, lexer: &mut Lexer<'s>) -> Result<Stmt<'s>, ParseError>
-    ensures read { IfOk result (λ s. Past (piece.Part piece.Statement) (place_of lexer.old) (one (view_stmt s)) (place_of lexer.new)) }
+    ensures read { IfOk result (λ s. Only so_far in_module (Part grammar.Item) (place_of lexer.old) (one (view_stmt s)) (place_of lexer.new)) }
     ensures span { IfOk result (λ s. Spans (stmt_at s) (next_of lexer.old) (end_of lexer.new)) }
     ensures placed { IfOk result (λ s. IsPlaced (told_stmt s) (view_stmt s) lexer.old lexer.new) }
     ensures shorter { OnOk result (left lexer.new < left lexer.old) }
-    ensures refused { Refused result (Barred (piece.Part piece.Statement) (place_of lexer.old)) }
+    ensures refused { Refused result (Barred so_far in_module (Part grammar.Item) (place_of lexer.old)) }
 {
     if lexer.take(Fixed::Const) {
-        lexical_declaration(alloc, lexer)
+        Ok(lexical_declaration(alloc, lexer)?)
     } else {
-        expression_statement(alloc, lexer)
+        Ok(expression_statement(alloc, lexer)?)
     }
 }

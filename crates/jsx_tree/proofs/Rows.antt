@@ -8,11 +8,14 @@ pub mod Placing
 pub mod Firsts
 pub mod Closers
 pub mod Bodies
+pub mod Laws
+pub mod SoFar
 pub mod Words
 pub mod Steps
 pub mod Turns
 pub mod Lists
 pub mod Optionals
+pub mod Lines
 pub mod Spines
 pub mod Growing
 pub mod Joining

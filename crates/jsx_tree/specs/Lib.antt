@@ -20,6 +20,8 @@ pub mod Sound
 pub mod Notes
 pub mod Walk
 pub mod Stops
+pub mod Language
+pub mod SoFar
 pub mod Answers
 pub mod Texts
 pub mod Grows

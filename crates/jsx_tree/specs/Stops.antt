@@ -1,12 +1,9 @@
 -- Where a tree ends because nothing goes on with it.
-use Rattle.std.specs.Prelude.{◌≡◌, ℕ, List, [], ◌∷◌, ◌++◌, codes, Bool, true, false, not, nat_le, nat_eq, ◌&&◌, ◌||◌, Option, Some, None}
+use Rattle.std.specs.Prelude.{ℕ, List, [], ◌∷◌, ◌++◌, codes, Bool, true, false, not, nat_le, nat_eq, ◌&&◌, ◌||◌, Option, Some, None}
 use Rattle.jsx_base.specs.Token.{Text, Operator, token, breaks, same, among}
-use Rattle.jsx_tree.specs.Signs.{Ending, AfterExpr, AfterBlock}
-use Rattle.jsx_tree.specs.Kinds.{Tree}
+use Rattle.jsx_tree.specs.Signs.{Ending, AfterExpr, AfterBlock, AfterBinding}
 use Rattle.jsx_tree.specs.Nonterminals.{Nonterminal, Expr, NullishLeft, NewCallee, MemberObject, DotObject, SimpleTarget, ForHead, ForOfHead, ForInit, Argument, ArrayItem, Slot, PatElement, Param, SetterParam, Declarators, ObjectMember, PatProp}
 use Rattle.jsx_tree.specs.Reading.{Place, Lost, At, is_backquote}
-use Rattle.jsx_tree.specs.StaticRules.{Surroundings}
-use Rattle.jsx_tree.specs.Walk.{IsRead}
 
 -- the tokens that go on with an expression, by the level of what they make of it
 abbrev pub assigning : List Text
@@ -58,13 +55,9 @@ abbrev pub goes : Option ℕ → Ending → Bool → Text → Bool
 goes None e b t = false
 goes (Some n) AfterExpr b t = goes_on n b t
 goes (Some n) AfterBlock b t = nat_eq n 0 && same t (codes ",")
+goes (Some n) AfterBinding b t = among t (going n) && same t (codes "=")
 goes (Some n) e b t = false
 
 abbrev pub stops : Nonterminal → Place → Bool
 stops c Lost = true
 stops c (At q e text) = not (goes (level_asked c) e (breaks text) (token Operator false text).raw)
-
--- read to where it can't go on
-pub record Whole (v : Surroundings) (b : Bool) (c : Nonterminal) (x : Place) (t : Tree) (y : Place) : Type 0 where
-  pub reads : IsRead v b c x t y
-  pub stops_there : stops c y ≡ true

@@ -66,7 +66,7 @@ law_of all v g b a (Many s c ∷ ps) (part t ts) = ap (λ w. legal (enters all a
 
 -- ---- what isn't heard does nothing
 
-scan_heard : (x : Place) (ms : List Sign) → scan x (heard ms) ≡ scan x ms
+pub scan_heard : (x : Place) (ms : List Sign) → scan x (heard ms) ≡ scan x ms
 scan_heard x [] = refl
 scan_heard x (Tok m k t ∷ ms) = scan_heard (forth (Tok m k t) x) ms
 scan_heard x (Semicolon ∷ ms) = scan_heard (forth Semicolon x) ms

@@ -1,6 +1,6 @@
 -- Where no expression begins: before a bracket that closes, a comma, a semicolon. For every kind at once.
 use Rattle.std.proofs.Common.{◌≡◌, ℕ, nat_eq, Bool, true, false, not, List, [], ◌∷◌, refl, sym, ◌∙◌, ap, subst}
-use Rattle.std.specs.Prelude.{IsTrue, codes, ◌&&◌, ◌||◌}
+use Rattle.std.specs.Prelude.{Some, IsTrue, codes, ◌&&◌, ◌||◌}
 use Rattle.std.proofs.lemmas.Bool.{eqb-true}
 use Rattle.jsx_base.specs.Token.{Text, Mode, Operand, Operator, TokenKind, IdentifierName, Punctuator, NumericLiteral, BigIntLiteral, StringLiteral, RegExpLiteral, NoSubstitution, TemplateHead, TemplateMiddle, TemplateTail, JsxName, JsxString, JsxText, Elision, NoToken, is_kind, is_token, at_front, breaks, skip, same, among, first_is}
 use Rattle.jsx_tree.specs.Signs.{Tok, AfterExpr}
@@ -15,12 +15,11 @@ use Rattle.jsx_base.proofs.Fronts.{NoneAhead}
 use Rattle.jsx_tree.proofs.Tokens.{and_left, one_text, same_is}
 use Rattle.jsx_tree.proofs.Apart.{clash, never_both, less_other}
 use Rattle.jsx_base.proofs.Fronts.{other_ahead}
-use Rattle.jsx_tree.specs.Walk.{is_found, Given, Past, Piece, piece, row, IsRead, Items, nil, last, more, sign, tree, many, Walk, next}
-use Rattle.jsx_tree.specs.Stops.{Whole}
-use Rattle.jsx_tree.specs.Answers.{Barred}
+use Rattle.jsx_tree.specs.Walk.{is_found, Piece, piece, row, IsRead, Items, nil, last, more, sign, tree, many, Walk, next}
+use Rattle.jsx_tree.specs.Grows.{starts, any_of, operand_numbers, is_operand}
 use Rattle.jsx_tree.proofs.Rows.Bridge.{node_walk, found_at}
 use Rattle.jsx_tree.proofs.Rows.Stopping.{or_cases, found_if}
-use Rattle.jsx_tree.proofs.Rows.Firsts.{any_of, first_rec, kind_home, no_slash}
+use Rattle.jsx_tree.proofs.Rows.Firsts.{first_rec, kind_home, no_slash}
 
 -- ---- what an expression begins with
 
@@ -39,45 +38,38 @@ opens Operand Punctuator t = same t (codes "<")
 opens Operand RegExpLiteral t = true
 opens m k t = false
 
--- expressions, targets, names that are bound, arguments, pieces of templates: by their numbers
-abbrev pub frank_numbers : List ℕ
-frank_numbers = 0 ∷ 1 ∷ 2 ∷ 3 ∷ 4 ∷ 8 ∷ 18 ∷ 22 ∷ 23 ∷ 56 ∷ 57 ∷ 58 ∷ 59 ∷ []
-
-abbrev pub frank : Nonterminal → Bool
-frank c = any_of (number c) frank_numbers
-
-abbrev any_frank : List Nonterminal → Bool
-any_frank [] = false
-any_frank (c ∷ cs) = frank c || any_frank cs
+abbrev pub any_operand : List Nonterminal → Bool
+any_operand [] = false
+any_operand (c ∷ cs) = is_operand c || any_operand cs
 
 abbrev shut_row : List Piece → Bool
 shut_row (piece a (Fixed (Tok m k t)) ∷ ps) = opens m k t
-shut_row (piece a (Part c) ∷ ps) = frank c
-shut_row (piece a (Many TwoOrMore c) ∷ ps) = frank c
+shut_row (piece a (Part c) ∷ ps) = is_operand c
+shut_row (piece a (Many TwoOrMore c) ∷ ps) = is_operand c
 shut_row ps = false
 
 abbrev shut_kind : Kind → Bool
-shut_kind k = not (any_frank (homes k)) || shut_row (row false k)
+shut_kind k = not (any_operand (homes k)) || shut_row (row false k)
 
-list_frank : (c : Nonterminal) (ds : List Nonterminal) → frank c ≡ true → in_list c ds ≡ true → any_frank ds ≡ true
-list_frank c [] t e = cc
-list_frank c (d ∷ ds) t e = or_cases (takes c d) (in_list c ds) e
-    (λ h. ap (λ n. any_of n frank_numbers || any_frank ds) (sym (eqb-true (number c) (number d) (and_left (nat_eq (number c) (number d)) _ h))) ∙ ap (λ b. b || any_frank ds) t) (λ h. or_right (frank d) (list_frank c ds t h))
+list_operand : (c : Nonterminal) (ds : List Nonterminal) → is_operand c ≡ true → in_list c ds ≡ true → any_operand ds ≡ true
+list_operand c [] t e = cc
+list_operand c (d ∷ ds) t e = or_cases (takes c d) (in_list c ds) e
+    (λ h. ap (λ n. any_of n operand_numbers || any_operand ds) (sym (eqb-true (number c) (number d) (and_left (nat_eq (number c) (number d)) _ h))) ∙ ap (λ b. b || any_operand ds) t) (λ h. or_right (is_operand d) (list_operand c ds t h))
   where
     or_right : (a : Bool) {b : Bool} → b ≡ true → (a || b) ≡ true
     or_right true e = refl
     or_right false e = e
 
-homes_frank : (c : Nonterminal) (ds : List Nonterminal) → frank c ≡ true → in_homes c ds ≡ true → any_frank ds ≡ true
-homes_frank NullishLeft ds t e = or_cases (in_list (Expr 6) ds) (in_list NullishOnly ds) e (list_frank (Expr 6) ds refl) (list_frank NullishOnly ds refl)
-homes_frank NewCallee ds t e = list_frank (Expr 17) ds refl e
-homes_frank DotObject ds t e = list_frank MemberObject ds refl e
-homes_frank ForOfHead ds t e = cc
-homes_frank (Expr n) ds t e = list_frank (Expr n) ds t e
-homes_frank c ds t e = list_frank c ds t e
+pub homes_operand : (c : Nonterminal) (ds : List Nonterminal) → is_operand c ≡ true → in_homes c ds ≡ true → any_operand ds ≡ true
+homes_operand NullishLeft ds t e = or_cases (in_list (Expr 6) ds) (in_list NullishOnly ds) e (list_operand (Expr 6) ds refl) (list_operand NullishOnly ds refl)
+homes_operand NewCallee ds t e = list_operand (Expr 17) ds refl e
+homes_operand DotObject ds t e = list_operand MemberObject ds refl e
+homes_operand ForOfHead ds t e = cc
+homes_operand (Expr n) ds t e = list_operand (Expr n) ds t e
+homes_operand c ds t e = list_operand c ds t e
 
-no_home : (c : Nonterminal) (ds : List Nonterminal) → frank c ≡ true → any_frank ds ≡ false → in_homes c ds ≡ true → ⊥
-no_home c ds t e h = clash _ (homes_frank c ds t h) e
+no_home : (c : Nonterminal) (ds : List Nonterminal) → is_operand c ≡ true → any_operand ds ≡ false → in_homes c ds ≡ true → ⊥
+no_home c ds t e h = clash _ (homes_operand c ds t h) e
 
 -- ---- a place where none of that stands
 
@@ -85,19 +77,19 @@ pub record Shut (x : Place) : Type 0 where
   pub no : (m : Mode) (k : TokenKind) (t : Text) → opens m k t ≡ true → IsTrue (is_found (forth (Tok m k t) x)) → ⊥
 
 record Begins (t : Tree) : Type 0 where
-  alone : (v : Surroundings) (c : Nonterminal) (x y : Place) → frank c ≡ true → IsRead v false c x t y → Shut x → ⊥
+  alone : (v : Surroundings) (c : Nonterminal) (x y : Place) → is_operand c ≡ true → IsRead v false c x t y → Shut x → ⊥
 
 record BeginsList (t : Tree) : Type 0 where
   one : Begins t
   listed : (u : Tree) (us : Forest) → t ≡ list (part u us) → Begins u
 
-jsx_home : (c : Nonterminal) (r : Text) → frank c ≡ true → leaf_in c JsxName r ≡ true → ⊥
+jsx_home : (c : Nonterminal) (r : Text) → is_operand c ≡ true → leaf_in c JsxName r ≡ true → ⊥
 jsx_home MemberRoot r t h = cc
 jsx_home MemberPart r t h = cc
 jsx_home (Expr n) r t h = no_home (Expr n) (literal_homes JsxName) t refl h
 jsx_home c r t h = no_home c (literal_homes JsxName) t refl h
 
-leaf_shut : (k : TokenKind) (r : Text) (c : Nonterminal) (x : Place) → frank c ≡ true → leaf_in c k r ≡ true → IsTrue (is_found (scan x (spelled (leaf k r)))) → Shut x → ⊥
+leaf_shut : (k : TokenKind) (r : Text) (c : Nonterminal) (x : Place) → is_operand c ≡ true → leaf_in c k r ≡ true → IsTrue (is_found (scan x (spelled (leaf k r)))) → Shut x → ⊥
 leaf_shut IdentifierName r c x t h f s = s.no Operator IdentifierName r refl f
 leaf_shut RegExpLiteral r c x t h f s = s.no Operand RegExpLiteral r refl f
 leaf_shut JsxName r c x t h f s = jsx_home c r t h
@@ -114,7 +106,7 @@ leaf_shut NoSubstitution r c x t h f s = s.no Operator NoSubstitution r refl f
 leaf_shut TemplateHead r c x t h f s = s.no Operator TemplateHead r refl f
 leaf_shut NoToken r c x t h f s = no_home c [] t refl h
 
-items_shut : {v : Surroundings} {c : Nonterminal} {x y : Place} {vs : Forest} → frank c ≡ true → enough TwoOrMore vs ≡ true → BeginsList (list vs) → Items IsRead v TwoOrMore c x vs y → Shut x → ⊥
+items_shut : {v : Surroundings} {c : Nonterminal} {x y : Place} {vs : Forest} → is_operand c ≡ true → enough TwoOrMore vs ≡ true → BeginsList (list vs) → Items IsRead v TwoOrMore c x vs y → Shut x → ⊥
 items_shut t e b (nil f) s = cc
 items_shut {v} {c} {x} t e b (last {y = z} {t = u} r h f) s = (b.listed u none refl).alone v c x z t r s
 items_shut {v} {c} {x} t e b (more {y = z} {t = u} {u = u'} {us = us} n r h all) s = (b.listed u (part u' us) refl).alone v c x z t r s
@@ -192,8 +184,8 @@ shut_all (expression _) = refl
 shut_all (jsx Element) = refl
 shut_all (jsx _) = refl
 
-kind_shut : (c : Nonterminal) (k : Kind) → frank c ≡ true → in_homes c (homes k) ≡ true → shut_row (row false k) ≡ true
-kind_shut c k t h = or_cases (not (any_frank (homes k))) (shut_row (row false k)) (shut_all k) (λ n. absurd (clash _ (homes_frank c (homes k) t h) (not_true (any_frank (homes k)) n))) (λ r. r)
+kind_shut : (c : Nonterminal) (k : Kind) → is_operand c ≡ true → in_homes c (homes k) ≡ true → shut_row (row false k) ≡ true
+kind_shut c k t h = or_cases (not (any_operand (homes k))) (shut_row (row false k)) (shut_all k) (λ n. absurd (clash _ (homes_operand c (homes k) t h) (not_true (any_operand (homes k)) n))) (λ r. r)
   where
     not_true : (b : Bool) → not b ≡ true → b ≡ false
     not_true true e = cc
@@ -225,11 +217,20 @@ begins_all = first_rec BeginsList leaf_begins (λ k. node_begins k none (λ t ts
     (list_begins none (λ u us e. cc)) (λ t ts b. list_begins (part t ts) (λ u us e. subst Begins (head_is e) b.one))
 
 -- no expression stands where nothing of that stands
-pub shut_out : {v : Surroundings} {c : Nonterminal} {x : Place} → frank c ≡ true → Shut x → Barred v (Part c) x
-shut_out {v} {c} {x} m s = record { no = at }
-  where
-    at : (g : Given) (y : Place) → Past Whole v (Part c) x g y → ⊥
-    at g y (tree {t = t} w) = (begins_all t).one.alone v c x y m w.reads s
+pub shut_reading : {v : Surroundings} {c : Nonterminal} {x y : Place} {t : Tree} → is_operand c ≡ true → Shut x → IsRead v false c x t y → ⊥
+shut_reading {v} {c} {x} {y} {t} m s r = (begins_all t).one.alone v c x y m r s
+
+-- ---- what an operand's row begins with is one
+
+some_is : {c d : Nonterminal} → Some c ≡ Some d → c ≡ d
+some_is e = cc
+
+started : (ps : List Piece) (d : Nonterminal) → shut_row ps ≡ true → starts ps ≡ Some d → is_operand d ≡ true
+started (piece [] (Part c) ∷ ps) d s e = subst (λ n. is_operand n ≡ true) (some_is e) s
+started _ d s e = cc
+
+pub operand_start : (k : Kind) (c d : Nonterminal) → is_operand c ≡ true → in_homes c (homes k) ≡ true → starts (row false k) ≡ Some d → is_operand d ≡ true
+operand_start k c d t h e = started (row false k) d (kind_shut c k t h) e
 
 -- ---- a punctuator that none of that is
 

@@ -15,6 +15,7 @@ use Rattle.jsx_base.proofs.Fronts.{NoneAhead}
 use Rattle.jsx_tree.proofs.Tokens.{and_left, and_right, one_text, same_self}
 use Rattle.jsx_tree.proofs.Apart.{clash, never_both, less_other}
 use Rattle.jsx_base.proofs.Fronts.{other_ahead}
+use Rattle.jsx_tree.specs.Grows.{any_of}
 use Rattle.jsx_tree.specs.Walk.{is_found, Piece, piece, row, IsRead, Items, nil, last, more, sign, tree, many, Walk, next}
 use Rattle.jsx_tree.proofs.Rows.Bridge.{node_walk, found_at}
 use Rattle.jsx_tree.proofs.Rows.Stopping.{or_cases, is_not, found_if, stays}
@@ -24,10 +25,6 @@ abbrev pub is_head : Text → Bool
 is_head t = is_value_word t || among t (codes "function" ∷ codes "class" ∷ codes "new" ∷ codes "delete" ∷ codes "void" ∷ codes "typeof" ∷ codes "super" ∷ codes "import" ∷ [])
 
 -- expressions, targets, names that are bound, pieces of templates: by their numbers
-abbrev pub any_of : ℕ → List ℕ → Bool
-any_of n [] = false
-any_of n (m ∷ ms) = nat_eq n m || any_of n ms
-
 abbrev pub tame_numbers : List ℕ
 tame_numbers = 0 ∷ 1 ∷ 2 ∷ 3 ∷ 4 ∷ 8 ∷ 22 ∷ 23 ∷ 56 ∷ 57 ∷ 58 ∷ 59 ∷ []
 

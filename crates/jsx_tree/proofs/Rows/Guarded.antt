@@ -3,18 +3,19 @@ use Rattle.std.proofs.Common.{◌≡◌, Bool, true, false, cond, List, [], ◌�
 use Rattle.std.specs.Prelude.{IsTrue, codes, ◌&&◌, ◌||◌}
 use Rattle.jsx_base.specs.Token.{Operator, Punctuator, token, is_token}
 use Rattle.jsx_tree.specs.Signs.{Sign, Tok, TrailingComma, AfterExpr}
-use Rattle.jsx_tree.specs.Kinds.{Kind, Forest, node}
+use Rattle.jsx_tree.specs.Kinds.{Tree, Forest}
 use Rattle.jsx_tree.specs.Nonterminals.{Nonterminal}
 use Rattle.jsx_tree.specs.Grammar.{ListShape, Commas, Elisions, NoTrailing, TwoOrMore, Context, Symbol, Fixed, Part, Optional, Many, Within}
-use Rattle.jsx_tree.specs.Form.{admits}
 use Rattle.jsx_tree.specs.Spelling.{between, behind, spelled}
 use Rattle.jsx_tree.specs.Reading.{Place, Lost, At, forth, scan}
 use Rattle.jsx_tree.specs.StaticRules.{Surroundings}
 use Rattle.jsx_tree.proofs.Tokens.{and_left, and_right}
-use Rattle.jsx_tree.specs.Walk.{is_found, Piece, piece, row, is_text, front, Relation, IsRead, IsNode, Given, Items, nil, last, more, Past, sign, tree, absent, present, many, within, Walk, done, next}
-use Rattle.jsx_tree.specs.Stops.{level_asked, stops, Whole}
-use Rattle.jsx_tree.proofs.Rows.Bridge.{found_first, found_at, readable, node_read, node_walk}
-use Rattle.jsx_tree.proofs.Rows.Stopping.{or_cases, is_never, deaf, heeds, is_still, covers, never_stops, sign_stops, stays, covered_stops, token_stops, stops_at, raw_of}
+use Rattle.jsx_tree.specs.Walk.{is_found, Piece, piece, Relation, IsRead, Given, Items, nil, last, more, Past, sign, tree, absent, present, many, within, Walk, done, next}
+use Rattle.jsx_tree.specs.Stops.{level_asked, stops}
+use Rattle.jsx_tree.specs.Language.{Language, Whole}
+use Rattle.jsx_tree.proofs.Rows.Laws.{Lawful, start_found}
+use Rattle.jsx_tree.proofs.Rows.Bridge.{found_first, found_at}
+use Rattle.jsx_tree.proofs.Rows.Stopping.{or_cases, is_never, deaf, heeds, is_still, covers, never_stops, sign_stops, stays, token_stops, stops_at, raw_of}
 
 abbrev pub is_comma : ListShape → Bool
 is_comma Commas = true
@@ -43,16 +44,16 @@ guarded o (piece a (Optional x c y r) ∷ ps) = shuts_behind o c y ps && guarded
 guarded o (piece a (Many s c) ∷ ps) = (heeds_list s c && shuts o c ps) && guarded o ps
 guarded o (piece a p ∷ ps) = guarded o ps
 
-shut : {R : Relation} {V : List Context → Surroundings} (o c : Nonterminal) (ps : List Piece) {y z : Place} {us : Forest} → shuts o c ps ≡ true → stops o z ≡ true → Walk R V ps y us z → stops c y ≡ true
-shut o c [] h s (done f) = covered_stops o c _ h s
-shut o c (piece a (Fixed g) ∷ ps) {y} h s (next (sign e f) w) =
+shut : {L : Language} {R : Relation} {V : List Context → Surroundings} → Lawful L → (o c : Nonterminal) (ps : List Piece) {y z : Place} {us : Forest} → shuts o c ps ≡ true → L.ends o z ≡ true → Walk R V ps y us z → L.ends c y ≡ true
+shut l o c [] h s (done f) = l.covered o c _ h s
+shut {L} l o c (piece a (Fixed g) ∷ ps) {y} h s (next (sign e f) w) =
     let found = found_at e f in
-    or_cases (heeds c g) (is_still g && shuts o c ps) h (λ h. sign_stops c g y h found)
-    (λ h. subst (λ p. stops c p ≡ true) (sym e ∙ stays g y (and_left (is_still g) (shuts o c ps) h) found) (shut o c ps (and_right (is_still g) (shuts o c ps) h) s w))
-shut o c (piece a (Part d) ∷ ps) {y} h s w = never_stops c y h
-shut o c (piece a (Optional d e f g) ∷ ps) {y} h s w = never_stops c y h
-shut o c (piece a (Many d e) ∷ ps) {y} h s w = never_stops c y h
-shut o c (piece a (Within d) ∷ ps) {y} h s w = never_stops c y h
+    or_cases (heeds c g) (is_still g && shuts o c ps) h (λ h. l.ends_there c y (sign_stops c g y h found))
+    (λ h. subst (λ p. L.ends c p ≡ true) (sym e ∙ stays g y (and_left (is_still g) (shuts o c ps) h) found) (shut l o c ps (and_right (is_still g) (shuts o c ps) h) s w))
+shut l o c (piece a (Part d) ∷ ps) {y} h s w = l.ends_there c y (never_stops c y h)
+shut l o c (piece a (Optional d e f g) ∷ ps) {y} h s w = l.ends_there c y (never_stops c y h)
+shut l o c (piece a (Many d e) ∷ ps) {y} h s w = l.ends_there c y (never_stops c y h)
+shut l o c (piece a (Within d) ∷ ps) {y} h s w = l.ends_there c y (never_stops c y h)
 
 -- ---- lists
 
@@ -74,76 +75,81 @@ comma_cases : (b : Bool) (x y z : Place) {A : Type 0} → cond b x y ≡ z → (
 comma_cases true x y z e g h = g refl
 comma_cases false x y z e g h = h e
 
-trailing_stops : (c : Nonterminal) (y z : Place) → (is_never c || deaf (level_asked c) (codes ",")) ≡ true → forth TrailingComma y ≡ z → stops c z ≡ true → stops c y ≡ true
-trailing_stops c Lost z h e s = refl
-trailing_stops c (At q g text) z h e s =
+trailing_ends : {L : Language} → Lawful L → (c : Nonterminal) (y z : Place) → (is_never c || deaf (level_asked c) (codes ",")) ≡ true → forth TrailingComma y ≡ z → L.ends c z ≡ true → L.ends c y ≡ true
+trailing_ends l c Lost z h e s = l.ends_there c Lost refl
+trailing_ends {L} l c (At q g text) z h e s =
     let x = token Operator false text in
     comma_cases (is_token x Punctuator (codes ",")) (At (codes ",") AfterExpr x.rest) (At q g text) z e
-    (λ t. or_cases (is_never c) (deaf (level_asked c) (codes ",")) h (never_stops c (At q g text)) (λ d. stops_at c q g text (codes ",") (raw_of Punctuator (codes ",") x t) d))
-    (λ same. subst (λ p. stops c p ≡ true) (sym same) s)
+    (λ t. l.ends_there c (At q g text) (or_cases (is_never c) (deaf (level_asked c) (codes ",")) h (never_stops c (At q g text)) (λ d. stops_at c q g text (codes ",") (raw_of Punctuator (codes ",") x t) d)))
+    (λ same. subst (λ p. L.ends c p ≡ true) (sym same) s)
 
-last_stops : (c : Nonterminal) (s : ListShape) (ms : List Sign) (y : Place) {z : Place} → heeds_list s c ≡ true → scan y (behind s ms) ≡ z → IsTrue (is_found z) → stops c z ≡ true → stops c y ≡ true
-last_stops c Commas ms y {z} h e f s = trailing_stops c y z h e s
-last_stops c Elisions [] y h e f s = by_comma c y h (found_at e f)
-last_stops c Elisions (m ∷ ms) y {z} h e f s = trailing_stops c y z h e s
-last_stops c NoTrailing ms y h e f s = subst (λ p. stops c p ≡ true) (sym e) s
-last_stops c TwoOrMore ms y h e f s = subst (λ p. stops c p ≡ true) (sym e) s
-last_stops c _ ms y h e f s = never_stops c y (or_false _ h)
+last_ends : {L : Language} → Lawful L → (c : Nonterminal) (s : ListShape) (ms : List Sign) (y : Place) {z : Place} → heeds_list s c ≡ true → scan y (behind s ms) ≡ z → IsTrue (is_found z) → L.ends c z ≡ true → L.ends c y ≡ true
+last_ends l c Commas ms y {z} h e f s = trailing_ends l c y z h e s
+last_ends l c Elisions [] y h e f s = l.ends_there c y (by_comma c y h (found_at e f))
+last_ends l c Elisions (m ∷ ms) y {z} h e f s = trailing_ends l c y z h e s
+last_ends {L} l c NoTrailing ms y h e f s = subst (λ p. L.ends c p ≡ true) (sym e) s
+last_ends {L} l c TwoOrMore ms y h e f s = subst (λ p. L.ends c p ≡ true) (sym e) s
+last_ends l c _ ms y h e f s = l.ends_there c y (never_stops c y (or_false _ h))
 
-pub items_found : {v : Surroundings} {s : ListShape} {c : Nonterminal} {x y : Place} {us : Forest} → Items IsRead v s c x us y → IsTrue (is_found x)
-items_found (nil f) = f
-items_found {s = s} (last {t = t} r e f) = found_first (front (is_text s) (spelled t)) _ (found_at r.scans r.found)
-items_found {s = s} (more {t = t} n r e all) = found_first (front (is_text s) (spelled t)) _ (found_at r.scans r.found)
+pub items_found : {L : Language} {v : Surroundings} {s : ListShape} {c : Nonterminal} {x y : Place} {us : Forest} → Lawful L → Items L.reads v s c x us y → IsTrue (is_found x)
+items_found l (nil f) = f
+items_found l (last r e f) = start_found l r
+items_found l (more n r e all) = start_found l r
 
-whole_items : {v : Surroundings} {s : ListShape} {c : Nonterminal} {x y : Place} {us : Forest} → heeds_list s c ≡ true → stops c y ≡ true → Items IsRead v s c x us y → Items Whole v s c x us y
-whole_items h st (nil f) = nil f
-whole_items {s = s} {c} h st (last {y = y} {t = t} r e f) = last (record { reads = r; stops_there = last_stops c s (spelled t) y h e f st }) e f
-whole_items {s = s} {c} h st (more {y = y} n r e all) = more n (record { reads = r; stops_there = item_stops c s y h e (items_found all) }) e (whole_items h st all)
+pub whole_items_found : {L : Language} {v : Surroundings} {s : ListShape} {c : Nonterminal} {x y : Place} {us : Forest} → Lawful L → Items (Whole L) v s c x us y → IsTrue (is_found x)
+whole_items_found l (nil f) = f
+whole_items_found l (last r e f) = start_found l r.reads
+whole_items_found l (more n r e all) = start_found l r.reads
+
+pub whole_items : {L : Language} {v : Surroundings} {s : ListShape} {c : Nonterminal} {x y : Place} {us : Forest} → Lawful L → heeds_list s c ≡ true → L.ends c y ≡ true → Items L.reads v s c x us y → Items (Whole L) v s c x us y
+whole_items l h st (nil f) = nil f
+whole_items {s = s} {c} l h st (last {y = y} {t = t} r e f) = last (record { reads = r; ends_there = last_ends l c s (spelled t) y h e f st }) e f
+whole_items {s = s} {c} l h st (more {y = y} n r e all) = more n (record { reads = r; ends_there = l.ends_there c y (item_stops c s y h e (items_found l all)) }) e (whole_items l h st all)
 
 -- ---- rows
 
-behind_stops : {R : Relation} {V : List Context → Surroundings} (o c : Nonterminal) (b : List Sign) (ps : List Piece) (y : Place) {w z : Place} {us : Forest} → shuts_behind o c b ps ≡ true → stops o z ≡ true → scan y b ≡ w → IsTrue (is_found w) → Walk R V ps w us z → stops c y ≡ true
-behind_stops o c [] ps y h s e f w = subst (λ p. stops c p ≡ true) (sym e) (shut o c ps h s w)
-behind_stops o c (g ∷ gs) ps y h s e f w = sign_stops c g y h (found_first gs _ (found_at e f))
+behind_ends : {L : Language} {R : Relation} {V : List Context → Surroundings} → Lawful L → (o c : Nonterminal) (b : List Sign) (ps : List Piece) (y : Place) {w z : Place} {us : Forest} → shuts_behind o c b ps ≡ true → L.ends o z ≡ true → scan y b ≡ w → IsTrue (is_found w) → Walk R V ps w us z → L.ends c y ≡ true
+behind_ends {L} l o c [] ps y h s e f w = subst (λ p. L.ends c p ≡ true) (sym e) (shut l o c ps h s w)
+behind_ends l o c (g ∷ gs) ps y h s e f w = l.ends_there c y (sign_stops c g y h (found_first gs _ (found_at e f)))
 
-pub whole_walk : {V : List Context → Surroundings} (o : Nonterminal) (ps : List Piece) {x z : Place} {ts : Forest} → guarded o ps ≡ true → stops o z ≡ true → Walk IsRead V ps x ts z → Walk Whole V ps x ts z
-whole_walk o [] g s (done f) = done f
-whole_walk o (piece a (Fixed m) ∷ ps) g s (next (sign e f) w) = next (sign e f) (whole_walk o ps g s w)
-whole_walk o (piece a (Within m) ∷ ps) g s (next (within f) w) = next (within f) (whole_walk o ps g s w)
-whole_walk o (piece a (Part c) ∷ ps) g s (next (tree r) w) =
-    next (tree (record { reads = r; stops_there = shut o c ps (and_left (shuts o c ps) (guarded o ps) g) s w })) (whole_walk o ps (and_right (shuts o c ps) (guarded o ps) g) s w)
-whole_walk o (piece a (Optional x c y r) ∷ ps) g s (next (absent e f) w) = next (absent e f) (whole_walk o ps (and_right (shuts_behind o c y ps) (guarded o ps) g) s w)
-whole_walk o (piece a (Optional x c y r) ∷ ps) g s (next (present {z = m} d q e f) w) =
-    next (present d (record { reads = q; stops_there = behind_stops o c y ps m (and_left (shuts_behind o c y ps) (guarded o ps) g) s e f w }) e f) (whole_walk o ps (and_right (shuts_behind o c y ps) (guarded o ps) g) s w)
-whole_walk o (piece a (Many m c) ∷ ps) g s (next (many e all) w) =
+pub whole_walk : {L : Language} {V : List Context → Surroundings} → Lawful L → (o : Nonterminal) (ps : List Piece) {x z : Place} {ts : Forest} → guarded o ps ≡ true → L.ends o z ≡ true → Walk L.reads V ps x ts z → Walk (Whole L) V ps x ts z
+whole_walk l o [] g s (done f) = done f
+whole_walk l o (piece a (Fixed m) ∷ ps) g s (next (sign e f) w) = next (sign e f) (whole_walk l o ps g s w)
+whole_walk l o (piece a (Within m) ∷ ps) g s (next (within f) w) = next (within f) (whole_walk l o ps g s w)
+whole_walk l o (piece a (Part c) ∷ ps) g s (next (tree r) w) =
+    next (tree (record { reads = r; ends_there = shut l o c ps (and_left (shuts o c ps) (guarded o ps) g) s w })) (whole_walk l o ps (and_right (shuts o c ps) (guarded o ps) g) s w)
+whole_walk l o (piece a (Optional x c y r) ∷ ps) g s (next (absent e f) w) = next (absent e f) (whole_walk l o ps (and_right (shuts_behind o c y ps) (guarded o ps) g) s w)
+whole_walk l o (piece a (Optional x c y r) ∷ ps) g s (next (present {z = m} d q e f) w) =
+    next (present d (record { reads = q; ends_there = behind_ends l o c y ps m (and_left (shuts_behind o c y ps) (guarded o ps) g) s e f w }) e f) (whole_walk l o ps (and_right (shuts_behind o c y ps) (guarded o ps) g) s w)
+whole_walk l o (piece a (Many m c) ∷ ps) g s (next (many e all) w) =
     let h = and_left (heeds_list m c && shuts o c ps) (guarded o ps) g in
-    next (many e (whole_items (and_left (heeds_list m c) (shuts o c ps) h) (shut o c ps (and_right (heeds_list m c) (shuts o c ps) h) s w) all)) (whole_walk o ps (and_right (heeds_list m c && shuts o c ps) (guarded o ps) g) s w)
+    next (many e (whole_items l (and_left (heeds_list m c) (shuts o c ps) h) (shut l o c ps (and_right (heeds_list m c) (shuts o c ps) h) s w) all)) (whole_walk l o ps (and_right (heeds_list m c && shuts o c ps) (guarded o ps) g) s w)
 
--- ---- nodes
+-- ---- from one relation to another
 
-pub weaken_items : {v : Surroundings} {s : ListShape} {c : Nonterminal} {x y : Place} {us : Forest} → Items Whole v s c x us y → Items IsRead v s c x us y
-weaken_items (nil f) = nil f
-weaken_items (last r e f) = last r.reads e f
-weaken_items (more n r e all) = more n r.reads e (weaken_items all)
+abbrev pub Follow : Relation → Relation → Type 0
+Follow R S = (v : Surroundings) (b : Bool) (c : Nonterminal) (x : Place) (t : Tree) (y : Place) → R v b c x t y → S v b c x t y
 
-pub weaken_past : {v : Surroundings} {p : Symbol} {x y : Place} {g : Given} → Past Whole v p x g y → Past IsRead v p x g y
-weaken_past (sign e f) = sign e f
-weaken_past (within f) = within f
-weaken_past (tree r) = tree r.reads
-weaken_past (absent e f) = absent e f
-weaken_past (present d r e f) = present d r.reads e f
-weaken_past (many e all) = many e (weaken_items all)
+pub weaken_items : {R S : Relation} {v : Surroundings} {s : ListShape} {c : Nonterminal} {x y : Place} {us : Forest} → Follow R S → Items R v s c x us y → Items S v s c x us y
+weaken_items g (nil f) = nil f
+weaken_items g (last r e f) = last (g _ _ _ _ _ _ r) e f
+weaken_items g (more n r e all) = more n (g _ _ _ _ _ _ r) e (weaken_items g all)
 
-pub weaken : {V : List Context → Surroundings} {ps : List Piece} {x y : Place} {ts : Forest} → Walk Whole V ps x ts y → Walk IsRead V ps x ts y
-weaken (done f) = done f
-weaken (next q w) = next (weaken_past q) (weaken w)
+weaken_past : {R S : Relation} {v : Surroundings} {p : Symbol} {x y : Place} {g : Given} → Follow R S → Past R v p x g y → Past S v p x g y
+weaken_past g (sign e f) = sign e f
+weaken_past g (within f) = within f
+weaken_past g (tree r) = tree (g _ _ _ _ _ _ r)
+weaken_past g (absent e f) = absent e f
+weaken_past g (present d r e f) = present d (g _ _ _ _ _ _ r) e f
+weaken_past g (many e all) = many e (weaken_items g all)
 
--- what a function of the parser reads as a node is read by the definitions
-pub node_whole : (b : Bool) (k : Kind) {v : Surroundings} {c : Nonterminal} {x y : Place} {ts : Forest} → admits c (node k ts) ≡ true → readable b k ≡ true → stops c y ≡ true → IsNode Whole v b k x ts y → Whole v b c x (node k ts) y
-node_whole b k a e s n = record { reads = node_read b k a e (record { walk = weaken n.walk; keeps = n.keeps; may_stand = n.may_stand }); stops_there = s }
+pub weaken : {R S : Relation} {V : List Context → Surroundings} {ps : List Piece} {x y : Place} {ts : Forest} → Follow R S → Walk R V ps x ts y → Walk S V ps x ts y
+weaken g (done f) = done f
+weaken g (next q w) = next (weaken_past g q) (weaken g w)
 
--- and what the definitions read up to where it stops is what such a function asks
-pub whole_node : (b : Bool) (k : Kind) {v : Surroundings} {c : Nonterminal} {x y : Place} {ts : Forest} → readable b k ≡ true → guarded c (row b k) ≡ true → Whole v b c x (node k ts) y → IsNode Whole v b k x ts y
-whole_node b k {c = c} e g w =
-    let n = node_walk b k e w.reads in
-    record { walk = whole_walk c (row b k) g w.stops_there n.walk; keeps = n.keeps; may_stand = n.may_stand }
+-- what has come to its end was read
+pub loosen : {L : Language} {V : List Context → Surroundings} {ps : List Piece} {x y : Place} {ts : Forest} → Walk (Whole L) V ps x ts y → Walk L.reads V ps x ts y
+loosen w = weaken (λ v b c x t y r. r.reads) w
+
+pub to_grammar : {L : Language} {V : List Context → Surroundings} {ps : List Piece} {x y : Place} {ts : Forest} → Lawful L → Walk (Whole L) V ps x ts y → Walk IsRead V ps x ts y
+to_grammar l w = weaken (λ v b c x t y r. l.is_read r.reads) w

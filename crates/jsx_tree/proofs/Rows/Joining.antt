@@ -7,15 +7,17 @@ use Rattle.jsx_tree.specs.Grammar.{Fixed, Part, left_of, right_of}
 use Rattle.jsx_tree.specs.Form.{is, admits}
 use Rattle.jsx_tree.specs.Reading.{Place}
 use Rattle.jsx_tree.specs.StaticRules.{Surroundings}
-use Rattle.jsx_tree.specs.Walk.{nothing, one, piece, row, tail, tree, Walk, next, around, steady}
+use Rattle.jsx_tree.specs.Walk.{nothing, one, piece, row, tail, IsRead, tree, Walk, next, around, steady}
 use Rattle.jsx_tree.specs.Grows.{operator_sign}
-use Rattle.jsx_tree.specs.Stops.{Whole}
-use Rattle.jsx_tree.specs.Grows.{Follows, Joins}
+use Rattle.jsx_tree.specs.Language.{grammar, Whole}
+use Rattle.jsx_tree.specs.Grows.{Joins}
 use Rattle.jsx_tree.specs.Answers.{Only, Barred, NoRow, Built}
 use Rattle.jsx_tree.proofs.Rows.Steps.{on, bar, then', end}
 use Rattle.jsx_tree.proofs.Rows.Turns.{whole_of}
 use Rattle.jsx_tree.proofs.Rows.Stopping.{deaf}
-use Rattle.jsx_tree.proofs.Rows.Guarded.{weaken}
+use Rattle.jsx_tree.proofs.Tokens.{and_both}
+use Rattle.jsx_tree.proofs.Rows.Laws.{of_grammar}
+use Rattle.jsx_tree.proofs.Rows.Guarded.{to_grammar}
 use Rattle.jsx_tree.proofs.Rows.Placing.{free, free_around, moved}
 use Rattle.jsx_tree.proofs.Rows.Bodies.{bodiless, plain}
 
@@ -58,19 +60,19 @@ no_body : (o : BinaryOp) → bodiless (row false (expression (Binary o))) ≡ tr
 no_body = each (λ o. bodiless (row false (expression (Binary o))) ≡ true) refl refl refl refl refl refl refl refl refl refl refl refl refl refl refl refl refl refl refl refl refl refl refl refl refl
 
 -- an operator joins what may stand at its left
-pub joins_binary : (o : BinaryOp) {v : Surroundings} {n : ℕ} {x a : Place} {t : Tree} → Follows v n x t a → is (left_of o) t ≡ true → Joins v t a (expression (Binary o))
-joins_binary o {v} {n} {x} {a} {t} fs i = record {
+pub joins_binary : (o : BinaryOp) {v : Surroundings} {x a : Place} {t : Tree} → IsRead v false (left_of o) x t a → Joins grammar v x t a (expression (Binary o))
+joins_binary o {v} {x} {a} {t} r = record {
   side = left_of o;
   begins = refl;
-  fits = i;
+  left = r;
   frees = moves;
   home = Expr (level_of o);
+  operand = refl;
   at_home = home_of o;
-  keeps = λ ts y w. plain (row false (expression (Binary o))) (no_body o) (next (tree (record { is = i; is_legal = fs.reads.is_legal; scans = fs.reads.scans; found = fs.reads.found })) (weaken (moves ts y w)));
-  may_stand = λ ts y w. refl;
+  keeps = λ ts y w. and_both _ _ (plain (row false (expression (Binary o))) (no_body o) (next (tree r) (to_grammar of_grammar (moves ts y w)))) refl;
 }
   where
-    moves : (ts : Forest) (y : Place) → Walk Whole (steady v) (tail (row false (expression (Binary o)))) a ts y → Walk Whole (around v (part t ts)) (tail (row false (expression (Binary o)))) a ts y
+    moves : (ts : Forest) (y : Place) → Walk (Whole grammar) (steady v) (tail (row false (expression (Binary o)))) a ts y → Walk (Whole grammar) (around v (part t ts)) (tail (row false (expression (Binary o)))) a ts y
     moves ts y w = moved (λ c h. sym (free_around c (part t ts) v h)) (free_tail o) w
 
 -- ---- behind the right side of an operator, another one that takes the whole at its left stops it
@@ -110,9 +112,9 @@ way o p = each (λ o. gives_way o p ≡ true)
 pub binary_row : (o : BinaryOp) → piece [] (Fixed (operator_sign o)) ∷ piece [] (Part (Expr (right_of o))) ∷ [] ≡ tail (row false (expression (Binary o)))
 binary_row = each (λ o. piece [] (Fixed (operator_sign o)) ∷ piece [] (Part (Expr (right_of o))) ∷ [] ≡ tail (row false (expression (Binary o)))) refl refl refl refl refl refl refl refl refl refl refl refl refl refl refl refl refl refl refl refl refl refl refl refl refl
 
-pub step_none : (o : BinaryOp) {v : Surroundings} {m : ℕ} {x y : Place} → m ≡ right_of o → Only v (Fixed (operator_sign o)) x nothing y → Barred v (Part (Expr m)) y → NoRow v (tail (row false (expression (Binary o)))) x
-step_none o {v} {x = x} {y = y} e q b = subst (λ ps. NoRow v ps x) (binary_row o) (on q (bar (subst (λ n. Barred v (Part (Expr n)) y) e b)))
+pub step_none : (o : BinaryOp) {v : Surroundings} {m : ℕ} {x y : Place} → m ≡ right_of o → Only grammar v (Fixed (operator_sign o)) x nothing y → Barred grammar v (Part (Expr m)) y → NoRow grammar v (tail (row false (expression (Binary o)))) x
+step_none o {v} {x = x} {y = y} e q b = subst (λ ps. NoRow grammar v ps x) (binary_row o) (on q (bar (subst (λ n. Barred grammar v (Part (Expr n)) y) e b)))
 
-pub step_built : (o : BinaryOp) {v : Surroundings} {m : ℕ} {x y z : Place} {t u w : Tree} → m ≡ right_of o → Only v (Fixed (operator_sign o)) x nothing y → Only v (Part (Expr m)) y (one u) z → w ≡ node (expression (Binary o)) (part t (part u none)) → Built v (tail (row false (expression (Binary o)))) (expression (Binary o)) (part t) w x z
-step_built o {v} {x = x} {y = y} {z = z} {t = t} {u = u} {w = w} e q r is = subst (λ ps. Built v ps (expression (Binary o)) (part t) w x z) (binary_row o)
-    (record { parts = part u none; is = is; row = then' q (then' (subst (λ n. Only v (Part (Expr n)) y (one u) z) e r) (end (whole_of r.past).reads.found)) })
+pub step_built : (o : BinaryOp) {v : Surroundings} {m : ℕ} {x y z : Place} {t u w : Tree} → m ≡ right_of o → Only grammar v (Fixed (operator_sign o)) x nothing y → Only grammar v (Part (Expr m)) y (one u) z → w ≡ node (expression (Binary o)) (part t (part u none)) → Built grammar v (tail (row false (expression (Binary o)))) (expression (Binary o)) (part t) w x z
+step_built o {v} {x = x} {y = y} {z = z} {t = t} {u = u} {w = w} e q r is = subst (λ ps. Built grammar v ps (expression (Binary o)) (part t) w x z) (binary_row o)
+    (record { parts = part u none; is = is; row = then' q (then' (subst (λ n. Only grammar v (Part (Expr n)) y (one u) z) e r) (end (whole_of r.past).reads.found)) })

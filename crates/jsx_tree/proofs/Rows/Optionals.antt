@@ -7,49 +7,63 @@ use Rattle.jsx_tree.specs.Signs.{Sign, Tok, Semicolon, Unless, SameLine, Ends, E
 use Rattle.jsx_tree.specs.Kinds.{Tree, list, Forest, none, part}
 use Rattle.jsx_tree.specs.Nonterminals.{Nonterminal}
 use Rattle.jsx_tree.specs.Grammar.{Context, Fixed, Part, Optional}
-use Rattle.jsx_tree.specs.Spelling.{spelled}
-use Rattle.jsx_tree.specs.Reading.{Place, Lost, At, forth, scan, go_if, may_lack, is_do, continues}
+use Rattle.jsx_tree.specs.Reading.{ended_at, Place, Lost, At, forth, scan, go_if, may_lack, is_do, continues}
 use Rattle.jsx_tree.specs.StaticRules.{Surroundings}
-use Rattle.jsx_tree.proofs.Laws.{scan_lost}
 use Rattle.jsx_base.proofs.Fronts.{NoneAhead}
 use Rattle.jsx_tree.proofs.Tokens.{and_left, and_right, and_both, same_is, same_self}
 use Rattle.jsx_tree.proofs.Apart.{clash, less_first}
 use Rattle.jsx_base.proofs.Fronts.{none_ahead, other_ahead}
-use Rattle.jsx_tree.specs.Walk.{is_found, Given, nothing, one, Piece, piece, Past, sign, tree, absent, present, Walk, next, steady}
-use Rattle.jsx_tree.specs.Stops.{Whole}
+use Rattle.jsx_tree.specs.Walk.{is_found, Given, nothing, one, Piece, piece, Past, sign, tree, absent, present, Walk, done, next, steady}
+use Rattle.jsx_tree.specs.Language.{Language, Whole}
 use Rattle.jsx_tree.specs.Answers.{Moves, Stuck, Missed, Only, Barred, NoRow}
 use Rattle.jsx_tree.proofs.Rows.Bridge.{found_first, found_at}
 use Rattle.jsx_tree.proofs.Rows.Stopping.{or_cases, found_if, is_not, semi_cases, raw_of, stays}
-use Rattle.jsx_tree.proofs.Rows.Closers.{frank, opens, openers, Shut, shut_out}
+use Rattle.jsx_tree.specs.Grows.{is_operand}
+use Rattle.jsx_tree.proofs.Rows.Laws.{Lawful, shut_out, lost_barred, start_found, end_found}
+use Rattle.jsx_tree.proofs.Rows.Closers.{opens, openers, Shut}
 use Rattle.jsx_tree.proofs.Rows.Steps.{bar, no_sign}
+use Rattle.jsx_tree.proofs.Rows.Placing.{OnlyAt}
 use Rattle.jsx_tree.proofs.Rows.Turns.{Turn, From, whole_of, item_of}
 
--- ---- from nowhere nothing is read
+unless_none : (x : Place) → IsTrue (is_found x) → forth (Unless []) x ≡ x
+unless_none Lost f = refl
+unless_none (At q e text) f = refl
 
-pub lost_barred : {v : Surroundings} {c : Nonterminal} {x : Place} → x ≡ Lost → Barred v (Part c) x
-lost_barred {v} {c} {x} e = record { no = at }
-  where
-    at : (g : Given) (y : Place) → Past Whole v (Part c) x g y → ⊥
-    at g y (tree {t = t} w) =
-        let bad : IsTrue (is_found Lost) = subst (λ p. IsTrue (is_found p)) (sym w.reads.scans ∙ (ap (λ p. scan p (spelled t)) e ∙ scan_lost (spelled t))) w.reads.found in cc
+unless_found : (x : Place) (r : List Text) → IsTrue (is_found (forth (Unless r) x)) → IsTrue (is_found x)
+unless_found x r f = found_first (Unless r ∷ []) x f
 
 -- ---- an optional part is absent, or present
 
-pub turn_absent : {v : Surroundings} {a : List Context} {c : Nonterminal} {l m : List Sign} {r : List Text} {ps : List Piece} {x y : Place} → forth (Unless r) x ≡ y → IsTrue (is_found y) → Barred (steady v a) (Part c) (scan x l) → Turn v (piece a (Optional l c m r) ∷ ps) ps x y (part (list none))
-turn_absent {v} {a} {c} {l} {m} {r} {ps} {x} {y} e f b = record { to = λ ts w walk. next (absent e f) walk; from = back }
+pub turn_absent : {L : Language} {v : Surroundings} {a : List Context} {c : Nonterminal} {l m : List Sign} {r : List Text} {ps : List Piece} {x y : Place} → forth (Unless r) x ≡ y → IsTrue (is_found y) → Barred L (steady v a) (Part c) (scan x l) → Turn L v (piece a (Optional l c m r) ∷ ps) ps x y (part (list none))
+turn_absent {L} {v} {a} {c} {l} {m} {r} {ps} {x} {y} e f b = record { to = λ ts w walk. next (absent e f) walk; from = back }
   where
-    back : (us : Forest) (w : Place) → Walk Whole (steady v) (piece a (Optional l c m r) ∷ ps) x us w → From v ps y (part (list none)) us w
-    back us w (next {z = z} {ts = vs} (absent e' f') walk) = record { parts = vs; is = refl; walk = subst (λ p. Walk Whole (steady v) ps p vs w) (sym e' ∙ e) walk }
-    back us w (next (present {y = y'} d q e' f') walk) = absurd ((subst (λ p. Barred (steady v a) (Part c) p) d b).no _ _ (tree q))
+    back : (us : Forest) (w : Place) → Walk (Whole L) (steady v) (piece a (Optional l c m r) ∷ ps) x us w → From L v ps y (part (list none)) us w
+    back us w (next {z = z} {ts = vs} (absent e' f') walk) = record { parts = vs; is = refl; walk = subst (λ p. Walk (Whole L) (steady v) ps p vs w) (sym e' ∙ e) walk }
+    back us w (next (present {y = y'} d q e' f') walk) = absurd ((subst (λ p. Barred L (steady v a) (Part c) p) d b).no _ _ (tree q))
 
-pub turn_present : {v : Surroundings} {a : List Context} {c : Nonterminal} {l m : List Sign} {r : List Text} {ps : List Piece} {x y z w : Place} {t : Tree} → scan x l ≡ y → Only (steady v a) (Part c) y (one t) z → scan z m ≡ w → IsTrue (is_found w) → NoRow v ps (forth (Unless r) x) → Turn v (piece a (Optional l c m r) ∷ ps) ps x w (part (list (part t none)))
-turn_present {v} {a} {c} {l} {m} {r} {ps} {x} {y} {z} {w} {t} d o e f n = record { to = λ ts u walk. next (present d (whole_of o.past) e f) walk; from = back }
+pub turn_present : {L : Language} {v : Surroundings} {a : List Context} {c : Nonterminal} {l m : List Sign} {r : List Text} {ps : List Piece} {x y z w : Place} {t : Tree} → scan x l ≡ y → Only L (steady v a) (Part c) y (one t) z → scan z m ≡ w → IsTrue (is_found w) → NoRow L v ps (forth (Unless r) x) → Turn L v (piece a (Optional l c m r) ∷ ps) ps x w (part (list (part t none)))
+turn_present {L} {v} {a} {c} {l} {m} {r} {ps} {x} {y} {z} {w} {t} d o e f n = record { to = λ ts u walk. next (present d (whole_of o.past) e f) walk; from = back }
   where
-    back : (us : Forest) (u : Place) → Walk Whole (steady v) (piece a (Optional l c m r) ∷ ps) x us u → From v ps w (part (list (part t none))) us u
-    back us u (next {ts = vs} (absent e' f') walk) = absurd (n.no vs u (subst (λ p. Walk Whole (steady v) ps p vs u) (sym e') walk))
+    back : (us : Forest) (u : Place) → Walk (Whole L) (steady v) (piece a (Optional l c m r) ∷ ps) x us u → From L v ps w (part (list (part t none))) us u
+    back us u (next {ts = vs} (absent e' f') walk) = absurd (n.no vs u (subst (λ p. Walk (Whole L) (steady v) ps p vs u) (sym e') walk))
     back us u (next {z = w'} {ts = vs} (present {y = y'} {z = z'} {t = t'} d' q e' f') walk) =
-        let same = o.alone (one t') z' (tree (subst (λ p. Whole (steady v a) false c p t' z') (sym d' ∙ d) q)) in
-        record { parts = vs; is = λ i. part (list (part (item_of (same.0 i)) none)) vs; walk = subst (λ p. Walk Whole (steady v) ps p vs u) (sym e' ∙ (ap (λ p. scan p m) (sym same.1) ∙ e)) walk }
+        let same = o.alone (one t') z' (tree (subst (λ p. Whole L (steady v a) false c p t' z') (sym d' ∙ d) q)) in
+        record { parts = vs; is = λ i. part (list (part (item_of (same.0 i)) none)) vs; walk = subst (λ p. Walk (Whole L) (steady v) ps p vs u) (sym e' ∙ (ap (λ p. scan p m) (sym same.1) ∙ e)) walk }
+
+-- a part that is the last of its row and is there: where the row could end before it, what is at home there doesn't
+pub present_last : {L : Language} {v : Surroundings} {o : Nonterminal} {a : List Context} {c : Nonterminal} {l m : List Sign} {x y z w : Place} {t : Tree} → L.ends o x ≡ false → scan x l ≡ y → Only L (steady v a) (Part c) y (one t) z → scan z m ≡ w → IsTrue (is_found w) → OnlyAt L v o (piece a (Optional l c m []) ∷ []) x (part (list (part t none)) none) w
+present_last {L} {v} {o} {a} {c} {l} {m} {x} {y} {z} {w} {t} n d q e f = record { walk = next (present d (whole_of q.past) e f) (done f); alone = at }
+  where
+    at : (us : Forest) (u : Place) → Walk (Whole L) (steady v) (piece a (Optional l c m []) ∷ []) x us u → L.ends o u ≡ true → (part (list (part t none)) none ≡ us) × (w ≡ u)
+    at us u (next {ts = vs} (absent e' f') (done g)) h = absurd (clash _ (subst (λ p. L.ends o p ≡ true) (sym e' ∙ unless_none x (unless_found x [] (found_at e' f'))) h) n)
+    at us u (next {z = w'} {ts = vs} (present {y = y'} {z = z'} {t = t'} d' r e' f') (done g)) h =
+        let same = q.alone (one t') z' (tree (subst (λ p. Whole L (steady v a) false c p t' z') (sym d' ∙ d) r)) in
+        ((λ i. part (list (part (item_of (same.0 i)) none)) none), sym e ∙ (ap (λ p. scan p m) same.1 ∙ e'))
+
+-- and one that can't be read
+pub none_last : {L : Language} {v : Surroundings} {o : Nonterminal} {a : List Context} {c : Nonterminal} {l m : List Sign} {x y : Place} → L.ends o x ≡ false → scan x l ≡ y → Barred L (steady v a) (Part c) y → (us : Forest) (u : Place) → Walk (Whole L) (steady v) (piece a (Optional l c m []) ∷ []) x us u → L.ends o u ≡ true → ⊥
+none_last {L} {v} {o} {a} {c} {l} {m} {x} {y} n d b us u (next (absent e' f') (done g)) h = clash _ (subst (λ p. L.ends o p ≡ true) (sym e' ∙ unless_none x (unless_found x [] (found_at e' f'))) h) n
+none_last {L} {v} {o} {a} {c} {l} {m} {x} {y} n d b us u (next (present d' r e' f') w) h = (subst (λ p. Barred L (steady v a) (Part c) p) (sym d ∙ d') b).no _ _ (tree r)
 
 -- ---- a place before a character with which no expression begins
 
@@ -140,6 +154,11 @@ by_front q e text n = record { no = at }
     at Operand k t o g = n Operand k t (same q [] || breaks text) o (found_token Operand k t q e text g)
     at _ k t o g = cc
 
+-- the end of the text
+pub end_shut : (x : Place) → ended_at x ≡ true → Shut x
+end_shut (At q e text) h = by_front q e text (λ m k t g. end_none m k t g (skip text) (same_is (skip text) [] (and_left (same (skip text) []) _ h)))
+end_shut Lost h = cc
+
 -- a semicolon or where one is missing, on the line
 pub semicolon_shut : (q : Text) (e : Ending) (text : Text) → is_do e ≡ false → breaks text ≡ false → IsTrue (is_found (forth Semicolon (At q e text))) → Shut (At q e text)
 semicolon_shut q e text d b f =
@@ -159,29 +178,25 @@ semicolon_shut q e text d b f =
 abbrev word_row : List Context → Nonterminal → List Piece
 word_row a c = piece a (Fixed (Ends AfterWord)) ∷ piece a (Optional (SameLine ∷ []) c [] []) ∷ piece a (Fixed Semicolon) ∷ []
 
-unless_none : (x : Place) → IsTrue (is_found x) → forth (Unless []) x ≡ x
-unless_none Lost f = refl
-unless_none (At q e text) f = refl
-
 -- behind such a word, where a semicolon stands or is missing, no expression stands on the line; where none is missing, no line ends
-word_end : {c : Nonterminal} {v : Surroundings} (x : Place) → frank c ≡ true → IsTrue (is_found (forth Semicolon (forth (Ends AfterWord) x))) → Barred v (Part c) (forth SameLine (forth (Ends AfterWord) x))
-word_end Lost k f = lost_barred refl
-word_end {c} {v} (At q e text) k f = by (breaks text) refl
+word_end : {c : Nonterminal} {L : Language} {v : Surroundings} (x : Place) → Lawful L → is_operand c ≡ true → IsTrue (is_found (forth Semicolon (forth (Ends AfterWord) x))) → Barred L v (Part c) (forth SameLine (forth (Ends AfterWord) x))
+word_end Lost l k f = lost_barred l refl
+word_end {c} {L} {v} (At q e text) l k f = by (breaks text) refl
   where
-    by : (b : Bool) → breaks text ≡ b → Barred v (Part c) (go_if (not (breaks text)) (At q AfterWord text))
-    by true h = lost_barred (ap (λ b. go_if (not b) (At q AfterWord text)) h)
-    by false h = subst (λ b. Barred v (Part c) (go_if (not b) (At q AfterWord text))) (sym h) (shut_out k (semicolon_shut q AfterWord text refl h f))
+    by : (b : Bool) → breaks text ≡ b → Barred L v (Part c) (go_if (not (breaks text)) (At q AfterWord text))
+    by true h = lost_barred l (ap (λ b. go_if (not b) (At q AfterWord text)) h)
+    by false h = subst (λ b. Barred L v (Part c) (go_if (not b) (At q AfterWord text))) (sym h) (shut_out l k (semicolon_shut q AfterWord text refl h f))
 
-found_sign : {v : Surroundings} {s : Sign} {x y : Place} {g : Given} → Past Whole v (Fixed s) x g y → IsTrue (is_found y)
+found_sign : {L : Language} {v : Surroundings} {s : Sign} {x y : Place} {g : Given} → Past (Whole L) v (Fixed s) x g y → IsTrue (is_found y)
 found_sign (sign e f) = f
 
-ends_at : {v : Surroundings} {x y : Place} {g : Given} → Past Whole v (Fixed (Ends AfterWord)) x g y → forth (Ends AfterWord) x ≡ y
+ends_at : {L : Language} {v : Surroundings} {x y : Place} {g : Given} → Past (Whole L) v (Fixed (Ends AfterWord)) x g y → forth (Ends AfterWord) x ≡ y
 ends_at (sign e f) = e
 
-pub word_absent : {v : Surroundings} {c : Nonterminal} {x y z : Place} → frank c ≡ true → Only v (Fixed (Ends AfterWord)) x nothing y → Moves Semicolon y z → Turn v (piece [] (Optional (SameLine ∷ []) c [] []) ∷ piece [] (Fixed Semicolon) ∷ []) (piece [] (Fixed Semicolon) ∷ []) y y (part (list none))
-word_absent {v} {c} {x} {y} k o m =
+pub word_absent : {L : Language} {v : Surroundings} {c : Nonterminal} {x y z : Place} → Lawful L → is_operand c ≡ true → Only L v (Fixed (Ends AfterWord)) x nothing y → Moves Semicolon y z → Turn L v (piece [] (Optional (SameLine ∷ []) c [] []) ∷ piece [] (Fixed Semicolon) ∷ []) (piece [] (Fixed Semicolon) ∷ []) y y (part (list none))
+word_absent {L} {v} {c} {x} {y} l k o m =
     let f = found_first (Semicolon ∷ []) y (found_at (sym m.is) m.found) in
-    turn_absent (unless_none y f) f (subst (λ p. Barred v (Part c) (forth SameLine p)) (ends_at o.past) (word_end x k (subst (λ p. IsTrue (is_found (forth Semicolon p))) (sym (ends_at o.past)) (found_at (sym m.is) m.found))))
+    turn_absent (unless_none y f) f (subst (λ p. Barred L v (Part c) (forth SameLine p)) (ends_at o.past) (word_end x l k (subst (λ p. IsTrue (is_found (forth Semicolon p))) (sym (ends_at o.past)) (found_at (sym m.is) m.found))))
 
 -- where none is missing, no line ends
 found_not : {x y : Place} → x ≡ y → is_found x ≡ true → y ≡ Lost → ⊥
@@ -199,37 +214,37 @@ or_true false = refl
 lack : (m a b : Bool) → m ≡ false → b ≡ true → (not m && (a || (b && true))) ≡ true
 lack m a b e f = (λ i. not (e i) && (a || (f i && true))) ∙ or_true a
 
-word_line : {v : Surroundings} {c : Nonterminal} (x : Place) {y z : Place} {t : Tree} → frank c ≡ true → forth (Ends AfterWord) x ≡ y → Stuck Semicolon y → Only v (Part c) y (one t) z → forth SameLine y ≡ y
-word_line {v} {c} Lost {y} {z} {t} k e s o = ap (forth SameLine) (sym e) ∙ e
-word_line {v} {c} (At q g text) {y} {z} {t} k e s o = ap (forth SameLine) (sym e) ∙ (by (breaks text) refl ∙ e)
+word_line : {L : Language} {v : Surroundings} {c : Nonterminal} (x : Place) {y z : Place} {t : Tree} → Lawful L → is_operand c ≡ true → forth (Ends AfterWord) x ≡ y → Stuck Semicolon y → Only L v (Part c) y (one t) z → forth SameLine y ≡ y
+word_line {L} {v} {c} Lost {y} {z} {t} l k e s o = ap (forth SameLine) (sym e) ∙ e
+word_line {L} {v} {c} (At q g text) {y} {z} {t} l k e s o = ap (forth SameLine) (sym e) ∙ (by (breaks text) refl ∙ e)
   where
     apart : (b : Bool) → same (token Operator false text).raw (codes ";") ≡ b → same (token Operator false text).raw (codes ";") ≡ false
     apart false h = h
     apart true h =
         let shut = by_front q AfterWord text (λ m k t g. front_none 59 m k t g (skip text) at_semicolon (raw_front 59 [] (breaks text) (skip text) (same_is (token Operator false text).raw (codes ";") h))) in
-        absurd ((shut_out k (subst (λ p. Shut p) e shut)).no (one t) z o.past)
+        absurd ((shut_out l k (subst (λ p. Shut p) e shut)).no (one t) z o.past)
 
     by : (b : Bool) → breaks text ≡ b → go_if (not (breaks text)) (At q AfterWord text) ≡ At q AfterWord text
     by false h = ap (λ b. go_if (not b) (At q AfterWord text)) h
     by true h = absurd (clash (may_lack AfterWord q text) (lack (same (token Operator false text).raw (codes ";")) ((is_end text) || same (token Operator false text).raw (codes "}")) (breaks text) (apart _ refl) h)
         (semi_stuck (is_token (token Operator false text) Punctuator (codes ";")) (may_lack AfterWord q text) (codes ";") AfterExpr (token Operator false text).rest q AfterWord text (ap (forth Semicolon) e ∙ s.is)))
 
-pub word_present : {v : Surroundings} {c : Nonterminal} {x y y' z : Place} {t : Tree} → frank c ≡ true → Only v (Fixed (Ends AfterWord)) x nothing y → Missed Semicolon y y' → Only v (Part c) y' (one t) z → Turn v (piece [] (Optional (SameLine ∷ []) c [] []) ∷ piece [] (Fixed Semicolon) ∷ []) (piece [] (Fixed Semicolon) ∷ []) y z (part (list (part t none)))
-word_present {v} {c} {x} {y} {z = z} {t = t} k o m p =
-    let p' : Only v (Part c) y (one t) z = subst (λ q. Only v (Part c) q (one t) z) (sym m.same) p in
-    turn_present (word_line x k (ends_at o.past) m.stuck p') p' refl (whole_of p.past).reads.found (subst (λ q. NoRow v (piece [] (Fixed Semicolon) ∷ []) q) (sym (unless_none y (found_sign o.past))) (bar (no_sign m.stuck)))
+pub word_present : {L : Language} {v : Surroundings} {c : Nonterminal} {x y y' z : Place} {t : Tree} → Lawful L → is_operand c ≡ true → Only L v (Fixed (Ends AfterWord)) x nothing y → Missed Semicolon y y' → Only L v (Part c) y' (one t) z → Turn L v (piece [] (Optional (SameLine ∷ []) c [] []) ∷ piece [] (Fixed Semicolon) ∷ []) (piece [] (Fixed Semicolon) ∷ []) y z (part (list (part t none)))
+word_present {L} {v} {c} {x} {y} {z = z} {t = t} l k o m p =
+    let p' : Only L v (Part c) y (one t) z = subst (λ q. Only L v (Part c) q (one t) z) (sym m.same) p in
+    turn_present (word_line x l k (ends_at o.past) m.stuck p') p' refl (end_found l (whole_of p.past).reads) (subst (λ q. NoRow L v (piece [] (Fixed Semicolon) ∷ []) q) (sym (unless_none y (found_sign o.past))) (bar (no_sign m.stuck)))
 
-pub word_none : {v : Surroundings} {c : Nonterminal} {x y y' : Place} → Only v (Fixed (Ends AfterWord)) x nothing y → Missed Semicolon y y' → Barred v (Part c) y' → NoRow v (piece [] (Optional (SameLine ∷ []) c [] []) ∷ piece [] (Fixed Semicolon) ∷ []) y
-word_none {v} {c} {x} {y} o m b = record { no = at }
+pub word_none : {L : Language} {v : Surroundings} {c : Nonterminal} {x y y' : Place} → Lawful L → Only L v (Fixed (Ends AfterWord)) x nothing y → Missed Semicolon y y' → Barred L v (Part c) y' → NoRow L v (piece [] (Optional (SameLine ∷ []) c [] []) ∷ piece [] (Fixed Semicolon) ∷ []) y
+word_none {L} {v} {c} {x} {y} l o m b = record { no = at }
   where
-    semi : NoRow v (piece [] (Fixed Semicolon) ∷ []) y
+    semi : NoRow L v (piece [] (Fixed Semicolon) ∷ []) y
     semi = bar (no_sign m.stuck)
 
-    here : Barred v (Part c) y
-    here = subst (λ q. Barred v (Part c) q) (sym m.same) b
+    here : Barred L v (Part c) y
+    here = subst (λ q. Barred L v (Part c) q) (sym m.same) b
 
-    at : (us : Forest) (w : Place) → Walk Whole (steady v) (piece [] (Optional (SameLine ∷ []) c [] []) ∷ piece [] (Fixed Semicolon) ∷ []) y us w → ⊥
-    at us w (next {ts = vs} (absent e f) walk) = semi.no vs w (subst (λ p. Walk Whole (steady v) (piece [] (Fixed Semicolon) ∷ []) p vs w) (sym e ∙ unless_none y (found_sign o.past)) walk)
+    at : (us : Forest) (w : Place) → Walk (Whole L) (steady v) (piece [] (Optional (SameLine ∷ []) c [] []) ∷ piece [] (Fixed Semicolon) ∷ []) y us w → ⊥
+    at us w (next {ts = vs} (absent e f) walk) = semi.no vs w (subst (λ p. Walk (Whole L) (steady v) (piece [] (Fixed Semicolon) ∷ []) p vs w) (sym e ∙ unless_none y (found_sign o.past)) walk)
     at us w (next (present {y = y1} {z = z1} {t = t} d q e f) walk) =
-        let g = found_at d (found_first (spelled t) y1 (found_at q.reads.scans q.reads.found)) in
-        here.no (one t) z1 (tree (subst (λ p. Whole v false c p t z1) (sym d ∙ stays SameLine y refl g) q))
+        let g = found_at d (start_found l q.reads) in
+        here.no (one t) z1 (tree (subst (λ p. Whole L v false c p t z1) (sym d ∙ stays SameLine y refl g) q))

@@ -4,15 +4,16 @@ use Rattle.std.specs.Prelude.{◌&&◌}
 use Rattle.jsx_base.specs.Token.{Text, TokenKind}
 use Rattle.jsx_tree.specs.Kinds.{Kind, Tree, Forest, leaf, node, list, none}
 use Rattle.jsx_tree.specs.Nonterminals.{Nonterminal}
-use Rattle.jsx_tree.specs.Grammar.{Context, InFunction, InArrow, InField, InClassCode, InLoop, InSwitch, InModuleCode, InMethod, InMembers, InLabel, InCode, Part}
+use Rattle.jsx_tree.specs.Grammar.{Context, InFunction, InArrow, InField, InClassCode, InLoop, InSwitch, InModuleCode, InMethod, InMembers, InLabel, InCode, Part, Symbol}
 use Rattle.jsx_tree.specs.Form.{admits, fits_below}
 use Rattle.jsx_tree.specs.Reading.{Place}
-use Rattle.jsx_tree.specs.StaticRules.{Surroundings, enter, rule, stands}
+use Rattle.jsx_tree.specs.StaticRules.{Surroundings, enter}
 use Rattle.jsx_tree.proofs.Tokens.{and_left, and_right}
-use Rattle.jsx_tree.specs.Walk.{Piece, piece, row, one, Given, Relation, Walk, done, next, Past, tree, around, steady}
-use Rattle.jsx_tree.specs.Stops.{stops, Whole}
-use Rattle.jsx_tree.specs.Answers.{Only, Barred, NoRow, Built}
-use Rattle.jsx_tree.proofs.Rows.Guarded.{guarded, node_whole, whole_node}
+use Rattle.jsx_tree.specs.Walk.{Piece, piece, with, one, Given, Relation, Walk, done, next, Past, tree, around, steady}
+use Rattle.jsx_tree.specs.Language.{Language, Whole}
+use Rattle.jsx_tree.specs.Answers.{Only, Barred, NoRow, NoNode, Built}
+use Rattle.jsx_tree.proofs.Rows.Laws.{Lawful}
+use Rattle.jsx_tree.proofs.Rows.Guarded.{guarded, whole_walk, loosen}
 
 -- ---- contexts that don't hang on the parts of the node
 
@@ -55,34 +56,67 @@ moved {R} e f (next {a = a} {p = p} {ps = ps} {x = x} {y = y} {g = g} q w) = nex
 -- ---- at a nonterminal
 
 -- what may stand at `c` from the place on is a node of this kind
-pub record Chosen (v : Surroundings) (c : Nonterminal) (k : Kind) (x : Place) : Type 0 where
-  pub no_leaf : (s : TokenKind) (t : Text) (y : Place) → Whole v false c x (leaf s t) y → ⊥
-  pub kind : (l : Kind) (ts : Forest) (y : Place) → Whole v false c x (node l ts) y → l ≡ k
+pub record Chosen (L : Language) (v : Surroundings) (c : Nonterminal) (k : Kind) (x : Place) : Type 0 where
+  pub no_leaf : (s : TokenKind) (t : Text) (y : Place) → Whole L v false c x (leaf s t) y → ⊥
+  pub kind : (l : Kind) (ts : Forest) (y : Place) → Whole L v false c x (node l ts) y → l ≡ k
 
-one_node : {v : Surroundings} {c : Nonterminal} {k : Kind} {x : Place} → Chosen v c k x → guarded c (row false k) ≡ true → free (row false k) ≡ true
-    → (u : Tree) (z : Place) → Whole v false c x u z → (us : Forest) × ((u ≡ node k us) × Walk Whole (steady v) (row false k) x us z)
-one_node ch g f (leaf s t) z w = absurd (ch.no_leaf s t z w)
-one_node {v} {c} {k} {x} ch g f (node l us) z w =
+record Node (L : Language) (v : Surroundings) (k : Kind) (x : Place) (u : Tree) (z : Place) : Type 0 where
+  parts : Forest
+  is : u ≡ node k parts
+  walk : Walk (Whole L) (steady v) (L.rows k) x parts z
+  keeps : L.keeps k v parts ≡ true
+
+one_node : {L : Language} {v : Surroundings} {c : Nonterminal} {k : Kind} {x : Place} → Lawful L → Chosen L v c k x → guarded c (L.rows k) ≡ true → free (L.rows k) ≡ true → (u : Tree) (z : Place) → Whole L v false c x u z → Node L v k x u z
+one_node law ch g f (leaf s t) z w = absurd (ch.no_leaf s t z w)
+one_node {L} {v} {c} {k} {x} law ch g f (node l us) z w =
     let e = ch.kind l us z w in
-    let w' : Whole v false c x (node k us) z = subst (λ m. Whole v false c x (node m us) z) e w in
-    (us, (ap (λ m. node m us) e, moved (λ a h. free_around a us v h) f (whole_node false k refl g w').walk))
-one_node {c = c} ch g f (list ts) z w = let bad = and_left (admits c (list ts)) (fits_below c (list ts)) w.reads.is in cc
+    let w' : Whole L v false c x (node k us) z = subst (λ m. Whole L v false c x (node m us) z) e w in
+    let p = law.from_node k w'.reads in
+    record { parts = us; is = ap (λ m. node m us) e; walk = moved (λ a h. free_around a us v h) f (whole_walk law c (L.rows k) g w'.ends_there p.walk); keeps = p.keeps }
+one_node {c = c} law ch g f (list ts) z w = let bad = and_left (admits c (list ts)) (fits_below c (list ts)) (law.is_read w.reads).is in cc
 
-pub only_node : {v : Surroundings} {c : Nonterminal} {k : Kind} {x y : Place} {t : Tree} → Chosen v c k x → guarded c (row false k) ≡ true → free (row false k) ≡ true → ((ts : Forest) → admits c (node k ts) ≡ true) → (b : Built v (row false k) k (λ ts. ts) t x y)
-    → rule k b.parts ≡ true → stands k b.parts v ≡ true → stops c y ≡ true → Only v (Part c) x (one t) y
-only_node {v} {c} {k} {x} {y} {t} ch g f a b r s st = record {
-  past = tree (subst (λ u. Whole v false c x u y) (sym b.is) (node_whole false k (a b.parts) refl st (record { walk = moved (λ a h. sym (free_around a b.parts v h)) f b.row.walk; keeps = r; may_stand = s })));
+-- a row that is read in one way alone up to where what is at home there ends; in none
+pub record OnlyAt (L : Language) (v : Surroundings) (c : Nonterminal) (ps : List Piece) (x : Place) (ts : Forest) (y : Place) : Type 0 where
+  pub walk : Walk (Whole L) (steady v) ps x ts y
+  pub alone : (us : Forest) (z : Place) → Walk (Whole L) (steady v) ps x us z → L.ends c z ≡ true → (ts ≡ us) × (y ≡ z)
+
+pub record NoneAt (L : Language) (v : Surroundings) (c : Nonterminal) (ps : List Piece) (k : Kind) (x : Place) : Type 0 where
+  pub no : (ts : Forest) (y : Place) → Walk (Whole L) (steady v) ps x ts y → L.keeps k v ts ≡ true → L.ends c y ≡ true → ⊥
+
+pub then_at : {L : Language} {v : Surroundings} {c : Nonterminal} {a : List Context} {p : Symbol} {ps : List Piece} {x y z : Place} {g : Given} {ts : Forest} → Only L (steady v a) p x g y → OnlyAt L v c ps y ts z → OnlyAt L v c (piece a p ∷ ps) x (with g ts) z
+then_at {L} {v} {c} {a} {p} {ps} {x} {y} {z} {g} {ts} o r = record { walk = next o.past r.walk; alone = at }
+  where
+    at : (us : Forest) (w : Place) → Walk (Whole L) (steady v) (piece a p ∷ ps) x us w → L.ends c w ≡ true → (with g ts ≡ us) × (z ≡ w)
+    at us w (next {z = z'} {ts = us'} q w') e =
+        let same = o.alone _ _ q in
+        let rest = r.alone us' z' (subst (λ y. Walk (Whole L) (steady v) ps y us' z') (sym same.1) w') e in
+        (λ i. with (same.0 i) (rest.0 i), rest.1)
+
+pub only_at : {L : Language} {v : Surroundings} {c : Nonterminal} {k : Kind} {x y : Place} {ts : Forest} → Lawful L → Chosen L v c k x → guarded c (L.rows k) ≡ true → free (L.rows k) ≡ true → admits c (node k ts) ≡ true → OnlyAt L v c (L.rows k) x ts y → L.keeps k v ts ≡ true → L.ends c y ≡ true → Only L v (Part c) x (one (node k ts)) y
+only_at {L} {v} {c} {k} {x} {y} {ts} law ch g f a o r st = record {
+  past = tree (record { reads = law.to_node k a (record { walk = moved (λ a h. sym (free_around a ts v h)) f (loosen o.walk); keeps = r }); ends_there = st });
   alone = at;
 }
   where
-    at : (h : Given) (z : Place) → Past Whole v (Part c) x h z → (one t ≡ h) × (y ≡ z)
+    at : (h : Given) (z : Place) → Past (Whole L) v (Part c) x h z → (one (node k ts) ≡ h) × (y ≡ z)
     at h z (tree {t = u} w) =
-        let o = one_node ch g f u z w in
-        let same = b.row.alone o.0 z o.1.1 in
-        (ap one (b.is ∙ ap (node k) same.0 ∙ sym o.1.0), same.1)
+        let n = one_node law ch g f u z w in
+        let same = o.alone n.parts z n.walk w.ends_there in
+        (ap one (ap (node k) same.0 ∙ sym n.is), same.1)
 
-pub barred_node : {v : Surroundings} {c : Nonterminal} {k : Kind} {x : Place} → Chosen v c k x → guarded c (row false k) ≡ true → free (row false k) ≡ true → NoRow v (row false k) x → Barred v (Part c) x
-barred_node {v} {c} {k} {x} ch g f n = record { no = at }
+pub barred_at : {L : Language} {v : Surroundings} {c : Nonterminal} {k : Kind} {x : Place} → Lawful L → Chosen L v c k x → guarded c (L.rows k) ≡ true → free (L.rows k) ≡ true → NoneAt L v c (L.rows k) k x → Barred L v (Part c) x
+barred_at {L} {v} {c} {k} {x} law ch g f n = record { no = at }
   where
-    at : (h : Given) (z : Place) → Past Whole v (Part c) x h z → ⊥
-    at h z (tree {t = u} w) = let o = one_node ch g f u z w in n.no o.0 z o.1.1
+    at : (h : Given) (z : Place) → Past (Whole L) v (Part c) x h z → ⊥
+    at h z (tree {t = u} w) = let o = one_node law ch g f u z w in n.no o.parts z o.walk o.keeps w.ends_there
+
+-- where the row is so wherever it ends
+pub only_node : {L : Language} {v : Surroundings} {c : Nonterminal} {k : Kind} {x y : Place} {t : Tree} → Lawful L → Chosen L v c k x → guarded c (L.rows k) ≡ true → free (L.rows k) ≡ true → ((ts : Forest) → admits c (node k ts) ≡ true) → (b : Built L v (L.rows k) k (λ ts. ts) t x y) → L.keeps k v b.parts ≡ true → L.ends c y ≡ true
+    → Only L v (Part c) x (one t) y
+only_node {L} {v} {c} {k} {x} {y} {t} law ch g f a b r st = subst (λ u. Only L v (Part c) x (one u) y) (sym b.is) (only_at law ch g f (a b.parts) (record { walk = b.row.walk; alone = λ us z w e. b.row.alone us z w }) r st)
+
+pub barred_node : {L : Language} {v : Surroundings} {c : Nonterminal} {k : Kind} {x : Place} → Lawful L → Chosen L v c k x → guarded c (L.rows k) ≡ true → free (L.rows k) ≡ true → NoNode L v (L.rows k) k x → Barred L v (Part c) x
+barred_node law ch g f n = barred_at law ch g f (record { no = λ ts y w h e. n.no ts y w h })
+
+pub no_node : {L : Language} {v : Surroundings} {ps : List Piece} {k : Kind} {x : Place} → NoRow L v ps x → NoNode L v ps k x
+no_node n = record { no = λ ts y w h. n.no ts y w }

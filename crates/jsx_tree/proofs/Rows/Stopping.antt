@@ -64,7 +64,7 @@ deaf_goes (Some n) AfterBlock b t d =
     is_not _ (and_right (not (nat_le n 16 && among t (codes "++" ∷ codes "--" ∷ []))) _ d2)
 deaf_goes (Some n) AfterWord b t d = refl
 deaf_goes (Some n) AfterList b t d = refl
-deaf_goes (Some n) AfterBinding b t d = refl
+deaf_goes (Some n) AfterBinding b t d = no_and (among t (going n)) (same t (codes "=")) (is_not _ (and_left _ _ d))
 deaf_goes (Some n) AfterKey b t d = refl
 deaf_goes (Some n) AfterDo b t d = refl
 
@@ -78,7 +78,7 @@ and_false false = refl
 no_kind : (k : TokenKind) (d : ℕ) (t s : Text) → is_token (no_token s) k (d ∷ t) ≡ false
 no_kind k d t s = and_false _
 
-raw_there : (k : TokenKind) (d : ℕ) (t q text : Text) → is_token (token Operator (same q []) text) k (d ∷ t) ≡ true → (token Operator false text).raw ≡ d ∷ t
+pub raw_there : (k : TokenKind) (d : ℕ) (t q text : Text) → is_token (token Operator (same q []) text) k (d ∷ t) ≡ true → (token Operator false text).raw ≡ d ∷ t
 raw_there k d t q text h = ap (λ x. x.raw) (not_first (λ x. is_token x k (d ∷ t)) (no_kind k d t) (same q []) text h) ∙ raw_of k (d ∷ t) (token Operator (same q []) text) h
 
 pub stops_at : (c : Nonterminal) (q : Text) (e : Ending) (text t : Text) → (token Operator false text).raw ≡ t → deaf (level_asked c) t ≡ true → stops c (At q e text) ≡ true
@@ -98,7 +98,7 @@ subset (t ∷ ts) us = among t us && subset ts us
 among_same : (x t : Text) (us : List Text) → same x t ≡ true → among x us ≡ among t us
 among_same x t us e = ap (λ y. among y us) (same_is x t e)
 
-not_among : (x : Text) (ts us : List Text) → subset ts us ≡ true → among x us ≡ false → among x ts ≡ false
+pub not_among : (x : Text) (ts us : List Text) → subset ts us ≡ true → among x us ≡ false → among x ts ≡ false
 not_among x [] us e f = refl
 not_among x (t ∷ ts) us e f = no_or (same x t) (among x ts) (neither (same x t) refl) (not_among x ts us (and_right (among t us) _ e) f)
   where
@@ -111,6 +111,10 @@ abbrev pub ends_at_semicolon : Option ℕ → Bool
 ends_at_semicolon None = true
 ends_at_semicolon (Some n) = deaf (Some n) (codes ";") && (deaf (Some n) (codes "}") && (deaf (Some n) [] && subset (going n) going_on))
 
+no_first : (a b : Bool) → (a || b) ≡ false → a ≡ false
+no_first true b e = cc
+no_first false b e = refl
+
 line_stops : (n : ℕ) (e : Ending) (q t : Text) → subset (going n) going_on ≡ true → continues e q t ≡ false → goes (Some n) e true t ≡ false
 line_stops n AfterExpr q t s f =
     let a = no_or_left (among t going_on) (is_backquote t) f in
@@ -122,7 +126,7 @@ line_stops n AfterExpr q t s f =
 line_stops n AfterBlock q t s f = ap (λ b. nat_eq n 0 && b) f ∙ and_false _
 line_stops n AfterWord q t s f = refl
 line_stops n AfterList q t s f = refl
-line_stops n AfterBinding q t s f = refl
+line_stops n AfterBinding q t s f = ap (λ b. among t (going n) && b) (no_first (same t (codes "=")) _ f) ∙ and_false _
 line_stops n AfterKey q t s f = refl
 line_stops n AfterDo q t s f = refl
 
@@ -226,6 +230,11 @@ on_covers m n b t c e =
     let c2 = and_right (not (quotes n) || quotes m) _ c1 in
     no_or _ _ (not_among t (going n) (going m) (and_left (subset (going n) (going m)) _ c) e1.0) (no_or _ _ (implied (quotes n) (quotes m) _ (and_left (not (quotes n) || quotes m) _ c1) e2.0) (implied (nat_le n 16) (nat_le m 16) _ (and_left (not (nat_le n 16) || nat_le m 16) _ c2) e2.1))
 
+pub smaller : (a b c : Bool) → (b ≡ false → a ≡ false) → (b && c) ≡ false → (a && c) ≡ false
+smaller true true c f e = e
+smaller true false c f e = let bad : true ≡ false = f refl in cc
+smaller false b c f e = refl
+
 goes_covers : (k l : Option ℕ) (e : Ending) (b : Bool) (t : Text) → covers k l ≡ true → goes k e b t ≡ false → goes l e b t ≡ false
 goes_covers k None e b t c f = refl
 goes_covers None (Some n) e b t c f = cc
@@ -234,6 +243,7 @@ goes_covers (Some m) (Some n) AfterBlock b t c f =
     let c1 = and_right (subset (going n) (going m)) _ c in
     let c2 = and_right (not (quotes n) || quotes m) _ c1 in
     implied (nat_eq n 0) (nat_eq m 0) _ (and_right (not (nat_le n 16) || nat_le m 16) _ c2) f
+goes_covers (Some m) (Some n) AfterBinding b t c f = smaller (among t (going n)) (among t (going m)) _ (not_among t (going n) (going m) (and_left (subset (going n) (going m)) _ c)) f
 goes_covers (Some m) (Some n) _ b t c f = refl
 
 pub covered_stops : (o c : Nonterminal) (y : Place) → covers (level_asked o) (level_asked c) ≡ true → stops o y ≡ true → stops c y ≡ true

@@ -6,66 +6,67 @@ use Rattle.jsx_base.specs.Token.{Text, Operator, Punctuator, is_token, at_front,
 use Rattle.jsx_tree.specs.Signs.{TrailingComma, AfterExpr}
 use Rattle.jsx_tree.specs.Kinds.{Tree, leaf, node, list, Kind, RestPat, RestProperty, Binds, Assigns, program, statement, function, expression, jsx, Forest, none, part}
 use Rattle.jsx_tree.specs.Nonterminals.{Nonterminal, in_homes, homes}
-use Rattle.jsx_tree.specs.Grammar.{Commas, Context, Symbol, Part, Many, pun}
-use Rattle.jsx_tree.specs.Form.{admits, fits_below, is, is_last, last_kind}
+use Rattle.jsx_tree.specs.Grammar.{Commas, NoTrailing, Context, Symbol, Part, Many, pun}
+use Rattle.jsx_tree.specs.Form.{admits, enough, fits_below, is, is_last, last_kind}
 use Rattle.jsx_tree.specs.Reading.{Place, Lost, At, forth, go_if}
 use Rattle.jsx_tree.specs.StaticRules.{Surroundings}
 use Rattle.jsx_tree.proofs.Tokens.{and_left}
 use Rattle.jsx_tree.proofs.Apart.{clash}
 use Rattle.jsx_tree.proofs.Signs.{comma_too}
 use Rattle.jsx_tree.specs.Walk.{is_found, Given, nothing, one, with, Piece, piece, Items, nil, last, more, Past, tree, many, Walk, next, steady}
-use Rattle.jsx_tree.specs.Stops.{Whole}
+use Rattle.jsx_tree.specs.Language.{Language, Whole}
 use Rattle.jsx_tree.specs.Answers.{Moves, Stuck, Only, Barred, OnlyRow, NoRow}
 use Rattle.jsx_tree.proofs.Rows.Bridge.{found_at}
-use Rattle.jsx_tree.proofs.Rows.Guarded.{weaken_items, items_found}
+use Rattle.jsx_tree.proofs.Rows.Guarded.{whole_items_found}
+use Rattle.jsx_tree.proofs.Rows.Laws.{Lawful, end_found}
 use Rattle.jsx_tree.proofs.Rows.Stopping.{is_not}
 use Rattle.jsx_tree.proofs.Rows.Firsts.{kind_home}
 use Rattle.jsx_tree.proofs.Rows.Closers.{starts_with}
 use Rattle.jsx_tree.proofs.Rows.Steps.{both}
 
 -- the row ps from x gives f of what the row qs gives from y
-pub record From (v : Surroundings) (qs : List Piece) (y : Place) (f : Forest → Forest) (us : Forest) (w : Place) : Type 0 where
+pub record From (L : Language) (v : Surroundings) (qs : List Piece) (y : Place) (f : Forest → Forest) (us : Forest) (w : Place) : Type 0 where
   pub parts : Forest
   pub is : f parts ≡ us
-  pub walk : Walk Whole (steady v) qs y parts w
+  pub walk : Walk (Whole L) (steady v) qs y parts w
 
-pub record Turn (v : Surroundings) (ps qs : List Piece) (x y : Place) (f : Forest → Forest) : Type 0 where
-  pub to : (ts : Forest) (w : Place) → Walk Whole (steady v) qs y ts w → Walk Whole (steady v) ps x (f ts) w
-  pub from : (us : Forest) (w : Place) → Walk Whole (steady v) ps x us w → From v qs y f us w
+pub record Turn (L : Language) (v : Surroundings) (ps qs : List Piece) (x y : Place) (f : Forest → Forest) : Type 0 where
+  pub to : (ts : Forest) (w : Place) → Walk (Whole L) (steady v) qs y ts w → Walk (Whole L) (steady v) ps x (f ts) w
+  pub from : (us : Forest) (w : Place) → Walk (Whole L) (steady v) ps x us w → From L v qs y f us w
 
-pub turn_only : {v : Surroundings} {ps qs : List Piece} {x y : Place} {f : Forest → Forest} {ts : Forest} {w : Place} → Turn v ps qs x y f → OnlyRow v qs y ts w → OnlyRow v ps x (f ts) w
-turn_only {v} {ps} {x = x} {f = f} {ts = ts} {w = w} t o = record { walk = t.to ts w o.walk; alone = at }
+pub turn_only : {L : Language} {v : Surroundings} {ps qs : List Piece} {x y : Place} {f : Forest → Forest} {ts : Forest} {w : Place} → Turn L v ps qs x y f → OnlyRow L v qs y ts w → OnlyRow L v ps x (f ts) w
+turn_only {L} {v} {ps} {x = x} {f = f} {ts = ts} {w = w} t o = record { walk = t.to ts w o.walk; alone = at }
   where
-    at : (us : Forest) (z : Place) → Walk Whole (steady v) ps x us z → (f ts ≡ us) × (w ≡ z)
+    at : (us : Forest) (z : Place) → Walk (Whole L) (steady v) ps x us z → (f ts ≡ us) × (w ≡ z)
     at us z walk = let r = t.from us z walk in let s = o.alone r.parts z r.walk in (ap f s.0 ∙ r.is, s.1)
 
-pub turn_none : {v : Surroundings} {ps qs : List Piece} {x y : Place} {f : Forest → Forest} → Turn v ps qs x y f → NoRow v qs y → NoRow v ps x
+pub turn_none : {L : Language} {v : Surroundings} {ps qs : List Piece} {x y : Place} {f : Forest → Forest} → Turn L v ps qs x y f → NoRow L v qs y → NoRow L v ps x
 turn_none t n = record { no = λ us w walk. let r = t.from us w walk in n.no r.parts w r.walk }
 
-pub turn_same : {v : Surroundings} {ps : List Piece} {x : Place} → Turn v ps ps x x (λ ts. ts)
+pub turn_same : {L : Language} {v : Surroundings} {ps : List Piece} {x : Place} → Turn L v ps ps x x (λ ts. ts)
 turn_same = record { to = λ ts w walk. walk; from = λ us w walk. record { parts = us; is = refl; walk = walk } }
 
-pub turn_both : {v : Surroundings} {ps qs rs : List Piece} {x y z : Place} {f g : Forest → Forest} → Turn v ps qs x y f → Turn v qs rs y z g → Turn v ps rs x z (λ ts. f (g ts))
+pub turn_both : {L : Language} {v : Surroundings} {ps qs rs : List Piece} {x y z : Place} {f g : Forest → Forest} → Turn L v ps qs x y f → Turn L v qs rs y z g → Turn L v ps rs x z (λ ts. f (g ts))
 turn_both {f = f} {g = g} t u = record {
   to = λ ts w walk. t.to (g ts) w (u.to ts w walk);
   from = λ us w walk. let r = t.from us w walk in let s = u.from r.parts w r.walk in record { parts = s.parts; is = ap f s.is ∙ r.is; walk = s.walk };
 }
 
-pub turn_as : {v : Surroundings} {ps qs : List Piece} {x y : Place} {f g : Forest → Forest} → ((ts : Forest) → f ts ≡ g ts) → Turn v ps qs x y f → Turn v ps qs x y g
-turn_as {v} {ps} {x = x} e t = record {
-  to = λ ts w walk. subst (λ us. Walk Whole (steady v) ps x us w) (e ts) (t.to ts w walk);
+pub turn_as : {L : Language} {v : Surroundings} {ps qs : List Piece} {x y : Place} {f g : Forest → Forest} → ((ts : Forest) → f ts ≡ g ts) → Turn L v ps qs x y f → Turn L v ps qs x y g
+turn_as {L} {v} {ps} {x = x} e t = record {
+  to = λ ts w walk. subst (λ us. Walk (Whole L) (steady v) ps x us w) (e ts) (t.to ts w walk);
   from = λ us w walk. let r = t.from us w walk in record { parts = r.parts; is = sym (e r.parts) ∙ r.is; walk = r.walk };
 }
 
 -- ---- one symbol
 
-pub turn_symbol : {v : Surroundings} {a : List Context} {p : Symbol} {ps : List Piece} {x y : Place} {g : Given} → Only (steady v a) p x g y → Turn v (piece a p ∷ ps) ps x y (with g)
-turn_symbol {v} {a} {p} {ps} {x} {y} {g} o = record { to = λ ts w walk. next o.past walk; from = back }
+pub turn_symbol : {L : Language} {v : Surroundings} {a : List Context} {p : Symbol} {ps : List Piece} {x y : Place} {g : Given} → Only L (steady v a) p x g y → Turn L v (piece a p ∷ ps) ps x y (with g)
+turn_symbol {L} {v} {a} {p} {ps} {x} {y} {g} o = record { to = λ ts w walk. next o.past walk; from = back }
   where
-    back : (us : Forest) (w : Place) → Walk Whole (steady v) (piece a p ∷ ps) x us w → From v ps y (with g) us w
+    back : (us : Forest) (w : Place) → Walk (Whole L) (steady v) (piece a p ∷ ps) x us w → From L v ps y (with g) us w
     back us w (next {z = z} {ts = ts} q walk) =
         let same = o.alone _ _ q in
-        record { parts = ts; is = λ i. with (same.0 i) ts; walk = subst (λ y. Walk Whole (steady v) ps y ts w) (sym same.1) walk }
+        record { parts = ts; is = λ i. with (same.0 i) ts; walk = subst (λ y. Walk (Whole L) (steady v) ps y ts w) (sym same.1) walk }
 
 -- ---- lists with commas: what only stands last isn't at home there
 
@@ -91,14 +92,14 @@ early_kind c (statement _) n h = refl
 early_kind c (expression _) n h = refl
 early_kind c (jsx _) n h = refl
 
-early : (c : Nonterminal) (t : Tree) → no_rest c ≡ true → is c t ≡ true → is_last t ≡ false
+pub early : (c : Nonterminal) (t : Tree) → no_rest c ≡ true → is c t ≡ true → is_last t ≡ false
 early c (leaf k r) n e = refl
 early c (list ts) n e = refl
 early c (node k ts) n e = early_kind c k n (kind_home c k ts (and_left (admits c (node k ts)) (fits_below c (node k ts)) e))
 
 -- ---- the comma that may trail
 
-comma_trails : {y z : Place} → Moves (pun ",") y z → forth TrailingComma y ≡ z
+pub comma_trails : {y z : Place} → Moves (pun ",") y z → forth TrailingComma y ≡ z
 comma_trails {y} {z} m = comma_too y ((found_at (sym m.is) m.found)) ∙ sym m.is
 
 at44 : (f g : Bool) (s : Text) → at_front Operator f (44 ∷ s) ≡ at_front Operator g (44 ∷ s)
@@ -118,7 +119,7 @@ no_comma q e text h s =
     let there : IsTrue (is_found (forth (pun ",") (At q e text))) = subst (λ b. IsTrue (is_found (go_if b (At (codes ",") AfterExpr (token Operator (same q []) text).rest)))) (sym is) refl in
     let bad : IsTrue (is_found Lost) = subst (λ p. IsTrue (is_found p)) s there in cc
 
-nothing_trails : (y : Place) → Stuck (pun ",") y → forth TrailingComma y ≡ y
+pub nothing_trails : (y : Place) → Stuck (pun ",") y → forth TrailingComma y ≡ y
 nothing_trails Lost s = refl
 nothing_trails (At q e text) s = by_comma (is_token (token Operator false text) Punctuator (codes ",")) (λ h. no_comma q e text h s.is)
   where
@@ -136,63 +137,102 @@ abbrev pub item_of : Given → Tree
 item_of nothing = list none
 item_of (one t) = t
 
-pub whole_of : {v : Surroundings} {c : Nonterminal} {x y : Place} {t : Tree} → Past Whole v (Part c) x (one t) y → Whole v false c x t y
+pub whole_of : {L : Language} {v : Surroundings} {c : Nonterminal} {x y : Place} {t : Tree} → Past (Whole L) v (Part c) x (one t) y → Whole L v false c x t y
 whole_of (tree r) = r
 
 -- nothing stands in it
-pub turn_empty : {v : Surroundings} {a : List Context} {c : Nonterminal} {ps : List Piece} {x : Place} → IsTrue (is_found x) → Barred (steady v a) (Part c) x → Turn v (piece a (Many Commas c) ∷ ps) ps x x (part (list none))
-turn_empty {v} {a} {c} {ps} {x} f b = record { to = λ ts w walk. next (many refl (nil f)) walk; from = back }
+pub turn_empty : {L : Language} {v : Surroundings} {a : List Context} {c : Nonterminal} {ps : List Piece} {x : Place} → IsTrue (is_found x) → Barred L (steady v a) (Part c) x → Turn L v (piece a (Many Commas c) ∷ ps) ps x x (part (list none))
+turn_empty {L} {v} {a} {c} {ps} {x} f b = record { to = λ ts w walk. next (many refl (nil f)) walk; from = back }
   where
-    inner : (ts : Forest) (y : Place) → Items Whole (steady v a) Commas c x ts y → (us : Forest) (w : Place) → Walk Whole (steady v) ps y us w → From v ps x (part (list none)) (part (list ts) us) w
+    inner : (ts : Forest) (y : Place) → Items (Whole L) (steady v a) Commas c x ts y → (us : Forest) (w : Place) → Walk (Whole L) (steady v) ps y us w → From L v ps x (part (list none)) (part (list ts) us) w
     inner ts y (nil f) us w walk = record { parts = us; is = refl; walk = walk }
     inner ts y (last r e f) us w walk = absurd (b.no _ _ (tree r))
     inner ts y (more n r e all) us w walk = absurd (b.no _ _ (tree r))
 
-    back : (us : Forest) (w : Place) → Walk Whole (steady v) (piece a (Many Commas c) ∷ ps) x us w → From v ps x (part (list none)) us w
+    back : (us : Forest) (w : Place) → Walk (Whole L) (steady v) (piece a (Many Commas c) ∷ ps) x us w → From L v ps x (part (list none)) us w
     back us w (next {z = z} {ts = vs} (many {ts = ts} e all) walk) = inner ts _ all vs w walk
 
 -- a last part, with no comma behind it
-pub turn_last : {v : Surroundings} {a : List Context} {c : Nonterminal} {ps : List Piece} {x y : Place} {t : Tree} → IsTrue (is_found y) → Only (steady v a) (Part c) x (one t) y → Stuck (pun ",") y → NoRow v ps x → Turn v (piece a (Many Commas c) ∷ ps) ps x y (part (list (part t none)))
-turn_last {v} {a} {c} {ps} {x} {y} {t} g o s n = record { to = λ ts w walk. next (many refl (last (whole_of o.past) (nothing_trails y s) g)) walk; from = back }
+pub turn_last : {L : Language} {v : Surroundings} {a : List Context} {c : Nonterminal} {ps : List Piece} {x y : Place} {t : Tree} → Lawful L → Only L (steady v a) (Part c) x (one t) y → Stuck (pun ",") y → NoRow L v ps x → Turn L v (piece a (Many Commas c) ∷ ps) ps x y (part (list (part t none)))
+turn_last {L} {v} {a} {c} {ps} {x} {y} {t} l o s n = record { to = λ ts w walk. next (many refl (last (whole_of o.past) (nothing_trails y s) (end_found l (whole_of o.past).reads))) walk; from = back }
   where
-    inner : (ts : Forest) (z : Place) → Items Whole (steady v a) Commas c x ts z → (us : Forest) (w : Place) → Walk Whole (steady v) ps z us w → From v ps y (part (list (part t none))) (part (list ts) us) w
+    inner : (ts : Forest) (z : Place) → Items (Whole L) (steady v a) Commas c x ts z → (us : Forest) (w : Place) → Walk (Whole L) (steady v) ps z us w → From L v ps y (part (list (part t none))) (part (list ts) us) w
     inner ts z (nil f) us w walk = absurd (n.no us w walk)
     inner ts z (last {y = y'} {t = t'} r e f) us w walk =
         let same = o.alone (one t') y' (tree r) in
         let there : y ≡ z = sym (nothing_trails y s) ∙ (ap (forth TrailingComma) same.1 ∙ e) in
-        record { parts = us; is = λ i. part (list (part (item_of (same.0 i)) none)) us; walk = subst (λ p. Walk Whole (steady v) ps p us w) (sym there) walk }
+        record { parts = us; is = λ i. part (list (part (item_of (same.0 i)) none)) us; walk = subst (λ p. Walk (Whole L) (steady v) ps p us w) (sym there) walk }
     inner ts z (more {y = y'} {z = z'} {t = t'} m r e all) us w walk =
         let same = o.alone (one t') y' (tree r) in
-        let bad : IsTrue (is_found Lost) = subst (λ p. IsTrue (is_found p)) (sym e ∙ (ap (forth (pun ",")) (sym same.1) ∙ s.is)) (items_found (weaken_items all)) in cc
+        let bad : IsTrue (is_found Lost) = subst (λ p. IsTrue (is_found p)) (sym e ∙ (ap (forth (pun ",")) (sym same.1) ∙ s.is)) (whole_items_found l all) in cc
 
-    back : (us : Forest) (w : Place) → Walk Whole (steady v) (piece a (Many Commas c) ∷ ps) x us w → From v ps y (part (list (part t none))) us w
+    back : (us : Forest) (w : Place) → Walk (Whole L) (steady v) (piece a (Many Commas c) ∷ ps) x us w → From L v ps y (part (list (part t none))) us w
     back us w (next {ts = vs} (many {ts = ts} e all) walk) = inner ts _ all vs w walk
 
 -- a part and a comma: what stands behind it is such a list again
-pub turn_item : {v : Surroundings} {a : List Context} {c : Nonterminal} {ps : List Piece} {x y z : Place} {t : Tree} → no_rest c ≡ true → Only (steady v a) (Part c) x (one t) y → Moves (pun ",") y z → NoRow v ps x → Turn v (piece a (Many Commas c) ∷ ps) (piece a (Many Commas c) ∷ ps) x z (cons t)
-turn_item {v} {a} {c} {ps} {x} {y} {z} {t} early_c o m n = record { to = forward; from = back }
+pub turn_item : {L : Language} {v : Surroundings} {a : List Context} {c : Nonterminal} {ps : List Piece} {x y z : Place} {t : Tree} → Lawful L → no_rest c ≡ true → Only L (steady v a) (Part c) x (one t) y → Moves (pun ",") y z → NoRow L v ps x → Turn L v (piece a (Many Commas c) ∷ ps) (piece a (Many Commas c) ∷ ps) x z (cons t)
+turn_item {L} {v} {a} {c} {ps} {x} {y} {z} {t} l early_c o m n = record { to = forward; from = back }
   where
-    ahead : (ts : Forest) (p : Place) → Items Whole (steady v a) Commas c z ts p → Items Whole (steady v a) Commas c x (part t ts) p
+    ahead : (ts : Forest) (p : Place) → Items (Whole L) (steady v a) Commas c z ts p → Items (Whole L) (steady v a) Commas c x (part t ts) p
     ahead none p (nil f) = last (whole_of o.past) (comma_trails m) m.found
-    ahead (part u none) p all = more (early c t early_c (whole_of o.past).reads.is) (whole_of o.past) (sym m.is) all
-    ahead (part u (part u' us)) p all = more (early c t early_c (whole_of o.past).reads.is) (whole_of o.past) (sym m.is) all
+    ahead (part u none) p all = more (early c t early_c (l.is_read (whole_of o.past).reads).is) (whole_of o.past) (sym m.is) all
+    ahead (part u (part u' us)) p all = more (early c t early_c (l.is_read (whole_of o.past).reads).is) (whole_of o.past) (sym m.is) all
 
-    forward : (ts : Forest) (w : Place) → Walk Whole (steady v) (piece a (Many Commas c) ∷ ps) z ts w → Walk Whole (steady v) (piece a (Many Commas c) ∷ ps) x (cons t ts) w
+    forward : (ts : Forest) (w : Place) → Walk (Whole L) (steady v) (piece a (Many Commas c) ∷ ps) z ts w → Walk (Whole L) (steady v) (piece a (Many Commas c) ∷ ps) x (cons t ts) w
     forward ts w (next {ts = vs} (many {ts = us} e all) walk) = next (many refl (ahead us _ all)) walk
 
-    inner : (ts : Forest) (p : Place) → Items Whole (steady v a) Commas c x ts p → (us : Forest) (w : Place) → Walk Whole (steady v) ps p us w → From v (piece a (Many Commas c) ∷ ps) z (cons t) (part (list ts) us) w
+    inner : (ts : Forest) (p : Place) → Items (Whole L) (steady v a) Commas c x ts p → (us : Forest) (w : Place) → Walk (Whole L) (steady v) ps p us w → From L v (piece a (Many Commas c) ∷ ps) z (cons t) (part (list ts) us) w
     inner ts p (nil f) us w walk = absurd (n.no us w walk)
     inner ts p (last {y = y'} {t = t'} r e f) us w walk =
         let same = o.alone (one t') y' (tree r) in
         let there : z ≡ p = sym (comma_trails m) ∙ (ap (forth TrailingComma) same.1 ∙ e) in
-        record { parts = part (list none) us; is = λ i. part (list (part (item_of (same.0 i)) none)) us; walk = next (many refl (nil m.found)) (subst (λ p. Walk Whole (steady v) ps p us w) (sym there) walk) }
+        record { parts = part (list none) us; is = λ i. part (list (part (item_of (same.0 i)) none)) us; walk = next (many refl (nil m.found)) (subst (λ p. Walk (Whole L) (steady v) ps p us w) (sym there) walk) }
     inner ts p (more {y = y'} {z = z'} {t = t'} {u = u} {us = vs} early' r e all) us w walk =
         let same = o.alone (one t') y' (tree r) in
         let there : z ≡ z' = m.is ∙ (ap (forth (pun ",")) same.1 ∙ e) in
-        record { parts = part (list (part u vs)) us; is = λ i. part (list (part (item_of (same.0 i)) (part u vs))) us; walk = next (many refl (subst (λ q. Items Whole (steady v a) Commas c q (part u vs) p) (sym there) all)) walk }
+        record { parts = part (list (part u vs)) us; is = λ i. part (list (part (item_of (same.0 i)) (part u vs))) us; walk = next (many refl (subst (λ q. Items (Whole L) (steady v a) Commas c q (part u vs) p) (sym there) all)) walk }
 
-    back : (us : Forest) (w : Place) → Walk Whole (steady v) (piece a (Many Commas c) ∷ ps) x us w → From v (piece a (Many Commas c) ∷ ps) z (cons t) us w
+    back : (us : Forest) (w : Place) → Walk (Whole L) (steady v) (piece a (Many Commas c) ∷ ps) x us w → From L v (piece a (Many Commas c) ∷ ps) z (cons t) us w
     back us w (next {ts = vs} (many {ts = ts} e all) walk) = inner ts _ all vs w walk
+
+-- the same where no comma may trail
+pub turn_final : {L : Language} {v : Surroundings} {a : List Context} {c : Nonterminal} {ps : List Piece} {x y : Place} {t : Tree} → Lawful L → Only L (steady v a) (Part c) x (one t) y → Stuck (pun ",") y → Turn L v (piece a (Many NoTrailing c) ∷ ps) ps x y (part (list (part t none)))
+turn_final {L} {v} {a} {c} {ps} {x} {y} {t} l o s = record { to = λ ts w walk. next (many refl (last (whole_of o.past) refl (end_found l (whole_of o.past).reads))) walk; from = back }
+  where
+    inner : (ts : Forest) (z : Place) → enough NoTrailing ts ≡ true → Items (Whole L) (steady v a) NoTrailing c x ts z → (us : Forest) (w : Place) → Walk (Whole L) (steady v) ps z us w → From L v ps y (part (list (part t none))) (part (list ts) us) w
+    inner ts z n (nil f) us w walk = cc
+    inner ts z n (last {y = y'} {t = t'} r e f) us w walk =
+        let same = o.alone (one t') y' (tree r) in
+        record { parts = us; is = λ i. part (list (part (item_of (same.0 i)) none)) us; walk = subst (λ p. Walk (Whole L) (steady v) ps p us w) (sym (same.1 ∙ e)) walk }
+    inner ts z n (more {y = y'} {z = z'} {t = t'} m r e all) us w walk =
+        let same = o.alone (one t') y' (tree r) in
+        let bad : IsTrue (is_found Lost) = subst (λ p. IsTrue (is_found p)) (sym e ∙ (ap (forth (pun ",")) (sym same.1) ∙ s.is)) (whole_items_found l all) in cc
+
+    back : (us : Forest) (w : Place) → Walk (Whole L) (steady v) (piece a (Many NoTrailing c) ∷ ps) x us w → From L v ps y (part (list (part t none))) us w
+    back us w (next {ts = vs} (many {ts = ts} e all) walk) = inner ts _ e all vs w walk
+
+pub turn_next : {L : Language} {v : Surroundings} {a : List Context} {c : Nonterminal} {ps : List Piece} {x y z : Place} {t : Tree} → Lawful L → no_rest c ≡ true → Only L (steady v a) (Part c) x (one t) y → Moves (pun ",") y z → NoRow L v ps y → Turn L v (piece a (Many NoTrailing c) ∷ ps) (piece a (Many NoTrailing c) ∷ ps) x z (cons t)
+turn_next {L} {v} {a} {c} {ps} {x} {y} {z} {t} l early_c o m n = record { to = forward; from = back }
+  where
+    ahead : (ts : Forest) (p : Place) → enough NoTrailing ts ≡ true → Items (Whole L) (steady v a) NoTrailing c z ts p → Items (Whole L) (steady v a) NoTrailing c x (part t ts) p
+    ahead none p e all = cc
+    ahead (part u us) p e all = more (early c t early_c (l.is_read (whole_of o.past).reads).is) (whole_of o.past) (sym m.is) all
+
+    forward : (ts : Forest) (w : Place) → Walk (Whole L) (steady v) (piece a (Many NoTrailing c) ∷ ps) z ts w → Walk (Whole L) (steady v) (piece a (Many NoTrailing c) ∷ ps) x (cons t ts) w
+    forward ts w (next {ts = vs} (many {ts = us} e all) walk) = next (many refl (ahead us _ e all)) walk
+
+    inner : (ts : Forest) (p : Place) → enough NoTrailing ts ≡ true → Items (Whole L) (steady v a) NoTrailing c x ts p → (us : Forest) (w : Place) → Walk (Whole L) (steady v) ps p us w → From L v (piece a (Many NoTrailing c) ∷ ps) z (cons t) (part (list ts) us) w
+    inner ts p n' (nil f) us w walk = cc
+    inner ts p n' (last {y = y'} {t = t'} r e f) us w walk =
+        let same = o.alone (one t') y' (tree r) in
+        absurd (n.no us w (subst (λ q. Walk (Whole L) (steady v) ps q us w) (sym (same.1 ∙ e)) walk))
+    inner ts p n' (more {y = y'} {z = z'} {t = t'} {u = u} {us = vs} early' r e all) us w walk =
+        let same = o.alone (one t') y' (tree r) in
+        let there : z ≡ z' = m.is ∙ (ap (forth (pun ",")) same.1 ∙ e) in
+        record { parts = part (list (part u vs)) us; is = λ i. part (list (part (item_of (same.0 i)) (part u vs))) us; walk = next (many refl (subst (λ q. Items (Whole L) (steady v a) NoTrailing c q (part u vs) p) (sym there) all)) walk }
+
+    back : (us : Forest) (w : Place) → Walk (Whole L) (steady v) (piece a (Many NoTrailing c) ∷ ps) x us w → From L v (piece a (Many NoTrailing c) ∷ ps) z (cons t) us w
+    back us w (next {ts = vs} (many {ts = ts} e all) walk) = inner ts _ e all vs w walk
 
 -- ---- the parts that were read before
 

@@ -4,19 +4,17 @@ use Rattle.std.specs.Prelude.{Option, Some, None, IsTrue, codes}
 use Rattle.jsx_base.specs.Token.{Text, TokenKind, IdentifierName, same}
 use Rattle.jsx_tree.specs.Signs.{Tok}
 use Rattle.jsx_base.specs.Token.{Operator}
-use Rattle.jsx_tree.specs.Kinds.{Tree, node, Forest, Kind, If, Do, Continue, Break, Return, Throw, Debugger, Switch, Try, For, ForIn, ForOf, VarWord, LetWord, ConstWord, Imported, Exported, From, Specifier, SpecifierAs, Var, While, InObject, InClass, Static, Binds, Assigns, Method, Getter, Setter, Field, ArrayPat, ObjectPat, PropertyPat, ShorthandPat, ShorthandInit, WithInit, RestPat, RestProperty, Nullish, Equal, OpAssign, Binary, PlainTemplate, SubstitutedTemplate, TemplateSpan, Element, program, statement, function, expression, jsx}
+use Rattle.jsx_tree.specs.Kinds.{node, Kind, If, Do, Continue, Break, Return, Throw, Debugger, Switch, Try, For, ForIn, ForOf, VarWord, LetWord, ConstWord, Imported, Exported, From, Specifier, SpecifierAs, Var, While, InObject, InClass, Static, Binds, Assigns, Method, Getter, Setter, Field, ArrayPat, ObjectPat, PropertyPat, ShorthandPat, ShorthandInit, WithInit, RestPat, RestProperty, Nullish, Equal, OpAssign, Binary, PlainTemplate, SubstitutedTemplate, TemplateSpan, Element, program, statement, function, expression, jsx}
 use Rattle.jsx_tree.specs.Nonterminals.{SubStmt, in_homes, homes, leaf_in}
-use Rattle.jsx_tree.specs.Grammar.{Part}
 use Rattle.jsx_tree.specs.Form.{admits, fits_below, is_leaf}
 use Rattle.jsx_tree.specs.Reading.{Place, forth}
-use Rattle.jsx_tree.specs.StaticRules.{Surroundings, rule, stands}
+use Rattle.jsx_tree.specs.StaticRules.{Surroundings}
 use Rattle.jsx_tree.proofs.Tokens.{and_left, same_is}
-use Rattle.jsx_tree.specs.Walk.{is_found, row, one}
-use Rattle.jsx_tree.specs.Answers.{Only, Barred, NoRow, Built}
+use Rattle.jsx_tree.specs.Walk.{is_found, row}
+use Rattle.jsx_tree.specs.Language.{Language}
+use Rattle.jsx_tree.proofs.Rows.Laws.{Lawful}
 use Rattle.jsx_tree.proofs.Rows.Bridge.{node_walk}
-use Rattle.jsx_tree.proofs.Rows.Guarded.{guarded}
-use Rattle.jsx_tree.proofs.Rows.Placing.{free, Chosen, only_node, barred_node}
-use Rattle.jsx_tree.proofs.Rows.Stopping.{never_stops}
+use Rattle.jsx_tree.proofs.Rows.Placing.{Chosen}
 use Rattle.jsx_tree.proofs.Rows.Firsts.{key_row, Keyed, row_key}
 
 -- the kind that a word begins, and whether `for` does
@@ -100,15 +98,8 @@ some_is : {k l : Kind} → Some k ≡ Some l → k ≡ l
 some_is e = cc
 
 -- where the word stands, a statement is of the kind that it tells
-pub word_chosen : {d : ℕ} {w : Text} {k : Kind} {v : Surroundings} {x : Place} → Keyed d w → same (codes "for") (d ∷ w) ≡ false → told (d ∷ w) ≡ Some k → IsTrue (is_found (forth (Tok Operator IdentifierName (d ∷ w)) x)) → Chosen v SubStmt k x
-word_chosen {d} {w} {k} {v} {x} key f is g = record {
-  no_leaf = λ s t y u. no_leaf s t (and_left (leaf_in SubStmt s t) (is_leaf s t) u.reads.is);
-  kind = λ l ts y u. some_is (sym (tells (d ∷ w) l f (and_left (admits SubStmt (node l ts)) (fits_below SubStmt (node l ts)) u.reads.is) (row_key d w (row false l) key (node_walk false l refl u.reads).walk g)) ∙ is);
+pub word_chosen : {L : Language} {d : ℕ} {w : Text} {k : Kind} {v : Surroundings} {x : Place} → Lawful L → Keyed d w → same (codes "for") (d ∷ w) ≡ false → told (d ∷ w) ≡ Some k → IsTrue (is_found (forth (Tok Operator IdentifierName (d ∷ w)) x)) → Chosen L v SubStmt k x
+word_chosen {L} {d} {w} {k} {v} {x} law key f is g = record {
+  no_leaf = λ s t y u. no_leaf s t (and_left (leaf_in SubStmt s t) (is_leaf s t) (law.is_read u.reads).is);
+  kind = λ l ts y u. let r = law.is_read u.reads in some_is (sym (tells (d ∷ w) l f (and_left (admits SubStmt (node l ts)) (fits_below SubStmt (node l ts)) r.is) (row_key d w (row false l) key (node_walk false l refl r).walk g)) ∙ is);
 }
-
-pub word_only : {d : ℕ} {w : Text} {k : Kind} {v : Surroundings} {x y : Place} {t : Tree} → Keyed d w → same (codes "for") (d ∷ w) ≡ false → told (d ∷ w) ≡ Some k → IsTrue (is_found (forth (Tok Operator IdentifierName (d ∷ w)) x)) → guarded SubStmt (row false k) ≡ true → free (row false k) ≡ true → ((ts : Forest) → admits SubStmt (node k ts) ≡ true)
-    → (b : Built v (row false k) k (λ ts. ts) t x y) → rule k b.parts ≡ true → stands k b.parts v ≡ true → Only v (Part SubStmt) x (one t) y
-word_only {y = y} key f is g gu fr ad b r s = only_node (word_chosen key f is g) gu fr ad b r s (never_stops SubStmt y refl)
-
-pub word_barred : {d : ℕ} {w : Text} {k : Kind} {v : Surroundings} {x : Place} → Keyed d w → same (codes "for") (d ∷ w) ≡ false → told (d ∷ w) ≡ Some k → IsTrue (is_found (forth (Tok Operator IdentifierName (d ∷ w)) x)) → guarded SubStmt (row false k) ≡ true → free (row false k) ≡ true → NoRow v (row false k) x → Barred v (Part SubStmt) x
-word_barred key f is g gu fr n = barred_node (word_chosen key f is g) gu fr n

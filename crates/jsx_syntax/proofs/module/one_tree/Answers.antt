@@ -1,4 +1,4 @@
-use Rattle.jsx_syntax.proofs.Modules.{one_module}
+use Rattle.jsx_syntax.proofs.OneTree.{one_module}
 use Rattle.jsx_syntax.proofs.module.one_tree.Goals as goal
 
 pub returns : goal.returns

@@ -1,23 +1,18 @@
 use Rattle.std.proofs.Common.{ap, map, sym, ◌∙◌}
 use Rattle.std.specs.Str.{chars}
 use Rattle.std.specs.Prelude.{Err}
-use Rattle.jsx_tree.specs.Signs.{AfterExpr}
 use Rattle.jsx_tree.specs.Reading.{At}
 use Rattle.jsx_tree.specs.View.{directive}
-use Rattle.jsx_syntax.proofs.Modules.{whole, unread}
-use Rattle.jsx_base.proofs.FirstLine.{size-chars}
-use Rattle.jsx_syntax.proofs.Signs.{found_end}
-use Rattle.jsx_syntax.proofs.Tokens.{and_right}
-use Rattle.jsx_syntax.proofs.PlacedNodes.{module_placed}
+use Rattle.jsx_syntax.proofs.Texts.{whole, unread}
 use Rattle.jsx_syntax.proofs.module.parse.Goals as goal
 
 pub returns-in-Ok-clause-read : goal.returns-in-Ok-clause-read
-returns-in-Ok-clause-read c = whole (λ i. At (c.new-lexer.ensures.last i) AfterExpr (c.new-lexer.ensures.rest i)) c.in-Ok.ensures.read (ap (map directive) c.new.ensures.items)
+returns-in-Ok-clause-read c = whole (λ i. At (c.new-lexer.ensures.last i) (c.new-lexer.ensures.ending i) (c.new-lexer.ensures.rest i)) c.in-Ok.ensures.read (ap (map directive) c.new.ensures.items)
 
 pub returns-in-Err-Syntax-clause-refused : goal.returns-in-Err-Syntax-clause-refused
 returns-in-Err-Syntax-clause-refused c = record {
   bars = λ at e.
-      unread (λ i. At (c.new-lexer.ensures.last i) AfterExpr (c.new-lexer.ensures.rest i)) (c.in-Err-Syntax.ensures.refused.bars c.in-Err-Syntax.at (ap Err c.in-Err-Syntax.field-0-is));
+      unread (λ i. At (c.new-lexer.ensures.last i) (c.new-lexer.ensures.ending i) (c.new-lexer.ensures.rest i)) (c.in-Err-Syntax.ensures.refused.bars c.in-Err-Syntax.at (ap Err c.in-Err-Syntax.field-0-is));
 }
 
 pub returns-in-Ok-clause-placed : goal.returns-in-Ok-clause-placed

@@ -1,20 +1,24 @@
-use Rattle.std.proofs.Common.{◌≡◌, true, false, refl, sym, ◌∙◌}
+use Rattle.std.proofs.Common.{true, refl, sym, ◌∙◌, ap, subst}
+use Rattle.std.specs.Prelude.{◌&&◌}
 use Rattle.std.specs.Str.{chars}
-use Rattle.jsx_base.specs.Token.{IdentifierName}
-use Rattle.jsx_tree.specs.Nonterminals.{Pat, is_bound}
 use Rattle.jsx_tree.specs.Kinds.{Binds}
-use Rattle.jsx_syntax.specs.Pieces.{spelled}
+use Rattle.jsx_tree.specs.Nonterminals.{Pat}
+use Rattle.jsx_tree.specs.Grammar.{Part}
+use Rattle.jsx_tree.specs.Walk.{one}
+use Rattle.jsx_tree.specs.Answers.{Only}
+use Rattle.jsx_tree.specs.SoFar.{in_module, so_far}
 use Rattle.jsx_tree.specs.declared.text.Text.TheVariants.{Read}
-use Rattle.jsx_syntax.proofs.Leaves.{unfit_leaf}
-use Rattle.jsx_syntax.proofs.Trees.{pattern_past}
+use Rattle.jsx_syntax.specs.Here.{place_of}
+use Rattle.jsx_syntax.proofs.Homes.{patterns, only_leaf, no_leaf, unfit_leaf}
+use Rattle.jsx_syntax.proofs.Trees.{ident_is}
 use Rattle.jsx_syntax.proofs.parser.binding_identifier.Goals as goal
 
+pub returns-in_default-clause-refused : goal.returns-in_default-clause-refused
+returns-in_default-clause-refused c = record { bars = λ at e. no_leaf patterns c.in_default.ensures.missing }
+
 pub returns-then-not-is_bound-clause-refused : goal.returns-then-not-is_bound-clause-refused
-returns-then-not-is_bound-clause-refused c =
-    let bad : is_bound (chars c.in-Some.raw.now) ≡ false = sym c.is_bound.ensures ∙ c.if-not-is_bound.true in
-    unfit_leaf _ (Pat Binds) IdentifierName (chars c.in-Some.raw.now) c.in-Some.ensures.taken refl (λ a b. cc)
+returns-then-not-is_bound-clause-refused c = record { bars = λ at e. unfit_leaf (chars c.in-Some.raw.now) patterns c.in-Some.ensures.taken refl (ap (λ b. b && true) (sym c.is_bound.ensures ∙ c.if-not-is_bound.true)) }
 
 pub returns-clause-read : goal.returns-clause-read
-returns-clause-read c =
-    let good : is_bound (chars c.in-Some.raw.now) ≡ true = sym c.is_bound.ensures ∙ c.if-not-is_bound.false in
-    pattern_past c.span_to.result (record { text = Read c.in-Some.raw c.last_place-lo.result }) (spelled good refl c.in-Some.ensures.whole (sym c.in-Some.ensures.taken) refl)
+returns-clause-read c = subst (λ t. Only so_far in_module (Part (Pat Binds)) (place_of c.args.lexer.now) (one t) (place_of c.leaf.new.self)) (sym (ident_is c.span_to.result (record { text = Read c.in-Some.raw c.last_place-lo.result })))
+    (only_leaf patterns (sym c.is_bound.ensures ∙ c.if-not-is_bound.false) refl c.in-Some.ensures.whole c.in-Some.ensures.taken refl)

@@ -1,21 +1,28 @@
-use Rattle.jsx_syntax.specs.Pieces.{listed}
-use Rattle.jsx_syntax.proofs.Steps.{refuse, barred_listed, fails_2, fails_3, built_3}
-use Rattle.jsx_syntax.proofs.Trees.{declarator_is}
-use Rattle.std.proofs.Common.{refl, ◌∙◌}
-use Rattle.jsx_syntax.proofs.Places.{spans_from}
-use Rattle.jsx_syntax.proofs.PlacedNodes.{declarator_placed}
+use Rattle.std.proofs.Common.{None, refl, sym, ap, subst}
+use Rattle.jsx_tree.specs.View.{view_pat}
+use Rattle.jsx_tree.specs.declared.tree.Pat.TheVariants as pat
+use Rattle.jsx_tree.specs.Nonterminals.{Declarators}
+use Rattle.jsx_tree.specs.Grammar.{Part}
+use Rattle.jsx_tree.specs.Walk.{one}
+use Rattle.jsx_tree.specs.Answers.{Only}
+use Rattle.jsx_tree.specs.SoFar.{in_module, so_far}
+use Rattle.jsx_syntax.specs.Here.{place_of}
+use Rattle.jsx_syntax.proofs.Items.{initialized, uninitialized, no_binding, no_initializer}
+use Rattle.jsx_syntax.proofs.Steps.{passed}
+use Rattle.jsx_syntax.proofs.Trees.{binding_is, plain_is}
 use Rattle.jsx_syntax.proofs.statement.declarator.Goals as goal
 
-pub returns-in_err-expect-clause-refused : goal.returns-in_err-expect-clause-refused
-returns-in_err-expect-clause-refused c = fails_2 _ _ c.in_err-expect.ensures.refused c.in_ok-name.ensures.read c.from_residual-in_err-expect.ensures.1
+pub returns-in_err-name-clause-refused : goal.returns-in_err-name-clause-refused
+returns-in_err-name-clause-refused c = passed _ c.in_err-name.ensures.refused c.from_residual.ensures.1 (λ b. no_binding b)
+
+pub returns-then-not-take-clause-read : goal.returns-then-not-take-clause-read
+returns-then-not-take-clause-read c = subst (λ p. Only so_far in_module (Part Declarators) (place_of c.args.lexer.now) (one (view_pat (pat.Binding c.span_to.result c.in_ok-name-2.name None))) p) (sym (ap place_of (c.take.ensures.stays c.if-not-take.true)))
+    (uninitialized c.in_ok-name.ensures.read (record { is = ap place_of c.ends.ensures; found = refl }) (record { is = c.take.ensures.missing c.if-not-take.true }) (plain_is c.span_to.result c.in_ok-name-2.name c.in_ok-name-2.ensures.ok))
 
 pub returns-in_err-value-clause-refused : goal.returns-in_err-value-clause-refused
-returns-in_err-value-clause-refused c = fails_3 _ _ (refuse _ barred_listed c.in_err-value.ensures.refused) c.in_ok-name.ensures.read c.in_ok-expect.ensures.read c.from_residual-in_err-value.ensures.1
+returns-in_err-value-clause-refused c = passed _ c.in_err-value.ensures.refused c.from_residual-in_err-value.ensures.1
+    (λ b. no_initializer c.in_ok-name.ensures.read (record { is = ap place_of c.ends.ensures; found = refl }) (record { is = c.take.ensures.taken c.if-not-take.false; found = refl }) b)
 
 pub returns-clause-read : goal.returns-clause-read
-returns-clause-read c = built_3 c.in_ok-name.ensures.read c.in_ok-expect.ensures.read (listed c.in_ok-value.ensures.read) (declarator_is _ _ _ c.in_ok-name.name c.in_ok-value.value c.in_ok-new.ensures.ok c.in_ok-new-2.ensures.ok)
-
-pub returns-clause-placed : goal.returns-clause-placed
-returns-clause-placed c =
-    declarator_placed c.span_to.result c.in_ok-new.field-0 c.in_ok-new-2.field-0 c.in_ok-name.name c.in_ok-value.value c.in_ok-new.ensures.ok c.in_ok-new-2.ensures.ok c.in_ok-name.ensures.placed c.in_ok-expect.ensures.takes c.in_ok-value.ensures.placed
-    (spans_from c.span_to.ensures refl (c.last_place-lo.ensures ∙ c.in_ok-name.ensures.begins) refl)
+returns-clause-read c = initialized c.in_ok-name.ensures.read (record { is = ap place_of c.ends.ensures; found = refl }) (record { is = c.take.ensures.taken c.if-not-take.false; found = refl }) c.in_ok-value.ensures.read
+    (binding_is c.span_to-2.result c.in_ok-name-2.name c.in_ok-new.field-0 c.in_ok-name-2.ensures.ok c.in_ok-new.ensures.ok)

@@ -1,31 +1,40 @@
-use Rattle.std.proofs.Common.{arith, refl, ap}
-use Rattle.jsx_tree.specs.View.{view_pat}
-use Rattle.jsx_tree.specs.Told.{told_pat}
+use Rattle.std.proofs.Common.{◌≡◌, true, arith, map, refl, sym, ◌∙◌, ap, subst}
+use Rattle.jsx_tree.specs.View.{forest, view_pat}
 use Rattle.jsx_syntax.specs.Here.{place_of}
-use Rattle.jsx_syntax.specs.Pieces.{Bound}
-use Rattle.jsx_syntax.proofs.Leaves.{read_fixed}
-use Rattle.jsx_syntax.proofs.Steps.{passed, formed, to_place, map_push, barred_binding, bad_binding, next_binding, last_binding}
-use Rattle.jsx_syntax.proofs.Placing.{plain_no_trailing, front_more, front_last, list_to, pushed}
+use Rattle.jsx_tree.proofs.Rows.SoFar.{of_so_far}
+use Rattle.jsx_tree.proofs.Rows.Lists.{begun, none_next, not_shut, one_next, shut}
+use Rattle.jsx_tree.proofs.Rows.Placing.{no_node}
+use Rattle.jsx_syntax.proofs.Items.{inits, inits_more, no_init}
+use Rattle.jsx_syntax.proofs.Steps.{passed}
+use Rattle.jsx_syntax.proofs.Trees.{pushed}
 use Rattle.jsx_syntax.proofs.statement.declarators.Goals as goal
 
+pub declarators-init : goal.declarators-init
+declarators-init c = record {
+  so_far = begun _ (ap (λ xs. forest (map view_pat xs)) c.in_ok-all.ensures.items);
+  initialized = subst (λ xs. inits (forest (map view_pat xs)) ≡ true) (sym c.in_ok-all.ensures.items) refl;
+  within = omega arith;
+}
+
 pub returns-in_err-next-clause-refused : goal.returns-in_err-next-clause-refused
-returns-in_err-next-clause-refused c = passed _ _ _ _ c.in_err-next.ensures.refused c.from_residual-in_err-next.ensures.1 (λ n. bad_binding c.declarators.invariant.so_far (barred_binding n))
+returns-in_err-next-clause-refused c = passed _ c.in_err-next.ensures.refused c.from_residual-in_err-next.ensures.1 (λ b. no_node (none_next _ c.declarators.invariant.so_far b))
+
+pub returns-then-not-is_initialized-clause-refused : goal.returns-then-not-is_initialized-clause-refused
+returns-then-not-is_initialized-clause-refused c = record { bars = λ _ _. no_init _ c.declarators.invariant.so_far c.in_ok-next.ensures.read (sym c.is_initialized.ensures ∙ c.if-not-is_initialized.true) }
+
+pub returns-in_err-expect-clause-refused : goal.returns-in_err-expect-clause-refused
+returns-in_err-expect-clause-refused c = passed _ c.in_err-expect.ensures.refused c.from_residual-in_err-expect.ensures.1
+    (λ b. no_node (not_shut _ of_so_far c.declarators.invariant.so_far c.in_ok-next.ensures.read (record { same = sym (ap place_of (c.take.ensures.stays c.if-not-take.true)); stuck = record { is = c.take.ensures.missing c.if-not-take.true } }) b))
 
 pub returns-then-not-take-clause-read : goal.returns-then-not-take-clause-read
-returns-then-not-take-clause-read c = to_place (ap place_of (c.take.ensures.stays c.if-not-take.true))
-    (last_binding c.declarators.invariant.so_far (formed Bound refl c.in_ok-next.ensures.read) (c.take.ensures.missing c.if-not-take.true) (map_push view_pat c.declarators.all.items _ c.in_ok-next.next c.in_ok-push.ensures.items))
+returns-then-not-take-clause-read c = shut _ _ of_so_far c.declarators.invariant.so_far c.in_ok-next.ensures.read (record { same = sym (ap place_of (c.take.ensures.stays c.if-not-take.true)); stuck = record { is = c.take.ensures.missing c.if-not-take.true } }) c.in_ok-expect.ensures.read (pushed view_pat _ _ _ c.in_ok-push.ensures.items)
+
+pub returns-then-not-take-clause-initialized : goal.returns-then-not-take-clause-initialized
+returns-then-not-take-clause-initialized c = subst (λ ts. inits ts ≡ true) (sym (pushed view_pat _ _ _ c.in_ok-push.ensures.items)) (inits_more (forest (map view_pat c.declarators.all.items)) _ c.declarators.invariant.initialized (sym c.is_initialized.ensures ∙ c.if-not-is_initialized.false))
 
 pub declarators-preserved : goal.declarators-preserved
-declarators-preserved c =
-    let comma = c.take.ensures.takes c.if-not-take.false in
-    record {
-      so_far = next_binding c.declarators.invariant.so_far (formed Bound refl c.in_ok-next.ensures.read) (read_fixed (c.take.ensures.taken c.if-not-take.false) refl) (map_push view_pat c.declarators.all.items _ c.in_ok-next.next c.in_ok-push.ensures.items);
-      within = omega (arith, c.take.ensures.shorter c.if-not-take.false, c.in_ok-next.ensures.shorter, c.declarators.invariant.within);
-      placed = front_more plain_no_trailing c.declarators.invariant.placed c.in_ok-next.ensures.placed comma.same comma.leads
-          (pushed told_pat c.declarators.all.items _ c.in_ok-next.next _ c.in_ok-push.ensures.items refl) (pushed view_pat c.declarators.all.items _ c.in_ok-next.next _ c.in_ok-push.ensures.items refl);
-    }
-
-pub returns-then-not-take-clause-placed : goal.returns-then-not-take-clause-placed
-returns-then-not-take-clause-placed c =
-    list_to (c.take.ensures.stays c.if-not-take.true) (front_last plain_no_trailing c.declarators.invariant.placed c.in_ok-next.ensures.placed refl refl
-    (pushed told_pat c.declarators.all.items _ c.in_ok-next.next _ c.in_ok-push.ensures.items refl) (pushed view_pat c.declarators.all.items _ c.in_ok-next.next _ c.in_ok-push.ensures.items refl))
+declarators-preserved c = record {
+  so_far = one_next _ _ of_so_far refl refl c.declarators.invariant.so_far c.in_ok-next.ensures.read (record { is = c.take.ensures.taken c.if-not-take.false; found = refl }) (pushed view_pat _ _ _ c.in_ok-push.ensures.items);
+  initialized = subst (λ ts. inits ts ≡ true) (sym (pushed view_pat _ _ _ c.in_ok-push.ensures.items)) (inits_more (forest (map view_pat c.declarators.all.items)) _ c.declarators.invariant.initialized (sym c.is_initialized.ensures ∙ c.if-not-is_initialized.false));
+  within = omega (arith, c.take.ensures.shorter c.if-not-take.false, c.in_ok-next.ensures.shorter, c.declarators.invariant.within);
+}

@@ -1,0 +1,252 @@
+-- Statements of the language so far.
+use Rattle.std.proofs.Common.{◌≡◌, Bool, true, false, not, cond, List, [], refl, sym, ◌∙◌, ap, subst}
+use Rattle.std.specs.Prelude.{IsTrue, codes, ◌&&◌}
+use Rattle.jsx_base.specs.Token.{Operand, Operator, IdentifierName, Punctuator, RegExpLiteral, is_token, among, token, same}
+use Rattle.jsx_tree.specs.Signs.{AfterExpr, AfterBinding, Sign, Unless, Ends}
+use Rattle.jsx_tree.specs.Kinds.{ConstWord, Var, Declarator, ExprStmt, Binds, Kind, statement, Tree, leaf, node, list, Forest, none, part}
+use Rattle.jsx_tree.specs.Nonterminals.{Nonterminal, Expr, Pat, Declarators, Item, leaf_in}
+use Rattle.jsx_tree.specs.Grammar.{Part, Fixed, pun, key, heads}
+use Rattle.jsx_tree.specs.Form.{admits}
+use Rattle.jsx_tree.specs.Reading.{Place, Lost, At, forth}
+use Rattle.jsx_tree.specs.StaticRules.{Surroundings, all_of, list_rule, has_init}
+use Rattle.jsx_tree.specs.Stage.{limits, is_string}
+use Rattle.jsx_tree.specs.Walk.{is_found, nothing, one, Piece, row, tail, Given, Past, sign, tree, Walk, next, steady}
+use Rattle.jsx_tree.specs.Stops.{going}
+use Rattle.jsx_tree.specs.Language.{Language, Whole}
+use Rattle.jsx_tree.specs.Answers.{Moves, Stuck, Only, Barred, OnlyRow, NoRow, NoNode, BuiltNode}
+use Rattle.jsx_tree.specs.SoFar.{Staged, behind_const, ends_so_far, row_so_far, so_far}
+use Rattle.jsx_tree.proofs.Tokens.{and_left, and_right, and_both}
+use Rattle.jsx_tree.proofs.Apart.{clash}
+use Rattle.jsx_base.proofs.Fronts.{none_ahead}
+use Rattle.jsx_tree.proofs.Rows.Bridge.{found_at, node_walk}
+use Rattle.jsx_tree.proofs.Rows.Stopping.{raw_of, not_is, is_not, never_stops, stays}
+use Rattle.jsx_tree.proofs.Rows.Guarded.{to_grammar}
+use Rattle.jsx_tree.proofs.Rows.Firsts.{Keyed, row_key}
+use Rattle.jsx_tree.proofs.Rows.Bodies.{plain}
+use Rattle.jsx_tree.proofs.Rows.Steps.{bar, on, then', end, only_sign, both}
+use Rattle.jsx_tree.proofs.Rows.Turns.{Turn, prepend, turn_only, whole_of}
+use Rattle.jsx_tree.proofs.Rows.Lists.{all_with}
+use Rattle.jsx_tree.proofs.Rows.Optionals.{turn_absent, present_last, none_last}
+use Rattle.jsx_tree.proofs.Rows.Laws.{lost_barred, end_found, start_found}
+use Rattle.jsx_tree.proofs.Rows.Placing.{Chosen, OnlyAt, NoneAt, then_at, only_at, barred_at, only_node, barred_node}
+use Rattle.jsx_tree.proofs.Rows.SoFar.{of_so_far}
+use Rattle.jsx_syntax.proofs.Homes.{IsName, patterns, no_list, Taken, module', constant, bound, evaluation, call, member, element, taken_by, home_of}
+use Rattle.jsx_syntax.proofs.Values.{settled, settled_token, leaf_full, is_next, found_next, only_whole, barred_whole, no_heads}
+
+-- ---- a variable and its initializer
+
+pub bound_kind : (l : Kind) (ts : Forest) → Taken l → admits Declarators (node l ts) ≡ true → l ≡ statement Declarator
+bound_kind l ts bound h = refl
+bound_kind l ts module' h = cc
+bound_kind l ts constant h = cc
+bound_kind l ts evaluation h = cc
+bound_kind l ts call h = cc
+bound_kind l ts member h = cc
+bound_kind l ts element h = cc
+
+bound_chosen : {v : Surroundings} {x : Place} → Chosen so_far v Declarators (statement Declarator) x
+bound_chosen = record { no_leaf = λ s t y w. let bad = w.reads.staged in cc; kind = λ l ts y w. bound_kind l ts (taken_by w.reads) (home_of w.reads) }
+
+-- where a name that is bound ended, an initializer goes on with it
+pub bound_next : (a : Place) {b : Place} → settled a ≡ true → b ≡ forth (Ends AfterBinding) a → is_next (codes "=") b ≡ true → ends_so_far Declarators b ≡ false
+bound_next (At q AfterExpr text) s e h = subst (λ p. ends_so_far Declarators p ≡ false) (sym e) (stop (subst (λ p. is_next (codes "=") p ≡ true) e h))
+  where
+    stop : is_next (codes "=") (At q AfterBinding text) ≡ true → ends_so_far Declarators (At q AfterBinding text) ≡ false
+    stop h = let x = token Operator false text in (λ i. not (among (raw_of Punctuator (codes "=") x h i) (going 1) && h i))
+bound_next Lost s e h = cc
+bound_next (At q _ text) s e h = cc
+
+not_lost : (b : Bool) (y : Place) → IsTrue (is_found y) → cond b y Lost ≡ Lost → b ≡ false
+not_lost true y f e = let bad : IsTrue (is_found Lost) = subst (λ p. IsTrue (is_found p)) e f in cc
+not_lost false y f e = refl
+
+bound_ends : (a : Place) {b : Place} → settled a ≡ true → b ≡ forth (Ends AfterBinding) a → Stuck (pun "=") b → ends_so_far Declarators b ≡ true
+bound_ends (At q AfterExpr text) s e k = subst (λ p. ends_so_far Declarators p ≡ true) (sym e) (stop (subst (λ p. forth (pun "=") p ≡ Lost) e k.is))
+  where
+    and_false : (a : Bool) → (a && false) ≡ false
+    and_false true = refl
+    and_false false = refl
+
+    stop : forth (pun "=") (At q AfterBinding text) ≡ Lost → ends_so_far Declarators (At q AfterBinding text) ≡ true
+    stop h =
+        let same' : token Operator (same q []) text ≡ token Operator false text = ap (λ v. token Operator v text) (is_not _ s) in
+        let n = ap (λ x. is_token x Punctuator (codes "=")) (sym same') ∙ not_lost _ (At (codes "=") AfterExpr (token Operator (same q []) text).rest) refl h in
+        not_is _ (ap (λ b. among (token Operator false text).raw (going 1) && b) n ∙ and_false _)
+bound_ends Lost s e k = cc
+bound_ends (At q _ text) s e k = cc
+
+pub pattern_settled : {v : Surroundings} {x y : Place} (t : Tree) → Staged v false (Pat Binds) x t y → settled y ≡ true
+pattern_settled {x = x} (leaf IdentifierName t) r = settled_token Operator IdentifierName t x (leaf_full IsName t (and_right (leaf_in (Pat Binds) IdentifierName t) _ r.reads.is)) r.reads.scans r.reads.found
+pattern_settled (leaf _ t) r = let bad = r.staged in cc
+pattern_settled (node k ts) r = absurd (patterns.node k ts (taken_by r) (home_of r))
+pattern_settled (list ts) r = absurd (no_list r)
+
+pub name_ended : {v : Surroundings} {x y : Place} {p : Tree} → Only so_far v (Part (Pat Binds)) x (one p) y → settled y ≡ true
+name_ended {p = p} o = pattern_settled p (whole_of o.past).reads
+
+abbrev bound_keeps : Surroundings → Forest → Type 0
+bound_keeps v ts = so_far.keeps (statement Declarator) v ts ≡ true
+
+kept : {v : Surroundings} {x y : Place} {ts : Forest} → Walk (Whole so_far) (steady v) (row_so_far (statement Declarator)) x ts y → bound_keeps v ts
+kept w = and_both _ _ (plain (row_so_far (statement Declarator)) refl (to_grammar of_so_far w)) refl
+
+one_bound : {v : Surroundings} {x z : Place} {ts : Forest} → OnlyAt so_far v Declarators (row_so_far (statement Declarator)) x ts z → ends_so_far Declarators z ≡ true → Only so_far v (Part Declarators) x (one (node (statement Declarator) ts)) z
+one_bound o e = only_at of_so_far bound_chosen refl refl refl o (kept o.walk) e
+
+pub initialized : {v : Surroundings} {x y y1 y2 z : Place} {p u w : Tree} → Only so_far v (Part (Pat Binds)) x (one p) y → Moves (Ends AfterBinding) y y1 → Moves (pun "=") y1 y2 → Only so_far v (Part (Expr 1)) y2 (one u) z → w ≡ node (statement Declarator) (part p (part (list (part u none)) none)) → Only so_far v (Part Declarators) x (one w) z
+initialized {v} {x} {y} {y1} {z = z} {u = u} o m q r is = subst (λ t. Only so_far v (Part Declarators) x (one t) z) (sym is)
+    (one_bound (then_at o (then_at (only_sign m) (present_last (bound_next y (name_ended o) m.is (found_next 61 [] y1 (found_at (sym q.is) q.found))) (sym q.is) r refl (end_found of_so_far (whole_of r.past).reads)))) (ends (whole_of r.past).ends_there))
+  where
+    same_ends : (p : Place) → ends_so_far (Expr 1) p ≡ ends_so_far Declarators p
+    same_ends Lost = refl
+    same_ends (At q e text) = refl
+
+    ends : ends_so_far (Expr 1) z ≡ true → ends_so_far Declarators z ≡ true
+    ends h = sym (same_ends z) ∙ h
+
+of_row : {L : Language} {v : Surroundings} {c : Nonterminal} {ps : List Piece} {x y : Place} {ts : Forest} → OnlyRow L v ps x ts y → OnlyAt L v c ps x ts y
+of_row o = record { walk = o.walk; alone = λ us z w e. o.alone us z w }
+
+pub unless_none : (x : Place) → IsTrue (is_found x) → forth (Unless []) x ≡ x
+unless_none Lost f = refl
+unless_none (At q e text) f = refl
+
+pub uninitialized : {v : Surroundings} {x y y1 : Place} {p w : Tree} → Only so_far v (Part (Pat Binds)) x (one p) y → Moves (Ends AfterBinding) y y1 → Stuck (pun "=") y1 → w ≡ node (statement Declarator) (part p (part (list none) none)) → Only so_far v (Part Declarators) x (one w) y1
+uninitialized {v} {x} {y} {y1} o m k is = subst (λ t. Only so_far v (Part Declarators) x (one t) y1) (sym is)
+    (one_bound (of_row (then' o (then' (only_sign m) (turn_only (turn_absent (unless_none y1 m.found) m.found (lost_barred of_so_far k.is)) (end m.found))))) (bound_ends y (name_ended o) m.is k))
+
+none_bound : {v : Surroundings} {x : Place} → NoneAt so_far v Declarators (row_so_far (statement Declarator)) (statement Declarator) x → Barred so_far v (Part Declarators) x
+none_bound n = barred_at of_so_far bound_chosen refl refl n
+
+pub no_binding : {v : Surroundings} {x : Place} → Barred so_far v (Part (Pat Binds)) x → Barred so_far v (Part Declarators) x
+no_binding b = none_bound (record { no = λ ts y w k e. (bar b).no ts y w })
+
+pub no_initializer : {v : Surroundings} {x y y1 y2 : Place} {p : Tree} → Only so_far v (Part (Pat Binds)) x (one p) y → Moves (Ends AfterBinding) y y1 → Moves (pun "=") y1 y2 → Barred so_far v (Part (Expr 1)) y2 → Barred so_far v (Part Declarators) x
+no_initializer {v} {x} {y} {y1} {y2} o m q b = none_bound (record { no = at })
+  where
+    last : (us : Forest) (u : Place) → Walk (Whole so_far) (steady v) (tail (tail (row_so_far (statement Declarator)))) y1 us u → ends_so_far Declarators u ≡ true → ⊥
+    last us u w h = none_last {o = Declarators} (bound_next y (name_ended o) m.is (found_next 61 [] y1 (found_at (sym q.is) q.found))) (sym q.is) b us u w h
+
+    at : (ts : Forest) (z : Place) → Walk (Whole so_far) (steady v) (row_so_far (statement Declarator)) x ts z → so_far.keeps (statement Declarator) v ts ≡ true → ends_so_far Declarators z ≡ true → ⊥
+    at ts z (next r (next {ts = us} (sign e f) w)) k h =
+        let same = o.alone _ _ r in
+        last us z (subst (λ p. Walk (Whole so_far) (steady v) (tail (tail (row_so_far (statement Declarator)))) p us z) (sym e ∙ (ap (forth (Ends AfterBinding)) (sym same.1) ∙ sym m.is)) w) h
+
+-- ---- a lexical declaration, behind its word and with it
+
+abbrev pub inits : Forest → Bool
+inits = all_of (has_init ConstWord)
+
+pub inits_more : (ts : Forest) (t : Tree) → inits ts ≡ true → has_init ConstWord t ≡ true → inits (both ts (part t none)) ≡ true
+inits_more none t a b = and_both _ _ b refl
+inits_more (part u ts) t a b = and_both _ _ (and_left (has_init ConstWord u) _ a) (inits_more ts t (and_right (has_init ConstWord u) _ a) b)
+
+without : (ts : Forest) (t : Tree) (us : Forest) → has_init ConstWord t ≡ false → inits (both ts (part t us)) ≡ true → ⊥
+without none t us n h = clash _ (and_left (has_init ConstWord t) _ h) n
+without (part u ts) t us n h = without ts t us n (and_right (has_init ConstWord u) _ h)
+
+pub const_keeps : (v : Surroundings) (ts : Forest) → inits ts ≡ true → so_far.keeps (statement (Var ConstWord)) v (part (list ts) none) ≡ true
+const_keeps v ts i = and_both _ _ (and_both _ _ i refl) refl
+
+list_inits : (v : Surroundings) (ts us : Forest) → so_far.keeps (statement (Var ConstWord)) v (part (list ts) us) ≡ true → inits ts ≡ true
+list_inits v ts us k = and_left (inits ts) _ (and_left (all_of (list_rule inits) (part (list ts) us)) _ k)
+
+-- one without an initializer
+pub no_init : {v : Surroundings} {x y z : Place} {t : Tree} (ts : Forest) → Turn so_far v behind_const behind_const x y (prepend ts) → Only so_far v (Part Declarators) y (one t) z → has_init ConstWord t ≡ false → NoNode so_far v behind_const (statement (Var ConstWord)) x
+no_init {v} {x} {t = t} ts so o n = record { no = at }
+  where
+    at : (us : Forest) (w : Place) → Walk (Whole so_far) (steady v) behind_const x us w → so_far.keeps (statement (Var ConstWord)) v us ≡ true → ⊥
+    at us w walk k =
+        let a = all_with ts so o us w walk in
+        without ts t a.0 n (list_inits v (both ts (part t a.0)) a.1.0 (subst (λ vs. so_far.keeps (statement (Var ConstWord)) v vs ≡ true) a.1.1 k))
+
+pub item_kind : (l : Kind) (ts : Forest) {A : Type 0} → Taken l → admits Item (node l ts) ≡ true → (l ≡ statement (Var ConstWord) → A) → (l ≡ statement ExprStmt → A) → A
+item_kind l ts constant h f g = f refl
+item_kind l ts evaluation h f g = g refl
+item_kind l ts module' h f g = cc
+item_kind l ts bound h f g = cc
+item_kind l ts call h f g = cc
+item_kind l ts member h f g = cc
+item_kind l ts element h f g = cc
+
+const_key : Keyed 99 (codes "onst")
+const_key = record { no_less = refl; no_slash = λ s. none_ahead RegExpLiteral Operand 99 s refl refl refl; no_head = refl }
+
+pub const_sign : {R : _} {V : _} {x y : Place} {ts : Forest} → Walk R V (row_so_far (statement (Var ConstWord))) x ts y → IsTrue (is_found (forth (key "const") x))
+const_sign (next (sign e f) w) = found_at e f
+
+pub no_evaluation : {v : Surroundings} {c : Nonterminal} {x y : Place} {ts : Forest} → IsTrue (is_found (forth (key "const") x)) → Staged v false c x (node (statement ExprStmt) ts) y → ⊥
+no_evaluation f r = let bad = row_key 99 (codes "onst") (row false (statement ExprStmt)) const_key (node_walk false (statement ExprStmt) refl r.reads).walk f in cc
+
+const_chosen : {v : Surroundings} {x : Place} → IsTrue (is_found (forth (key "const") x)) → Chosen so_far v Item (statement (Var ConstWord)) x
+const_chosen {v} {x} f = record {
+  no_leaf = λ s t y w. let bad = w.reads.staged in cc;
+  kind = λ l ts y w. item_kind l ts (taken_by w.reads) (home_of w.reads) (λ e. e) (λ e. absurd (no_evaluation f (subst (λ k. Staged v false Item x (node k ts) y) e w.reads)));
+}
+
+no_const : {v : Surroundings} {x y : Place} {ts : Forest} → forth (key "const") x ≡ Lost → Staged v false Item x (node (statement (Var ConstWord)) ts) y → ⊥
+no_const n r = let bad : IsTrue (is_found Lost) = subst (λ p. IsTrue (is_found p)) n (const_sign (of_so_far.from_node (statement (Var ConstWord)) r).walk) in cc
+
+evaluation_chosen : {v : Surroundings} {x : Place} → forth (key "const") x ≡ Lost → Chosen so_far v Item (statement ExprStmt) x
+evaluation_chosen {v} {x} n = record {
+  no_leaf = λ s t y w. let bad = w.reads.staged in cc;
+  kind = λ l ts y w. item_kind l ts (taken_by w.reads) (home_of w.reads) (λ e. absurd (no_const n (subst (λ k. Staged v false Item x (node k ts) y) e w.reads))) (λ e. e);
+}
+
+pub item_ends : (y : Place) → ends_so_far Item y ≡ true
+item_ends y = of_so_far.ends_there Item y (never_stops Item y refl)
+
+pub const_only : {v : Surroundings} {x y z : Place} {t : Tree} → Moves (key "const") x y → BuiltNode so_far v behind_const (statement (Var ConstWord)) t y z → Only so_far v (Part Item) x (one t) z
+const_only {z = z} m b = only_node of_so_far (const_chosen (found_at (sym m.is) m.found)) refl refl (λ ts. refl) (record { parts = b.parts; is = b.is; row = then' (only_sign m) b.row }) b.keeps (item_ends z)
+
+pub const_barred : {v : Surroundings} {x y : Place} → Moves (key "const") x y → NoNode so_far v behind_const (statement (Var ConstWord)) y → Barred so_far v (Part Item) x
+const_barred {v} {x} {y} m n = barred_node of_so_far (const_chosen (found_at (sym m.is) m.found)) refl refl (record { no = at })
+  where
+    at : (us : Forest) (w : Place) → Walk (Whole so_far) (steady v) (row_so_far (statement (Var ConstWord))) x us w → so_far.keeps (statement (Var ConstWord)) v us ≡ true → ⊥
+    at us w (next {ts = vs} (sign e f) walk) k = n.no vs w (subst (λ p. Walk (Whole so_far) (steady v) behind_const p vs w) (sym e ∙ sym m.is) walk) k
+
+-- ---- an expression statement
+
+heads_only : {v : Surroundings} {x : Place} → IsTrue (is_found x) → forth (Unless heads) x ≡ x → Only so_far v (Fixed (Unless heads)) x nothing x
+heads_only f e = only_sign (record { is = sym e; found = f })
+
+statement_row : {v : Surroundings} {x y z : Place} {t : Tree} → Only so_far v (Part (Expr 1)) x (one t) y → Only so_far v (Fixed (pun ";")) y nothing z → OnlyRow so_far v (row_so_far (statement ExprStmt)) x (part t none) z
+statement_row o s = then' (heads_only (start_found of_so_far (whole_of o.past).reads) (no_heads refl (whole_of o.past).reads)) (then' (only_whole o) (then' s (end (sign_found s.past))))
+  where
+    sign_found : {v : Surroundings} {s : Sign} {x y : Place} {g : Given} → Past (Whole so_far) v (Fixed s) x g y → IsTrue (is_found y)
+    sign_found (sign e f) = f
+
+pub statement_built : {v : Surroundings} {x y z : Place} {t w : Tree} → Only so_far v (Part (Expr 1)) x (one t) y → is_string t ≡ false → Only so_far v (Fixed (pun ";")) y nothing z → w ≡ node (statement ExprStmt) (part t none) → BuiltNode so_far v (row_so_far (statement ExprStmt)) (statement ExprStmt) w x z
+statement_built {v} {t = t} o n s is =
+    let r = statement_row o s in
+    record { parts = part t none; is = is; row = r; keeps = and_both _ _ (not_is _ n) (and_both _ _ (plain (row_so_far (statement ExprStmt)) refl (to_grammar of_so_far r.walk)) refl) }
+
+pub no_value_statement : {v : Surroundings} {x : Place} → Barred so_far v (Part (Expr 1)) x → NoRow so_far v (row_so_far (statement ExprStmt)) x
+no_value_statement {v} {x} b = record { no = at }
+  where
+    at : (us : Forest) (w : Place) → Walk (Whole so_far) (steady v) (row_so_far (statement ExprStmt)) x us w → ⊥
+    at us w (next (sign e f) (next {y = z} {g = g} q walk)) = (barred_whole b).no g z (subst (λ p. Past (Whole so_far) v (Part (Expr 0)) p g z) (sym e ∙ stays (Unless heads) x refl (found_at e f)) q)
+
+pub unfinished : {v : Surroundings} {x y : Place} {t : Tree} → Only so_far v (Part (Expr 1)) x (one t) y → Barred so_far v (Fixed (pun ";")) y → NoRow so_far v (row_so_far (statement ExprStmt)) x
+unfinished o s = on (heads_only (start_found of_so_far (whole_of o.past).reads) (no_heads refl (whole_of o.past).reads)) (on (only_whole o) (bar s))
+
+string_limits : (t : Tree) (us : Forest) → is_string t ≡ true → limits (statement ExprStmt) (part t us) ≡ false
+string_limits t us e = ap not e
+
+pub string_statement : {v : Surroundings} {x y : Place} {t : Tree} → Only so_far v (Part (Expr 1)) x (one t) y → is_string t ≡ true → NoNode so_far v (row_so_far (statement ExprStmt)) (statement ExprStmt) x
+string_statement {v} {x} {y} {t} o s = record { no = at }
+  where
+    one_is : {t u : Tree} → one t ≡ one u → t ≡ u
+    one_is e = cc
+
+    at : (us : Forest) (w : Place) → Walk (Whole so_far) (steady v) (row_so_far (statement ExprStmt)) x us w → so_far.keeps (statement ExprStmt) v us ≡ true → ⊥
+    at us w (next (sign e f) (next {y = z} {ts = vs} (tree {t = u} q) walk)) k =
+        let there = sym e ∙ stays (Unless heads) x refl (found_at e f) in
+        let same = (only_whole o).alone (one u) z (tree (subst (λ p. Whole so_far v false (Expr 0) p u z) there q)) in
+        clash _ (and_left (limits (statement ExprStmt) (part u vs)) _ k) (string_limits u vs (subst (λ p. is_string p ≡ true) (one_is same.0) s))
+
+pub statement_only : {v : Surroundings} {x z : Place} {t : Tree} → forth (key "const") x ≡ Lost → BuiltNode so_far v (row_so_far (statement ExprStmt)) (statement ExprStmt) t x z → Only so_far v (Part Item) x (one t) z
+statement_only {z = z} n b = only_node of_so_far (evaluation_chosen n) refl refl (λ ts. refl) (record { parts = b.parts; is = b.is; row = b.row }) b.keeps (item_ends z)
+
+pub statement_barred : {v : Surroundings} {x : Place} → forth (key "const") x ≡ Lost → NoNode so_far v (row_so_far (statement ExprStmt)) (statement ExprStmt) x → Barred so_far v (Part Item) x
+statement_barred n b = barred_node of_so_far (evaluation_chosen n) refl refl b

@@ -1,0 +1,19 @@
+-- From the parser's begin.
+use Rattle.std.proofs.Common.{◌≡◌, List, [], sym, subst}
+use Rattle.jsx_base.specs.Token.{Text}
+use Rattle.jsx_tree.specs.Kinds.{Module, program, Tree, Forest, node, list, none, part}
+use Rattle.jsx_tree.specs.Nonterminals.{Item}
+use Rattle.jsx_tree.specs.Reading.{Place}
+use Rattle.jsx_tree.specs.Stage.{ReadsSoFar}
+use Rattle.jsx_tree.specs.View.{forest}
+use Rattle.jsx_tree.specs.Texts.{start}
+use Rattle.jsx_tree.specs.Answers.{ToEnd, OnlyToEnd, NoneToEnd}
+use Rattle.jsx_tree.specs.SoFar.{in_module, so_far}
+use Rattle.jsx_syntax.specs.Answers.{NoTree}
+use Rattle.jsx_syntax.proofs.Modules.{module_reads, module_statements}
+
+pub whole : {text : Text} {x : Place} {ds : List Tree} {ts : Forest} → x ≡ start text → OnlyToEnd so_far in_module Item x ts → ds ≡ [] → ReadsSoFar text (node (program Module) (part (list (forest ds)) (part (list ts) none)))
+whole {text} {ts = ts} same o none' = subst (λ us. ReadsSoFar text (node (program Module) (part (list (forest us)) (part (list ts) none)))) (sym none') (module_reads (subst (λ p. ToEnd so_far in_module Item p ts) same o.leads))
+
+pub unread : {text : Text} {x : Place} → x ≡ start text → NoneToEnd so_far in_module Item x → NoTree text
+unread same n = record { no = λ t r. let s = module_statements r in n.no s.parts (subst (λ p. ToEnd so_far in_module Item p s.parts) (sym same) s.leads) }
