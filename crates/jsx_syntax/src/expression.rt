@@ -25,7 +25,6 @@ use std::alloc::Global;
 fn element<'s>(lexer: &mut Lexer<'s>) -> Result<Jsx<'s>, ParseError>
     ensures read { IfOk result (λ j. Built so_far in_module (row_so_far (jsx Element)) (jsx Element) (λ ts. ts) (view_jsx j) (place_of lexer.old) (place_of lexer.new)) }
     ensures span { IfOk result (λ j. Spans (jsx_at j) (next_of lexer.old) (end_of lexer.new)) }
-    ensures placed { IfOk result (λ j. IsPlaced (told_jsx j) (view_jsx j) lexer.old lexer.new) }
     ensures shorter { OnOk result (left lexer.new < left lexer.old) }
     ensures refused { Refused result (NoRow so_far in_module (row_so_far (jsx Element)) (place_of lexer.old)) }
 {
@@ -41,7 +40,6 @@ fn element<'s>(lexer: &mut Lexer<'s>) -> Result<Jsx<'s>, ParseError>
 fn primary<'s>(lexer: &mut Lexer<'s>) -> Result<Expr<'s>, ParseError>
     ensures read { IfOk result (λ e. Follows so_far in_module (grammar.Expr 1) (place_of lexer.old) (view_expr e) (place_of lexer.new)) }
     ensures span { IfOk result (λ e. Spans (expr_at e) (next_of lexer.old) (end_of lexer.new)) }
-    ensures placed { IfOk result (λ e. IsPlaced (told_expr e) (view_expr e) lexer.old lexer.new) }
     ensures shorter { OnOk result (left lexer.new < left lexer.old) }
     ensures refused { Refused result (Barred so_far in_module (Part (grammar.Expr 1)) (place_of lexer.old)) }
 {
@@ -99,7 +97,6 @@ fn member<'s>(
     ensures read { IfOk result (λ e. Built so_far in_module (tail (tail (row_so_far (expression Member)))) (expression Member) (part (view_expr object.entry)) (view_expr e) (place_of lexer.old) (place_of lexer.new)) }
     ensures fits { OnOk result (IsFalse (is_number (view_expr object.entry))) }
     ensures span { IfOk result (λ e. Extends (expr_at object.entry) (expr_at e) (end_of lexer.new)) }
-    ensures placed { IfOk result (λ e. IsPlacedOn (sign_of fixed.Dot) object.entry lexer.old e lexer.new) }
     ensures shorter { OnOk result (left lexer.new < left lexer.old) }
     ensures refused { Refused result (IsFalse (is_number (view_expr object.entry)) → NoRow so_far in_module (tail (tail (row_so_far (expression Member)))) (place_of lexer.old)) }
 {
@@ -136,7 +133,6 @@ fn arguments<'s>(alloc: Global, lexer: &mut Lexer<'s>) -> Result<Vec<Expr<'s>>, 
 fn call<'s>(alloc: Global, lexer: &mut Lexer<'s>, callee: Expr<'s>) -> Result<Expr<'s>, ParseError>
     ensures read { IfOk result (λ e. Built so_far in_module (tail (tail (row_so_far (expression Call)))) (expression Call) (part (view_expr callee.entry)) (view_expr e) (place_of lexer.old) (place_of lexer.new)) }
     ensures span { IfOk result (λ e. Extends (expr_at callee.entry) (expr_at e) (end_of lexer.new)) }
-    ensures placed { IfOk result (λ e. IsPlacedOn (sign_of fixed.Open) callee.entry lexer.old e lexer.new) }
     ensures shorter { OnOk result (left lexer.new < left lexer.old) }
     ensures refused { Refused result (NoRow so_far in_module (tail (tail (row_so_far (expression Call)))) (place_of lexer.old)) }
 {
@@ -150,7 +146,6 @@ fn call<'s>(alloc: Global, lexer: &mut Lexer<'s>, callee: Expr<'s>) -> Result<Ex
 pub fn expression<'s>(alloc: Global, lexer: &mut Lexer<'s>) -> Result<Expr<'s>, ParseError>
     ensures read { IfOk result (λ e. Only so_far in_module (Part (grammar.Expr 1)) (place_of lexer.old) (one (view_expr e)) (place_of lexer.new)) }
     ensures span { IfOk result (λ e. Spans (expr_at e) (next_of lexer.old) (end_of lexer.new)) }
-    ensures placed { IfOk result (λ e. IsPlaced (told_expr e) (view_expr e) lexer.old lexer.new) }
     ensures shorter { OnOk result (left lexer.new < left lexer.old) }
     ensures refused { Refused result (Barred so_far in_module (Part (grammar.Expr 1)) (place_of lexer.old)) }
 {

@@ -42,8 +42,6 @@ pub fn parse<'s>(alloc: Global, text: &'s str) -> Result<Program<'s>, ParseError
     ensures refused { Refused result (NoTree (chars text.now)) }
     ensures place { IfErr result (IsWithin (length text.now)) }
     ensures span { IfOk result (λ program. Spans (Some (program_at program)) 0 (length text.now)) }
-    // Each text is the piece of the source at its place, and each node below the module runs from its first token to its last.
-    ensures placed { IfOk result (λ program. IsTold (told program) (placed_in (chars text.now) (view program))) }
 {
     let end = BytePos(text.len() as u32);
     let mut lexer = Lexer::new(text);

@@ -2,10 +2,7 @@
 
 ghost use Rattle.std.specs.Prelude.{◌≡◌, ◌<◌, IfOk, OnOk};
 ghost use Rattle.std.specs.Str.{chars};
-ghost use Rattle.jsx_base.specs.Token.{IdentifierName, JsxName, Operator, Tag};
-ghost use Rattle.jsx_tree.specs.Signs.{Tok};
-ghost use Rattle.jsx_tree.specs.Spans.{Comes};
-ghost use Rattle.jsx_tree.specs.Told.{told_pat};
+ghost use Rattle.jsx_base.specs.Token.{IdentifierName, JsxName};
 ghost use Rattle.jsx_tree.specs.Kinds.{Binds, leaf};
 ghost use Rattle.jsx_tree.specs.Nonterminals as grammar;
 ghost use Rattle.jsx_tree.specs.View.{text_of, view_pat};
@@ -57,7 +54,6 @@ pub fn expect(lexer: &mut Lexer, fixed: Fixed) -> Result<(), ParseError>
 pub fn binding_identifier<'s>(lexer: &mut Lexer<'s>) -> Result<Pat<'s>, ParseError>
     ensures read { IfOk result (λ p. Only so_far in_module (Part (grammar.Pat Binds)) (place_of lexer.old) (one (view_pat p)) (place_of lexer.new)) }
     ensures span { IfOk result (λ p. Spans (pat_at p) (next_of lexer.old) (end_of lexer.new)) }
-    ensures placed { IfOk result (λ p. IsPlaced (told_pat p) (view_pat p) lexer.old lexer.new) }
     ensures begins { OnOk result (begin_of lexer.new ≡ next_of lexer.old) }
     ensures shorter { OnOk result (left lexer.new < left lexer.old) }
     ensures refused { Refused result (Barred so_far in_module (Part (grammar.Pat Binds)) (place_of lexer.old)) }

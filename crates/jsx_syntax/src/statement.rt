@@ -25,7 +25,6 @@ use std::alloc::Global;
 fn declarator<'s>(alloc: Global, lexer: &mut Lexer<'s>) -> Result<Pat<'s>, ParseError>
     ensures read { IfOk result (λ p. Only so_far in_module (Part grammar.Declarators) (place_of lexer.old) (one (view_pat p)) (place_of lexer.new)) }
     ensures span { IfOk result (λ p. Spans (pat_at p) (next_of lexer.old) (end_of lexer.new)) }
-    ensures placed { IfOk result (λ p. IsPlaced (told_pat p) (view_pat p) lexer.old lexer.new) }
     ensures shorter { OnOk result (left lexer.new < left lexer.old) }
     ensures refused { Refused result (Barred so_far in_module (Part grammar.Declarators) (place_of lexer.old)) }
 {
@@ -72,7 +71,6 @@ fn declarators<'s>(alloc: Global, lexer: &mut Lexer<'s>) -> Result<Vec<Pat<'s>>,
 fn lexical_declaration<'s>(alloc: Global, lexer: &mut Lexer<'s>) -> Result<Stmt<'s>, ParseError>
     ensures read { IfOk result (λ s. BuiltNode so_far in_module behind_const (statement (Var ConstWord)) (view_stmt s) (place_of lexer.old) (place_of lexer.new)) }
     ensures span { IfOk result (λ s. Spans (stmt_at s) (begin_of lexer.old) (end_of lexer.new)) }
-    ensures placed { IfOk result (λ s. IsPlacedBehind (sign_of fixed.Const) lexer.old (told_stmt s) (view_stmt s) lexer.new) }
     ensures shorter { OnOk result (left lexer.new < left lexer.old) }
     ensures refused { Refused result (NoNode so_far in_module behind_const (statement (Var ConstWord)) (place_of lexer.old)) }
 {
@@ -91,7 +89,6 @@ fn is_string(expr: &Expr) -> bool
 fn expression_statement<'s>(alloc: Global, lexer: &mut Lexer<'s>) -> Result<Stmt<'s>, ParseError>
     ensures read { IfOk result (λ s. BuiltNode so_far in_module (row_so_far (statement ExprStmt)) (statement ExprStmt) (view_stmt s) (place_of lexer.old) (place_of lexer.new)) }
     ensures span { IfOk result (λ s. Spans (stmt_at s) (next_of lexer.old) (end_of lexer.new)) }
-    ensures placed { IfOk result (λ s. IsPlaced (told_stmt s) (view_stmt s) lexer.old lexer.new) }
     ensures shorter { OnOk result (left lexer.new < left lexer.old) }
     ensures refused { Refused result (NoNode so_far in_module (row_so_far (statement ExprStmt)) (statement ExprStmt) (place_of lexer.old)) }
 {
@@ -108,7 +105,6 @@ fn expression_statement<'s>(alloc: Global, lexer: &mut Lexer<'s>) -> Result<Stmt
 pub fn statement<'s>(alloc: Global, lexer: &mut Lexer<'s>) -> Result<Stmt<'s>, ParseError>
     ensures read { IfOk result (λ s. Only so_far in_module (Part grammar.Item) (place_of lexer.old) (one (view_stmt s)) (place_of lexer.new)) }
     ensures span { IfOk result (λ s. Spans (stmt_at s) (next_of lexer.old) (end_of lexer.new)) }
-    ensures placed { IfOk result (λ s. IsPlaced (told_stmt s) (view_stmt s) lexer.old lexer.new) }
     ensures shorter { OnOk result (left lexer.new < left lexer.old) }
     ensures refused { Refused result (Barred so_far in_module (Part grammar.Item) (place_of lexer.old)) }
 {

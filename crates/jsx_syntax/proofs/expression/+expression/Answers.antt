@@ -34,16 +34,10 @@ arguments-returns-then-not-take-clause-read t c = ended_behind _ _ of_so_far c.a
 pub arguments-arguments-preserved : goal.arguments-arguments-preserved
 arguments-arguments-preserved t c =
     let same : left c.take.new.self ≡ left c.arguments.lexer = ap left (c.take.ensures.stays c.arguments-test.true) in
-    let argument = placed_from (c.take.ensures.stays c.arguments-test.true) c.in_ok-argument.ensures.placed in
-    let comma = c.take-in-arguments.ensures.takes c.if-not-take.false in
-    let told_all = pushed told_expr c.arguments.all.items _ c.in_ok-argument.argument _ c.in_ok-push.ensures.items refl in
-    let view_all = pushed view_expr c.arguments.all.items _ c.in_ok-argument.argument _ c.in_ok-push.ensures.items refl in
     record {
       so_far = one_more _ _ of_so_far refl c.arguments.invariant.so_far (record { same = sym (ap place_of (c.take.ensures.stays c.arguments-test.true)); stuck = record { is = c.take.ensures.missing c.arguments-test.true } }) (only_argument c.in_ok-argument.ensures.read)
           (record { is = c.take-in-arguments.ensures.taken c.if-not-take.false; found = refl }) (pushed view_expr _ _ _ c.in_ok-push.ensures.items);
       within = omega (arith, same, c.take-in-arguments.ensures.shorter c.if-not-take.false, c.in_ok-argument.ensures.shorter, c.arguments.invariant.within);
-      placed = front_more plain_commas c.arguments.invariant.placed argument comma.same comma.leads told_all view_all;
-      closed = front_last plain_commas c.arguments.invariant.placed argument comma.same (takes_trailing comma) told_all view_all;
     }
 
 pub arguments-returns-clause-read : goal.arguments-returns-clause-read
@@ -62,7 +56,6 @@ pub expression-steps-preserved-then-take : goal.expression-steps-preserved-then-
 expression-steps-preserved-then-take t c = record {
   so_far = member_follows c.steps.invariant.so_far (record { is = c.take.ensures.taken c.if-take.true; found = refl }) c.in_ok-expr-2.ensures.fits c.in_ok-expr-2.ensures.read;
   span = c.in_ok-expr-2.ensures.span.on _ _ c.steps.invariant.span;
-  placed = c.in_ok-expr-2.ensures.placed.on _ _ c.steps.invariant.span c.steps.invariant.placed (c.take.ensures.takes c.if-take.true);
   within = omega (arith, c.in_ok-expr-2.ensures.shorter, c.take.ensures.shorter c.if-take.true, c.steps.invariant.within);
 }
 
@@ -76,7 +69,6 @@ expression-steps-preserved t c =
     record {
       so_far = call_follows c.steps.invariant.so_far (subst (λ p. Moves (pun "(") p (place_of c.take-else-take.new.self)) (ap place_of (c.take.ensures.stays c.if-take.false)) (record { is = c.take-else-take.ensures.taken c.if-take-2.true; found = refl })) c.in_ok-expr-3.ensures.read;
       span = c.in_ok-expr-3.ensures.span.on _ _ c.steps.invariant.span;
-      placed = c.in_ok-expr-3.ensures.placed.on _ _ c.steps.invariant.span c.steps.invariant.placed (takes_from (c.take.ensures.stays c.if-take.false) (c.take-else-take.ensures.takes c.if-take-2.true));
       within = omega (arith, same, c.in_ok-expr-3.ensures.shorter, c.take-else-take.ensures.shorter c.if-take-2.true, c.steps.invariant.within);
     }
 

@@ -32,7 +32,6 @@ abbrev pub invariant-expression-steps : goal.invariant-expression-steps
 invariant-expression-steps l = record {
   so_far : Follows so_far in_module (Expr 1) (place_of l.fn.lexer) (view_expr l.expr) (place_of l.lexer);
   span : Spans (expr_at l.expr) (next_of l.fn.lexer) (end_of l.lexer);
-  placed : IsPlaced (told_expr l.expr) (view_expr l.expr) l.fn.lexer l.lexer;
   within : left l.lexer < left l.fn.lexer;
 }
 
