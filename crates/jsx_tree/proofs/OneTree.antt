@@ -36,6 +36,7 @@ mod Lists
 mod Declarators
 mod Specifiers
 mod Same
+mod Imports
 mod Directives
 mod Prefixes
 mod Trees

@@ -1,7 +1,7 @@
 -- Each of these kinds stands in their list.
 use Rattle.std.proofs.Common.{◌≡◌, Bool, true, refl}
 use Rattle.std.specs.Prelude.{ℕ}
-use Rattle.jsx_tree.specs.Kinds.{Script, Module, FunctionBody, Directive, ExportAll, ExportAllAs, ExportDecl, ExportDefaultFn, ExportDefaultExpr, ExportNames, Specifier, SpecifierAs, Imported, Exported, From, Var, VarWord, LetWord, ConstWord, Block, Declarator, Empty, ExprStmt, If, Do, While, Continue, Break, Return, Throw, Debugger, Label, Switch, Case, Default, Try, Catch, FunctionDecl, Kind, program, statement}
+use Rattle.jsx_tree.specs.Kinds.{Script, Module, FunctionBody, Directive, ImportBare, Import, ImportAll, ImportList, ImportBoth, ExportAll, ExportAllAs, ExportDecl, ExportDefaultFn, ExportDefaultExpr, ExportNames, Specifier, SpecifierAs, Imported, Exported, From, Var, VarWord, LetWord, ConstWord, Block, Declarator, Empty, ExprStmt, If, Do, While, Continue, Break, Return, Throw, Debugger, Label, Switch, Case, Default, Try, Catch, FunctionDecl, Kind, program, statement}
 use Rattle.jsx_tree.proofs.OneTree.Statements.{stated, place, stated_kinds, nth}
 use Rattle.jsx_tree.proofs.OneTree.Checks.{every}
 use Rattle.jsx_tree.proofs.Tokens.{and_left, and_right}
@@ -13,6 +13,11 @@ stated_nth (program Script) h = refl
 stated_nth (program Module) h = refl
 stated_nth (program FunctionBody) h = refl
 stated_nth (program Directive) h = refl
+stated_nth (program ImportBare) h = refl
+stated_nth (program Import) h = refl
+stated_nth (program ImportAll) h = refl
+stated_nth (program ImportList) h = refl
+stated_nth (program ImportBoth) h = refl
 stated_nth (program ExportAll) h = refl
 stated_nth (program ExportAllAs) h = refl
 stated_nth (program ExportDecl) h = refl
