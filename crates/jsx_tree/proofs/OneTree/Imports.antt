@@ -1,24 +1,23 @@
 -- An expression that begins with the word `import` goes on as no declaration of imports does.
-use Rattle.std.proofs.Common.{◌≡◌, ℕ, Bool, true, false, not, List, [], ◌∷◌, refl, sym, ◌∙◌, ap, subst}
+use Rattle.std.proofs.Common.{◌≡◌, ℕ, Bool, true, false, not, List, ◌∷◌, refl, sym, ◌∙◌, ap, subst}
 use Rattle.std.specs.Prelude.{IsTrue, ◌&&◌, ◌||◌, nat_eq, codes}
 use Rattle.jsx_base.specs.Token.{Text, Operator, TokenKind, IdentifierName, Punctuator, StringLiteral, NumericLiteral, BigIntLiteral, kind_number, same}
-use Rattle.jsx_tree.specs.Signs.{Sign, Tok, Unless}
+use Rattle.jsx_tree.specs.Signs.{Tok, Unless}
 use Rattle.jsx_tree.specs.Kinds.{ExprStmt, Kind, statement, Tree, Forest}
-use Rattle.jsx_tree.specs.Nonterminals.{Nonterminal, Expr, StringOnly, ImportClause, leaf_in, is_value_word}
+use Rattle.jsx_tree.specs.Nonterminals.{Expr, StringOnly, ImportClause, leaf_in, is_value_word}
 use Rattle.jsx_tree.specs.Grammar.{heads, Context, Fixed, Part}
 use Rattle.jsx_tree.specs.Form.{is}
 use Rattle.jsx_tree.specs.Spelling.{mode_of}
 use Rattle.jsx_tree.specs.StaticRules.{Surroundings}
 use Rattle.jsx_tree.specs.Reading.{Place, forth}
-use Rattle.jsx_tree.proofs.Tokens.{and_left, and_right, and_both, same_is, same_self}
+use Rattle.jsx_tree.proofs.Tokens.{and_left, and_right, same_is}
 use Rattle.jsx_tree.specs.Walk as W
 use Rattle.jsx_tree.specs.Walk.{is_found, IsRead, IsNode}
-use Rattle.jsx_tree.proofs.OneTree.Table.{kinds, scope}
-use Rattle.jsx_tree.proofs.OneTree.Readings.{Step, tok, lit, row, grows, is_arrow, is_paren, is_quote, may_be, kind_at, text_at, Reads, word, regexp, head, paren, target, grow, arrow, braces, Walk, done, take, pass, literal, under, all, each, linked, filled, tagged, Whole, single, several}
-use Rattle.jsx_tree.proofs.OneTree.Checks.{every, is_op, starts, same_token}
-use Rattle.jsx_tree.proofs.OneTree.Facts.{never, or_else, not_is, Test, yes', no', test, eq_nat, kind_is, Seen, took, took_in, same_seen, for_kind, found_at}
+use Rattle.jsx_tree.proofs.OneTree.Table.{kinds}
+use Rattle.jsx_tree.proofs.OneTree.Readings.{Step, tok, lit, row, grows, is_arrow, is_paren, is_quote, may_be, kind_at, text_at, Reads, word, regexp, head, paren, target, grow, arrow, braces, Walk, take, literal, Whole, single, several}
+use Rattle.jsx_tree.proofs.OneTree.Checks.{every, is_op, same_token}
+use Rattle.jsx_tree.proofs.OneTree.Facts.{never, or_else, eq_nat, kind_is, Seen, took, took_in, same_seen, for_kind, found_at}
 use Rattle.jsx_tree.proofs.OneTree.Slashes.{regexp_slash}
-use Rattle.jsx_tree.proofs.OneTree.Starting.{may_start}
 use Rattle.jsx_tree.proofs.OneTree.Pairs.{two_tokens}
 use Rattle.jsx_tree.proofs.OneTree.Apart.{at_sign, at_part}
 use Rattle.jsx_tree.proofs.OneTree.Placed.{whole_reads}

@@ -11,7 +11,7 @@ use Rattle.jsx_tree.specs.declared.text.Goal.TheVariants as goals
 use Rattle.jsx_tree.specs.Signs.{Tok, Semicolon, Unless, AfterExpr}
 use Rattle.jsx_tree.specs.Kinds.{Imported, Exported, From, ProgramKind, Module, Script, FunctionBody, ExprStmt, Label, Kind, program, statement, Tree, leaf, node, list, Forest, none, part}
 use Rattle.jsx_tree.specs.Nonterminals.{Nonterminal, Expr, Ident, Stmt, SubStmt, Item, Declaration, BlockOnly, CatchClause, CaseClause, Declarators, Body, DirectiveOnly, Specifiers, ImportBindings, ImportClause, WholeProgram, homes, in_homes, leaf_in, is_ident}
-use Rattle.jsx_tree.specs.Grammar.{heads, Context, Lines, TopLines, InCode, InModuleCode, production}
+use Rattle.jsx_tree.specs.Grammar.{heads, Lines, TopLines, InCode, InModuleCode, production}
 use Rattle.jsx_tree.specs.Form.{admits, is, fits_below}
 use Rattle.jsx_tree.specs.StaticRules.{Surroundings, outside, rule}
 use Rattle.jsx_tree.specs.Spelling.{spelled}
