@@ -17,7 +17,7 @@ use Rattle.jsx_tree.proofs.OneTree.Readings.{Reads, word, Whole, single, kind_at
 use Rattle.jsx_tree.proofs.OneTree.Checks.{every}
 use Rattle.jsx_tree.proofs.OneTree.Facts.{never, or_else, not_is, Test, yes', no', test, eq_nat, Seen, took}
 use Rattle.jsx_tree.proofs.OneTree.Agreeing.{one_whole}
-use Rattle.jsx_tree.proofs.OneTree.Apart.{at_sign, at_part, at_many, at_end}
+use Rattle.jsx_tree.proofs.OneTree.Fine.{at_sign, at_part, at_many, at_end}
 use Rattle.jsx_tree.proofs.OneTree.Spines.{home_of}
 use Rattle.jsx_tree.proofs.OneTree.Placed.{whole_reads}
 use Rattle.jsx_tree.proofs.OneTree.Chains.{fine}
@@ -25,7 +25,7 @@ use Rattle.jsx_tree.proofs.OneTree.Turn.{tree_same}
 use Rattle.jsx_tree.proofs.OneTree.Endings.{at_semi}
 use Rattle.jsx_tree.proofs.OneTree.Afters.{after_tok, after_tree}
 use Rattle.jsx_tree.proofs.OneTree.Statements.{stated, place, stated_kinds, nth}
-use Rattle.jsx_tree.proofs.OneTree.StatementList.{stated_nth, for_stated}
+use Rattle.jsx_tree.proofs.OneTree.Statements.{stated_nth, for_stated}
 use Rattle.jsx_tree.proofs.OneTree.Parts.{known, kept, kepts, tame_of, word_read}
 use Rattle.jsx_tree.proofs.OneTree.Wants.{idle, meets, idle_at, is_seen, look_same}
 use Rattle.jsx_tree.proofs.OneTree.Begins.{want_of, stop_of, Front, token', expr', name', unknown, front, fits, front_fits, is_listed}

@@ -19,7 +19,7 @@ use Rattle.jsx_tree.proofs.OneTree.Checks.{every, is_op, same_token}
 use Rattle.jsx_tree.proofs.OneTree.Facts.{never, or_else, eq_nat, kind_is, Seen, took, took_in, same_seen, for_kind, found_at}
 use Rattle.jsx_tree.proofs.OneTree.Slashes.{regexp_slash}
 use Rattle.jsx_tree.proofs.OneTree.Pairs.{two_tokens}
-use Rattle.jsx_tree.proofs.OneTree.Apart.{at_sign, at_part}
+use Rattle.jsx_tree.proofs.OneTree.Fine.{at_sign, at_part}
 use Rattle.jsx_tree.proofs.OneTree.Placed.{whole_reads}
 use Rattle.jsx_tree.proofs.OneTree.Chains.{fine}
 use Rattle.jsx_tree.proofs.OneTree.Endings.{at_semi}

@@ -27,8 +27,8 @@ use Rattle.jsx_tree.proofs.OneTree.Spines.{home_of, seq_is, taken_scope}
 use Rattle.jsx_tree.proofs.OneTree.Placed.{Placed, tree_reads, hole_free, whole_reads}
 use Rattle.jsx_tree.proofs.OneTree.Chains.{fine}
 use Rattle.jsx_tree.proofs.OneTree.Turn.{tree_same}
-use Rattle.jsx_tree.proofs.OneTree.StatementList.{for_stated}
-use Rattle.jsx_tree.proofs.OneTree.Ends.{whole_begins}
+use Rattle.jsx_tree.proofs.OneTree.Statements.{for_stated}
+use Rattle.jsx_tree.proofs.OneTree.Endings.{whole_begins}
 
 -- the kinds that are taken
 abbrev pub known : Kind → Bool

@@ -21,10 +21,10 @@ use Rattle.jsx_tree.proofs.OneTree.Readings.{kind_at, text_at}
 use Rattle.jsx_tree.proofs.OneTree.Checks.{every, starts, same_token}
 use Rattle.jsx_tree.proofs.OneTree.Facts.{kind_is, never, or_else, not_is, Test, yes', no', test, eq_nat, Seen, took, same_seen}
 use Rattle.jsx_tree.proofs.OneTree.Pairs.{two_tokens}
-use Rattle.jsx_tree.proofs.OneTree.Apart.{at_sign, at_part, at_end}
+use Rattle.jsx_tree.proofs.OneTree.Fine.{at_sign, at_part, at_end}
 use Rattle.jsx_tree.proofs.OneTree.Next.{unless_kept}
 use Rattle.jsx_tree.proofs.OneTree.Spines.{home_of}
-use Rattle.jsx_tree.proofs.OneTree.StatementList.{for_stated}
+use Rattle.jsx_tree.proofs.OneTree.Statements.{for_stated}
 use Rattle.jsx_tree.proofs.OneTree.Parts.{known, kept, kepts, wordy, word_read, word_same}
 use Rattle.jsx_tree.proofs.OneTree.Wants.{Want, still, other, is_calm, implies, implied, meets, is_at, is_seen}
 use Rattle.jsx_tree.proofs.OneTree.Begins.{Front, token', expr', name', front, fits, front_fits, at_seen}

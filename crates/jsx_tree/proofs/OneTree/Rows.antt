@@ -22,10 +22,10 @@ use Rattle.jsx_tree.specs.Grammar.{Fixed, Part}
 use Rattle.jsx_tree.proofs.Tokens.{same_is}
 use Rattle.jsx_tree.proofs.Rows.Bridge.{node_walk}
 use Rattle.jsx_tree.proofs.OneTree.Statements.{stated_kinds}
-use Rattle.jsx_tree.proofs.OneTree.StatementList.{for_stated}
+use Rattle.jsx_tree.proofs.OneTree.Statements.{for_stated}
 use Rattle.jsx_tree.proofs.OneTree.Readings.{kind_at}
 use Rattle.jsx_tree.proofs.OneTree.Facts.{Seen, took}
-use Rattle.jsx_tree.proofs.OneTree.Apart.{at_sign, at_part}
+use Rattle.jsx_tree.proofs.OneTree.Fine.{at_sign, at_part}
 use Rattle.jsx_tree.proofs.OneTree.Spines.{home_of}
 use Rattle.jsx_tree.proofs.OneTree.Parts.{Named, clause_read, word_read, word_same}
 use Rattle.jsx_tree.proofs.OneTree.Wants.{other, is_at}

@@ -15,12 +15,12 @@ use Rattle.jsx_tree.specs.Walk as W
 use Rattle.jsx_tree.specs.Walk.{is_found, pieces, IsRead}
 use Rattle.jsx_tree.proofs.Rows.Bridge.{node_walk}
 use Rattle.jsx_tree.proofs.OneTree.Statements.{stated_kinds}
-use Rattle.jsx_tree.proofs.OneTree.StatementList.{for_stated}
+use Rattle.jsx_tree.proofs.OneTree.Statements.{for_stated}
 use Rattle.jsx_tree.proofs.OneTree.Readings.{kind_at, comma}
 use Rattle.jsx_tree.proofs.OneTree.Checks.{every}
 use Rattle.jsx_tree.proofs.OneTree.Facts.{never, or_else, Seen, took}
 use Rattle.jsx_tree.proofs.OneTree.Pairs.{two_tokens}
-use Rattle.jsx_tree.proofs.OneTree.Apart.{at_part}
+use Rattle.jsx_tree.proofs.OneTree.Fine.{at_part}
 use Rattle.jsx_tree.proofs.OneTree.Spines.{home_of}
 use Rattle.jsx_tree.proofs.OneTree.Placed.{Trail, with_comma, without, trail}
 use Rattle.jsx_tree.proofs.OneTree.Parts.{known, kept, kepts, wordy, word_read}
