@@ -1,6 +1,5 @@
 -- A text has one tree.
 mod Table
-mod Listed
 mod Readings
 mod Checks
 mod Facts
@@ -11,7 +10,6 @@ mod Growths
 mod Pairs
 mod Agreeing
 mod Places
-mod Apart
 mod Fine
 mod Spines
 mod Next
@@ -23,11 +21,9 @@ mod Chains
 mod Turn
 mod Semis
 mod Endings
-mod Ends
 mod Afters
 mod Missing
 mod Statements
-mod StatementList
 mod Parts
 mod Wants
 mod Begins
@@ -36,6 +32,7 @@ mod Lists
 mod Declarators
 mod Specifiers
 mod Same
+mod Imports
 mod Directives
 mod Prefixes
 mod Trees

@@ -1,15 +1,20 @@
 -- The trees of which a text is proved to have one at most: all but those with a kind that is named here.
 use Rattle.std.specs.Prelude.{Bool, true, false, ◌&&◌}
 use Rattle.jsx_base.specs.Token.{TokenKind, Punctuator, JsxName, JsxString, JsxText, NoToken}
-use Rattle.jsx_tree.specs.Kinds.{ProgramKind, Module, Script, FunctionBody, Directive, ExportAll, ExportAllAs, ExportDecl, ExportDefaultFn, ExportDefaultExpr, ExportNames, Specifier, SpecifierAs, StatementKind, For, ForDeclaration, ForIn, ForOf, ForBinding, ClassDecl, FunctionKind, FunctionExpr, ClassExpr, Method, Getter, Setter, Field, ExpressionKind, OpAssign, ArrowBlock, BareArrowBlock, Kind, program, statement, function, expression, jsx, Tree, leaf, node, list, Forest, none, part}
+use Rattle.jsx_tree.specs.Kinds.{ProgramKind, Module, Script, FunctionBody, Directive, ImportBare, Import, ImportAll, ImportList, ImportBoth, ExportAll, ExportAllAs, ExportDecl, ExportDefaultFn, ExportDefaultExpr, ExportNames, Specifier, SpecifierAs, StatementKind, For, ForDeclaration, ForIn, ForOf, ForBinding, ClassDecl, FunctionKind, FunctionExpr, ClassExpr, Method, Getter, Setter, Field, ExpressionKind, OpAssign, ArrowBlock, BareArrowBlock, Kind, program, statement, function, expression, jsx, Tree, leaf, node, list, Forest, none, part}
 use Rattle.jsx_tree.specs.Nonterminals.{assigns}
 
--- not yet: imports, lists that are exported from another module, and classes
+-- not yet: lists that are exported from another module, and classes
 abbrev pub decides_program : ProgramKind → Bool
 decides_program Module = true
 decides_program Script = true
 decides_program FunctionBody = true
 decides_program Directive = true
+decides_program ImportBare = true
+decides_program Import = true
+decides_program ImportAll = true
+decides_program ImportList = true
+decides_program ImportBoth = true
 decides_program ExportAll = true
 decides_program ExportAllAs = true
 decides_program ExportDecl = true

@@ -1,10 +1,11 @@
 -- What a statement or a case begins with.
+use Rattle.jsx_base.specs.Token.{Punctuator}
 use Rattle.std.proofs.Common.{◌≡◌, ℕ, zero, Bool, true, false, not, cond, List, [], ◌∷◌, refl, sym, ◌∙◌, ap, subst}
 use Rattle.std.specs.Prelude.{◌&&◌, ◌||◌, nat_eq, codes}
 use Rattle.jsx_base.specs.Token.{Text, Operator, TokenKind, IdentifierName, kind_number, among, same}
 use Rattle.jsx_tree.specs.Signs.{Tok, Unless, Count}
 use Rattle.jsx_tree.specs.Kinds.{Kind, Tree, Forest}
-use Rattle.jsx_tree.specs.Nonterminals.{Nonterminal, Expr, Ident, Stmt, SubStmt, Item, Declaration, BlockOnly, CatchClause, CaseClause, Declarators, Body, DirectiveOnly, Specifiers, ImportBindings, homes, in_homes, leaf_in, is_ident}
+use Rattle.jsx_tree.specs.Nonterminals.{Nonterminal, Expr, Ident, BindingIdent, ImportClause, Stmt, SubStmt, Item, Declaration, BlockOnly, CatchClause, CaseClause, Declarators, Body, DirectiveOnly, Specifiers, ImportBindings, homes, in_homes, leaf_in, is_ident}
 use Rattle.jsx_tree.specs.Grammar.{Context, Fixed, Part, Production, production}
 use Rattle.jsx_tree.specs.Form.{is}
 use Rattle.jsx_tree.specs.StaticRules.{Surroundings}
@@ -17,7 +18,7 @@ use Rattle.jsx_tree.proofs.OneTree.Statements.{stated_kinds}
 use Rattle.jsx_tree.proofs.OneTree.Readings.{kind_at, text_at}
 use Rattle.jsx_tree.proofs.OneTree.Checks.{every, starts}
 use Rattle.jsx_tree.proofs.OneTree.Facts.{never, or_else, not_is, Test, yes', no', test, eq_nat, Seen, took}
-use Rattle.jsx_tree.proofs.OneTree.Apart.{at_sign, at_part}
+use Rattle.jsx_tree.proofs.OneTree.Fine.{at_sign, at_part}
 use Rattle.jsx_tree.proofs.OneTree.Next.{unless_kept}
 use Rattle.jsx_tree.proofs.OneTree.Afters.{after_tree}
 use Rattle.jsx_tree.proofs.OneTree.Parts.{kept, kepts, tame_of, whole_starts, word_read}
@@ -37,6 +38,7 @@ is_own Body = true
 is_own DirectiveOnly = true
 is_own (Specifiers s) = true
 is_own ImportBindings = true
+is_own ImportClause = true
 is_own c = false
 
 abbrev pub want_of : Nonterminal → Want
@@ -48,6 +50,7 @@ want_of CaseClause = idle
 want_of Declarators = declared
 want_of Body = shutting
 want_of (Specifiers s) = parted
+want_of ImportClause = other Punctuator (codes ",")
 want_of c = anything
 
 -- what stands behind a list of them
@@ -69,6 +72,7 @@ front e (Fixed (Tok Operator k t) ∷ ps) = token' k t
 front e (Fixed Count ∷ ps) = front e ps
 front e (Fixed (Unless ts) ∷ Part (Expr zero) ∷ ps) = cond (not (among [] ts) && follow e ps (ended 0)) (expr' ts) unknown
 front e (Part Ident ∷ ps) = name'
+front e (Part BindingIdent ∷ ps) = name'
 front e ps = unknown
 
 abbrev pub fits : Front → Place → Bool
@@ -89,6 +93,15 @@ ident_fits {v} {x} {y} t h r =
     let w = word_read Ident t refl h r in
     ident_leaf w.kind w.text x (and_left (leaf_in Ident w.kind w.text) _ (subst (λ t. is Ident t ≡ true) w.is_leaf r.is)) (took w.kind w.text x w.moves w.found)
 
+bound_leaf : (s : TokenKind) (t : Text) (x : Place) → leaf_in BindingIdent s t ≡ true → Seen x s t → fits name' x ≡ true
+bound_leaf IdentifierName t x h s = and_both (nat_eq (kind_at x) 0) (is_ident (text_at x)) (eq-eqb (kind_at x) 0 s.kind) (subst (λ u. is_ident u ≡ true) (sym s.text) (and_left (is_ident t) _ h))
+bound_leaf _ t x h s = cc
+
+pub bound_fits : {v : Surroundings} {x y : Place} (t : Tree) → kept t ≡ true → IsRead v false BindingIdent x t y → fits name' x ≡ true
+bound_fits {v} {x} {y} t h r =
+    let w = word_read BindingIdent t refl h r in
+    bound_leaf w.kind w.text x (and_left (leaf_in BindingIdent w.kind w.text) _ (subst (λ t. is BindingIdent t ≡ true) w.is_leaf r.is)) (took w.kind w.text x w.moves w.found)
+
 pub front_fits : {V : List Context → Surroundings} (e : Want) (ps : Production) (a : List Context) {x z : Place} {ts : Forest} → W.Walk IsRead V (pieces a ps) x ts z → kepts ts ≡ true → meets e z ≡ true → fits (front e ps) x ≡ true
 front_fits e (Fixed (Tok Operator k t) ∷ ps) a {x} w h m = let s = at_sign w in at_seen (took k t x s.moves s.found)
 front_fits e (Fixed Count ∷ ps) a w h m = front_fits e ps a w h m
@@ -105,6 +118,7 @@ front_fits {V} e (Fixed (Unless us) ∷ Part (Expr zero) ∷ ps) a {x} {z} {ts} 
         let b : starts (kind_at x) (text_at x) ≡ true = subst (λ z. starts (kind_at z) (text_at z) ≡ true) (sym k.place) (whole_starts p.tree i p.read c) in
         (λ j. fits (cond (g j) (expr' us) unknown) x) ∙ and_both (starts (kind_at x) (text_at x)) (not (among (text_at x) us)) b k.held
 front_fits e (Part Ident ∷ ps) a w h m = let p = at_part w in ident_fits p.tree (and_left (kept p.tree) _ (subst (λ ts. kepts ts ≡ true) p.is h)) p.read
+front_fits e (Part BindingIdent ∷ ps) a w h m = let p = at_part w in bound_fits p.tree (and_left (kept p.tree) _ (subst (λ ts. kepts ts ≡ true) p.is h)) p.read
 front_fits e _ a w h m = refl
 
 -- ---- what a front says

@@ -19,7 +19,7 @@ use Rattle.jsx_tree.proofs.OneTree.Checks.{every}
 use Rattle.jsx_tree.proofs.OneTree.Facts.{never, or_else, not_is, Test, yes', no', test, le_nat, for_kind}
 use Rattle.jsx_tree.proofs.OneTree.Places.{is_prop, is_key, is_brace, at_home, no_seq, no_hole, is_inner, free, is_seq, taken}
 use Rattle.jsx_tree.proofs.Rows.Bridge.{node_walk}
-use Rattle.jsx_tree.proofs.OneTree.Apart.{at_sign, at_part, at_many, at_end}
+use Rattle.jsx_tree.proofs.OneTree.Fine.{at_sign, at_part, at_many, at_end}
 use Rattle.jsx_tree.proofs.OneTree.Fine.{plain_leaf, tame, tames, Good, Fine, fine_leaf, fine_regexp, fine_piece, fine_node, fine_prop, fine_seq, fine_list, Fines, fine_part, one_sign, in_is, no_piece, leaf_reads}
 use Rattle.jsx_tree.proofs.OneTree.Spines.{home_of, at_kind, taken_scope, no_seq_here}
 use Rattle.jsx_tree.proofs.OneTree.Next.{unless_kept, calm_at}

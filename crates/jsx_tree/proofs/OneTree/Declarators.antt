@@ -19,9 +19,9 @@ use Rattle.jsx_tree.proofs.OneTree.Checks.{every}
 use Rattle.jsx_tree.proofs.OneTree.Facts.{never, or_else, Test, yes', no', test, eq_nat, Seen, seen}
 use Rattle.jsx_tree.proofs.OneTree.Pairs.{two_tokens, no_comma}
 use Rattle.jsx_tree.proofs.Rows.Bridge.{node_walk}
-use Rattle.jsx_tree.proofs.OneTree.Apart.{at_sign, at_part, at_end}
+use Rattle.jsx_tree.proofs.OneTree.Fine.{at_sign, at_part, at_end}
 use Rattle.jsx_tree.proofs.OneTree.Spines.{home_of}
-use Rattle.jsx_tree.proofs.OneTree.StatementList.{stated_nth, for_stated}
+use Rattle.jsx_tree.proofs.OneTree.Statements.{stated_nth, for_stated}
 use Rattle.jsx_tree.proofs.OneTree.Endings.{after, at_semi}
 use Rattle.jsx_tree.proofs.OneTree.Missing.{Behind, a_mark, a_brace, a_line, behind as behind_semi}
 use Rattle.jsx_tree.proofs.OneTree.Afters.{after_tree}

@@ -17,7 +17,7 @@ use Rattle.jsx_tree.proofs.OneTree.Readings.{Reads, word, Whole, single, kind_at
 use Rattle.jsx_tree.proofs.OneTree.Checks.{every}
 use Rattle.jsx_tree.proofs.OneTree.Facts.{never, or_else, not_is, Test, yes', no', test, eq_nat, Seen, took}
 use Rattle.jsx_tree.proofs.OneTree.Agreeing.{one_whole}
-use Rattle.jsx_tree.proofs.OneTree.Apart.{at_sign, at_part, at_many, at_end}
+use Rattle.jsx_tree.proofs.OneTree.Fine.{at_sign, at_part, at_many, at_end}
 use Rattle.jsx_tree.proofs.OneTree.Spines.{home_of}
 use Rattle.jsx_tree.proofs.OneTree.Placed.{whole_reads}
 use Rattle.jsx_tree.proofs.OneTree.Chains.{fine}
@@ -25,12 +25,12 @@ use Rattle.jsx_tree.proofs.OneTree.Turn.{tree_same}
 use Rattle.jsx_tree.proofs.OneTree.Endings.{at_semi}
 use Rattle.jsx_tree.proofs.OneTree.Afters.{after_tok, after_tree}
 use Rattle.jsx_tree.proofs.OneTree.Statements.{stated, place, stated_kinds, nth}
-use Rattle.jsx_tree.proofs.OneTree.StatementList.{stated_nth, for_stated}
+use Rattle.jsx_tree.proofs.OneTree.Statements.{stated_nth, for_stated}
 use Rattle.jsx_tree.proofs.OneTree.Parts.{known, kept, kepts, tame_of, word_read}
 use Rattle.jsx_tree.proofs.OneTree.Wants.{idle, meets, idle_at, is_seen, look_same}
 use Rattle.jsx_tree.proofs.OneTree.Begins.{want_of, stop_of, Front, token', expr', name', unknown, front, fits, front_fits, is_listed}
 use Rattle.jsx_tree.proofs.OneTree.Rows.{All, all_parts, own_leaf, own_kind, own_same}
-use Rattle.jsx_tree.proofs.OneTree.Lists.{SameRow, liney, listed_own, lines_same, first_item, rest_want}
+use Rattle.jsx_tree.proofs.OneTree.Lists.{SameRow, liney, listed_own, listed_leafless, lines_same, first_item, rest_want}
 
 -- ---- a directive
 
@@ -81,7 +81,7 @@ abbrev pub is_expr_stmt : Kind → Bool
 is_expr_stmt (statement ExprStmt) = true
 is_expr_stmt k = false
 
-expr_stmt_is : (k : Kind) → is_expr_stmt k ≡ true → k ≡ statement ExprStmt
+pub expr_stmt_is : (k : Kind) → is_expr_stmt k ≡ true → k ≡ statement ExprStmt
 expr_stmt_is (statement ExprStmt) h = refl
 expr_stmt_is (statement _) h = cc
 expr_stmt_is _ h = cc
@@ -134,7 +134,7 @@ no_list s c {y = y} (part t ts) li l a q h i m n d =
     no_item t (and_left (kept t) (kepts ts) h) f.read w n d
   where
     no_item : (t : Tree) {v : Surroundings} {x y : Place} → kept t ≡ true → IsRead v false c x t y → meets (want_of c) y ≡ true → not (is_string_stmt t) ≡ true → Told x → ⊥
-    no_item (leaf s t) h r w n d = own_leaf c s t (listed_own c l) (and_left (leaf_in c s t) _ r.is)
+    no_item (leaf s t) h r w n d = own_leaf c s t (listed_leafless c l) (and_left (leaf_in c s t) _ r.is)
     no_item (list ts) h r w n d = let bad = r.is in cc
     no_item (node k cs) {v} {x} {y} h r w n d =
         let o = home_of c k cs (and_left (admits c (node k cs)) (fits_below c (node k cs)) r.is) in

@@ -1,23 +1,35 @@
--- An expression keeps what a missing semicolon would stand after, and where a semicolon stands or is missing nothing goes on with it.
+-- Where expressions end: an expression keeps what a missing semicolon would stand after, and where a semicolon stands or is missing nothing goes on with it.
 use Rattle.std.proofs.Common.{◌≡◌, Bool, true, false, cond, List, [], ◌∷◌, ◌++◌, refl, ap, subst}
 use Rattle.std.specs.Prelude.{IsTrue, ◌&&◌, ◌||◌}
-use Rattle.jsx_base.specs.Token.{Text, Operator, TokenKind, Elision, Punctuator, is_token, same, token}
+use Rattle.jsx_base.specs.Token.{Text, Operator, TokenKind, Elision, Punctuator, is_token, same, token, at_front, kind_number, skip, breaks}
 use Rattle.jsx_tree.specs.Signs.{Sign, AfterExpr, Tok, Semicolon, TrailingComma, Unless, SameLine, Ends}
 use Rattle.jsx_tree.specs.Kinds.{Kind, Tree, leaf, node, list, Forest, none, part}
 use Rattle.jsx_tree.specs.Grammar.{ListShape, Commas, Elisions, TwoOrMore, OneOrMore, Adjacent, Fixed, Part, Optional, Many, Within, Production, production}
 use Rattle.jsx_tree.specs.Spelling.{leaf_signs, before, between, behind, gathered, joined, walk, said, saids, each_said, spelled}
-use Rattle.jsx_tree.specs.Reading.{Place, Lost, At, forth, scan, go_if, may_lack}
+use Rattle.jsx_tree.specs.Reading.{Place, Lost, At, forth, scan, go_if, may_lack, ended_at}
 use Rattle.jsx_tree.proofs.Laws.{scan_lost}
-use Rattle.jsx_tree.proofs.Tokens.{and_left, and_right, and_both}
+use Rattle.jsx_tree.proofs.Tokens.{and_left, and_right, and_both, same_is}
 use Rattle.jsx_tree.specs.Walk.{is_found}
 use Rattle.jsx_tree.proofs.OneTree.Table.{kinds}
-use Rattle.jsx_tree.proofs.OneTree.Readings.{calm}
-use Rattle.jsx_tree.proofs.OneTree.Checks.{every}
+use Rattle.jsx_tree.proofs.OneTree.Readings.{calm, Whole, single, several, kind_at, text_at}
+use Rattle.jsx_tree.proofs.OneTree.Checks.{every, starts}
 use Rattle.jsx_tree.proofs.OneTree.Facts.{or_else, Test, yes', no', test, for_kind}
 use Rattle.jsx_tree.proofs.OneTree.Semis.{semi_calm}
 use Rattle.jsx_tree.proofs.OneTree.Places.{taken, is_seq}
 use Rattle.jsx_tree.proofs.OneTree.Fine.{tame, tames}
 use Rattle.jsx_tree.proofs.OneTree.Spines.{seq_is, taken_scope}
+use Rattle.jsx_tree.proofs.OneTree.Starting.{begins}
+
+-- at the end of a text no token stands
+pub end_kind : (x : Place) → ended_at x ≡ true → kind_at x ≡ 14
+end_kind Lost h = cc
+end_kind (At q e rest) h =
+    let s : skip rest ≡ [] = same_is (skip rest) [] (and_left (same (skip rest) []) _ h) in
+    (λ i. kind_number (at_front Operator (same q [] || breaks rest) (s i)).kind)
+
+pub whole_begins : {x y : Place} {t : Tree} → Whole x t y → starts (kind_at x) (text_at x) ≡ true
+whole_begins (single r c) = begins r
+whole_begins (several r c e f d) = begins r
 
 -- ---- behind an expression
 

@@ -10,7 +10,7 @@ use Rattle.jsx_tree.specs.Walk.{is_found}
 use Rattle.jsx_tree.proofs.Tokens.{and_left, and_right, and_both, same_is, same_self}
 use Rattle.jsx_tree.proofs.OneTree.Table.{kinds, nth, position, scope}
 use Rattle.jsx_tree.proofs.OneTree.Readings.{kind_at, text_at}
-use Rattle.jsx_tree.proofs.OneTree.Listed.{listed}
+use Rattle.jsx_tree.proofs.OneTree.Table.{listed}
 use Rattle.jsx_tree.proofs.OneTree.Checks.{is_op, every, same_token}
 
 pub never : (b : Bool) → b ≡ true → b ≡ false → ⊥

@@ -1,20 +1,58 @@
--- Trees that can be read at their places, and leaves.
-use Rattle.std.proofs.Common.{◌≡◌, ℕ, ◌≤◌, Bool, true, false, not, refl, sym, ◌∙◌, ap, arith}
-use Rattle.std.specs.Prelude.{◌&&◌, ◌||◌, nat_eq, nat_le}
+-- A walk along a row taken apart; trees that can be read at their places, and leaves.
+use Rattle.jsx_tree.specs.Walk as W
+use Rattle.std.proofs.Common.{◌≡◌, ℕ, ◌≤◌, Bool, true, false, not, refl, sym, ◌∙◌, ap, arith, List, [], ◌∷◌}
+use Rattle.std.specs.Prelude.{◌&&◌, ◌||◌, nat_eq, nat_le, IsTrue}
 use Rattle.std.proofs.lemmas.Bool.{le-leb}
 use Rattle.jsx_base.specs.Token.{Text, Operator, TokenKind, IdentifierName, NumericLiteral, BigIntLiteral, StringLiteral, RegExpLiteral, NoSubstitution, TemplateHead, TemplateMiddle, TemplateTail, Elision, kind_number}
-use Rattle.jsx_tree.specs.Signs.{Tok, One}
+use Rattle.jsx_tree.specs.Signs.{Tok, One, Sign}
 use Rattle.jsx_tree.specs.Kinds.{Binds, Assigns, Kind, Tree, leaf, node, list, Forest, none, part}
 use Rattle.jsx_tree.specs.Nonterminals.{Nonterminal, Expr, MemberObject, SimpleTarget, Ident, BindingIdent, Pat, Slot, PatElement, Param, Argument, ArrayItem, NullishLeft, NewCallee, DotObject, in_homes, leaf_in, literal_homes, is_ident, is_value_word}
-use Rattle.jsx_tree.specs.Grammar.{production}
-use Rattle.jsx_tree.specs.Form.{leads}
+use Rattle.jsx_tree.specs.Grammar.{production, ListShape, Context, Fixed, Part, Many}
+use Rattle.jsx_tree.specs.Form.{leads, enough}
 use Rattle.jsx_tree.specs.StaticRules.{Surroundings}
 use Rattle.jsx_tree.specs.Reading.{Place, Lost, At, forth}
-use Rattle.jsx_tree.specs.Walk.{IsRead}
+use Rattle.jsx_tree.specs.Walk.{IsRead, is_found}
 use Rattle.jsx_tree.proofs.Tokens.{and_left, and_right, and_both}
 use Rattle.jsx_tree.proofs.OneTree.Readings.{level, reach, calm, Reads, word}
 use Rattle.jsx_tree.proofs.OneTree.Facts.{never, not_is, le_nat}
 use Rattle.jsx_tree.proofs.OneTree.Places.{needs, kin, is_prop, free, is_seq, taken}
+
+-- ---- walks of the other relation, taken apart
+
+pub record AtSign (V : List Context → Surroundings) (s : Sign) (ps : List W.Piece) (x : Place) (ts : Forest) (z : Place) : Type 0 where
+  pub next : Place
+  pub moves : forth s x ≡ next
+  pub found : IsTrue (is_found next)
+  pub walk : W.Walk IsRead V ps next ts z
+
+pub at_sign : {V : List Context → Surroundings} {a : List Context} {s : Sign} {ps : List W.Piece} {x z : Place} {ts : Forest} → W.Walk IsRead V (W.piece a (Fixed s) ∷ ps) x ts z → AtSign V s ps x ts z
+at_sign (W.next (W.sign {y = y} e f) w) = record { next = y; moves = e; found = f; walk = w }
+
+pub record AtPart (V : List Context → Surroundings) (a : List Context) (c : Nonterminal) (ps : List W.Piece) (x : Place) (ts : Forest) (z : Place) : Type 0 where
+  pub tree : Tree
+  pub others : Forest
+  pub next : Place
+  pub is : ts ≡ part tree others
+  pub read : IsRead (V a) false c x tree next
+  pub walk : W.Walk IsRead V ps next others z
+
+pub at_part : {V : List Context → Surroundings} {a : List Context} {c : Nonterminal} {ps : List W.Piece} {x z : Place} {ts : Forest} → W.Walk IsRead V (W.piece a (Part c) ∷ ps) x ts z → AtPart V a c ps x ts z
+at_part (W.next {ts = us} (W.tree {y = y} {t = t} r) w) = record { tree = t; others = us; next = y; is = refl; read = r; walk = w }
+
+pub record AtMany (V : List Context → Surroundings) (a : List Context) (s : ListShape) (c : Nonterminal) (ps : List W.Piece) (x : Place) (ts : Forest) (z : Place) : Type 0 where
+  pub trees : Forest
+  pub others : Forest
+  pub next : Place
+  pub is : ts ≡ part (list trees) others
+  pub enough' : enough s trees ≡ true
+  pub read : W.Items IsRead (V a) s c x trees next
+  pub walk : W.Walk IsRead V ps next others z
+
+pub at_many : {V : List Context → Surroundings} {a : List Context} {s : ListShape} {c : Nonterminal} {ps : List W.Piece} {x z : Place} {ts : Forest} → W.Walk IsRead V (W.piece a (Many s c) ∷ ps) x ts z → AtMany V a s c ps x ts z
+at_many (W.next {ts = us} (W.many {y = y} {ts = ts} e i) w) = record { trees = ts; others = us; next = y; is = refl; enough' = e; read = i; walk = w }
+
+pub at_end : {V : List Context → Surroundings} {x z : Place} {ts : Forest} → W.Walk IsRead V [] x ts z → (ts ≡ none) × (x ≡ z)
+at_end (W.done f) = (refl, refl)
 
 -- ---- trees that can be read at their places
 

@@ -20,11 +20,11 @@ use Rattle.jsx_tree.proofs.OneTree.Pairs.{two_tokens}
 use Rattle.jsx_tree.proofs.Rows.Bridge.{node_walk}
 use Rattle.jsx_tree.proofs.OneTree.Spines.{home_of}
 use Rattle.jsx_tree.proofs.OneTree.Placed.{Placed, Trail, with_comma, without, trail}
-use Rattle.jsx_tree.proofs.OneTree.StatementList.{for_stated}
+use Rattle.jsx_tree.proofs.OneTree.Statements.{for_stated}
 use Rattle.jsx_tree.proofs.OneTree.Parts.{known, kept, kepts, tame_of, SameAt, expr_same, expr_starts}
 use Rattle.jsx_tree.proofs.OneTree.Wants.{ended, meets, is_look, look_met, implies, implied, is_calm, mark, read_start}
 use Rattle.jsx_tree.proofs.OneTree.Begins.{is_own, want_of, stop_of, Front, front, fits, front_fits, front_stop, is_stop, front_stops, front_meets, is_listed, front_ok, fronts_ok, listed_fronts}
-use Rattle.jsx_tree.proofs.OneTree.Rows.{All, all_parts, own_leaf, own_kind, own_same}
+use Rattle.jsx_tree.proofs.OneTree.Rows.{All, all_parts, leafless, own_leaf, own_kind, own_same}
 
 pub record SameRow (ts us : Forest) (y z : Place) : Type 0 where
   pub trees : ts ≡ us
@@ -62,6 +62,12 @@ listed_own Item l = refl
 listed_own CaseClause l = refl
 listed_own _ l = cc
 
+pub listed_leafless : (c : Nonterminal) → is_listed c ≡ true → leafless c ≡ true
+listed_leafless Stmt l = refl
+listed_leafless Item l = refl
+listed_leafless CaseClause l = refl
+listed_leafless _ l = cc
+
 listed_wants : (c : Nonterminal) → is_listed c ≡ true → (implies (stop_of c) (want_of c) && (is_look (want_of c) && (is_stop (stop_of c) && not (is_calm (want_of c))))) ≡ true
 listed_wants Stmt l = refl
 listed_wants Item l = refl
@@ -80,7 +86,7 @@ pub record Begun (c : Nonterminal) (x : Place) : Type 0 where
   ok : front_ok c front ≡ true
 
 pub item_begins : (c : Nonterminal) {v : Surroundings} {x y : Place} (t : Tree) → is_listed c ≡ true → kept t ≡ true → IsRead v false c x t y → meets (want_of c) y ≡ true → Begun c x
-item_begins c (leaf s t) l h r m = absurd (own_leaf c s t (listed_own c l) (and_left (leaf_in c s t) _ r.is))
+item_begins c (leaf s t) l h r m = absurd (own_leaf c s t (listed_leafless c l) (and_left (leaf_in c s t) _ r.is))
 item_begins c (list ts) l h r m = let bad = r.is in cc
 item_begins c (node k cs) l h r m =
     let i = home_of c k cs (and_left (admits c (node k cs)) (fits_below c (node k cs)) r.is) in

@@ -11,7 +11,7 @@ use Rattle.jsx_tree.specs.Walk.{is_found}
 use Rattle.jsx_tree.proofs.OneTree.Readings.{kind_at, text_at}
 use Rattle.jsx_tree.proofs.OneTree.Facts.{never, or_else, not_is, Test, yes', no', test, eq_nat}
 use Rattle.jsx_tree.proofs.OneTree.Semis.{next_same}
-use Rattle.jsx_tree.proofs.OneTree.Ends.{end_kind}
+use Rattle.jsx_tree.proofs.OneTree.Endings.{end_kind}
 
 brace_mark : (f : Bool) (s : Text) → nat_eq (kind_number (at_front Operator f (125 ∷ s)).kind) 1 ≡ true
 brace_mark true s = refl

@@ -13,7 +13,7 @@ use Rattle.jsx_tree.proofs.Tokens.{and_left, and_right}
 use Rattle.jsx_tree.proofs.OneTree.Readings.{reach_of, calm, broken, holds}
 use Rattle.jsx_tree.proofs.OneTree.Facts.{not_is, Test, yes', no', test, le_nat, Seen, took}
 use Rattle.jsx_tree.proofs.OneTree.Places.{quiet, row_ok}
-use Rattle.jsx_tree.proofs.OneTree.Apart.{at_sign, at_end}
+use Rattle.jsx_tree.proofs.OneTree.Fine.{at_sign, at_end}
 use Rattle.jsx_tree.proofs.OneTree.Fine.{calm_more}
 
 -- ---- guards

@@ -1,10 +1,11 @@
 -- One part of a row: where two trees of one place end as the row asks, they are one.
+use Rattle.std.proofs.Common.{subst}
 use Rattle.std.proofs.Common.{◌≡◌, ℕ, ◌≤◌, Bool, true, false, not, cond, List, [], ◌∷◌, refl, sym, ◌∙◌, ap}
 use Rattle.std.specs.Prelude.{IsTrue, ◌&&◌, ◌||◌, nat_eq, nat_le}
 use Rattle.jsx_base.specs.Token.{Text, Operator, TokenKind, IdentifierName, StringLiteral, Punctuator, kind_number, same}
 use Rattle.jsx_tree.specs.Signs.{Tok, One}
 use Rattle.jsx_tree.specs.Kinds.{Kind, Tree, leaf, node, list, Forest, none, part}
-use Rattle.jsx_tree.specs.Nonterminals.{Nonterminal, Expr, Ident, BindingIdent, Name, StringOnly, homes, in_homes, leaf_in}
+use Rattle.jsx_tree.specs.Nonterminals.{Nonterminal, Expr, Ident, BindingIdent, Name, StringOnly, ImportClause, homes, in_homes, leaf_in}
 use Rattle.jsx_tree.specs.Form.{Form, Single, Maybe, Several, Position, position, positions, shaped, admits, is, fits_below, fit_slots, fit_each}
 use Rattle.jsx_tree.specs.StaticRules.{Surroundings}
 use Rattle.jsx_tree.specs.Spelling.{spelled}
@@ -26,8 +27,8 @@ use Rattle.jsx_tree.proofs.OneTree.Spines.{home_of, seq_is, taken_scope}
 use Rattle.jsx_tree.proofs.OneTree.Placed.{Placed, tree_reads, hole_free, whole_reads}
 use Rattle.jsx_tree.proofs.OneTree.Chains.{fine}
 use Rattle.jsx_tree.proofs.OneTree.Turn.{tree_same}
-use Rattle.jsx_tree.proofs.OneTree.StatementList.{for_stated}
-use Rattle.jsx_tree.proofs.OneTree.Ends.{whole_begins}
+use Rattle.jsx_tree.proofs.OneTree.Statements.{for_stated}
+use Rattle.jsx_tree.proofs.OneTree.Endings.{whole_begins}
 
 -- the kinds that are taken
 abbrev pub known : Kind → Bool
@@ -221,3 +222,18 @@ word_same {x} a b =
     let k = kind_is a.kind b.kind (sym s.kind ∙ r.kind) in
     let e = sym s.text ∙ r.text in
     record { tree = a.is_leaf ∙ ((λ i. leaf (k i) (e i)) ∙ sym b.is_leaf); place = sym a.moves ∙ ((λ i. forth (Tok Operator (k i) (e i)) x) ∙ b.moves) }
+
+-- a name alone as what is imported
+clause_leaf : (s : TokenKind) (t : Text) → leaf_in ImportClause s t ≡ true → s ≡ IdentifierName
+clause_leaf IdentifierName t h = refl
+clause_leaf _ t h = cc
+
+pub record Named (x : Place) (t : Tree) (y : Place) : Type 0 where
+  pub word : Word x t y
+  pub is_name : word.kind ≡ IdentifierName
+
+pub clause_read : {v : Surroundings} {x y : Place} (s : TokenKind) (t : Text) → IsRead v false ImportClause x (leaf s t) y → Named x (leaf s t) y
+clause_read {v} {x} {y} s t r =
+    let e = clause_leaf s t (and_left (leaf_in ImportClause s t) _ r.is) in
+    let q : IsRead v false ImportClause x (leaf IdentifierName t) y = subst (λ s. IsRead v false ImportClause x (leaf s t) y) e r in
+    record { word = record { kind = IdentifierName; text = t; is_leaf = (λ i. leaf (e i) t); moves = ap (forth (Tok Operator IdentifierName t)) (sym (one_sign x)) ∙ q.scans; found = r.found }; is_name = refl }

@@ -19,7 +19,7 @@ use Rattle.jsx_tree.proofs.OneTree.Facts.{never, not_is, Test, yes', no', test, 
 use Rattle.jsx_tree.proofs.OneTree.Places.{ending, kin, is_prop, place_at, no_seq, no_hole, ended_at, ends_by, closes, is_seq, taken}
 use Rattle.jsx_tree.proofs.Rows.Bridge.{node_walk}
 use Rattle.jsx_tree.proofs.Laws.{scan_lost}
-use Rattle.jsx_tree.proofs.OneTree.Apart.{at_many, at_end}
+use Rattle.jsx_tree.proofs.OneTree.Fine.{at_many, at_end}
 use Rattle.jsx_tree.proofs.OneTree.Fine.{plain_leaf, tame, tames, spine_ok, Good, Fine, fine_leaf, fine_regexp, fine_piece, fine_node, fine_prop, fine_seq, fine_list, Fines, fine_part, calm_more, one_sign, in_is, no_piece, kin_free, leaf_reads}
 use Rattle.jsx_tree.proofs.OneTree.Spines.{home_of, at_kind, taken_scope, seq_is, node_spine, no_seq_here, home_spine, home_first}
 use Rattle.jsx_tree.proofs.OneTree.Next.{reach_seen, calm_at}

@@ -1,4 +1,7 @@
 -- Two rows of which the first tokens differ don't stand at one place.
+use Rattle.jsx_tree.proofs.OneTree.Imports.{string_first}
+use Rattle.jsx_tree.proofs.OneTree.Rows.{clause_first}
+use Rattle.jsx_tree.specs.Nonterminals.{ImportClause}
 use Rattle.std.proofs.Common.{◌≡◌, Bool, true, false, not, List, [], ◌∷◌, refl, sym, ◌∙◌, ap, subst}
 use Rattle.std.specs.Prelude.{◌&&◌, ◌||◌, nat_eq}
 use Rattle.jsx_base.specs.Token.{Text, Operator, TokenKind, StringLiteral, kind_number, among}
@@ -18,10 +21,10 @@ use Rattle.jsx_tree.proofs.OneTree.Readings.{kind_at, text_at}
 use Rattle.jsx_tree.proofs.OneTree.Checks.{every, starts, same_token}
 use Rattle.jsx_tree.proofs.OneTree.Facts.{kind_is, never, or_else, not_is, Test, yes', no', test, eq_nat, Seen, took, same_seen}
 use Rattle.jsx_tree.proofs.OneTree.Pairs.{two_tokens}
-use Rattle.jsx_tree.proofs.OneTree.Apart.{at_sign, at_part, at_end}
+use Rattle.jsx_tree.proofs.OneTree.Fine.{at_sign, at_part, at_end}
 use Rattle.jsx_tree.proofs.OneTree.Next.{unless_kept}
 use Rattle.jsx_tree.proofs.OneTree.Spines.{home_of}
-use Rattle.jsx_tree.proofs.OneTree.StatementList.{for_stated}
+use Rattle.jsx_tree.proofs.OneTree.Statements.{for_stated}
 use Rattle.jsx_tree.proofs.OneTree.Parts.{known, kept, kepts, wordy, word_read, word_same}
 use Rattle.jsx_tree.proofs.OneTree.Wants.{Want, still, other, is_calm, implies, implied, meets, is_at, is_seen}
 use Rattle.jsx_tree.proofs.OneTree.Begins.{Front, token', expr', name', front, fits, front_fits, at_seen}
@@ -72,6 +75,7 @@ abbrev pub rows_apart : List W.Piece → List W.Piece → Bool
 rows_apart (W.piece a (Fixed (Tok Operator k t)) ∷ ps) (W.piece b (Fixed (Tok Operator l u)) ∷ qs) = not (same_token k t l u) || rows_apart ps qs
 rows_apart (W.piece a (Fixed (Tok Operator k t)) ∷ ps) (W.piece b (Fixed (Unless ts)) ∷ qs) = among t ts && not (among [] ts)
 rows_apart (W.piece a (Fixed (Tok Operator k t)) ∷ ps) (W.piece b (Part c) ∷ []) = part_apart k t c
+rows_apart (W.piece a (Part StringOnly) ∷ ps) (W.piece b (Part ImportClause) ∷ qs) = true
 rows_apart ps qs = false
 
 string_leaf : (s : TokenKind) (t : Text) → leaf_in StringOnly s t ≡ true → kind_number s ≡ 4
@@ -106,22 +110,26 @@ token_clash k l t u x {b} p q h rest = rest (same_seen p q) (by_not (same_token 
     by_not true e h = h
     by_not false e h = cc
 
-pub rows_clash : {V V' : List Context → Surroundings} (ps qs : List W.Piece) {x y z : Place} {ts us : Forest} → rows_apart ps qs ≡ true → kepts us ≡ true → W.Walk IsRead V ps x ts y → W.Walk IsRead V' qs x us z → meets still z ≡ true → ⊥
-rows_clash (W.piece a (Fixed (Tok Operator k t)) ∷ ps) (W.piece b (Fixed (Tok Operator l u)) ∷ qs) {x} h g i j m =
+pub rows_clash : {V V' : List Context → Surroundings} (ps qs : List W.Piece) {x y z : Place} {ts us : Forest} → rows_apart ps qs ≡ true → kepts ts ≡ true → kepts us ≡ true → W.Walk IsRead V ps x ts y → W.Walk IsRead V' qs x us z → meets still z ≡ true → ⊥
+rows_clash (W.piece a (Fixed (Tok Operator k t)) ∷ ps) (W.piece b (Fixed (Tok Operator l u)) ∷ qs) {x} h f g i j m =
     let p = at_sign i in
     let q = at_sign j in
-    token_clash k l t u x (took k t x p.moves p.found) (took l u x q.moves q.found) h (λ s o. rows_clash ps qs o g p.walk (move_walk (same_next x k l t u s p.moves q.moves) q.walk) m)
-rows_clash (W.piece a (Fixed (Tok Operator k t)) ∷ ps) (W.piece b (Fixed (Unless ts)) ∷ qs) {x} h g i j m =
+    token_clash k l t u x (took k t x p.moves p.found) (took l u x q.moves q.found) h (λ s o. rows_clash ps qs o f g p.walk (move_walk (same_next x k l t u s p.moves q.moves) q.walk) m)
+rows_clash (W.piece a (Fixed (Tok Operator k t)) ∷ ps) (W.piece b (Fixed (Unless ts)) ∷ qs) {x} h f g i j m =
     let p = at_sign i in
     let q = at_sign j in
     let s : Seen x k t = took k t x p.moves p.found in
     let r = unless_kept ts x q.next (not_is _ (and_right (among t ts) _ h)) q.moves q.found in
     never (among t ts) (and_left (among t ts) _ h) (subst (λ u. among u ts ≡ false) s.text (not_is (among (text_at x) ts) r.held))
-rows_clash (W.piece a (Fixed (Tok Operator k t)) ∷ ps) (W.piece b (Part c) ∷ []) {x} h g i j m =
+rows_clash (W.piece a (Fixed (Tok Operator k t)) ∷ ps) (W.piece b (Part c) ∷ []) {x} h f g i j m =
     let p = at_sign i in
     let q = at_part j in
     part_clash k t c q.tree h (took k t x p.moves p.found) (and_left (kept q.tree) _ (subst (λ us. kepts us ≡ true) q.is g)) q.read (subst (λ z. meets still z ≡ true) (sym (at_end q.walk).1) m)
-rows_clash _ _ h g i j m = cc
+rows_clash (W.piece a (Part StringOnly) ∷ ps) (W.piece b (Part ImportClause) ∷ qs) {x} h f g i j m =
+    let p = at_part i in
+    let q = at_part j in
+    never (nat_eq (kind_at x) 4) (ap (λ n. nat_eq n 4) (string_first p.tree (and_left (kept p.tree) _ (subst (λ ts. kepts ts ≡ true) p.is f)) p.read)) (clause_first q.tree (and_left (kept q.tree) _ (subst (λ us. kepts us ≡ true) q.is g)) q.read).1
+rows_clash _ _ h f g i j m = cc
 
 -- ---- a word that ends its row, and one that goes on
 

@@ -1,4 +1,10 @@
 -- Two readings of one row from one place are one: once for all rows of statements.
+use Rattle.std.proofs.Common.{sym}
+use Rattle.jsx_tree.proofs.OneTree.Facts.{eq_nat}
+use Rattle.jsx_tree.proofs.OneTree.Readings.{text_at}
+use Rattle.jsx_tree.proofs.OneTree.Begins.{name', fits, bound_fits}
+use Rattle.jsx_tree.specs.Form.{admits, fits_below}
+use Rattle.std.specs.Prelude.{nat_eq, ◌∷◌}
 use Rattle.std.proofs.Common.{◌≡◌, zero, suc, Bool, true, false, not, List, refl, ◌∙◌, ap, subst, arith}
 use Rattle.std.specs.Prelude.{◌&&◌, ◌||◌}
 use Rattle.jsx_base.specs.Token.{Text, TokenKind, IdentifierName}
@@ -8,6 +14,22 @@ use Rattle.jsx_tree.specs.Grammar.{Context, Production}
 use Rattle.jsx_tree.specs.StaticRules.{Surroundings}
 use Rattle.jsx_tree.specs.Reading.{Place}
 use Rattle.jsx_tree.proofs.Tokens.{and_left, and_right}
+use Rattle.std.specs.Prelude.{codes}
+use Rattle.jsx_base.specs.Token.{Text, Operator, Punctuator, kind_number, same}
+use Rattle.jsx_tree.specs.Signs.{Tok}
+use Rattle.jsx_tree.specs.Nonterminals.{BindingIdent, ImportClause}
+use Rattle.jsx_tree.specs.Grammar.{Fixed, Part}
+use Rattle.jsx_tree.proofs.Tokens.{same_is}
+use Rattle.jsx_tree.proofs.Rows.Bridge.{node_walk}
+use Rattle.jsx_tree.proofs.OneTree.Statements.{stated_kinds}
+use Rattle.jsx_tree.proofs.OneTree.Statements.{for_stated}
+use Rattle.jsx_tree.proofs.OneTree.Readings.{kind_at}
+use Rattle.jsx_tree.proofs.OneTree.Facts.{Seen, took}
+use Rattle.jsx_tree.proofs.OneTree.Fine.{at_sign, at_part}
+use Rattle.jsx_tree.proofs.OneTree.Spines.{home_of}
+use Rattle.jsx_tree.proofs.OneTree.Parts.{Named, clause_read, word_read, word_same}
+use Rattle.jsx_tree.proofs.OneTree.Wants.{other, is_at}
+use Rattle.jsx_tree.proofs.OneTree.Begins.{at_seen}
 use Rattle.jsx_tree.specs.Walk as W
 use Rattle.jsx_tree.specs.Walk.{pieces, IsRead}
 use Rattle.jsx_tree.proofs.OneTree.Table.{kinds}
@@ -58,6 +80,7 @@ own_clean (Specifiers Imported) o = refl
 own_clean (Specifiers Exported) o = refl
 own_clean (Specifiers From) o = refl
 own_clean ImportBindings o = refl
+own_clean ImportClause o = refl
 own_clean _ o = cc
 
 own_seq : (c : Nonterminal) → is_own c ≡ true → in_homes c (homes (expression Seq)) ≡ false
@@ -75,9 +98,15 @@ own_seq (Specifiers Imported) o = refl
 own_seq (Specifiers Exported) o = refl
 own_seq (Specifiers From) o = refl
 own_seq ImportBindings o = refl
+own_seq ImportClause o = refl
 own_seq _ o = cc
 
-pub own_leaf : (c : Nonterminal) (s : TokenKind) (t : Text) → is_own c ≡ true → leaf_in c s t ≡ true → ⊥
+-- where no leaf stands
+abbrev pub leafless : Nonterminal → Bool
+leafless ImportClause = false
+leafless c = is_own c
+
+pub own_leaf : (c : Nonterminal) (s : TokenKind) (t : Text) → leafless c ≡ true → leaf_in c s t ≡ true → ⊥
 own_leaf Stmt IdentifierName t o h = cc
 own_leaf Stmt _ t o h = cc
 own_leaf SubStmt IdentifierName t o h = cc
@@ -124,8 +153,96 @@ own_kind c k o h i = by_stated (test (stated k))
     by_stated (yes' t) = t
     by_stated (no' n) = by_taken (test (taken k)) n
 
+-- what is imported is a name alone, or begins otherwise
+abbrev pub clause_row : List W.Piece → Bool
+clause_row (W.piece a (Fixed (Tok Operator Punctuator t)) ∷ ps) = not (same t (codes "(") || same t (codes "."))
+clause_row (W.piece a (Part BindingIdent) ∷ W.piece b (Fixed (Tok Operator Punctuator t)) ∷ ps) = same t (codes ",")
+clause_row ps = false
+
+clause_rows : every (λ k. not (in_homes ImportClause (homes k)) || clause_row (W.row false k)) stated_kinds ≡ true
+clause_rows = refl
+
+clause_walk : {V : List Context → Surroundings} (ps : List W.Piece) {x y z : Place} {t : Tree} {us : Forest} → clause_row ps ≡ true → Named x t y → kepts us ≡ true → W.Walk IsRead V ps x us z → meets (other Punctuator (codes ",")) y ≡ true → ⊥
+clause_walk (W.piece a (Fixed (Tok Operator Punctuator u)) ∷ ps) {x} h n k w m =
+    let s = at_sign w in
+    let b : Seen x Punctuator u = took Punctuator u x s.moves s.found in
+    let c : Seen x n.word.kind n.word.text = took n.word.kind n.word.text x n.word.moves n.word.found in
+    never (nat_eq (kind_at x) 1) (ap (λ n. nat_eq n 1) b.kind) (ap (λ n. nat_eq n 1) (c.kind ∙ ap kind_number n.is_name))
+clause_walk (W.piece a (Part BindingIdent) ∷ W.piece b (Fixed (Tok Operator Punctuator u)) ∷ ps) {x} {y} h n k w m =
+    let p = at_part w in
+    let s = at_sign p.walk in
+    let e = word_same n.word (word_read BindingIdent p.tree refl (and_left (kept p.tree) _ (subst (λ ts. kepts ts ≡ true) p.is k)) p.read) in
+    let b : Seen p.next Punctuator u = took Punctuator u p.next s.moves s.found in
+    let c : Seen y Punctuator u = subst (λ z. Seen z Punctuator u) (sym e.place) b in
+    never (is_at y Punctuator (codes ",")) (at_seen {x = y} {k = Punctuator} {t = codes ","} (record { kind = c.kind; text = c.text ∙ same_is u (codes ",") h })) (not_is _ m)
+clause_walk _ h n k w m = cc
+
+pub clause_clash : {v w : Surroundings} {x y z : Place} (s : TokenKind) (t : Text) (k : Kind) (cs : Forest) → kept (node k cs) ≡ true → IsRead v false ImportClause x (leaf s t) y → IsRead w false ImportClause x (node k cs) z → meets (other Punctuator (codes ",")) y ≡ true → ⊥
+clause_clash s t k cs h r p m =
+    let i = home_of ImportClause k cs (and_left (admits ImportClause (node k cs)) (fits_below ImportClause (node k cs)) p.is) in
+    let o = own_kind ImportClause k refl (and_left (known k) (kepts cs) h) i in
+    clause_walk (W.row false k) (or_else (not (in_homes ImportClause (homes k))) _ (for_stated (λ k. not (in_homes ImportClause (homes k)) || clause_row (W.row false k)) clause_rows k o) (ap not i)) (clause_read s t r) (and_right (known k) (kepts cs) h) (node_walk false k refl p).walk m
+
+pub clause_is : (c : Nonterminal) → is_own c ≡ true → leafless c ≡ false → c ≡ ImportClause
+clause_is ImportClause o n = refl
+clause_is Stmt o n = cc
+clause_is SubStmt o n = cc
+clause_is Item o n = cc
+clause_is Declaration o n = cc
+clause_is BlockOnly o n = cc
+clause_is CatchClause o n = cc
+clause_is CaseClause o n = cc
+clause_is Declarators o n = cc
+clause_is Body o n = cc
+clause_is DirectiveOnly o n = cc
+clause_is (Specifiers s) o n = cc
+clause_is ImportBindings o n = cc
+clause_is _ o n = cc
+
+-- what goes on with the word `import` of an expression
+abbrev pub calls_on : Place → Bool
+calls_on x = nat_eq (kind_at x) 1 && (same (text_at x) (codes "(") || same (text_at x) (codes "."))
+
+clause_begins : {V : List Context → Surroundings} (ps : List W.Piece) {x z : Place} {us : Forest} → clause_row ps ≡ true → kepts us ≡ true → W.Walk IsRead V ps x us z → (calls_on x ≡ false) × (nat_eq (kind_at x) 4 ≡ false)
+clause_begins (W.piece a (Fixed (Tok Operator Punctuator u)) ∷ ps) {x} h k w =
+    let s = at_sign w in
+    let b : Seen x Punctuator u = took Punctuator u x s.moves s.found in
+    ((λ i. nat_eq (b.kind i) 1 && (same (b.text i) (codes "(") || same (b.text i) (codes "."))) ∙ not_is _ h, ap (λ n. nat_eq n 4) b.kind)
+clause_begins (W.piece a (Part BindingIdent) ∷ W.piece b (Fixed (Tok Operator Punctuator u)) ∷ ps) {x} h k w =
+    let p = at_part w in
+    let e = zero_kind x (bound_fits p.tree (and_left (kept p.tree) _ (subst (λ ts. kepts ts ≡ true) p.is k)) p.read) in
+    ((λ i. nat_eq (e i) 1 && (same (text_at x) (codes "(") || same (text_at x) (codes "."))), ap (λ n. nat_eq n 4) e)
+  where
+    zero_kind : (x : Place) → fits name' x ≡ true → kind_at x ≡ 0
+    zero_kind x h = eq_nat {a = kind_at x} {b = 0} (and_left (nat_eq (kind_at x) 0) _ h)
+clause_begins _ h k w = cc
+
+-- what is imported begins neither as a string nor as what goes on with the word
+pub clause_first : {v : Surroundings} {x y : Place} (t : Tree) → kept t ≡ true → IsRead v false ImportClause x t y → (calls_on x ≡ false) × (nat_eq (kind_at x) 4 ≡ false)
+clause_first {x = x} (leaf s t) h r =
+    let n = clause_read s t r in
+    let b : Seen x n.word.kind n.word.text = took n.word.kind n.word.text x n.word.moves n.word.found in
+    let e = b.kind ∙ ap kind_number n.is_name in
+    ((λ i. nat_eq (e i) 1 && (same (text_at x) (codes "(") || same (text_at x) (codes "."))), ap (λ n. nat_eq n 4) e)
+clause_first (list ts) h r = let bad = r.is in cc
+clause_first (node k cs) h r =
+    let i = home_of ImportClause k cs (and_left (admits ImportClause (node k cs)) (fits_below ImportClause (node k cs)) r.is) in
+    let o = own_kind ImportClause k refl (and_left (known k) (kepts cs) h) i in
+    clause_begins (W.row false k) (or_else (not (in_homes ImportClause (homes k))) _ (for_stated (λ k. not (in_homes ImportClause (homes k)) || clause_row (W.row false k)) clause_rows k o) (ap not i)) (and_right (known k) (kepts cs) h) (node_walk false k refl r).walk
+
+clause_same : {v w : Surroundings} {x y z : Place} (s : TokenKind) (t : Text) (u : Tree) → kept u ≡ true → IsRead v false ImportClause x (leaf s t) y → IsRead w false ImportClause x u z → meets (other Punctuator (codes ",")) y ≡ true → SameAt (leaf s t) u y z
+clause_same s t (leaf r u) h p q m = word_same (clause_read s t p).word (clause_read r u q).word
+clause_same s t (list us) h p q m = let bad = q.is in cc
+clause_same s t (node k cs) h p q m = absurd (clause_clash s t k cs h p q m)
+
 pub own_same : (c : Nonterminal) {v w : Surroundings} {x y z : Place} (t u : Tree) → is_own c ≡ true → Each t → kept t ≡ true → kept u ≡ true → IsRead v false c x t y → IsRead w false c x u z → meets (want_of c) y ≡ true → meets (want_of c) z ≡ true → SameAt t u y z
-own_same c (leaf s t) u o each_leaf h g r p m n = absurd (own_leaf c s t o (and_left (leaf_in c s t) _ r.is))
+own_same c {v} {w} {x} {y} {z} (leaf s t) u o each_leaf h g r p m n = by_leafless (test (leafless c))
+  where
+    by_leafless : Test (leafless c) → SameAt (leaf s t) u y z
+    by_leafless (yes' l) = absurd (own_leaf c s t l (and_left (leaf_in c s t) _ r.is))
+    by_leafless (no' l) =
+        let e = clause_is c o l in
+        clause_same s t u g (subst (λ c. IsRead v false c x (leaf s t) y) e r) (subst (λ c. IsRead w false c x u z) e p) (subst (λ c. meets (want_of c) y ≡ true) e m)
 own_same c (node k cs) u o (each_node e) h g r p m n = e.one c u o h g r p m n
 own_same c (list ts) u o e h g r p m n = let bad = r.is in cc
 
@@ -217,6 +334,7 @@ part_same {e = e} {ps} c {x} {y} {z} t u h f k l r s p q = by_whole (test (is_wh
         no_calm DirectiveOnly o h = cc
         no_calm (Specifiers s) o h = cc
         no_calm ImportBindings o h = cc
+        no_calm ImportClause o h = cc
         no_calm _ o h = cc
 
     by_word : Test (wordy c) → (wordy c || (is_own c && follow e ps (want_of c))) ≡ true → SameAt t u y z

@@ -23,7 +23,7 @@ use Rattle.jsx_tree.specs.Walk.{is_found, is_heard, heard, keep, pieces, IsRead}
 use Rattle.jsx_tree.proofs.OneTree.Readings.{kind_at, text_at, broken}
 use Rattle.jsx_tree.proofs.OneTree.Checks.{starts}
 use Rattle.jsx_tree.proofs.OneTree.Facts.{never, or_else, not_is, Test, yes', no', test, eq_nat, Seen, took, seen}
-use Rattle.jsx_tree.proofs.OneTree.Apart.{at_part, at_many, at_end}
+use Rattle.jsx_tree.proofs.OneTree.Fine.{at_part, at_many, at_end}
 use Rattle.jsx_tree.proofs.OneTree.Next.{unless_kept}
 use Rattle.jsx_tree.proofs.OneTree.Missing.{Behind, a_mark, a_brace, a_line, behind}
 use Rattle.jsx_tree.proofs.OneTree.Endings.{found_first}

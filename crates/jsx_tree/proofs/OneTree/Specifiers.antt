@@ -1,31 +1,31 @@
 -- Two readings of one list of specifiers from one place are one.
-use Rattle.std.proofs.Common.{◌≡◌, ℕ, Bool, true, false, not, cond, List, [], ◌∷◌, refl, sym, ◌∙◌, ap, subst}
-use Rattle.std.specs.Prelude.{IsTrue, ◌&&◌, ◌||◌, nat_eq, codes}
-use Rattle.jsx_base.specs.Token.{Text, Operator, TokenKind, IdentifierName, Punctuator, kind_number, same}
-use Rattle.jsx_tree.specs.Signs.{Sign, Tok, TrailingComma, Space, Pad}
-use Rattle.jsx_tree.specs.Kinds.{Side, Imported, Exported, From, Kind, Tree, leaf, node, list, Forest, none, part}
+use Rattle.std.proofs.Common.{◌≡◌, Bool, true, false, not, List, [], ◌∷◌, refl, sym, ◌∙◌, ap, subst}
+use Rattle.std.specs.Prelude.{IsTrue, ◌||◌, nat_eq, codes}
+use Rattle.jsx_base.specs.Token.{Text, TokenKind, IdentifierName, Punctuator, kind_number}
+use Rattle.jsx_tree.specs.Signs.{TrailingComma, Space}
+use Rattle.jsx_tree.specs.Kinds.{Side, Imported, Exported, From, Tree, leaf, node, list, Forest, none, part}
 use Rattle.jsx_tree.specs.Nonterminals.{Nonterminal, Ident, BindingIdent, Name, Specifiers, homes, in_homes, leaf_in}
-use Rattle.jsx_tree.specs.Grammar.{Commas, Context, Fixed, Part, Production, production}
+use Rattle.jsx_tree.specs.Grammar.{Commas, Context, Part, Production, production}
 use Rattle.jsx_tree.specs.Form.{admits, is, fits_below}
 use Rattle.jsx_tree.specs.StaticRules.{Surroundings}
 use Rattle.jsx_tree.specs.Spelling.{between}
 use Rattle.jsx_tree.specs.Reading.{Place, Lost, At, forth, scan}
-use Rattle.jsx_tree.proofs.Tokens.{and_left, and_right, same_is}
+use Rattle.jsx_tree.proofs.Tokens.{and_left, and_right}
 use Rattle.jsx_tree.specs.Walk as W
 use Rattle.jsx_tree.specs.Walk.{is_found, pieces, IsRead}
 use Rattle.jsx_tree.proofs.Rows.Bridge.{node_walk}
 use Rattle.jsx_tree.proofs.OneTree.Statements.{stated_kinds}
-use Rattle.jsx_tree.proofs.OneTree.StatementList.{for_stated}
-use Rattle.jsx_tree.proofs.OneTree.Readings.{kind_at, text_at, comma}
+use Rattle.jsx_tree.proofs.OneTree.Statements.{for_stated}
+use Rattle.jsx_tree.proofs.OneTree.Readings.{kind_at, comma}
 use Rattle.jsx_tree.proofs.OneTree.Checks.{every}
-use Rattle.jsx_tree.proofs.OneTree.Facts.{never, or_else, not_is, Seen, took}
+use Rattle.jsx_tree.proofs.OneTree.Facts.{never, or_else, Seen, took}
 use Rattle.jsx_tree.proofs.OneTree.Pairs.{two_tokens}
-use Rattle.jsx_tree.proofs.OneTree.Apart.{at_part}
+use Rattle.jsx_tree.proofs.OneTree.Fine.{at_part}
 use Rattle.jsx_tree.proofs.OneTree.Spines.{home_of}
 use Rattle.jsx_tree.proofs.OneTree.Placed.{Trail, with_comma, without, trail}
 use Rattle.jsx_tree.proofs.OneTree.Parts.{known, kept, kepts, wordy, word_read}
-use Rattle.jsx_tree.proofs.OneTree.Wants.{parted, meets, look_met, read_start, signed}
-use Rattle.jsx_tree.proofs.OneTree.Rows.{Each, All, all_parts, own_leaf, own_kind, own_same}
+use Rattle.jsx_tree.proofs.OneTree.Wants.{parted, meets, look_met, read_start}
+use Rattle.jsx_tree.proofs.OneTree.Rows.{All, all_parts, own_leaf, own_kind, own_same}
 use Rattle.jsx_tree.proofs.OneTree.Lists.{SameRow, move_items}
 
 -- a row that begins with a name

@@ -1,12 +1,20 @@
 -- The kinds of statements, and of what stands in them, in a list.
 use Rattle.std.specs.Prelude.{ℕ, zero, suc, List, [], ◌∷◌, Bool, true, false}
-use Rattle.jsx_tree.specs.Kinds.{Script, Module, FunctionBody, Directive, ExportAll, ExportAllAs, ExportDecl, ExportDefaultFn, ExportDefaultExpr, ExportNames, Specifier, SpecifierAs, Imported, Exported, From, Var, VarWord, LetWord, ConstWord, Block, Declarator, Empty, ExprStmt, If, Do, While, Continue, Break, Return, Throw, Debugger, Label, Switch, Case, Default, Try, Catch, FunctionDecl, Kind, program, statement}
+use Rattle.jsx_tree.specs.Kinds.{Script, Module, FunctionBody, Directive, ImportBare, Import, ImportAll, ImportList, ImportBoth, ExportAll, ExportAllAs, ExportDecl, ExportDefaultFn, ExportDefaultExpr, ExportNames, Specifier, SpecifierAs, Imported, Exported, From, Var, VarWord, LetWord, ConstWord, Block, Declarator, Empty, ExprStmt, If, Do, While, Continue, Break, Return, Throw, Debugger, Label, Switch, Case, Default, Try, Catch, FunctionDecl, Kind, program, statement}
+use Rattle.std.proofs.Common.{◌≡◌, refl, subst}
+use Rattle.jsx_tree.proofs.OneTree.Checks.{every}
+use Rattle.jsx_tree.proofs.Tokens.{and_left, and_right}
 
 abbrev pub stated : Kind → Bool
 stated (program Script) = true
 stated (program Module) = true
 stated (program FunctionBody) = true
 stated (program Directive) = true
+stated (program ImportBare) = true
+stated (program Import) = true
+stated (program ImportAll) = true
+stated (program ImportList) = true
+stated (program ImportBoth) = true
 stated (program ExportAll) = true
 stated (program ExportAllAs) = true
 stated (program ExportDecl) = true
@@ -48,47 +56,107 @@ place (program Script) = 0
 place (program Module) = 1
 place (program FunctionBody) = 2
 place (program Directive) = 3
-place (program ExportAll) = 4
-place (program ExportAllAs) = 5
-place (program ExportDecl) = 6
-place (program ExportDefaultFn) = 7
-place (program ExportDefaultExpr) = 8
-place (program ExportNames) = 9
-place (program (Specifier Imported)) = 10
-place (program (Specifier Exported)) = 11
-place (program (Specifier From)) = 12
-place (program (SpecifierAs Imported)) = 13
-place (program (SpecifierAs Exported)) = 14
-place (program (SpecifierAs From)) = 15
-place (statement Block) = 16
-place (statement (Var VarWord)) = 17
-place (statement (Var LetWord)) = 18
-place (statement (Var ConstWord)) = 19
-place (statement Declarator) = 20
-place (statement Empty) = 21
-place (statement ExprStmt) = 22
-place (statement If) = 23
-place (statement Do) = 24
-place (statement While) = 25
-place (statement Continue) = 26
-place (statement Break) = 27
-place (statement Return) = 28
-place (statement Throw) = 29
-place (statement Debugger) = 30
-place (statement Label) = 31
-place (statement Switch) = 32
-place (statement Case) = 33
-place (statement Default) = 34
-place (statement Try) = 35
-place (statement Catch) = 36
-place (statement FunctionDecl) = 37
+place (program ImportBare) = 4
+place (program Import) = 5
+place (program ImportAll) = 6
+place (program ImportList) = 7
+place (program ImportBoth) = 8
+place (program ExportAll) = 9
+place (program ExportAllAs) = 10
+place (program ExportDecl) = 11
+place (program ExportDefaultFn) = 12
+place (program ExportDefaultExpr) = 13
+place (program ExportNames) = 14
+place (program (Specifier Imported)) = 15
+place (program (Specifier Exported)) = 16
+place (program (Specifier From)) = 17
+place (program (SpecifierAs Imported)) = 18
+place (program (SpecifierAs Exported)) = 19
+place (program (SpecifierAs From)) = 20
+place (statement Block) = 21
+place (statement (Var VarWord)) = 22
+place (statement (Var LetWord)) = 23
+place (statement (Var ConstWord)) = 24
+place (statement Declarator) = 25
+place (statement Empty) = 26
+place (statement ExprStmt) = 27
+place (statement If) = 28
+place (statement Do) = 29
+place (statement While) = 30
+place (statement Continue) = 31
+place (statement Break) = 32
+place (statement Return) = 33
+place (statement Throw) = 34
+place (statement Debugger) = 35
+place (statement Label) = 36
+place (statement Switch) = 37
+place (statement Case) = 38
+place (statement Default) = 39
+place (statement Try) = 40
+place (statement Catch) = 41
+place (statement FunctionDecl) = 42
 place k = 0
 
 abbrev pub stated_kinds : List Kind
 stated_kinds =
-    program Script ∷ program Module ∷ program FunctionBody ∷ program Directive ∷ program ExportAll ∷ program ExportAllAs ∷ program ExportDecl ∷ program ExportDefaultFn ∷ program ExportDefaultExpr ∷ program ExportNames ∷ program (Specifier Imported) ∷ program (Specifier Exported) ∷ program (Specifier From) ∷ program (SpecifierAs Imported) ∷ program (SpecifierAs Exported) ∷ program (SpecifierAs From) ∷ statement Block ∷ statement (Var VarWord) ∷ statement (Var LetWord) ∷ statement (Var ConstWord) ∷ statement Declarator ∷ statement Empty ∷ statement ExprStmt ∷ statement If ∷ statement Do ∷ statement While ∷ statement Continue ∷ statement Break ∷ statement Return ∷ statement Throw ∷ statement Debugger ∷ statement Label ∷ statement Switch ∷ statement Case ∷ statement Default ∷ statement Try ∷ statement Catch ∷ statement FunctionDecl ∷ []
+    program Script ∷ program Module ∷ program FunctionBody ∷ program Directive ∷ program ImportBare ∷ program Import ∷ program ImportAll ∷ program ImportList ∷ program ImportBoth ∷ program ExportAll ∷ program ExportAllAs ∷ program ExportDecl ∷ program ExportDefaultFn ∷ program ExportDefaultExpr ∷ program ExportNames ∷ program (Specifier Imported) ∷ program (Specifier Exported) ∷ program (Specifier From) ∷ program (SpecifierAs Imported) ∷ program (SpecifierAs Exported) ∷ program (SpecifierAs From) ∷ statement Block ∷ statement (Var VarWord) ∷ statement (Var LetWord) ∷ statement (Var ConstWord) ∷ statement Declarator ∷ statement Empty ∷ statement ExprStmt ∷ statement If ∷ statement Do ∷ statement While ∷ statement Continue ∷ statement Break ∷ statement Return ∷ statement Throw ∷ statement Debugger ∷ statement Label ∷ statement Switch ∷ statement Case ∷ statement Default ∷ statement Try ∷ statement Catch ∷ statement FunctionDecl ∷ []
 
 abbrev pub nth : List Kind → ℕ → Kind
 nth [] n = program Script
 nth (k ∷ ks) zero = k
 nth (k ∷ ks) (suc n) = nth ks n
+
+pub stated_nth : (k : Kind) → stated k ≡ true → nth stated_kinds (place k) ≡ k
+stated_nth (program Script) h = refl
+stated_nth (program Module) h = refl
+stated_nth (program FunctionBody) h = refl
+stated_nth (program Directive) h = refl
+stated_nth (program ImportBare) h = refl
+stated_nth (program Import) h = refl
+stated_nth (program ImportAll) h = refl
+stated_nth (program ImportList) h = refl
+stated_nth (program ImportBoth) h = refl
+stated_nth (program ExportAll) h = refl
+stated_nth (program ExportAllAs) h = refl
+stated_nth (program ExportDecl) h = refl
+stated_nth (program ExportDefaultFn) h = refl
+stated_nth (program ExportDefaultExpr) h = refl
+stated_nth (program ExportNames) h = refl
+stated_nth (program (Specifier Imported)) h = refl
+stated_nth (program (Specifier Exported)) h = refl
+stated_nth (program (Specifier From)) h = refl
+stated_nth (program (SpecifierAs Imported)) h = refl
+stated_nth (program (SpecifierAs Exported)) h = refl
+stated_nth (program (SpecifierAs From)) h = refl
+stated_nth (statement Block) h = refl
+stated_nth (statement (Var VarWord)) h = refl
+stated_nth (statement (Var LetWord)) h = refl
+stated_nth (statement (Var ConstWord)) h = refl
+stated_nth (statement Declarator) h = refl
+stated_nth (statement Empty) h = refl
+stated_nth (statement ExprStmt) h = refl
+stated_nth (statement If) h = refl
+stated_nth (statement Do) h = refl
+stated_nth (statement While) h = refl
+stated_nth (statement Continue) h = refl
+stated_nth (statement Break) h = refl
+stated_nth (statement Return) h = refl
+stated_nth (statement Throw) h = refl
+stated_nth (statement Debugger) h = refl
+stated_nth (statement Label) h = refl
+stated_nth (statement Switch) h = refl
+stated_nth (statement Case) h = refl
+stated_nth (statement Default) h = refl
+stated_nth (statement Try) h = refl
+stated_nth (statement Catch) h = refl
+stated_nth (statement FunctionDecl) h = refl
+stated_nth _ h = cc
+
+every_nth : (p : Kind → Bool) (ks : List Kind) (n : ℕ) → p (nth [] 0) ≡ true → every p ks ≡ true → p (nth ks n) ≡ true
+every_nth p [] n d e = d
+every_nth p (k ∷ ks) zero d e = and_left (p k) (every p ks) e
+every_nth p (k ∷ ks) (suc n) d e = every_nth p ks n d (and_right (p k) (every p ks) e)
+
+-- a test of each of these kinds holds of any of them
+pub for_stated : (p : Kind → Bool) → every p stated_kinds ≡ true → (k : Kind) → stated k ≡ true → p k ≡ true
+for_stated p e k s = subst (λ l. p l ≡ true) (stated_nth k s) (every_nth p stated_kinds (place k) (and_left (p (nth [] 0)) _ e) e)

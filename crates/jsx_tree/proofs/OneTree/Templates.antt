@@ -19,7 +19,7 @@ use Rattle.jsx_tree.proofs.OneTree.Readings.{filled, tagged}
 use Rattle.jsx_tree.proofs.OneTree.Facts.{never, Seen, took}
 use Rattle.jsx_tree.proofs.OneTree.Places.{is_prop, at_home, no_seq, tagged_home, span_home, free, is_seq, taken}
 use Rattle.jsx_tree.proofs.Rows.Bridge.{node_walk}
-use Rattle.jsx_tree.proofs.OneTree.Apart.{at_sign, at_part, at_many, at_end}
+use Rattle.jsx_tree.proofs.OneTree.Fine.{at_sign, at_part, at_many, at_end}
 use Rattle.jsx_tree.proofs.OneTree.Fine.{plain_leaf, is_piece, tame, tames, Fine, fine_leaf, fine_regexp, fine_piece, fine_node, fine_prop, fine_seq, fine_list, Fines, fine_part, one_sign, in_is, no_piece}
 use Rattle.jsx_tree.proofs.OneTree.Spines.{home_of, at_kind, taken_scope, no_seq_here}
 use Rattle.jsx_tree.proofs.OneTree.Placed.{whole_reads}

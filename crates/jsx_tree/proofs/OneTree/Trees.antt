@@ -1,4 +1,8 @@
 -- A text has one tree: two kinds at one place begin with tokens that differ, and one kind reads its row in one way.
+use Rattle.std.specs.Prelude.{◌&&◌}
+use Rattle.jsx_tree.proofs.OneTree.Wants.{still}
+use Rattle.jsx_tree.proofs.OneTree.Directives.{is_expr_stmt, expr_stmt_is}
+use Rattle.jsx_tree.proofs.OneTree.Imports.{import_row, import_clash}
 use Rattle.std.proofs.Common.{◌≡◌, Bool, true, false, not, List, [], ◌∷◌, refl, sym, ◌∙◌, ap, subst, arith}
 use Rattle.std.specs.Prelude.{IsTrue, ◌||◌, nat_eq, nat_le, codes}
 use Rattle.jsx_base.specs.Token.{Text, Operator, TokenKind, IdentifierName, Punctuator, same, breaks}
@@ -6,8 +10,8 @@ use Rattle.jsx_tree.specs.declared.text.Goal.{Goal}
 use Rattle.jsx_tree.specs.declared.text.Goal.TheVariants as goals
 use Rattle.jsx_tree.specs.Signs.{Tok, Semicolon, Unless, AfterExpr}
 use Rattle.jsx_tree.specs.Kinds.{Imported, Exported, From, ProgramKind, Module, Script, FunctionBody, ExprStmt, Label, Kind, program, statement, Tree, leaf, node, list, Forest, none, part}
-use Rattle.jsx_tree.specs.Nonterminals.{Nonterminal, Expr, Ident, Stmt, SubStmt, Item, Declaration, BlockOnly, CatchClause, CaseClause, Declarators, Body, DirectiveOnly, Specifiers, ImportBindings, WholeProgram, homes, in_homes, leaf_in, is_ident}
-use Rattle.jsx_tree.specs.Grammar.{heads, Context, Lines, TopLines, InCode, InModuleCode, production}
+use Rattle.jsx_tree.specs.Nonterminals.{Nonterminal, Expr, Ident, Stmt, SubStmt, Item, Declaration, BlockOnly, CatchClause, CaseClause, Declarators, Body, DirectiveOnly, Specifiers, ImportBindings, ImportClause, WholeProgram, homes, in_homes, leaf_in, is_ident}
+use Rattle.jsx_tree.specs.Grammar.{heads, Lines, TopLines, InCode, InModuleCode, production}
 use Rattle.jsx_tree.specs.Form.{admits, is, fits_below}
 use Rattle.jsx_tree.specs.StaticRules.{Surroundings, outside, rule}
 use Rattle.jsx_tree.specs.Spelling.{spelled}
@@ -25,20 +29,20 @@ use Rattle.jsx_tree.proofs.OneTree.Growths.{split}
 use Rattle.jsx_tree.proofs.OneTree.Pairs.{ends, two_tokens}
 use Rattle.jsx_tree.proofs.OneTree.Agreeing.{passes}
 use Rattle.jsx_tree.proofs.Rows.Bridge.{node_walk}
-use Rattle.jsx_tree.proofs.OneTree.Apart.{at_sign, at_part}
+use Rattle.jsx_tree.proofs.OneTree.Fine.{at_sign, at_part}
 use Rattle.jsx_tree.proofs.OneTree.Fine.{calm_more}
 use Rattle.jsx_tree.proofs.OneTree.Spines.{home_of}
 use Rattle.jsx_tree.proofs.OneTree.Placed.{whole_reads}
 use Rattle.jsx_tree.proofs.OneTree.Chains.{fine}
-use Rattle.jsx_tree.proofs.OneTree.StatementList.{stated_nth, for_stated}
+use Rattle.jsx_tree.proofs.OneTree.Statements.{stated_nth, for_stated}
 use Rattle.jsx_tree.proofs.OneTree.Endings.{after, at_semi}
-use Rattle.jsx_tree.proofs.OneTree.Ends.{end_kind}
+use Rattle.jsx_tree.proofs.OneTree.Endings.{end_kind}
 use Rattle.jsx_tree.proofs.OneTree.Missing.{Behind, a_mark, a_brace, a_line, behind}
 use Rattle.jsx_tree.proofs.OneTree.Afters.{after_tok, after_tree}
 use Rattle.jsx_tree.proofs.OneTree.Parts.{known, kept, kepts, tame_of, SameAt, word_read}
 use Rattle.jsx_tree.proofs.OneTree.Wants.{parted, idle, shutting, idle_at, meets, implied, mark, look_same}
 use Rattle.jsx_tree.proofs.OneTree.Begins.{is_own, want_of, front, front_fits}
-use Rattle.jsx_tree.proofs.OneTree.Rows.{One, Each, each_leaf, each_node, each_none, each_part, All, own_leaf, own_kind}
+use Rattle.jsx_tree.proofs.OneTree.Rows.{One, Each, each_leaf, each_node, each_none, each_part, All, leafless, own_leaf, own_kind, clause_is, clause_clash}
 use Rattle.jsx_tree.proofs.OneTree.Lists.{SameRow}
 use Rattle.jsx_tree.proofs.OneTree.Same.{row_good, row_same}
 use Rattle.jsx_tree.proofs.OneTree.Prefixes.{front_apart, fronts_apart, rows_apart, rows_clash, words_apart, words_clash}
@@ -113,7 +117,7 @@ label_pair k l = false
 
 -- the first tokens differ behind one that both have
 abbrev pub prefix_apart : Nonterminal → Kind → Kind → Bool
-prefix_apart Item k l = rows_apart (W.row false k) (W.row false l)
+prefix_apart Item k l = rows_apart (W.row false k) (W.row false l) || (import_row (W.row false k) && is_expr_stmt l)
 prefix_apart (Specifiers s) k l = words_apart parted (W.row false k) (W.row false l)
 prefix_apart c k l = false
 
@@ -153,6 +157,7 @@ all_pairs (Specifiers Imported) o = refl
 all_pairs (Specifiers Exported) o = refl
 all_pairs (Specifiers From) o = refl
 all_pairs ImportBindings o = refl
+all_pairs ImportClause o = refl
 all_pairs _ o = cc
 
 all_rows : (c : Nonterminal) → is_own c ≡ true → every (row_told c) stated_kinds ≡ true
@@ -170,6 +175,7 @@ all_rows (Specifiers Imported) o = refl
 all_rows (Specifiers Exported) o = refl
 all_rows (Specifiers From) o = refl
 all_rows ImportBindings o = refl
+all_rows ImportClause o = refl
 all_rows _ o = cc
 
 label_is : (k l : Kind) → label_pair k l ≡ true → (k ≡ statement Label) × (l ≡ statement ExprStmt)
@@ -186,9 +192,18 @@ pair_apart {v} {w} {x} {y} {z} k l cs ds p h g a b =
 
 -- ---- a node
 
-prefix_clash : (c : Nonterminal) {V V' : List Context → Surroundings} {x y z : Place} {cs ds : Forest} (k l : Kind) → prefix_apart c k l ≡ true → kepts cs ≡ true → kepts ds ≡ true → W.Walk IsRead V (W.row false k) x cs y → W.Walk IsRead V' (W.row false l) x ds z → meets (want_of c) y ≡ true → meets (want_of c) z ≡ true → ⊥
-prefix_clash Item k l h f g a b m m' = rows_clash (W.row false k) (W.row false l) h g a b m'
-prefix_clash (Specifiers s) k l h f g a b m m' = words_clash parted (W.row false k) (W.row false l) h f g a b m
+item_clash : {v w : Surroundings} {x y z : Place} {cs ds : Forest} (k l : Kind) → (rows_apart (W.row false k) (W.row false l) || (import_row (W.row false k) && is_expr_stmt l)) ≡ true → kepts cs ≡ true → kepts ds ≡ true → IsNode IsRead v false k x cs y → IsNode IsRead w false l x ds z → meets still z ≡ true → ⊥
+item_clash {w = w} {x} {y} {z} {cs} {ds} k l h f g a b m = by_rows (test (rows_apart (W.row false k) (W.row false l)))
+  where
+    by_rows : Test (rows_apart (W.row false k) (W.row false l)) → ⊥
+    by_rows (yes' r) = rows_clash (W.row false k) (W.row false l) r f g a.walk b.walk m
+    by_rows (no' r) =
+        let o = or_else (rows_apart (W.row false k) (W.row false l)) _ h r in
+        import_clash (W.row false k) ds (and_left (import_row (W.row false k)) _ o) f g a.walk (subst (λ l. IsNode IsRead w false l x ds z) (expr_stmt_is l (and_right (import_row (W.row false k)) _ o)) b)
+
+prefix_clash : (c : Nonterminal) {v w : Surroundings} {x y z : Place} {cs ds : Forest} (k l : Kind) → prefix_apart c k l ≡ true → kepts cs ≡ true → kepts ds ≡ true → IsNode IsRead v false k x cs y → IsNode IsRead w false l x ds z → meets (want_of c) y ≡ true → meets (want_of c) z ≡ true → ⊥
+prefix_clash Item k l h f g a b m m' = item_clash k l h f g a b m'
+prefix_clash (Specifiers s) k l h f g a b m m' = words_clash parted (W.row false k) (W.row false l) h f g a.walk b.walk m
 prefix_clash _ k l h f g a b m m' = cc
 
 kind_apart : (c : Nonterminal) {v w : Surroundings} {x y z : Place} (k l : Kind) (cs ds : Forest) → is_own c ≡ true → stated k ≡ true → stated l ≡ true → in_homes c (homes k) ≡ true → in_homes c (homes l) ≡ true → nat_eq (place k) (place l) ≡ false
@@ -202,8 +217,8 @@ kind_apart c {x = x} k l cs ds o s t i j n h g a b m m' = by_front (test (front_
     rest = or_else (nat_eq (place k) (place l)) _ (or_else (not (in_homes c (homes l))) _ (or_else (not (in_homes c (homes k))) _ told (ap not i)) (ap not j)) n
 
     by_prefix : Test (prefix_apart c k l) → (prefix_apart c k l || prefix_apart c l k) ≡ true → ⊥
-    by_prefix (yes' p) r = prefix_clash c k l p h g a.walk b.walk m m'
-    by_prefix (no' p) r = prefix_clash c l k (or_else (prefix_apart c k l) _ r p) g h b.walk a.walk m' m
+    by_prefix (yes' p) r = prefix_clash c k l p h g a b m m'
+    by_prefix (no' p) r = prefix_clash c l k (or_else (prefix_apart c k l) _ r p) g h b a m' m
 
     by_other : Test (label_pair l k) → (label_pair l k || (prefix_apart c k l || prefix_apart c l k)) ≡ true → ⊥
     by_other (yes' p) r = pair_apart l k ds cs p g h b a
@@ -232,6 +247,7 @@ body_want (Specifiers Imported) x o h m = cc
 body_want (Specifiers Exported) x o h m = cc
 body_want (Specifiers From) x o h m = cc
 body_want ImportBindings x o h m = cc
+body_want ImportClause x o h m = cc
 body_want _ x o h m = cc
 
 kind_same : (c : Nonterminal) {v w : Surroundings} {x y z : Place} (k : Kind) (cs ds : Forest) → is_own c ≡ true → in_homes c (homes k) ≡ true → (is_body k || row_good false (want_of c) (production k)) ≡ true → IsNode IsRead v false k x cs y → IsNode IsRead w false k x ds z
@@ -282,7 +298,13 @@ one_node : (k : Kind) (cs : Forest) → All cs → One (node k cs)
 one_node k cs a = record { one = by_other }
   where
     by_other : (c : Nonterminal) (u : Tree) {v w : Surroundings} {x y z : Place} → is_own c ≡ true → kept (node k cs) ≡ true → kept u ≡ true → IsRead v false c x (node k cs) y → IsRead w false c x u z → meets (want_of c) y ≡ true → meets (want_of c) z ≡ true → SameAt (node k cs) u y z
-    by_other c (leaf s t) o h g r p m n = absurd (own_leaf c s t o (and_left (leaf_in c s t) _ p.is))
+    by_other c (leaf s t) {v} {w} {x} {y} {z} o h g r p m n = absurd (by_leafless (test (leafless c)))
+      where
+        by_leafless : Test (leafless c) → ⊥
+        by_leafless (yes' l) = own_leaf c s t l (and_left (leaf_in c s t) _ p.is)
+        by_leafless (no' l) =
+            let e = clause_is c o l in
+            clause_clash s t k cs h (subst (λ c. IsRead w false c x (leaf s t) z) e p) (subst (λ c. IsRead v false c x (node k cs) y) e r) (subst (λ c. meets (want_of c) z ≡ true) e n)
     by_other c (list ts) o h g r p m n = let bad = p.is in cc
     by_other c (node l ds) o h g r p m n = node_one c k l cs ds o a h g r p m n
 

@@ -10,7 +10,7 @@ use Rattle.jsx_tree.specs.Form.{Form, Single, Maybe, Several, Position, position
 use Rattle.jsx_tree.proofs.Tokens.{and_left, and_right, and_both}
 use Rattle.jsx_tree.proofs.OneTree.Table.{code, position as index, scope, kinds, nth}
 use Rattle.jsx_tree.proofs.OneTree.Readings.{Flat, Flats, one, some, row_of, nil, cons, unseq, paren_of, in_parens, arrow_of, is_arrow, made, flat, flats}
-use Rattle.jsx_tree.proofs.OneTree.Listed.{listed}
+use Rattle.jsx_tree.proofs.OneTree.Table.{listed}
 use Rattle.jsx_tree.proofs.OneTree.Checks.{every}
 use Rattle.jsx_tree.proofs.OneTree.Facts.{never, or_else, not_is, Test, yes', no', test, eq_nat, for_kind}
 use Rattle.jsx_tree.proofs.OneTree.Growths.{made_plain, made_paren, unseq_made}

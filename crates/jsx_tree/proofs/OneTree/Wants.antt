@@ -13,7 +13,7 @@ use Rattle.jsx_tree.specs.Walk.{is_found, is_heard, heard, keep, pieces, IsRead}
 use Rattle.jsx_tree.proofs.OneTree.Readings.{calm, reach, reach_of, kind_at, text_at, broken, comma}
 use Rattle.jsx_tree.proofs.OneTree.Checks.{every, same_token}
 use Rattle.jsx_tree.proofs.OneTree.Facts.{for_kind, never, or_else, not_is, Test, yes', no', test, eq_nat, le_nat, kind_is, Seen, seen}
-use Rattle.jsx_tree.proofs.OneTree.Apart.{at_sign, at_part, at_end}
+use Rattle.jsx_tree.proofs.OneTree.Fine.{at_sign, at_part, at_end}
 use Rattle.jsx_tree.proofs.OneTree.Fine.{calm_more}
 use Rattle.jsx_tree.proofs.OneTree.Spines.{seq_is, taken_scope}
 use Rattle.jsx_tree.proofs.OneTree.Missing.{Behind, a_mark, a_brace, a_line, behind}
@@ -23,7 +23,7 @@ use Rattle.jsx_tree.specs.Nonterminals.{Nonterminal, BlockOnly, homes, in_homes,
 use Rattle.jsx_tree.proofs.Rows.Bridge.{node_walk}
 use Rattle.jsx_tree.proofs.OneTree.Table.{kinds}
 use Rattle.jsx_tree.proofs.OneTree.Statements.{stated, place, stated_kinds, nth}
-use Rattle.jsx_tree.proofs.OneTree.StatementList.{stated_nth, for_stated}
+use Rattle.jsx_tree.proofs.OneTree.Statements.{stated_nth, for_stated}
 use Rattle.jsx_tree.proofs.OneTree.Places.{taken, is_seq}
 use Rattle.jsx_tree.proofs.OneTree.Parts.{known, kept, kepts}
 use Rattle.jsx_tree.specs.Spelling.{spelled}
