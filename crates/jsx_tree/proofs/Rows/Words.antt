@@ -4,17 +4,21 @@ use Rattle.std.specs.Prelude.{Option, Some, None, IsTrue, codes}
 use Rattle.jsx_base.specs.Token.{Text, TokenKind, IdentifierName, same}
 use Rattle.jsx_tree.specs.Signs.{Tok}
 use Rattle.jsx_base.specs.Token.{Operator}
-use Rattle.jsx_tree.specs.Kinds.{node, Kind, If, Do, Continue, Break, Return, Throw, Debugger, Switch, Try, For, ForIn, ForOf, VarWord, LetWord, ConstWord, Imported, Exported, From, Specifier, SpecifierAs, Var, While, InObject, InClass, Static, Binds, Assigns, Method, Getter, Setter, Field, ArrayPat, ObjectPat, PropertyPat, ShorthandPat, ShorthandInit, WithInit, RestPat, RestProperty, Nullish, Equal, OpAssign, Binary, PlainTemplate, SubstitutedTemplate, TemplateSpan, Element, program, statement, function, expression, jsx}
+use Rattle.jsx_tree.specs.Kinds.{Tree, Forest, node, Kind, If, Do, Continue, Break, Return, Throw, Debugger, Switch, Try, For, ForIn, ForOf, VarWord, LetWord, ConstWord, Imported, Exported, From, Specifier, SpecifierAs, Var, While, InObject, InClass, Static, Binds, Assigns, Method, Getter, Setter, Field, ArrayPat, ObjectPat, PropertyPat, ShorthandPat, ShorthandInit, WithInit, RestPat, RestProperty, Nullish, Equal, OpAssign, Binary, PlainTemplate, SubstitutedTemplate, TemplateSpan, Element, program, statement, function, expression, jsx}
 use Rattle.jsx_tree.specs.Nonterminals.{SubStmt, in_homes, homes, leaf_in}
 use Rattle.jsx_tree.specs.Form.{admits, fits_below, is_leaf}
 use Rattle.jsx_tree.specs.Reading.{Place, forth}
 use Rattle.jsx_tree.specs.StaticRules.{Surroundings}
 use Rattle.jsx_tree.proofs.Tokens.{and_left, same_is}
-use Rattle.jsx_tree.specs.Walk.{is_found, row}
+use Rattle.jsx_tree.specs.Walk.{is_found, row, one}
+use Rattle.jsx_tree.specs.Grammar.{Part}
 use Rattle.jsx_tree.specs.Language.{Language}
+use Rattle.jsx_tree.specs.Answers.{Only, Barred, NoNode, Built}
+use Rattle.jsx_tree.proofs.Rows.Guarded.{guarded}
+use Rattle.jsx_tree.proofs.Rows.Stopping.{never_stops}
 use Rattle.jsx_tree.proofs.Rows.Laws.{Lawful}
 use Rattle.jsx_tree.proofs.Rows.Bridge.{node_walk}
-use Rattle.jsx_tree.proofs.Rows.Placing.{Chosen}
+use Rattle.jsx_tree.proofs.Rows.Placing.{free, Chosen, only_node, barred_node}
 use Rattle.jsx_tree.proofs.Rows.Firsts.{key_row, Keyed, row_key}
 
 -- the kind that a word begins, and whether `for` does
@@ -103,3 +107,12 @@ word_chosen {L} {d} {w} {k} {v} {x} law key f is g = record {
   no_leaf = λ s t y u. no_leaf s t (and_left (leaf_in SubStmt s t) (is_leaf s t) (law.is_read u.reads).is);
   kind = λ l ts y u. let r = law.is_read u.reads in some_is (sym (tells (d ∷ w) l f (and_left (admits SubStmt (node l ts)) (fits_below SubStmt (node l ts)) r.is) (row_key d w (row false l) key (node_walk false l refl r).walk g)) ∙ is);
 }
+
+-- what a function read there is what a statement is; where it read nothing, none is
+pub word_only : {L : Language} {d : ℕ} {w : Text} {k : Kind} {v : Surroundings} {x y : Place} {t : Tree} → Lawful L → Keyed d w → same (codes "for") (d ∷ w) ≡ false → told (d ∷ w) ≡ Some k → IsTrue (is_found (forth (Tok Operator IdentifierName (d ∷ w)) x)) → guarded SubStmt (L.rows k) ≡ true → free (L.rows k) ≡ true
+    → ((ts : Forest) → admits SubStmt (node k ts) ≡ true) → (b : Built L v (L.rows k) k (λ ts. ts) t x y) → L.keeps k v b.parts ≡ true → Only L v (Part SubStmt) x (one t) y
+word_only {y = y} law key f is g gu fr ad b r = only_node law (word_chosen law key f is g) gu fr ad b r (law.ends_there SubStmt y (never_stops SubStmt y refl))
+
+pub word_barred : {L : Language} {d : ℕ} {w : Text} {k : Kind} {v : Surroundings} {x : Place} → Lawful L → Keyed d w → same (codes "for") (d ∷ w) ≡ false → told (d ∷ w) ≡ Some k → IsTrue (is_found (forth (Tok Operator IdentifierName (d ∷ w)) x)) → guarded SubStmt (L.rows k) ≡ true → free (L.rows k) ≡ true → NoNode L v (L.rows k) k x
+    → Barred L v (Part SubStmt) x
+word_barred law key f is g gu fr n = barred_node law (word_chosen law key f is g) gu fr n
