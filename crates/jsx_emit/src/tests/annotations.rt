@@ -21,6 +21,9 @@ fn is_at(it: &Annotation, start_col: usize, end_col: usize, kind: &AnnotationTyp
 }
 
 fn begins(it: &MultilineAnnotation) -> bool {
+    if it.start_col != 3 {
+        return false;
+    }
     let first = it.as_start();
     is_at(&first, 3, 4, &AnnotationType::MultilineStart(2))
         && first.takes_space()
@@ -60,7 +63,10 @@ fn line(alloc: Global) -> Result<Line, AllocError> {
 fn is_copied(alloc: Global) -> Result<bool, AllocError> {
     let line = line(alloc)?;
     let copy = line.try_clone(alloc)?;
-    Ok(copy == line && copy.annotations[0].len() == 2 && !copy.annotations[0].has_label())
+    Ok(match copy.annotations.as_slice() {
+        [one] => copy == line && one.len() == 2 && !one.has_label(),
+        _ => false,
+    })
 }
 
 #[test]
