@@ -14,3 +14,5 @@ pub mod OneTree
 pub mod Steps
 pub mod Trees
 pub mod Texts
+pub mod Placing
+pub mod PlacedNodes

@@ -1,17 +1,20 @@
 //! Expressions.
 
-ghost use Rattle.std.specs.Prelude.{◌≡◌, ◌<◌, ◌≤◌, IfOk, OnOk, IsFalse, map};
+ghost use Rattle.std.specs.Prelude.{◌≡◌, ◌<◌, ◌≤◌, [], ◌∷◌, IfOk, OnOk, IsFalse, map};
 ghost use Rattle.jsx_tree.specs.Kinds.{Call, Member, Element, expression, jsx, list, none, part};
 ghost use Rattle.jsx_tree.specs.Nonterminals as grammar;
-ghost use Rattle.jsx_tree.specs.Grammar.{Part};
+ghost use Rattle.jsx_tree.specs.Grammar.{Commas, Many, Part, p};
 ghost use Rattle.jsx_tree.specs.View.{forest, view_jsx, view_expr};
+ghost use Rattle.jsx_tree.specs.Spans.{no_tales, tale};
+ghost use Rattle.jsx_tree.specs.Told.{told_expr, told_jsx, told_list};
 ghost use Rattle.jsx_tree.specs.Walk.{one, tail};
 ghost use Rattle.jsx_tree.specs.Answers.{Only, Barred, OnlyRow, NoRow, Built};
 ghost use Rattle.jsx_tree.specs.Grows.{Follows};
 ghost use Rattle.jsx_tree.specs.SoFar.{in_module, is_number, row_so_far, so_far};
-ghost use Rattle.jsx_syntax.specs.Here.{place_of, left};
+ghost use Rattle.jsx_syntax.specs.Here.{place_of, left, sign_of};
+ghost use Rattle.jsx_syntax.specs.declared.lexer.Fixed.TheVariants as fixed;
 ghost use Rattle.jsx_syntax.specs.Answers.{Refused};
-ghost use Rattle.jsx_syntax.specs.Spans.{Extends, Spans, Starts, end_of, expr_at, jsx_at, next_of};
+ghost use Rattle.jsx_syntax.specs.Spans.{Extends, IsPlaced, IsPlacedOn, IsPlacedRow, Spans, Starts, end_of, expr_at, jsx_at, next_of};
 
 use crate::error::ParseError;
 use crate::identifiers::{is_all_digits, is_reserved};
@@ -25,6 +28,7 @@ use std::alloc::Global;
 fn element<'s>(lexer: &mut Lexer<'s>) -> Result<Jsx<'s>, ParseError>
     ensures read { IfOk result (λ j. Built so_far in_module (row_so_far (jsx Element)) (jsx Element) (λ ts. ts) (view_jsx j) (place_of lexer.old) (place_of lexer.new)) }
     ensures span { IfOk result (λ j. Spans (jsx_at j) (next_of lexer.old) (end_of lexer.new)) }
+    ensures placed { IfOk result (λ j. IsPlaced (told_jsx j) (view_jsx j) lexer.old lexer.new) }
     ensures shorter { OnOk result (left lexer.new < left lexer.old) }
     ensures refused { Refused result (NoRow so_far in_module (row_so_far (jsx Element)) (place_of lexer.old)) }
 {
@@ -40,6 +44,7 @@ fn element<'s>(lexer: &mut Lexer<'s>) -> Result<Jsx<'s>, ParseError>
 fn primary<'s>(lexer: &mut Lexer<'s>) -> Result<Expr<'s>, ParseError>
     ensures read { IfOk result (λ e. Follows so_far in_module (grammar.Expr 1) (place_of lexer.old) (view_expr e) (place_of lexer.new)) }
     ensures span { IfOk result (λ e. Spans (expr_at e) (next_of lexer.old) (end_of lexer.new)) }
+    ensures placed { IfOk result (λ e. IsPlaced (told_expr e) (view_expr e) lexer.old lexer.new) }
     ensures shorter { OnOk result (left lexer.new < left lexer.old) }
     ensures refused { Refused result (Barred so_far in_module (Part (grammar.Expr 1)) (place_of lexer.old)) }
 {
@@ -97,6 +102,7 @@ fn member<'s>(
     ensures read { IfOk result (λ e. Built so_far in_module (tail (tail (row_so_far (expression Member)))) (expression Member) (part (view_expr object.entry)) (view_expr e) (place_of lexer.old) (place_of lexer.new)) }
     ensures fits { OnOk result (IsFalse (is_number (view_expr object.entry))) }
     ensures span { IfOk result (λ e. Extends (expr_at object.entry) (expr_at e) (end_of lexer.new)) }
+    ensures placed { IfOk result (λ e. IsPlacedOn (sign_of fixed.Dot) object.entry lexer.old e lexer.new) }
     ensures shorter { OnOk result (left lexer.new < left lexer.old) }
     ensures refused { Refused result (IsFalse (is_number (view_expr object.entry)) → NoRow so_far in_module (tail (tail (row_so_far (expression Member)))) (place_of lexer.old)) }
 {
@@ -113,6 +119,7 @@ fn member<'s>(
 #[cycle(expression)]
 fn arguments<'s>(alloc: Global, lexer: &mut Lexer<'s>) -> Result<Vec<Expr<'s>>, ParseError>
     ensures read { IfOk result (λ v. OnlyRow so_far in_module (tail (tail (row_so_far (expression Call)))) (place_of lexer.old) (part (list (forest (map view_expr v.items))) none) (place_of lexer.new)) }
+    ensures placed { IfOk result (λ v. IsPlacedRow (Many Commas grammar.Argument ∷ p ")" ∷ []) (tale (told_list (map told_expr v.items)) no_tales) (part (list (forest (map view_expr v.items))) none) lexer.old lexer.new) }
     ensures shorter { OnOk result (left lexer.new < left lexer.old) }
     ensures refused { Refused result (NoRow so_far in_module (tail (tail (row_so_far (expression Call)))) (place_of lexer.old)) }
 {
@@ -133,6 +140,7 @@ fn arguments<'s>(alloc: Global, lexer: &mut Lexer<'s>) -> Result<Vec<Expr<'s>>, 
 fn call<'s>(alloc: Global, lexer: &mut Lexer<'s>, callee: Expr<'s>) -> Result<Expr<'s>, ParseError>
     ensures read { IfOk result (λ e. Built so_far in_module (tail (tail (row_so_far (expression Call)))) (expression Call) (part (view_expr callee.entry)) (view_expr e) (place_of lexer.old) (place_of lexer.new)) }
     ensures span { IfOk result (λ e. Extends (expr_at callee.entry) (expr_at e) (end_of lexer.new)) }
+    ensures placed { IfOk result (λ e. IsPlacedOn (sign_of fixed.Open) callee.entry lexer.old e lexer.new) }
     ensures shorter { OnOk result (left lexer.new < left lexer.old) }
     ensures refused { Refused result (NoRow so_far in_module (tail (tail (row_so_far (expression Call)))) (place_of lexer.old)) }
 {
@@ -146,6 +154,7 @@ fn call<'s>(alloc: Global, lexer: &mut Lexer<'s>, callee: Expr<'s>) -> Result<Ex
 pub fn expression<'s>(alloc: Global, lexer: &mut Lexer<'s>) -> Result<Expr<'s>, ParseError>
     ensures read { IfOk result (λ e. Only so_far in_module (Part (grammar.Expr 1)) (place_of lexer.old) (one (view_expr e)) (place_of lexer.new)) }
     ensures span { IfOk result (λ e. Spans (expr_at e) (next_of lexer.old) (end_of lexer.new)) }
+    ensures placed { IfOk result (λ e. IsPlaced (told_expr e) (view_expr e) lexer.old lexer.new) }
     ensures shorter { OnOk result (left lexer.new < left lexer.old) }
     ensures refused { Refused result (Barred so_far in_module (Part (grammar.Expr 1)) (place_of lexer.old)) }
 {

@@ -9,7 +9,7 @@ ghost use Rattle.jsx_tree.specs.Form.{is_leaf};
 ghost use Rattle.jsx_lex.specs.Kinds.{is_punctuator, mode_of as mode_read, kind_of as kind_read, spelling};
 ghost use Rattle.jsx_syntax.specs.Here.{Here, place_of, ending_of, left, sign_of, kind_of, leaf_sign};
 ghost use Rattle.jsx_syntax.specs.Seen.{IsNext, IsSeen, NoNext, here_of, is_it};
-ghost use Rattle.jsx_syntax.specs.Spans.{begin_of, end_of, next_of};
+ghost use Rattle.jsx_syntax.specs.Spans.{Takes, begin_of, end_of, next_of};
 ghost use Rattle.jsx_syntax.specs.Spelled.{IsMarkOf, fixed_mode, fixed_kind, fixed_text, leaf_mode};
 
 use crate::characters::{bytes, is_const};
@@ -243,6 +243,7 @@ impl<'s> Lexer<'s> {
     #[inline]
     pub fn take(&mut self, fixed: Fixed) -> bool
         ensures taken { IsTrue result → place_of self.new ≡ forth (sign_of fixed) (place_of self.old) }
+        ensures takes { IsTrue result → Takes (sign_of fixed) self.old self.new }
         ensures begins { IsTrue result → begin_of self.new ≡ next_of self.old }
         ensures shorter { IsTrue result → left self.new < left self.old }
         ensures missing { IsFalse result → forth (sign_of fixed) (place_of self.old) ≡ Lost }
@@ -262,6 +263,7 @@ impl<'s> Lexer<'s> {
     #[inline]
     pub fn leaf(&mut self, leaf: Leaf) -> Option<&'s str>
         ensures taken { IfSome result (λ raw. place_of self.new ≡ forth (leaf_sign leaf (chars raw.now)) (place_of self.old)) }
+        ensures takes { IfSome result (λ raw. Takes (leaf_sign leaf (chars raw.now)) self.old self.new) }
         ensures begins { IfSome result (λ raw. begin_of self.new ≡ next_of self.old) }
         ensures shorter { IfSome result (λ raw. left self.new < left self.old) }
         ensures whole { IfSome result (λ raw. IsTrue (is_leaf (kind_of leaf) (chars raw.now))) }

@@ -4,14 +4,17 @@ ghost use Rattle.std.specs.Prelude.{◌≡◌, ◌<◌, ◌≤◌, IfOk, IfErr, 
 ghost use Rattle.std.specs.Str.{chars};
 ghost use Rattle.jsx_tree.specs.Kinds.{Tree};
 ghost use Rattle.jsx_tree.specs.Stage.{ReadsSoFar};
+ghost use Rattle.jsx_tree.specs.Grammar.{TopLines};
 ghost use Rattle.jsx_tree.specs.View.{forest, view, view_item};
+ghost use Rattle.jsx_tree.specs.Spans.{IsTold, placed_in};
+ghost use Rattle.jsx_tree.specs.Told.{tales, told, told_item};
 ghost use Rattle.jsx_base.specs.Token.{Text};
 ghost use Rattle.jsx_syntax.specs.Here.{place_of};
 ghost use Rattle.jsx_tree.specs.Nonterminals as grammar;
 ghost use Rattle.jsx_tree.specs.Answers.{OnlyToEnd, NoneToEnd};
 ghost use Rattle.jsx_tree.specs.SoFar.{in_module, so_far};
 ghost use Rattle.jsx_syntax.specs.Answers.{Refused, NoTree, IsWithin};
-ghost use Rattle.jsx_syntax.specs.Spans.{Spans, program_at};
+ghost use Rattle.jsx_syntax.specs.Spans.{IsPlacedList, Spans, program_at};
 
 use crate::error::ParseError;
 use crate::lexer::Lexer;
@@ -23,6 +26,7 @@ use std::alloc::Global;
 /// The statements up to the end of the text.
 fn items<'s>(alloc: Global, lexer: &mut Lexer<'s>) -> Result<Vec<Item<'s>>, ParseError>
     ensures read { IfOk result (λ v. OnlyToEnd so_far in_module grammar.Item (place_of lexer.old) (forest (map view_item v.items))) }
+    ensures placed { IfOk result (λ v. IsPlacedList TopLines (tales (map told_item v.items)) (forest (map view_item v.items)) lexer.old lexer.new) }
     ensures refused { Refused result (NoneToEnd so_far in_module grammar.Item (place_of lexer.old)) }
 {
     let mut items = Vec::new(alloc);
@@ -42,6 +46,8 @@ pub fn parse<'s>(alloc: Global, text: &'s str) -> Result<Program<'s>, ParseError
     ensures refused { Refused result (NoTree (chars text.now)) }
     ensures place { IfErr result (IsWithin (length text.now)) }
     ensures span { IfOk result (λ program. Spans (Some (program_at program)) 0 (length text.now)) }
+    // Each text is the piece of the source at its place, and each node below the module runs from its first token to its last.
+    ensures placed { IfOk result (λ program. IsTold (told program) (placed_in (chars text.now) (view program))) }
 {
     let end = BytePos(text.len() as u32);
     let mut lexer = Lexer::new(text);

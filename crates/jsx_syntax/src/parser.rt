@@ -2,7 +2,10 @@
 
 ghost use Rattle.std.specs.Prelude.{◌≡◌, ◌<◌, IfOk, OnOk};
 ghost use Rattle.std.specs.Str.{chars};
-ghost use Rattle.jsx_base.specs.Token.{IdentifierName, JsxName};
+ghost use Rattle.jsx_base.specs.Token.{IdentifierName, JsxName, Operator, Tag};
+ghost use Rattle.jsx_tree.specs.Signs.{Tok};
+ghost use Rattle.jsx_tree.specs.Spans.{Comes};
+ghost use Rattle.jsx_tree.specs.Told.{told_pat};
 ghost use Rattle.jsx_tree.specs.Kinds.{Binds, leaf};
 ghost use Rattle.jsx_tree.specs.Nonterminals as grammar;
 ghost use Rattle.jsx_tree.specs.View.{text_of, view_pat};
@@ -13,7 +16,7 @@ ghost use Rattle.jsx_tree.specs.Walk.{nothing, one};
 ghost use Rattle.jsx_tree.specs.Answers.{Only, Barred};
 ghost use Rattle.jsx_tree.specs.SoFar.{in_module, so_far};
 ghost use Rattle.jsx_syntax.specs.Answers.{Refused};
-ghost use Rattle.jsx_syntax.specs.Spans.{ComesFrom, FailsAt, Spans, begin_of, end_of, next_of, pat_at};
+ghost use Rattle.jsx_syntax.specs.Spans.{FailsAt, IsPlaced, Spans, Takes, begin_of, end_of, next_of, pat_at};
 
 use crate::error::ParseError;
 use crate::identifiers::{is_bound, is_plain_tag};
@@ -39,6 +42,7 @@ pub fn give_up(lexer: &Lexer) -> ParseError
 /// Takes a token with one spelling.
 pub fn expect(lexer: &mut Lexer, fixed: Fixed) -> Result<(), ParseError>
     ensures read { IfOk result (λ _. Only so_far in_module (symbol.Fixed (sign_of fixed)) (place_of lexer.old) nothing (place_of lexer.new)) }
+    ensures takes { OnOk result (Takes (sign_of fixed) lexer.old lexer.new) }
     ensures begins { OnOk result (begin_of lexer.new ≡ next_of lexer.old) }
     ensures shorter { OnOk result (left lexer.new < left lexer.old) }
     ensures refused { Refused result (Barred so_far in_module (symbol.Fixed (sign_of fixed)) (place_of lexer.old)) }
@@ -54,6 +58,7 @@ pub fn expect(lexer: &mut Lexer, fixed: Fixed) -> Result<(), ParseError>
 pub fn binding_identifier<'s>(lexer: &mut Lexer<'s>) -> Result<Pat<'s>, ParseError>
     ensures read { IfOk result (λ p. Only so_far in_module (Part (grammar.Pat Binds)) (place_of lexer.old) (one (view_pat p)) (place_of lexer.new)) }
     ensures span { IfOk result (λ p. Spans (pat_at p) (next_of lexer.old) (end_of lexer.new)) }
+    ensures placed { IfOk result (λ p. IsPlaced (told_pat p) (view_pat p) lexer.old lexer.new) }
     ensures begins { OnOk result (begin_of lexer.new ≡ next_of lexer.old) }
     ensures shorter { OnOk result (left lexer.new < left lexer.old) }
     ensures refused { Refused result (Barred so_far in_module (Part (grammar.Pat Binds)) (place_of lexer.old)) }
@@ -72,7 +77,8 @@ pub fn binding_identifier<'s>(lexer: &mut Lexer<'s>) -> Result<Pat<'s>, ParseErr
 /// The name of a tag.
 pub fn tag_name<'s>(lexer: &mut Lexer<'s>) -> Result<Text<'s>, ParseError>
     ensures read { IfOk result (λ t. Only so_far in_module (Part grammar.TagName) (place_of lexer.old) (one (leaf JsxName (text_of t))) (place_of lexer.new)) }
-    ensures place { IfOk result (λ t. ComesFrom t (next_of lexer.old)) }
+    ensures takes { IfOk result (λ t. Takes (Tok Tag JsxName (text_of t)) lexer.old lexer.new) }
+    ensures place { IfOk result (λ t. Comes t (next_of lexer.old)) }
     ensures shorter { OnOk result (left lexer.new < left lexer.old) }
     ensures refused { Refused result (Barred so_far in_module (Part grammar.TagName) (place_of lexer.old)) }
 {
@@ -88,6 +94,7 @@ pub fn tag_name<'s>(lexer: &mut Lexer<'s>) -> Result<Text<'s>, ParseError>
 /// An identifier name, reserved or not (ECMA-262 section 12.7).
 pub fn identifier_name<'s>(lexer: &mut Lexer<'s>) -> Result<&'s str, ParseError>
     ensures read { IfOk result (λ raw. Only so_far in_module (Part grammar.Name) (place_of lexer.old) (one (leaf IdentifierName (chars raw.now))) (place_of lexer.new)) }
+    ensures takes { IfOk result (λ raw. Takes (Tok Operator IdentifierName (chars raw.now)) lexer.old lexer.new) }
     ensures begins { OnOk result (begin_of lexer.new ≡ next_of lexer.old) }
     ensures shorter { OnOk result (left lexer.new < left lexer.old) }
     ensures refused { Refused result (Barred so_far in_module (Part grammar.Name) (place_of lexer.old)) }

@@ -1,18 +1,21 @@
 //! Statements.
 
-ghost use Rattle.std.specs.Prelude.{◌≡◌, ◌<◌, IfOk, OnOk, IsTrue, map};
+ghost use Rattle.std.specs.Prelude.{◌≡◌, ◌<◌, [], ◌∷◌, IfOk, OnOk, IsTrue, map};
 ghost use Rattle.jsx_tree.specs.Kinds.{ConstWord, Var, ExprStmt, statement, list, none, part};
 ghost use Rattle.jsx_tree.specs.Nonterminals as grammar;
-ghost use Rattle.jsx_tree.specs.Grammar.{Part};
+ghost use Rattle.jsx_tree.specs.Grammar.{Many, NoTrailing, Part, semi};
 ghost use Rattle.jsx_tree.specs.StaticRules.{all_of, has_init};
 ghost use Rattle.jsx_tree.specs.Stage.{is_string};
 ghost use Rattle.jsx_tree.specs.View.{forest, view_expr, view_pat, view_stmt};
+ghost use Rattle.jsx_tree.specs.Spans.{no_tales, tale};
+ghost use Rattle.jsx_tree.specs.Told.{told_list, told_pat, told_stmt};
 ghost use Rattle.jsx_tree.specs.Walk.{one};
 ghost use Rattle.jsx_tree.specs.Answers.{Only, Barred, OnlyRow, NoNode, BuiltNode};
 ghost use Rattle.jsx_tree.specs.SoFar.{behind_const, in_module, row_so_far, so_far};
-ghost use Rattle.jsx_syntax.specs.Here.{place_of, left};
+ghost use Rattle.jsx_syntax.specs.Here.{place_of, left, sign_of};
+ghost use Rattle.jsx_syntax.specs.declared.lexer.Fixed.TheVariants as fixed;
 ghost use Rattle.jsx_syntax.specs.Answers.{Refused};
-ghost use Rattle.jsx_syntax.specs.Spans.{Spans, begin_of, end_of, expr_at, next_of, pat_at, stmt_at};
+ghost use Rattle.jsx_syntax.specs.Spans.{IsPlaced, IsPlacedBehind, IsPlacedRow, Spans, begin_of, end_of, next_of, pat_at, stmt_at};
 
 use crate::error::ParseError;
 use crate::expression::{expression, start_of};
@@ -25,6 +28,7 @@ use std::alloc::Global;
 fn declarator<'s>(alloc: Global, lexer: &mut Lexer<'s>) -> Result<Pat<'s>, ParseError>
     ensures read { IfOk result (λ p. Only so_far in_module (Part grammar.Declarators) (place_of lexer.old) (one (view_pat p)) (place_of lexer.new)) }
     ensures span { IfOk result (λ p. Spans (pat_at p) (next_of lexer.old) (end_of lexer.new)) }
+    ensures placed { IfOk result (λ p. IsPlaced (told_pat p) (view_pat p) lexer.old lexer.new) }
     ensures shorter { OnOk result (left lexer.new < left lexer.old) }
     ensures refused { Refused result (Barred so_far in_module (Part grammar.Declarators) (place_of lexer.old)) }
 {
@@ -50,6 +54,7 @@ fn is_initialized(declarator: &Pat) -> bool
 fn declarators<'s>(alloc: Global, lexer: &mut Lexer<'s>) -> Result<Vec<Pat<'s>>, ParseError>
     ensures read { IfOk result (λ v. OnlyRow so_far in_module behind_const (place_of lexer.old) (part (list (forest (map view_pat v.items))) none) (place_of lexer.new)) }
     ensures initialized { IfOk result (λ v. IsTrue (all_of (has_init ConstWord) (forest (map view_pat v.items)))) }
+    ensures placed { IfOk result (λ v. IsPlacedRow (Many NoTrailing grammar.Declarators ∷ semi ∷ []) (tale (told_list (map told_pat v.items)) no_tales) (part (list (forest (map view_pat v.items))) none) lexer.old lexer.new) }
     ensures shorter { OnOk result (left lexer.new < left lexer.old) }
     ensures refused { Refused result (NoNode so_far in_module behind_const (statement (Var ConstWord)) (place_of lexer.old)) }
 {
@@ -71,6 +76,7 @@ fn declarators<'s>(alloc: Global, lexer: &mut Lexer<'s>) -> Result<Vec<Pat<'s>>,
 fn lexical_declaration<'s>(alloc: Global, lexer: &mut Lexer<'s>) -> Result<Stmt<'s>, ParseError>
     ensures read { IfOk result (λ s. BuiltNode so_far in_module behind_const (statement (Var ConstWord)) (view_stmt s) (place_of lexer.old) (place_of lexer.new)) }
     ensures span { IfOk result (λ s. Spans (stmt_at s) (begin_of lexer.old) (end_of lexer.new)) }
+    ensures placed { IfOk result (λ s. IsPlacedBehind (sign_of fixed.Const) lexer.old (told_stmt s) (view_stmt s) lexer.new) }
     ensures shorter { OnOk result (left lexer.new < left lexer.old) }
     ensures refused { Refused result (NoNode so_far in_module behind_const (statement (Var ConstWord)) (place_of lexer.old)) }
 {
@@ -89,6 +95,7 @@ fn is_string(expr: &Expr) -> bool
 fn expression_statement<'s>(alloc: Global, lexer: &mut Lexer<'s>) -> Result<Stmt<'s>, ParseError>
     ensures read { IfOk result (λ s. BuiltNode so_far in_module (row_so_far (statement ExprStmt)) (statement ExprStmt) (view_stmt s) (place_of lexer.old) (place_of lexer.new)) }
     ensures span { IfOk result (λ s. Spans (stmt_at s) (next_of lexer.old) (end_of lexer.new)) }
+    ensures placed { IfOk result (λ s. IsPlaced (told_stmt s) (view_stmt s) lexer.old lexer.new) }
     ensures shorter { OnOk result (left lexer.new < left lexer.old) }
     ensures refused { Refused result (NoNode so_far in_module (row_so_far (statement ExprStmt)) (statement ExprStmt) (place_of lexer.old)) }
 {
@@ -105,6 +112,7 @@ fn expression_statement<'s>(alloc: Global, lexer: &mut Lexer<'s>) -> Result<Stmt
 pub fn statement<'s>(alloc: Global, lexer: &mut Lexer<'s>) -> Result<Stmt<'s>, ParseError>
     ensures read { IfOk result (λ s. Only so_far in_module (Part grammar.Item) (place_of lexer.old) (one (view_stmt s)) (place_of lexer.new)) }
     ensures span { IfOk result (λ s. Spans (stmt_at s) (next_of lexer.old) (end_of lexer.new)) }
+    ensures placed { IfOk result (λ s. IsPlaced (told_stmt s) (view_stmt s) lexer.old lexer.new) }
     ensures shorter { OnOk result (left lexer.new < left lexer.old) }
     ensures refused { Refused result (Barred so_far in_module (Part grammar.Item) (place_of lexer.old)) }
 {

@@ -1,13 +1,16 @@
 use Rattle.std.proofs.Common.{◌+◌, ◌*◌, ◌<◌, ◌≤◌, map}
 use Rattle.jsx_tree.specs.Kinds.{Call, expression}
 use Rattle.jsx_tree.specs.Nonterminals.{Expr}
+use Rattle.jsx_tree.specs.Grammar.{Commas}
+use Rattle.jsx_tree.specs.Told.{tales, told_expr}
 use Rattle.jsx_tree.specs.View.{forest, view_expr}
 use Rattle.jsx_tree.specs.Walk.{tail}
 use Rattle.jsx_tree.specs.Grows.{Follows}
 use Rattle.jsx_tree.specs.SoFar.{in_module, row_so_far, so_far}
 use Rattle.jsx_syntax.specs.Here.{place_of, left}
-use Rattle.jsx_syntax.specs.Spans.{Spans, end_of, expr_at, next_of}
+use Rattle.jsx_syntax.specs.Spans.{IsPlaced, IsPlacedList, Spans, end_of, expr_at, next_of}
 use Rattle.jsx_tree.proofs.Rows.Turns.{Turn, prepend}
+use Rattle.jsx_syntax.proofs.Placing.{PlacedFront}
 use Rattle.jsx_syntax.proofs.expression.+expression.Given as goal
 
 abbrev pub decreases-expression : goal.decreases-expression
@@ -22,6 +25,8 @@ decreases-arguments l = 3 * left l.lexer.now + 1
 abbrev pub invariant-arguments-arguments : goal.invariant-arguments-arguments
 invariant-arguments-arguments l = record {
   so_far : Turn so_far in_module (tail (tail (row_so_far (expression Call)))) (tail (tail (row_so_far (expression Call)))) (place_of l.fn.lexer) (place_of l.lexer) (prepend (forest (map view_expr l.all.items)));
+  placed : PlacedFront Commas (map told_expr l.all.items) (map view_expr l.all.items) l.fn.lexer l.lexer;
+  closed : IsPlacedList Commas (tales (map told_expr l.all.items)) (forest (map view_expr l.all.items)) l.fn.lexer l.lexer;
   within : left l.lexer ≤ left l.fn.lexer;
 }
 
@@ -32,6 +37,7 @@ abbrev pub invariant-expression-steps : goal.invariant-expression-steps
 invariant-expression-steps l = record {
   so_far : Follows so_far in_module (Expr 1) (place_of l.fn.lexer) (view_expr l.expr) (place_of l.lexer);
   span : Spans (expr_at l.expr) (next_of l.fn.lexer) (end_of l.lexer);
+  placed : IsPlaced (told_expr l.expr) (view_expr l.expr) l.fn.lexer l.lexer;
   within : left l.lexer < left l.fn.lexer;
 }
 

@@ -1,4 +1,4 @@
-use Rattle.std.proofs.Common.{refl}
+use Rattle.std.proofs.Common.{refl, ◌∙◌}
 use Rattle.jsx_tree.specs.Grammar.{Spaced, Many}
 use Rattle.jsx_tree.specs.Kinds.{list, none}
 use Rattle.jsx_tree.specs.Nonterminals.{Attributes}
@@ -11,6 +11,8 @@ use Rattle.jsx_tree.proofs.Rows.Steps.{built_5}
 use Rattle.jsx_tree.proofs.Rows.Lists.{only_none}
 use Rattle.jsx_syntax.proofs.Homes.{no_attributes}
 use Rattle.jsx_syntax.proofs.Steps.{fails_2, fails_4, fails_5}
+use Rattle.jsx_syntax.proofs.Places.{spans_from}
+use Rattle.jsx_syntax.proofs.PlacedNodes.{element_placed}
 use Rattle.jsx_syntax.proofs.expression.element.Goals as goal
 
 without : {x : Place} → IsTrue (is_found x) → Only so_far in_module (Many Spaced Attributes) x (one (list none)) x
@@ -27,3 +29,8 @@ returns-in_err-expect-3-clause-refused c = fails_5 _ _ c.in_err-expect-3.ensures
 
 pub returns-clause-read : goal.returns-clause-read
 returns-clause-read c = built_5 refl c.in_ok-expect.ensures.read c.in_ok-name.ensures.read (without refl) c.in_ok-expect-2.ensures.read c.in_ok-expect-3.ensures.read refl
+
+pub returns-clause-placed : goal.returns-clause-placed
+returns-clause-placed c =
+    element_placed c.in_ok-expect.ensures.takes c.in_ok-name.ensures.takes c.in_ok-name.ensures.place c.in_ok-expect-2.ensures.takes c.in_ok-expect-3.ensures.takes
+    (spans_from c.span_to.ensures refl (c.last_place-lo.ensures ∙ c.in_ok-expect.ensures.begins) refl)

@@ -4,6 +4,8 @@ use Rattle.jsx_tree.proofs.Apart.{clash}
 use Rattle.jsx_tree.proofs.Rows.Steps.{bar, built_1}
 use Rattle.jsx_syntax.proofs.Steps.{passed}
 use Rattle.jsx_syntax.proofs.Trees.{member_is}
+use Rattle.jsx_syntax.proofs.Places.{spans_from}
+use Rattle.jsx_syntax.proofs.PlacedNodes.{member_placed}
 use Rattle.jsx_syntax.proofs.expression.member.Goals as goal
 
 pub returns-then-is_number-clause-refused : goal.returns-then-is_number-clause-refused
@@ -17,3 +19,10 @@ returns-clause-fits c = sym c.is_number.ensures ∙ c.if-is_number.false
 
 pub returns-clause-read : goal.returns-clause-read
 returns-clause-read c = built_1 refl c.in_ok-raw.ensures.read (member_is c.span_to-span.result c.in_ok-new.field-0 (Read c.in_ok-raw.raw c.last_place.result) c.in_ok-new.ensures.ok)
+
+pub returns-clause-placed : goal.returns-clause-placed
+returns-clause-placed c = record {
+  on = λ w z s l dot.
+      member_placed c.span_to-span.result c.in_ok-new.field-0 (Read c.in_ok-raw.raw c.last_place.result) c.args.object c.in_ok-new.ensures.ok l dot c.in_ok-raw.ensures.takes (c.last_place.ensures ∙ c.in_ok-raw.ensures.begins)
+      (spans_from c.span_to-span.ensures refl (c.start_of.ensures.on _ _ s) refl);
+}

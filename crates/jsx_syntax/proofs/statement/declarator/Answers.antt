@@ -1,4 +1,4 @@
-use Rattle.std.proofs.Common.{None, refl, sym, ap, subst}
+use Rattle.std.proofs.Common.{None, refl, sym, ◌∙◌, ap, subst}
 use Rattle.jsx_tree.specs.View.{view_pat}
 use Rattle.jsx_tree.specs.declared.tree.Pat.TheVariants as pat
 use Rattle.jsx_tree.specs.Nonterminals.{Declarators}
@@ -7,9 +7,13 @@ use Rattle.jsx_tree.specs.Walk.{one}
 use Rattle.jsx_tree.specs.Answers.{Only}
 use Rattle.jsx_tree.specs.SoFar.{in_module, so_far}
 use Rattle.jsx_syntax.specs.Here.{place_of}
+use Rattle.jsx_syntax.specs.Spans.{end_of}
 use Rattle.jsx_syntax.proofs.Items.{initialized, uninitialized, no_binding, no_initializer}
 use Rattle.jsx_syntax.proofs.Steps.{passed}
 use Rattle.jsx_syntax.proofs.Trees.{binding_is, plain_is}
+use Rattle.jsx_syntax.proofs.Places.{spans_from}
+use Rattle.jsx_syntax.proofs.Placing.{placed_to, takes_ends}
+use Rattle.jsx_syntax.proofs.PlacedNodes.{declarator_placed, plain_placed}
 use Rattle.jsx_syntax.proofs.statement.declarator.Goals as goal
 
 pub returns-in_err-name-clause-refused : goal.returns-in_err-name-clause-refused
@@ -26,3 +30,13 @@ returns-in_err-value-clause-refused c = passed _ c.in_err-value.ensures.refused 
 pub returns-clause-read : goal.returns-clause-read
 returns-clause-read c = initialized c.in_ok-name.ensures.read (record { is = ap place_of c.ends.ensures; found = refl }) (record { is = c.take.ensures.taken c.if-not-take.false; found = refl }) c.in_ok-value.ensures.read
     (binding_is c.span_to-2.result c.in_ok-name-2.name c.in_ok-new.field-0 c.in_ok-name-2.ensures.ok c.in_ok-new.ensures.ok)
+
+pub returns-then-not-take-clause-placed : goal.returns-then-not-take-clause-placed
+returns-then-not-take-clause-placed c =
+    placed_to (c.take.ensures.stays c.if-not-take.true) (plain_placed c.span_to.result c.in_ok-name-2.name c.in_ok-name.name c.in_ok-name-2.ensures.ok c.in_ok-name.ensures.placed (takes_ends c.ends.ensures)
+    (spans_from c.span_to.ensures refl (c.last_place-lo.ensures ∙ c.in_ok-name.ensures.begins) (ap end_of (c.take.ensures.stays c.if-not-take.true))))
+
+pub returns-clause-placed : goal.returns-clause-placed
+returns-clause-placed c =
+    declarator_placed c.span_to-2.result c.in_ok-name-2.name c.in_ok-new.field-0 c.in_ok-name.name c.in_ok-value.value c.in_ok-name-2.ensures.ok c.in_ok-new.ensures.ok c.in_ok-name.ensures.placed (takes_ends c.ends.ensures)
+    (c.take.ensures.takes c.if-not-take.false) c.in_ok-value.ensures.placed (spans_from c.span_to-2.ensures refl (c.last_place-lo.ensures ∙ c.in_ok-name.ensures.begins) refl)

@@ -1,5 +1,7 @@
 use Rattle.std.proofs.Common.{◌≡◌, true, arith, map, refl, sym, ◌∙◌, ap, subst}
+use Rattle.jsx_tree.specs.Grammar.{NoTrailing}
 use Rattle.jsx_tree.specs.View.{forest, view_pat}
+use Rattle.jsx_tree.specs.Told.{told_pat}
 use Rattle.jsx_syntax.specs.Here.{place_of}
 use Rattle.jsx_tree.proofs.Rows.SoFar.{of_so_far}
 use Rattle.jsx_tree.proofs.Rows.Lists.{begun, none_next, not_shut, one_next, shut}
@@ -7,12 +9,15 @@ use Rattle.jsx_tree.proofs.Rows.Placing.{no_node}
 use Rattle.jsx_syntax.proofs.Items.{inits, inits_more, no_init}
 use Rattle.jsx_syntax.proofs.Steps.{passed}
 use Rattle.jsx_syntax.proofs.Trees.{pushed}
+use Rattle.jsx_syntax.proofs.Placing.{PlacedFront, plain_no_trailing, row_end, row_sign, row_list, front_more, front_last, front_none, list_to, map_pushed}
+use Rattle.jsx_syntax.proofs.PlacedNodes.{takes_semicolon}
 use Rattle.jsx_syntax.proofs.statement.declarators.Goals as goal
 
 pub declarators-init : goal.declarators-init
 declarators-init c = record {
   so_far = begun _ (ap (λ xs. forest (map view_pat xs)) c.in_ok-all.ensures.items);
   initialized = subst (λ xs. inits (forest (map view_pat xs)) ≡ true) (sym c.in_ok-all.ensures.items) refl;
+  placed = subst (λ xs. PlacedFront NoTrailing (map told_pat xs) (map view_pat xs) c.args.lexer.now c.args.lexer.now) (sym c.in_ok-all.ensures.items) front_none;
   within = omega arith;
 }
 
@@ -33,8 +38,18 @@ pub returns-then-not-take-clause-initialized : goal.returns-then-not-take-clause
 returns-then-not-take-clause-initialized c = subst (λ ts. inits ts ≡ true) (sym (pushed view_pat _ _ _ c.in_ok-push.ensures.items)) (inits_more (forest (map view_pat c.declarators.all.items)) _ c.declarators.invariant.initialized (sym c.is_initialized.ensures ∙ c.if-not-is_initialized.false))
 
 pub declarators-preserved : goal.declarators-preserved
-declarators-preserved c = record {
-  so_far = one_next _ _ of_so_far refl refl c.declarators.invariant.so_far c.in_ok-next.ensures.read (record { is = c.take.ensures.taken c.if-not-take.false; found = refl }) (pushed view_pat _ _ _ c.in_ok-push.ensures.items);
-  initialized = subst (λ ts. inits ts ≡ true) (sym (pushed view_pat _ _ _ c.in_ok-push.ensures.items)) (inits_more (forest (map view_pat c.declarators.all.items)) _ c.declarators.invariant.initialized (sym c.is_initialized.ensures ∙ c.if-not-is_initialized.false));
-  within = omega (arith, c.take.ensures.shorter c.if-not-take.false, c.in_ok-next.ensures.shorter, c.declarators.invariant.within);
-}
+declarators-preserved c =
+    let comma = c.take.ensures.takes c.if-not-take.false in
+    record {
+      so_far = one_next _ _ of_so_far refl refl c.declarators.invariant.so_far c.in_ok-next.ensures.read (record { is = c.take.ensures.taken c.if-not-take.false; found = refl }) (pushed view_pat _ _ _ c.in_ok-push.ensures.items);
+      initialized = subst (λ ts. inits ts ≡ true) (sym (pushed view_pat _ _ _ c.in_ok-push.ensures.items)) (inits_more (forest (map view_pat c.declarators.all.items)) _ c.declarators.invariant.initialized (sym c.is_initialized.ensures ∙ c.if-not-is_initialized.false));
+      within = omega (arith, c.take.ensures.shorter c.if-not-take.false, c.in_ok-next.ensures.shorter, c.declarators.invariant.within);
+      placed = front_more plain_no_trailing c.declarators.invariant.placed c.in_ok-next.ensures.placed comma.same comma.leads
+          (map_pushed told_pat c.declarators.all.items _ c.in_ok-next.next _ c.in_ok-push.ensures.items refl) (map_pushed view_pat c.declarators.all.items _ c.in_ok-next.next _ c.in_ok-push.ensures.items refl);
+    }
+
+pub returns-then-not-take-clause-placed : goal.returns-then-not-take-clause-placed
+returns-then-not-take-clause-placed c =
+    row_list (list_to (c.take.ensures.stays c.if-not-take.true) (front_last plain_no_trailing c.declarators.invariant.placed c.in_ok-next.ensures.placed refl refl
+    (map_pushed told_pat c.declarators.all.items _ c.in_ok-next.next _ c.in_ok-push.ensures.items refl) (map_pushed view_pat c.declarators.all.items _ c.in_ok-next.next _ c.in_ok-push.ensures.items refl)))
+    (row_sign (takes_semicolon c.in_ok-expect.ensures.takes) row_end)

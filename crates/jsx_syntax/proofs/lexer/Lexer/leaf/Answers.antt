@@ -33,3 +33,8 @@ pub returns-clause-whole : goal.returns-clause-whole
 returns-clause-whole c =
     let n = subst (λ m. IsNext m c.args.self.now c.in-Some.seen.token c.in-Some.seen.behind) c.mode.ensures c.in-Some.ensures.found in
     leaf_by c.args.leaf n (sym c.is.ensures ∙ c.if-not-is.false)
+
+pub returns-clause-takes : goal.returns-clause-takes
+returns-clause-takes c =
+    let n = subst (λ m. IsNext m c.args.self.now c.in-Some.seen.token c.in-Some.seen.behind) c.mode.ensures c.in-Some.ensures.found in
+    record { leads = sym (returns-clause-taken c); same = ap (λ h. h.end) c.step.ensures ∙ n.whole }

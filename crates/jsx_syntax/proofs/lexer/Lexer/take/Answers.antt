@@ -32,3 +32,8 @@ returns-clause-shorter c =
     let is : is_it c.in-Some.seen.token (fixed_kind c.args.fixed) (fixed_text c.args.fixed) ≡ true = sym c.is.ensures ∙ c.if-not-is.false in
     λ _. subst (λ y. left y < left c.args.self.now) (sym c.step.ensures)
     (shorter_by n (fixed_skips c.args.fixed) (fixed_kind_is c.args.fixed c.in-Some.seen.token is) (fixed_raw c.args.fixed c.in-Some.seen.token is))
+
+pub returns-clause-takes : goal.returns-clause-takes
+returns-clause-takes c =
+    let n = subst (λ m. IsNext m c.args.self.now c.in-Some.seen.token c.in-Some.seen.behind) c.mode.ensures c.in-Some.ensures.found in
+    λ i. record { leads = sym (returns-clause-taken c i); same = ap (λ h. h.end) c.step.ensures ∙ n.whole }

@@ -1,0 +1,152 @@
+-- The places of the nodes that the parser makes: each along its row.
+use Rattle.std.proofs.Common.{◌≡◌, nat_eq, Bool, true, false, List, [], ◌∷◌, map, refl, sym, ◌∙◌, ap, subst, Option, Some, None, Box, Vec, Global}
+use Rattle.std.specs.Prelude.{IsTrue, codes, cond, ◌||◌}
+use Rattle.std.proofs.lemmas.Bool.{eqb-true}
+use Rattle.jsx_base.specs.Token.{Text, Operator, Punctuator, JsxName, IdentifierName, Lexeme, breaks, skip, at_front, token, same, first_is, is_token}
+use Rattle.jsx_base.specs.Lines.{size}
+use Rattle.jsx_base.specs.declared.place.Span.{Span}
+use Rattle.jsx_tree.specs.declared.text.Text.{Text as TreeText}
+use Rattle.jsx_tree.specs.declared.tree.Expr.{Expr}
+use Rattle.jsx_tree.specs.declared.tree.Expr.TheVariants as expr
+use Rattle.jsx_tree.specs.declared.tree.Access.TheVariants as access
+use Rattle.jsx_tree.specs.declared.tree.Pat.{Pat}
+use Rattle.jsx_tree.specs.declared.tree.Pat.TheVariants as pat
+use Rattle.jsx_tree.specs.declared.tree.Jsx.TheVariants as jsxs
+use Rattle.jsx_tree.specs.declared.tree.Tag.TheVariants as tags
+use Rattle.jsx_tree.specs.Signs.{AfterExpr, AfterBinding, Tok, Semicolon, TrailingComma, Ends}
+use Rattle.jsx_tree.specs.Kinds.{ConstWord, Module, Var, Declarator, ExprStmt, Call, Member, program, statement, expression, Tree, leaf, node, list, Forest, none, part}
+use Rattle.jsx_tree.specs.Nonterminals as grammar
+use Rattle.jsx_tree.specs.Grammar.{Commas, NoTrailing, TopLines, Many, p, semi, production}
+use Rattle.jsx_tree.specs.Spelling.{mode_of, saids, spelled}
+use Rattle.jsx_tree.specs.Reading.{Place, Lost, At, forth, scan}
+use Rattle.jsx_tree.specs.Spans.{Comes, spans, Told, tells, Tales, no_tales, tale, IsTold, AreTold, starts, places, placed_in}
+use Rattle.jsx_tree.specs.View.{text_of, forest, directive, view_expr, view_pat, view_jsx}
+use Rattle.jsx_tree.specs.Told.{told_list, told_text, told_node, told_jsx, told_expr, told_pat, told_directive}
+use Rattle.jsx_tree.proofs.Telling.{told-Expr-Access, told-Access-Call, told-Access-Member, told-Pat-Binding}
+use Rattle.jsx_tree.specs.Walk.{is_found}
+use Rattle.jsx_syntax.specs.Here.{Here, place_of, sign_of}
+use Rattle.jsx_syntax.specs.declared.lexer.Fixed.TheVariants as fixed
+use Rattle.jsx_syntax.specs.Spans.{Spans, next_of, end_of, Takes, IsPlaced, IsPlacedRow, IsPlacedList}
+use Rattle.jsx_base.proofs.Fronts.{other_ahead}
+use Rattle.jsx_tree.proofs.Apart.{clash}
+use Rattle.jsx_tree.proofs.Signs.{semi_too, comma_too}
+use Rattle.jsx_syntax.proofs.Trees.{binding_is, plain_is, member_is, call_is}
+use Rattle.jsx_syntax.proofs.Placing.{row_end, row_sign, row_quiet, row_unless, row_within, row_part, row_list, row_present, row_absent, list_none, node_is, leaf_is, led, placed_as}
+
+-- ---- a semicolon and a trailing comma
+
+pub takes_semicolon : {x y : Here} → Takes (sign_of fixed.Semicolon) x y → Takes Semicolon x y
+takes_semicolon {x} {y} k = record { leads = semi_too (place_of x) (subst (λ v. IsTrue (is_found v)) (sym k.leads) refl) ∙ k.leads; same = k.same }
+
+pub takes_trailing : {x y : Here} → Takes (sign_of fixed.Comma) x y → scan (place_of x) (TrailingComma ∷ []) ≡ place_of y
+takes_trailing {x} {y} k = comma_too (place_of x) (subst (λ v. IsTrue (is_found v)) (sym k.leads) refl) ∙ k.leads
+
+abbrev is_comma : Lexeme → Bool
+is_comma l = is_token l Punctuator (codes ",")
+
+-- a comma is one whether it is the first token of the text or not
+comma_front : (f : Bool) (s : Text) → is_comma (at_front Operator f (44 ∷ s)) ≡ true
+comma_front true s = refl
+comma_front false s = refl
+
+comma_at_front : (f g : Bool) (s : Text) → is_comma (at_front Operator f s) ≡ true → is_comma (at_front Operator g s) ≡ true
+comma_at_front f g s h = elim (first_is (nat_eq 44) s) as (λ b. first_is (nat_eq 44) s ≡ b → is_comma (at_front Operator g s) ≡ true) [ true ↦ λ e. begins s e | false ↦ λ e. absurd (clash _ h ((other_ahead Punctuator 44 [] Operator s e).not_it f)) ] refl
+  where
+    begins : (t : Text) → first_is (nat_eq 44) t ≡ true → is_comma (at_front Operator g t) ≡ true
+    begins [] e = cc
+    begins (c ∷ t) e = subst (λ d. is_comma (at_front Operator g (d ∷ t)) ≡ true) (eqb-true 44 c e) (comma_front g t)
+
+no_comma : (b : Bool) (x y : Place) → (b ≡ true → ⊥) → cond b y x ≡ x
+no_comma true x y n = absurd (n refl)
+no_comma false x y n = refl
+
+pub no_trailing : (x : Place) → forth (sign_of fixed.Comma) x ≡ Lost → scan x (TrailingComma ∷ []) ≡ x
+no_trailing Lost e = refl
+no_trailing (At q d text) e =
+    no_comma (is_comma (token Operator false text)) (At q d text) _
+    (λ h. let there : is_comma (token Operator (same q []) text) ≡ true = comma_at_front (false || breaks text) (same q [] || breaks text) (skip text) h in
+    let found : is_found (forth (sign_of fixed.Comma) (At q d text)) ≡ true = (λ i. is_found (cond (there i) (At (codes ",") AfterExpr (token Operator (same q []) text).rest) Lost)) in
+    clash _ found (ap is_found e))
+
+-- ---- nodes
+
+name_placed : {a : TreeText} {x y : Here} → Takes (Tok Operator IdentifierName (text_of a)) x y → Comes a (next_of x) → IsPlaced (told_text a) (leaf IdentifierName (text_of a)) x y
+name_placed k c = leaf_is refl refl (c, tt) k
+
+tag_placed : {a : TreeText} {x y : Here} → Takes (Tok (mode_of JsxName) JsxName (text_of a)) x y → Comes a (next_of x) → IsPlaced (told_text a) (leaf JsxName (text_of a)) x y
+tag_placed k c = leaf_is refl refl (c, tt) k
+
+pub element_placed : {at : Option Span} {a : TreeText} {x y z w v : Here} → Takes (sign_of fixed.Less) x y → Takes (Tok (mode_of JsxName) JsxName (text_of a)) y z → Comes a (next_of y) → Takes (sign_of fixed.TagSlash) z w → Takes (sign_of fixed.TagGreater) w v → Spans at (next_of x) (end_of v)
+    → IsPlaced (told_jsx (jsxs.Element at (tags.Name a))) (view_jsx (jsxs.Element at (tags.Name a))) x v
+element_placed {a = a} less name comes slash greater s =
+    node_is (λ c e ps. refl) (λ ms text. refl) s
+    (row_sign less (row_quiet (λ q. refl) (row_part (tag_placed name comes) (row_list list_none (row_sign slash (row_sign greater row_end))))))
+
+member_row : {at : Option Span} {d : Told} {t : Tree} {a : TreeText} {w z x y : Here} → IsPlaced d t w z → Takes (sign_of fixed.Dot) z x → Takes (Tok Operator IdentifierName (text_of a)) x y → Comes a (next_of x) → Spans at (next_of w) (end_of y)
+    → IsPlaced (told_node at (d ∷ told_text a ∷ [])) (node (expression Member) (part t (part (leaf IdentifierName (text_of a)) none))) w y
+member_row l dot name comes s = node_is (λ c e ps. refl) (led l _) s (row_part l (row_quiet (λ q. refl) (row_sign dot (row_part (name_placed name comes) row_end))))
+
+pub member_placed : (at : Option Span) (o : Box Expr Global) (a : TreeText) (first : Expr) {w z x y : Here} → o.value ≡ first → IsPlaced (told_expr first) (view_expr first) w z → Takes (sign_of fixed.Dot) z x → Takes (Tok Operator IdentifierName (text_of a)) x y → Comes a (next_of x)
+    → Spans at (next_of w) (end_of y) → IsPlaced (told_expr (expr.Access (access.Member at o a))) (view_expr (expr.Access (access.Member at o a))) w y
+member_placed at o a first e l dot name comes s =
+    placed_as (told-Expr-Access (access.Member at o a) ∙ (told-Access-Member at o a ∙ ap (λ v. told_node at (told_expr v ∷ told_text a ∷ [])) e)) (member_is at o a e) (member_row l dot name comes s)
+
+call_row : {at : Option Span} {d : Told} {t : Tree} {es : Tales} {us : Forest} {w z x y : Here} → IsPlaced d t w z → Takes (sign_of fixed.Open) z x → IsPlacedRow (Many Commas grammar.Argument ∷ p ")" ∷ []) (tale (tells [] es) no_tales) (part (list us) none) x y → Spans at (next_of w) (end_of y)
+    → IsPlaced (tells (spans at ∷ []) (tale d (tale (tells [] es) no_tales))) (node (expression Call) (part t (part (list us) none))) w y
+call_row l bracket r s = node_is (λ c e ps. refl) (led l _) s (row_part l (row_quiet (λ q. refl) (row_sign bracket r)))
+
+pub call_placed : (at : Option Span) (o : Box Expr Global) (xs : Vec Expr Global) (first : Expr) {w z x y : Here} → o.value ≡ first → IsPlaced (told_expr first) (view_expr first) w z → Takes (sign_of fixed.Open) z x
+    → IsPlacedRow (Many Commas grammar.Argument ∷ p ")" ∷ []) (tale (told_list (map told_expr xs.items)) no_tales) (part (list (forest (map view_expr xs.items))) none) x y
+    → Spans at (next_of w) (end_of y) → IsPlaced (told_expr (expr.Access (access.Call at o xs))) (view_expr (expr.Access (access.Call at o xs))) w y
+call_placed at o xs first e l bracket r s =
+    placed_as (told-Expr-Access (access.Call at o xs) ∙ (told-Access-Call at o xs ∙ ap (λ v. told_node at (told_expr v ∷ told_list (map told_expr xs.items) ∷ [])) e)) (call_is at o xs e) (call_row l bracket r s)
+
+declarator_row : {at : Option Span} {d e : Told} {t u : Tree} {x y z w v : Here} → IsPlaced d t x y → Takes (Ends AfterBinding) y z → Takes (sign_of fixed.Equals) z w → IsPlaced e u w v → Spans at (next_of x) (end_of v)
+    → IsPlaced (told_node at (d ∷ told_list (e ∷ []) ∷ [])) (node (statement Declarator) (part t (part (list (part u none)) none))) x v
+declarator_row l ends equals m s = node_is (λ c e ps. refl) (led l _) s (row_part l (row_sign ends (row_present equals.same equals.leads m row_end)))
+
+pub declarator_placed : (at : Option Span) (o : Box Pat Global) (i : Box Expr Global) (name : Pat) (value : Expr) {x y z w v : Here} → o.value ≡ name → i.value ≡ value → IsPlaced (told_pat name) (view_pat name) x y → Takes (Ends AfterBinding) y z → Takes (sign_of fixed.Equals) z w → IsPlaced (told_expr value) (view_expr value) w v
+    → Spans at (next_of x) (end_of v) → IsPlaced (told_pat (pat.Binding at o (Some i))) (view_pat (pat.Binding at o (Some i))) x v
+declarator_placed at o i name value e f l ends equals m s =
+    placed_as (told-Pat-Binding at o (Some i) ∙ (λ j. told_node at (told_pat (e j) ∷ told_list (told_expr (f j) ∷ []) ∷ []))) (binding_is at o i e f) (declarator_row l ends equals m s)
+
+plain_row : {at : Option Span} {d : Told} {t : Tree} {x y z : Here} → IsPlaced d t x y → Takes (Ends AfterBinding) y z → Spans at (next_of x) (end_of z) → IsPlaced (told_node at (d ∷ told_list [] ∷ [])) (node (statement Declarator) (part t (part (list none) none))) x z
+plain_row l ends s = node_is (λ c e ps. refl) (led l _) s (row_part l (row_sign ends (row_absent row_end)))
+
+pub plain_placed : (at : Option Span) (o : Box Pat Global) (name : Pat) {x y z : Here} → o.value ≡ name → IsPlaced (told_pat name) (view_pat name) x y → Takes (Ends AfterBinding) y z → Spans at (next_of x) (end_of z) → IsPlaced (told_pat (pat.Binding at o None)) (view_pat (pat.Binding at o None)) x z
+plain_placed at o name e l ends s =
+    placed_as (told-Pat-Binding at o None ∙ (λ j. told_node at (told_pat (e j) ∷ told_list [] ∷ []))) (plain_is at o e) (plain_row l ends s)
+
+pub constant_placed : {at : Option Span} {ds : Tales} {ts : Forest} {w x z : Here} → Takes (sign_of fixed.Const) w x → IsPlacedRow (Many NoTrailing grammar.Declarators ∷ semi ∷ []) (tale (tells [] ds) no_tales) (part (list ts) none) x z → Spans at (next_of w) (end_of z)
+    → IsPlaced (tells (spans at ∷ []) (tale (tells [] ds) no_tales)) (node (statement (Var ConstWord)) (part (list ts) none)) w z
+constant_placed const r s = node_is (λ c e ps. refl) (λ ms text. refl) s (row_quiet (λ q. refl) (row_sign const (row_quiet (λ q. refl) r)))
+
+pub evaluation_placed : {at : Option Span} {d : Told} {t : Tree} {x y z : Here} → IsPlaced d t x y → Takes (sign_of fixed.Semicolon) y z → Spans at (next_of x) (end_of z) → IsPlaced (told_node at (d ∷ [])) (node (statement ExprStmt) (part t none)) x z
+evaluation_placed l end s = node_is (λ c e ps. refl) (led l _) s (row_unless (row_part l (row_sign (takes_semicolon end) row_end)))
+
+-- ---- a whole module
+
+module_row : {es : Tales} {us : Forest} {x y : Here} → IsPlacedList TopLines es us x y → IsPlacedRow (production (program Module)) (tale (tells [] no_tales) (tale (tells [] es) no_tales)) (part (list none) (part (list us) none)) x y
+module_row l = row_within (row_list list_none (row_list l row_end))
+
+module_told : {es : Tales} {us : Forest} {x y : Here} (text : Text) → place_of x ≡ At [] AfterExpr text → x.end ≡ size text → IsPlacedList TopLines es us x y
+    → is_found (scan (At [] AfterExpr text) (spelled (node (program Module) (part (list none) (part (list us) none))))) ≡ true
+    → IsTold (tells [] (tale (tells [] no_tales) (tale (tells [] es) no_tales))) (placed_in text (node (program Module) (part (list none) (part (list us) none))))
+module_told {es} {us} {x} {y} text e n l f =
+    let ts = part (list none) (part (list us) none) in
+    let ds = tale (tells [] no_tales) (tale (tells [] es) no_tales) in
+    let r = module_row l in
+    let ms = spelled (node (program Module) ts) in (
+      tt,
+      subst (λ m. AreTold ds (places m (starts (At [] AfterExpr text) (production (program Module)) (saids ts)) ts)) n
+          (subst (λ q. AreTold ds (places x.end (starts q (production (program Module)) (saids ts)) ts)) e (r.told (subst (λ q. is_found (scan q ms) ≡ true) (sym e) f))),
+    )
+
+-- a module without directives
+pub module_placed : {ds : List TreeText} {es : Tales} {us : Forest} {x y : Here} (text : Text) → ds ≡ [] → place_of x ≡ At [] AfterExpr text → x.end ≡ size text → IsPlacedList TopLines es us x y
+    → is_found (scan (At [] AfterExpr text) (spelled (node (program Module) (part (list (forest (map directive ds))) (part (list us) none))))) ≡ true
+    → IsTold (tells [] (tale (told_list (map told_directive ds)) (tale (tells [] es) no_tales))) (placed_in text (node (program Module) (part (list (forest (map directive ds))) (part (list us) none))))
+module_placed {ds} {es} {us} {x} {y} text none_of e n l =
+    subst (λ vs. is_found (scan (At [] AfterExpr text) (spelled (node (program Module) (part (list (forest (map directive vs))) (part (list us) none))))) ≡ true
+    → IsTold (tells [] (tale (told_list (map told_directive vs)) (tale (tells [] es) no_tales))) (placed_in text (node (program Module) (part (list (forest (map directive vs))) (part (list us) none)))))
+    (sym none_of) (module_told text e n l)
