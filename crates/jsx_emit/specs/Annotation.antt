@@ -28,12 +28,12 @@ pub data Kind : Type 0 where
   Last : ℕ → Kind
   Side : ℕ → Kind
 
-abbrev pub kind_of : AnnotationType → Kind
-kind_of Singleline = Single
-kind_of (Multiline it) = Whole (multi_of it)
-kind_of (MultilineStart depth) = First depth
-kind_of (MultilineEnd depth) = Last depth
-kind_of (MultilineLine depth) = Side depth
+abbrev pub annotation_kind : AnnotationType → Kind
+annotation_kind Singleline = Single
+annotation_kind (Multiline it) = Whole (multi_of it)
+annotation_kind (MultilineStart depth) = First depth
+annotation_kind (MultilineEnd depth) = Last depth
+annotation_kind (MultilineLine depth) = Side depth
 
 -- what is drawn from one column to another
 pub record Mark : Type 0 where
@@ -44,7 +44,7 @@ pub record Mark : Type 0 where
   pub kind : Kind
 
 abbrev pub mark_of : Annotation → Mark
-mark_of it = record { start_col = it.start_col; end_col = it.end_col; is_primary = it.is_primary; label = option_map string_bytes it.label; kind = kind_of it.annotation_type }
+mark_of it = record { start_col = it.start_col; end_col = it.end_col; is_primary = it.is_primary; label = option_map string_bytes it.label; kind = annotation_kind it.annotation_type }
 
 -- a line, and what is drawn at it
 pub record MarkedLine : Type 0 where

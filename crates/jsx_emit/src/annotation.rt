@@ -2,7 +2,7 @@
 
 ghost use Rattle.std.specs.Prelude.{◌≡◌, ◌+◌, ◌-◌, ◌^◌, ◌<◌, min, map, not, IfOk, string_bytes};
 ghost use Rattle.std.specs.Option.{option_map};
-ghost use Rattle.jsx_emit.specs.Annotation.{mark_of, multi_of, kind_of, marked_line, first_mark, last_mark, side_mark, is_side, is_single, is_edge, has_text, distance};
+ghost use Rattle.jsx_emit.specs.Annotation.{mark_of, multi_of, annotation_kind, marked_line, first_mark, last_mark, side_mark, is_side, is_single, is_edge, has_text, distance};
 
 use std::alloc::{AllocError, Global};
 
@@ -131,7 +131,7 @@ impl AnnotationType {
     ///
     /// `AllocError` for want of memory.
     pub fn try_clone(&self, alloc: Global) -> Result<AnnotationType, AllocError>
-        ensures { IfOk result (λ copy. kind_of copy ≡ kind_of self.now) }
+        ensures { IfOk result (λ copy. annotation_kind copy ≡ annotation_kind self.now) }
     {
         Ok(match self {
             AnnotationType::Singleline => AnnotationType::Singleline,

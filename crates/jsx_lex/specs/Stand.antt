@@ -9,8 +9,8 @@ abbrev pub rest_of : Lexer → Text
 rest_of l = chars l.rest.now
 
 -- its place, in bytes from the text's begin
-abbrev pub place_of : Lexer → ℕ
-place_of l = length l.text.now - length l.rest.now
+abbrev pub offset_of : Lexer → ℕ
+offset_of l = length l.text.now - length l.rest.now
 
 -- whether only blanks and comments stand before it on its line
 abbrev pub is_fresh : Lexer → Bool

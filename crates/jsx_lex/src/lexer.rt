@@ -37,7 +37,7 @@ impl<'s> Lexer<'s> {
     ghost use Rattle.jsx_lex.specs.Kinds.{mode_of, kind_of, is_punctuator, spelling};
     ghost use Rattle.jsx_lex.specs.Places.{StandsAt};
     ghost use Rattle.jsx_lex.specs.Here.{IsHere};
-    ghost use Rattle.jsx_lex.specs.Stand.{rest_of, place_of, ahead, is_at_end, has_new_line, IsNothing, IsBehindGap};
+    ghost use Rattle.jsx_lex.specs.Stand.{rest_of, offset_of, ahead, is_at_end, has_new_line, IsNothing, IsBehindGap};
 
     /// Stands at the first byte of the text.
     pub fn new(text: &'s str) -> Lexer<'s>
@@ -56,7 +56,7 @@ impl<'s> Lexer<'s> {
 
     /// The place, in bytes from the text's begin.
     pub fn at(&self) -> usize
-        ensures place { result ≡ place_of self.now }
+        ensures place { result ≡ offset_of self.now }
         ensures boundary { IsCharBoundary self.now.text.now result }
         ensures rest { drop result self.now.text.now ≡ self.now.rest.now }
     {
@@ -125,7 +125,7 @@ impl<'s> Lexer<'s> {
         ensures new_line { IfSome result (λ t. t.new_line ≡ has_new_line (mode_of mode) self.old) }
         ensures gap { IfSome result (λ t. IsBehindGap (mode_of mode) self.old t.at) }
         ensures at { IfSome result (λ t. StandsAt self.old.text.now t.raw.now t.at) }
-        ensures behind { IfSome result (λ t. place_of self.new ≡ t.at + length t.raw.now) }
+        ensures behind { IfSome result (λ t. offset_of self.new ≡ t.at + length t.raw.now) }
         ensures read { IfSome result (λ t. self.new.is_first ≡ false) }
         ensures unsettled { IfSome result (λ t. self.new.is_on_new_line ≡ false) }
         ensures text { self.new.text.now ≡ self.old.text.now }

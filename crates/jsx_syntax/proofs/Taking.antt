@@ -12,11 +12,11 @@ use Rattle.jsx_tree.specs.Form.{is_leaf}
 use Rattle.jsx_lex.specs.declared.lexer.Lexer.{Lexer as Tokens}
 use Rattle.jsx_lex.specs.declared.token.Token.{Token}
 use Rattle.jsx_lex.specs.declared.token.TokenKind.{TokenKind}
-use Rattle.jsx_lex.specs.Kinds.{kind_of as kind_read, is_punctuator, spelling}
+use Rattle.jsx_lex.specs.Kinds.{kind_of, is_punctuator, spelling}
 use Rattle.jsx_lex.specs.Stand.{rest_of}
 use Rattle.jsx_lex.proofs.Raws.{whole}
 use Rattle.jsx_lex.proofs.Spellings.{one_kind}
-use Rattle.jsx_syntax.specs.Here.{Here, place_of, left, kind_of, sign_of}
+use Rattle.jsx_syntax.specs.Here.{Here, place_of, left, leaf_kind, sign_of}
 use Rattle.jsx_syntax.specs.Seen.{IsNext, NoNext, here_of, next_token, is_it}
 use Rattle.jsx_syntax.specs.Spans.{begin_of, next_of}
 use Rattle.jsx_syntax.specs.Spelled.{IsMarkOf, fixed_mode, fixed_kind, fixed_text, leaf_mode}
@@ -38,7 +38,7 @@ token_is {t = t} k text n = λ i. is_kind (sym n.kind i) k && same (sym n.raw i)
 
 pub taken_by : {m : Mode} {h : Here} {t : Token} {b : Tokens} (k : Kind) (text : Text) → IsNext m h t b → is_it t k text ≡ true → place_of (here_of t.raw.now ending.Expr b) ≡ forth (Tok m k text) (place_of h)
 taken_by {m} {h} {t} {b} k text n i =
-    let raw : chars t.raw.now ≡ text = same_is (chars t.raw.now) text ((and_parts (is_kind (kind_read t.kind) k) _ i).1) in
+    let raw : chars t.raw.now ≡ text = same_is (chars t.raw.now) text ((and_parts (is_kind (kind_of t.kind) k) _ i).1) in
     (λ j. At (raw j) AfterExpr (n.rest j)) ∙ sym (ap (λ x. go_if x (At text AfterExpr (next_token m h).rest)) (token_is k text n ∙ i))
 
 pub missing_by : {m : Mode} {h : Here} {t : Token} {b : Tokens} (k : Kind) (text : Text) → IsNext m h t b → is_it t k text ≡ false → forth (Tok m k text) (place_of h) ≡ Lost
@@ -52,21 +52,21 @@ none_by {m} {h} k text e n = ap (λ x. go_if (is_kind x k && same (next_token m 
 skipped : (m : Mode) (h : Here) → skips m ≡ true → next_token m h ≡ at_front m (same h.last [] || breaks h.rest) (skip h.rest)
 skipped m h s = ap (λ x. cond x (at_front m (same h.last [] || breaks h.rest) (skip h.rest)) (at_front m false h.rest)) s
 
-pub parted : {m : Mode} {h : Here} {t : Token} {b : Tokens} → IsNext m h t b → skips m ≡ true → is_kind (kind_read t.kind) NoToken ≡ false → skip h.rest ≡ chars t.raw.now ++ rest_of b
+pub parted : {m : Mode} {h : Here} {t : Token} {b : Tokens} → IsNext m h t b → skips m ≡ true → is_kind (kind_of t.kind) NoToken ≡ false → skip h.rest ≡ chars t.raw.now ++ rest_of b
 parted {m} {h} n s e =
     let first = same h.last [] || breaks h.rest in
     let kind = ap (λ k. is_kind k NoToken) (sym (n.kind ∙ ap (λ x. x.kind) (skipped m h s))) ∙ e in
     sym (whole m first (skip h.rest) kind)
     ∙ (λ i. (sym (n.raw ∙ ap (λ x. x.raw) (skipped m h s)) i) ++ (sym (n.rest ∙ ap (λ x. x.rest) (skipped m h s)) i))
 
-pub begins_by : {m : Mode} {h : Here} {t : Token} {b : Tokens} → IsNext m h t b → skips m ≡ true → is_kind (kind_read t.kind) NoToken ≡ false → begin_of (here_of t.raw.now ending.Expr b) ≡ next_of h
+pub begins_by : {m : Mode} {h : Here} {t : Token} {b : Tokens} → IsNext m h t b → skips m ≡ true → is_kind (kind_of t.kind) NoToken ≡ false → begin_of (here_of t.raw.now ending.Expr b) ≡ next_of h
 begins_by n s e = (λ i. n.whole i - size (sym (parted n s e) i))
 
 full : (raw : Text) → same raw [] ≡ false → 0 < length raw
 full [] e = absurd (false≢true (sym e))
 full (c ∷ raw) e = omega arith
 
-pub shorter_by : {m : Mode} {h : Here} {t : Token} {b : Tokens} → IsNext m h t b → skips m ≡ true → is_kind (kind_read t.kind) NoToken ≡ false → same (chars t.raw.now) [] ≡ false → left (here_of t.raw.now ending.Expr b) < left h
+pub shorter_by : {m : Mode} {h : Here} {t : Token} {b : Tokens} → IsNext m h t b → skips m ≡ true → is_kind (kind_of t.kind) NoToken ≡ false → same (chars t.raw.now) [] ≡ false → left (here_of t.raw.now ending.Expr b) < left h
 shorter_by {h = h} {t = t} {b = b} n s e f =
     omega (arith, full (chars t.raw.now) f, skip_within h.rest, ap length (parted n s e), length-append (chars t.raw.now) (rest_of b))
 
@@ -114,8 +114,8 @@ sign_is fixed.Less = refl
 sign_is fixed.TagSlash = refl
 sign_is fixed.TagGreater = refl
 
-pub fixed_kind_is : (f : Fixed) (t : Token) → is_it t (fixed_kind f) (fixed_text f) ≡ true → is_kind (kind_read t.kind) NoToken ≡ false
-fixed_kind_is f t i = kind_some (kind_read t.kind) (fixed_kind f) (fixed_some f) ((and_parts (is_kind (kind_read t.kind) (fixed_kind f)) _ i).0)
+pub fixed_kind_is : (f : Fixed) (t : Token) → is_it t (fixed_kind f) (fixed_text f) ≡ true → is_kind (kind_of t.kind) NoToken ≡ false
+fixed_kind_is f t i = kind_some (kind_of t.kind) (fixed_kind f) (fixed_some f) ((and_parts (is_kind (kind_of t.kind) (fixed_kind f)) _ i).0)
 
 fixed_full : (f : Fixed) → same (fixed_text f) [] ≡ false
 fixed_full fixed.Const = refl
@@ -130,7 +130,7 @@ fixed_full fixed.TagSlash = refl
 fixed_full fixed.TagGreater = refl
 
 pub fixed_raw : (f : Fixed) (t : Token) → is_it t (fixed_kind f) (fixed_text f) ≡ true → same (chars t.raw.now) [] ≡ false
-fixed_raw f t i = ap (λ x. same x []) (same_is (chars t.raw.now) (fixed_text f) ((and_parts (is_kind (kind_read t.kind) (fixed_kind f)) _ i).1)) ∙ fixed_full f
+fixed_raw f t i = ap (λ x. same x []) (same_is (chars t.raw.now) (fixed_text f) ((and_parts (is_kind (kind_of t.kind) (fixed_kind f)) _ i).1)) ∙ fixed_full f
 
 pub mark_is : (b : Bool) (t : Token) (k : TokenKind) (f : Fixed) → Decides b (t.kind ≡ k) → IsMarkOf k f → (is_punctuator t.kind ≡ true → chars t.raw.now ≡ spelling t.kind) → b ≡ is_it t (fixed_kind f) (fixed_text f)
 mark_is b t k f d m s = by_both b (is_it t (fixed_kind f) (fixed_text f)) yes no
@@ -139,17 +139,17 @@ mark_is b t k f d m s = by_both b (is_it t (fixed_kind f) (fixed_text f)) yes no
     yes e =
         let same_kind : t.kind ≡ k = d.0 e in
         let mark : is_punctuator t.kind ≡ true = ap is_punctuator same_kind ∙ m.mark in
-        and_both _ _ (ap (is_kind (kind_read t.kind)) m.kind ∙ mark) (ap (λ x. same x (fixed_text f)) (s mark ∙ ap spelling same_kind ∙ m.text) ∙ same_self (fixed_text f))
+        and_both _ _ (ap (is_kind (kind_of t.kind)) m.kind ∙ mark) (ap (λ x. same x (fixed_text f)) (s mark ∙ ap spelling same_kind ∙ m.text) ∙ same_self (fixed_text f))
 
     no : is_it t (fixed_kind f) (fixed_text f) ≡ true → b ≡ true
     no i =
-        let p = and_parts (is_kind (kind_read t.kind) (fixed_kind f)) (same (chars t.raw.now) (fixed_text f)) i in
-        let mark : is_punctuator t.kind ≡ true = ap (is_kind (kind_read t.kind)) (sym m.kind) ∙ p.0 in
+        let p = and_parts (is_kind (kind_of t.kind) (fixed_kind f)) (same (chars t.raw.now) (fixed_text f)) i in
+        let mark : is_punctuator t.kind ≡ true = ap (is_kind (kind_of t.kind)) (sym m.kind) ∙ p.0 in
         d.1 (one_kind t.kind k mark m.mark (sym (s mark) ∙ same_is (chars t.raw.now) (fixed_text f) p.1 ∙ sym m.text))
 
 -- ---- the tokens with a text of their own
 
-pub leaf_some : (l : Leaf) → is_kind NoToken (kind_of l) ≡ false
+pub leaf_some : (l : Leaf) → is_kind NoToken (leaf_kind l) ≡ false
 leaf_some leaf.Name = refl
 leaf_some leaf.Num = refl
 leaf_some leaf.Str = refl
@@ -164,26 +164,26 @@ leaf_skips leaf.JsxName = refl
 whole_leaf : (m : Mode) (k : Kind) (h : Here) → skips m ≡ true → is_kind NoToken k ≡ false → is_kind Punctuator k ≡ false → is_kind (at_front m (same h.last [] || breaks h.rest) (skip h.rest)).kind k ≡ true → IsAlone m k (at_front m (same h.last [] || breaks h.rest) (skip h.rest)).raw
 whole_leaf m k h q n p e = alone m k (same h.last [] || breaks h.rest) (skip h.rest) q n p (is_behind Blank h.rest refl) e
 
-leaf_whole : (l : Leaf) (h : Here) → is_kind (next_token (leaf_mode l) h).kind (kind_of l) ≡ true → is_leaf (kind_of l) (next_token (leaf_mode l) h).raw ≡ true
+leaf_whole : (l : Leaf) (h : Here) → is_kind (next_token (leaf_mode l) h).kind (leaf_kind l) ≡ true → is_leaf (leaf_kind l) (next_token (leaf_mode l) h).raw ≡ true
 leaf_whole leaf.Name h e = let w = whole_leaf Operator IdentifierName h refl refl refl e in and_both _ _ w.it w.ends
 leaf_whole leaf.Num h e = let w = whole_leaf Operator NumericLiteral h refl refl refl e in and_both _ _ w.it w.ends
 leaf_whole leaf.Str h e = let w = whole_leaf Operator StringLiteral h refl refl refl e in and_both _ _ w.it w.ends
 leaf_whole leaf.JsxName h e = let w = whole_leaf Tag JsxName h refl refl refl e in and_both _ _ w.it w.ends
 
-pub leaf_by : (l : Leaf) {h : Here} {t : Token} {b : Tokens} → IsNext (leaf_mode l) h t b → is_kind (kind_read t.kind) (kind_of l) ≡ true → is_leaf (kind_of l) (chars t.raw.now) ≡ true
-leaf_by l {h} n e = subst (λ x. is_leaf (kind_of l) x ≡ true) (sym n.raw) (leaf_whole l h (ap (λ k. is_kind k (kind_of l)) (sym n.kind) ∙ e))
+pub leaf_by : (l : Leaf) {h : Here} {t : Token} {b : Tokens} → IsNext (leaf_mode l) h t b → is_kind (kind_of t.kind) (leaf_kind l) ≡ true → is_leaf (leaf_kind l) (chars t.raw.now) ≡ true
+leaf_by l {h} n e = subst (λ x. is_leaf (leaf_kind l) x ≡ true) (sym n.raw) (leaf_whole l h (ap (λ k. is_kind k (leaf_kind l)) (sym n.kind) ∙ e))
 
-pub leaf_full : (l : Leaf) (raw : Text) → is_leaf (kind_of l) raw ≡ true → same raw [] ≡ false
+pub leaf_full : (l : Leaf) (raw : Text) → is_leaf (leaf_kind l) raw ≡ true → same raw [] ≡ false
 leaf_full l (c ∷ raw) e = refl
 leaf_full leaf.Name [] e = absurd (false≢true e)
 leaf_full leaf.Num [] e = absurd (false≢true e)
 leaf_full leaf.Str [] e = absurd (false≢true e)
 leaf_full leaf.JsxName [] e = absurd (false≢true e)
 
-pub leaf_it : (l : Leaf) (t : Token) → is_kind (kind_read t.kind) (kind_of l) ≡ true → is_it t (kind_of l) (chars t.raw.now) ≡ true
+pub leaf_it : (l : Leaf) (t : Token) → is_kind (kind_of t.kind) (leaf_kind l) ≡ true → is_it t (leaf_kind l) (chars t.raw.now) ≡ true
 leaf_it l t e = and_both _ _ e (same_self (chars t.raw.now))
 
-pub leaf_not : (l : Leaf) (t : Token) (text : Text) → is_kind (kind_read t.kind) (kind_of l) ≡ false → is_it t (kind_of l) text ≡ false
+pub leaf_not : (l : Leaf) (t : Token) (text : Text) → is_kind (kind_of t.kind) (leaf_kind l) ≡ false → is_it t (leaf_kind l) text ≡ false
 leaf_not l t text e = ap (λ x. x && same (chars t.raw.now) text) e
 
 -- ---- what a missing semicolon would stand behind is nothing to the next token

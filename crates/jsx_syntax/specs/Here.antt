@@ -41,11 +41,11 @@ sign_of fixed.Less = Tok Operand Punctuator (codes "<")
 sign_of fixed.TagSlash = Tok Tag Punctuator (codes "/")
 sign_of fixed.TagGreater = Tok Tag Punctuator (codes ">")
 
-abbrev pub kind_of : Leaf → TokenKind
-kind_of leaf.Name = IdentifierName
-kind_of leaf.Num = NumericLiteral
-kind_of leaf.Str = StringLiteral
-kind_of leaf.JsxName = JsxName
+abbrev pub leaf_kind : Leaf → TokenKind
+leaf_kind leaf.Name = IdentifierName
+leaf_kind leaf.Num = NumericLiteral
+leaf_kind leaf.Str = StringLiteral
+leaf_kind leaf.JsxName = JsxName
 
 abbrev pub leaf_sign : Leaf → Text → Sign
-leaf_sign l t = Tok (mode_of (kind_of l)) (kind_of l) t
+leaf_sign l t = Tok (mode_of (leaf_kind l)) (leaf_kind l) t

@@ -7,7 +7,7 @@ use Rattle.jsx_syntax.specs.declared.lexer.Leaf.{Leaf}
 use Rattle.jsx_lex.specs.declared.token.TokenKind.{TokenKind as MarkKind}
 use Rattle.jsx_lex.specs.Kinds.{is_punctuator, spelling}
 use Rattle.jsx_tree.specs.Spelling.{mode_of}
-use Rattle.jsx_syntax.specs.Here.{kind_of}
+use Rattle.jsx_syntax.specs.Here.{leaf_kind}
 
 abbrev pub fixed_mode : Fixed → Mode
 fixed_mode fixed.Const = Operator
@@ -38,7 +38,7 @@ fixed_text fixed.TagSlash = codes "/"
 fixed_text fixed.TagGreater = codes ">"
 
 abbrev pub leaf_mode : Leaf → Mode
-leaf_mode l = mode_of (kind_of l)
+leaf_mode l = mode_of (leaf_kind l)
 
 -- the punctuator that the token is
 pub record IsMarkOf (k : MarkKind) (f : Fixed) : Type 0 where

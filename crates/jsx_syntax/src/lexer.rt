@@ -6,8 +6,8 @@ ghost use Rattle.jsx_base.specs.Token.{Text, same, is_kind};
 ghost use Rattle.jsx_tree.specs.Signs.{AfterExpr};
 ghost use Rattle.jsx_tree.specs.Reading.{Lost, forth, ended_at};
 ghost use Rattle.jsx_tree.specs.Form.{is_leaf};
-ghost use Rattle.jsx_lex.specs.Kinds.{is_punctuator, mode_of as mode_read, kind_of as kind_read, spelling};
-ghost use Rattle.jsx_syntax.specs.Here.{Here, place_of, ending_of, left, sign_of, kind_of, leaf_sign};
+ghost use Rattle.jsx_lex.specs.Kinds.{is_punctuator, mode_of as mode_read, kind_of, spelling};
+ghost use Rattle.jsx_syntax.specs.Here.{Here, place_of, ending_of, left, sign_of, leaf_kind, leaf_sign};
 ghost use Rattle.jsx_syntax.specs.Seen.{IsNext, IsSeen, NoNext, here_of, is_it};
 ghost use Rattle.jsx_syntax.specs.Spans.{Takes, begin_of, end_of, next_of};
 ghost use Rattle.jsx_syntax.specs.Spelled.{IsMarkOf, fixed_mode, fixed_kind, fixed_text, leaf_mode};
@@ -115,7 +115,7 @@ impl Leaf {
     /// Whether the token is of this kind.
     #[inline(always)]
     fn is(self, token: &Token) -> bool
-        ensures { result ≡ is_kind (kind_read token.now.kind) (kind_of self) }
+        ensures { result ≡ is_kind (kind_of token.now.kind) (leaf_kind self) }
     {
         let kind = match self {
             Leaf::Name => TokenKind::IdentifierName,
@@ -266,7 +266,7 @@ impl<'s> Lexer<'s> {
         ensures takes { IfSome result (λ raw. Takes (leaf_sign leaf (chars raw.now)) self.old self.new) }
         ensures begins { IfSome result (λ raw. begin_of self.new ≡ next_of self.old) }
         ensures shorter { IfSome result (λ raw. left self.new < left self.old) }
-        ensures whole { IfSome result (λ raw. IsTrue (is_leaf (kind_of leaf) (chars raw.now))) }
+        ensures whole { IfSome result (λ raw. IsTrue (is_leaf (leaf_kind leaf) (chars raw.now))) }
         ensures missing { IfNone result ((t : Text) → forth (leaf_sign leaf t) (place_of self.old) ≡ Lost) }
         ensures stays { IfNone result (self.new ≡ self.old) }
     {

@@ -10,9 +10,9 @@ use Rattle.jsx_tree.specs.StaticRules.{outside}
 use Rattle.jsx_tree.specs.Walk.{Relation, IsNode}
 use Rattle.std.specs.Prelude.{false}
 
-abbrev pub kind_of : Goal → Kind
-kind_of goals.Module = program Module
-kind_of goals.Script = program Script
+abbrev pub goal_kind : Goal → Kind
+goal_kind goals.Module = program Module
+goal_kind goals.Script = program Script
 
 abbrev pub start : Text → Place
 start text = At [] AfterExpr text
@@ -21,6 +21,6 @@ start text = At [] AfterExpr text
 pub record ReadsWhole (R : Relation) (goal : Goal) (text : Text) (t : Tree) : Type 0 where
   pub parts : Forest
   pub end : Place
-  pub is : t ≡ node (kind_of goal) parts
-  pub node : IsNode R outside false (kind_of goal) (start text) parts end
+  pub is : t ≡ node (goal_kind goal) parts
+  pub node : IsNode R outside false (goal_kind goal) (start text) parts end
   pub ended : IsTrue (ended_at end)

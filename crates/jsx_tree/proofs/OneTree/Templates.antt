@@ -109,8 +109,8 @@ brace_calm x e f = let s : Seen x Punctuator (codes "}") = took Punctuator (code
 two_fines : {t u : Tree} {ts : Forest} → Fines (part t (part u ts)) → Fine t × (Fine u × Fines ts)
 two_fines (fine_part f (fine_part g fs)) = (f, (g, fs))
 
-one_more : (b : Bool) {v : Surroundings} {x y z : Place} {cs ts : Forest} {o : Tree} {t : Text} → Fines cs → tames cs ≡ true → IsRead v false (TemplateSpans b) x (node (expression (TemplateSpan b)) cs) y → code (expression (TemplateSpan b)) ≡ 24 → Spans y ts o t z → Spans x (part (node (expression (TemplateSpan b)) cs) ts) o t z
-one_more b {x = x} {z = z} {cs} {ts} {o} {t} f m r c i =
+span_more : (b : Bool) {v : Surroundings} {x y z : Place} {cs ts : Forest} {o : Tree} {t : Text} → Fines cs → tames cs ≡ true → IsRead v false (TemplateSpans b) x (node (expression (TemplateSpan b)) cs) y → code (expression (TemplateSpan b)) ≡ 24 → Spans y ts o t z → Spans x (part (node (expression (TemplateSpan b)) cs) ts) o t z
+span_more b {x = x} {z = z} {cs} {ts} {o} {t} f m r c i =
     let p = at_part (node_walk false (expression (TemplateSpan b)) refl r).walk in
     let s = at_sign p.walk in
     let q = at_part s.walk in
@@ -152,7 +152,7 @@ more_spans : (b : Bool) {v : Surroundings} {x y z : Place} {t : Tree} {ts : Fore
 more_spans b {v} {x} {y} {z} {ts = ts} {o} {u} (fine_prop {k = k} {cs = cs} t p f) m r i =
     let h = home_of (TemplateSpans b) k cs (and_left (admits (TemplateSpans b) (node k cs)) (fits_below (TemplateSpans b) (node k cs)) r.is) in
     let s = span_is b k (and_left (is_span k) (is_prop k) (at_kind (TemplateSpans b) (λ l. is_span l && is_prop l) k (span_home b) (taken_scope k t) h)) h in
-    subst (λ k. Spans x (part (node k cs) ts) o u z) (sym s.0) (one_more b f (and_right (taken k || is_seq k) (tames cs) m) (subst (λ k. IsRead v false (TemplateSpans b) x (node k cs) y) s.0 r) s.1 i)
+    subst (λ k. Spans x (part (node k cs) ts) o u z) (sym s.0) (span_more b f (and_right (taken k || is_seq k) (tames cs) m) (subst (λ k. IsRead v false (TemplateSpans b) x (node k cs) y) s.0 r) s.1 i)
 more_spans b (fine_node {k = k} {cs = cs} t np g) m r i =
     let h = home_of (TemplateSpans b) k cs (and_left (admits (TemplateSpans b) (node k cs)) (fits_below (TemplateSpans b) (node k cs)) r.is) in
     absurd (never (is_prop k) (and_right (is_span k) (is_prop k) (at_kind (TemplateSpans b) (λ l. is_span l && is_prop l) k (span_home b) (taken_scope k t) h)) np)

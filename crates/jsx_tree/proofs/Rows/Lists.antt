@@ -97,9 +97,9 @@ pub not_closed : {L : Language} {v : Surroundings} {a b : List Context} {c : Non
 not_closed ts l so n o m k = turn_none so (turn_none (last_part l n o m) (bar k))
 
 -- a part and a comma
-pub one_more : {L : Language} {v : Surroundings} {a b : List Context} {c : Nonterminal} {s : Sign} {x y y' z w : Place} {t : Tree} (ts us : Forest) → Lawful L → no_rest c ≡ true → Turn L v (piece a (Many Commas c) ∷ piece b (Fixed s) ∷ []) (piece a (Many Commas c) ∷ piece b (Fixed s) ∷ []) x y (prepend ts)
+pub item_more : {L : Language} {v : Surroundings} {a b : List Context} {c : Nonterminal} {s : Sign} {x y y' z w : Place} {t : Tree} (ts us : Forest) → Lawful L → no_rest c ≡ true → Turn L v (piece a (Many Commas c) ∷ piece b (Fixed s) ∷ []) (piece a (Many Commas c) ∷ piece b (Fixed s) ∷ []) x y (prepend ts)
     → Missed s y y' → Only L (steady v a) (Part c) y' (one t) z → Moves (pun ",") z w → us ≡ both ts (part t none) → Turn L v (piece a (Many Commas c) ∷ piece b (Fixed s) ∷ []) (piece a (Many Commas c) ∷ piece b (Fixed s) ∷ []) x w (prepend us)
-one_more {L} {v} {a} {c = c} {z = z} {t = t} ts us l r so n o m e = turn_as (λ vs. prepend_cons ts t vs ∙ (λ i. prepend (sym e i) vs)) (turn_both so (turn_item l r (subst (λ p. Only L (steady v a) (Part c) p (one t) z) (sym n.same) o) m (unclosed n.stuck)))
+item_more {L} {v} {a} {c = c} {z = z} {t = t} ts us l r so n o m e = turn_as (λ vs. prepend_cons ts t vs ∙ (λ i. prepend (sym e i) vs)) (turn_both so (turn_item l r (subst (λ p. Only L (steady v a) (Part c) p (one t) z) (sym n.same) o) m (unclosed n.stuck)))
 
 -- ---- the same where no comma may trail and one part at least stands
 

@@ -14,7 +14,7 @@ use Rattle.jsx_tree.specs.StaticRules.{Surroundings, outside, legal}
 use Rattle.jsx_tree.specs.Program.{Reads, is_goal}
 use Rattle.jsx_tree.proofs.Tokens.{and_left, and_right, and_both}
 use Rattle.jsx_tree.specs.Walk.{is_found, IsRead}
-use Rattle.jsx_tree.specs.Texts.{ReadsWhole, kind_of, start}
+use Rattle.jsx_tree.specs.Texts.{ReadsWhole, goal_kind, start}
 use Rattle.jsx_tree.proofs.Rows.Bridge.{node_read, node_walk}
 
 -- a leaf with a token of its own
@@ -42,15 +42,15 @@ program_read {goal = goals.Script} {text = text} {t = t} w =
     let r = node_read false (program Script) {v = outside} {c = WholeProgram} refl refl w.node in
     record { of_goal = ap (is_goal goals.Script) w.is; read = ap (reads text) w.is ∙ and_both _ _ r.is (ap ended_at r.scans ∙ w.ended); is_legal = ap (legal outside) w.is ∙ r.is_legal }
 
-walk_of : (goal : Goal) (text : Text) (ts : Forest) → Reads goal text (node (kind_of goal) ts) → ReadsWhole IsRead goal text (node (kind_of goal) ts)
+walk_of : (goal : Goal) (text : Text) (ts : Forest) → Reads goal text (node (goal_kind goal) ts) → ReadsWhole IsRead goal text (node (goal_kind goal) ts)
 walk_of goal text ts r =
-    let t = node (kind_of goal) ts in
+    let t = node (goal_kind goal) ts in
     let e = and_right (is WholeProgram t) (ended_at (scan (start text) (spelled t))) r.read in
     record {
       parts = ts;
       end = scan (start text) (spelled t);
       is = refl;
-      node = node_walk false (kind_of goal) {v = outside} {c = WholeProgram} refl (record { is = and_left (is WholeProgram t) (ended_at (scan (start text) (spelled t))) r.read; is_legal = r.is_legal; scans = refl; found = found_end _ e });
+      node = node_walk false (goal_kind goal) {v = outside} {c = WholeProgram} refl (record { is = and_left (is WholeProgram t) (ended_at (scan (start text) (spelled t))) r.read; is_legal = r.is_legal; scans = refl; found = found_end _ e });
       ended = e;
     }
 
