@@ -33,6 +33,7 @@ mod Declarators
 mod Specifiers
 mod Same
 mod Imports
+mod Exports
 mod Directives
 mod Prefixes
 mod Trees

@@ -1,10 +1,10 @@
 -- The trees of which a text is proved to have one at most: all but those with a kind that is named here.
 use Rattle.std.specs.Prelude.{Bool, true, false, ◌&&◌}
 use Rattle.jsx_base.specs.Token.{TokenKind, Punctuator, JsxName, JsxString, JsxText, NoToken}
-use Rattle.jsx_tree.specs.Kinds.{ProgramKind, Module, Script, FunctionBody, Directive, ImportBare, Import, ImportAll, ImportList, ImportBoth, ExportAll, ExportAllAs, ExportDecl, ExportDefaultFn, ExportDefaultExpr, ExportNames, Specifier, SpecifierAs, StatementKind, For, ForDeclaration, ForIn, ForOf, ForBinding, ClassDecl, FunctionKind, FunctionExpr, ClassExpr, Method, Getter, Setter, Field, ExpressionKind, OpAssign, ArrowBlock, BareArrowBlock, Kind, program, statement, function, expression, jsx, Tree, leaf, node, list, Forest, none, part}
+use Rattle.jsx_tree.specs.Kinds.{ProgramKind, Module, Script, FunctionBody, Directive, ImportBare, Import, ImportAll, ImportList, ImportBoth, ExportAll, ExportAllAs, ExportDecl, ExportDefaultFn, ExportDefaultExpr, ExportNames, ExportFrom, Specifier, SpecifierAs, StatementKind, For, ForDeclaration, ForIn, ForOf, ForBinding, ClassDecl, FunctionKind, FunctionExpr, ClassExpr, Method, Getter, Setter, Field, ExpressionKind, OpAssign, ArrowBlock, BareArrowBlock, Kind, program, statement, function, expression, jsx, Tree, leaf, node, list, Forest, none, part}
 use Rattle.jsx_tree.specs.Nonterminals.{assigns}
 
--- not yet: lists that are exported from another module, and classes
+-- not yet: classes
 abbrev pub decides_program : ProgramKind → Bool
 decides_program Module = true
 decides_program Script = true
@@ -21,6 +21,7 @@ decides_program ExportDecl = true
 decides_program ExportDefaultFn = true
 decides_program ExportDefaultExpr = true
 decides_program ExportNames = true
+decides_program ExportFrom = true
 decides_program (Specifier s) = true
 decides_program (SpecifierAs s) = true
 decides_program k = false

@@ -1,6 +1,6 @@
 -- The kinds of statements, and of what stands in them, in a list.
 use Rattle.std.specs.Prelude.{ℕ, zero, suc, List, [], ◌∷◌, Bool, true, false}
-use Rattle.jsx_tree.specs.Kinds.{Script, Module, FunctionBody, Directive, ImportBare, Import, ImportAll, ImportList, ImportBoth, ExportAll, ExportAllAs, ExportDecl, ExportDefaultFn, ExportDefaultExpr, ExportNames, Specifier, SpecifierAs, Imported, Exported, From, Var, VarWord, LetWord, ConstWord, Block, Declarator, Empty, ExprStmt, If, Do, While, Continue, Break, Return, Throw, Debugger, Label, Switch, Case, Default, Try, Catch, FunctionDecl, Kind, program, statement}
+use Rattle.jsx_tree.specs.Kinds.{Script, Module, FunctionBody, Directive, ImportBare, Import, ImportAll, ImportList, ImportBoth, ExportAll, ExportAllAs, ExportDecl, ExportDefaultFn, ExportDefaultExpr, ExportNames, ExportFrom, Specifier, SpecifierAs, Imported, Exported, From, Var, VarWord, LetWord, ConstWord, Block, Declarator, Empty, ExprStmt, If, Do, While, Continue, Break, Return, Throw, Debugger, Label, Switch, Case, Default, Try, Catch, FunctionDecl, Kind, program, statement}
 use Rattle.std.proofs.Common.{◌≡◌, refl, subst}
 use Rattle.jsx_tree.proofs.OneTree.Checks.{every}
 use Rattle.jsx_tree.proofs.Tokens.{and_left, and_right}
@@ -21,6 +21,7 @@ stated (program ExportDecl) = true
 stated (program ExportDefaultFn) = true
 stated (program ExportDefaultExpr) = true
 stated (program ExportNames) = true
+stated (program ExportFrom) = true
 stated (program (Specifier Imported)) = true
 stated (program (Specifier Exported)) = true
 stated (program (Specifier From)) = true
@@ -95,11 +96,12 @@ place (statement Default) = 39
 place (statement Try) = 40
 place (statement Catch) = 41
 place (statement FunctionDecl) = 42
+place (program ExportFrom) = 43
 place k = 0
 
 abbrev pub stated_kinds : List Kind
 stated_kinds =
-    program Script ∷ program Module ∷ program FunctionBody ∷ program Directive ∷ program ImportBare ∷ program Import ∷ program ImportAll ∷ program ImportList ∷ program ImportBoth ∷ program ExportAll ∷ program ExportAllAs ∷ program ExportDecl ∷ program ExportDefaultFn ∷ program ExportDefaultExpr ∷ program ExportNames ∷ program (Specifier Imported) ∷ program (Specifier Exported) ∷ program (Specifier From) ∷ program (SpecifierAs Imported) ∷ program (SpecifierAs Exported) ∷ program (SpecifierAs From) ∷ statement Block ∷ statement (Var VarWord) ∷ statement (Var LetWord) ∷ statement (Var ConstWord) ∷ statement Declarator ∷ statement Empty ∷ statement ExprStmt ∷ statement If ∷ statement Do ∷ statement While ∷ statement Continue ∷ statement Break ∷ statement Return ∷ statement Throw ∷ statement Debugger ∷ statement Label ∷ statement Switch ∷ statement Case ∷ statement Default ∷ statement Try ∷ statement Catch ∷ statement FunctionDecl ∷ []
+    program Script ∷ program Module ∷ program FunctionBody ∷ program Directive ∷ program ImportBare ∷ program Import ∷ program ImportAll ∷ program ImportList ∷ program ImportBoth ∷ program ExportAll ∷ program ExportAllAs ∷ program ExportDecl ∷ program ExportDefaultFn ∷ program ExportDefaultExpr ∷ program ExportNames ∷ program (Specifier Imported) ∷ program (Specifier Exported) ∷ program (Specifier From) ∷ program (SpecifierAs Imported) ∷ program (SpecifierAs Exported) ∷ program (SpecifierAs From) ∷ statement Block ∷ statement (Var VarWord) ∷ statement (Var LetWord) ∷ statement (Var ConstWord) ∷ statement Declarator ∷ statement Empty ∷ statement ExprStmt ∷ statement If ∷ statement Do ∷ statement While ∷ statement Continue ∷ statement Break ∷ statement Return ∷ statement Throw ∷ statement Debugger ∷ statement Label ∷ statement Switch ∷ statement Case ∷ statement Default ∷ statement Try ∷ statement Catch ∷ statement FunctionDecl ∷ program ExportFrom ∷ []
 
 abbrev pub nth : List Kind → ℕ → Kind
 nth [] n = program Script
@@ -150,6 +152,7 @@ stated_nth (statement Default) h = refl
 stated_nth (statement Try) h = refl
 stated_nth (statement Catch) h = refl
 stated_nth (statement FunctionDecl) h = refl
+stated_nth (program ExportFrom) h = refl
 stated_nth _ h = cc
 
 every_nth : (p : Kind → Bool) (ks : List Kind) (n : ℕ) → p (nth [] 0) ≡ true → every p ks ≡ true → p (nth ks n) ≡ true

@@ -9,7 +9,7 @@ use Rattle.jsx_base.specs.Token.{Text, Operator, TokenKind, IdentifierName, Punc
 use Rattle.jsx_tree.specs.declared.text.Goal.{Goal}
 use Rattle.jsx_tree.specs.declared.text.Goal.TheVariants as goals
 use Rattle.jsx_tree.specs.Signs.{Tok, Semicolon, Unless, AfterExpr}
-use Rattle.jsx_tree.specs.Kinds.{Imported, Exported, From, ProgramKind, Module, Script, FunctionBody, ExprStmt, Label, Kind, program, statement, Tree, leaf, node, list, Forest, none, part}
+use Rattle.jsx_tree.specs.Kinds.{Imported, Exported, From, ProgramKind, Module, Script, FunctionBody, ExprStmt, Label, Kind, ExportNames, ExportFrom, program, statement, Tree, leaf, node, list, Forest, none, part}
 use Rattle.jsx_tree.specs.Nonterminals.{Nonterminal, Expr, Ident, Stmt, SubStmt, Item, Declaration, BlockOnly, CatchClause, CaseClause, Declarators, Body, DirectiveOnly, Specifiers, ImportBindings, ImportClause, WholeProgram, homes, in_homes, leaf_in, is_ident}
 use Rattle.jsx_tree.specs.Grammar.{heads, Lines, TopLines, InCode, InModuleCode, production}
 use Rattle.jsx_tree.specs.Form.{admits, is, fits_below}
@@ -47,6 +47,7 @@ use Rattle.jsx_tree.proofs.OneTree.Lists.{SameRow}
 use Rattle.jsx_tree.proofs.OneTree.Same.{row_good, row_same}
 use Rattle.jsx_tree.proofs.OneTree.Prefixes.{front_apart, fronts_apart, rows_apart, rows_clash, words_apart, words_clash}
 use Rattle.jsx_tree.proofs.OneTree.Directives.{body_same}
+use Rattle.jsx_tree.proofs.OneTree.Exports.{exports_apart}
 
 -- ---- a label and an expression
 
@@ -111,9 +112,11 @@ no_word h = cc
 
 -- ---- two kinds at one place
 
-abbrev pub label_pair : Kind → Kind → Bool
-label_pair (statement Label) (statement ExprStmt) = true
-label_pair k l = false
+-- pairs with an argument of their own
+abbrev pub odd_pair : Kind → Kind → Bool
+odd_pair (statement Label) (statement ExprStmt) = true
+odd_pair (program ExportNames) (program ExportFrom) = true
+odd_pair k l = false
 
 -- the first tokens differ behind one that both have
 abbrev pub prefix_apart : Nonterminal → Kind → Kind → Bool
@@ -124,7 +127,7 @@ prefix_apart c k l = false
 abbrev pub pair_told : Nonterminal → Kind → Kind → Bool
 pair_told c k l =
     not (in_homes c (homes k)) || (not (in_homes c (homes l)) || (nat_eq (place k) (place l)
-    || (front_apart (front (want_of c) (production k)) (front (want_of c) (production l)) || (label_pair k l || (label_pair l k || (prefix_apart c k l || prefix_apart c l k))))))
+    || (front_apart (front (want_of c) (production k)) (front (want_of c) (production l)) || (odd_pair k l || (odd_pair l k || (prefix_apart c k l || prefix_apart c l k))))))
 
 abbrev pub pairs_told : Nonterminal → Bool
 pairs_told c = every (λ k. every (pair_told c k) stated_kinds) stated_kinds
@@ -178,17 +181,16 @@ all_rows ImportBindings o = refl
 all_rows ImportClause o = refl
 all_rows _ o = cc
 
-label_is : (k l : Kind) → label_pair k l ≡ true → (k ≡ statement Label) × (l ≡ statement ExprStmt)
-label_is (statement Label) (statement ExprStmt) h = (refl, refl)
-label_is (statement Label) (statement _) h = cc
-label_is (statement Label) _ h = cc
-label_is (statement _) l h = cc
-label_is _ l h = cc
-
-pair_apart : {v w : Surroundings} {x y z : Place} (k l : Kind) (cs ds : Forest) → label_pair k l ≡ true → kepts cs ≡ true → kepts ds ≡ true → IsNode IsRead v false k x cs y → IsNode IsRead w false l x ds z → ⊥
-pair_apart {v} {w} {x} {y} {z} k l cs ds p h g a b =
-    let i = label_is k l p in
-    label_apart cs ds h g (subst (λ k. IsNode IsRead v false k x cs y) i.0 a) (subst (λ l. IsNode IsRead w false l x ds z) i.1 b)
+pair_apart : {v w : Surroundings} {x y z : Place} (k l : Kind) (cs ds : Forest) → odd_pair k l ≡ true → kepts cs ≡ true → kepts ds ≡ true → IsNode IsRead v false k x cs y → IsNode IsRead w false l x ds z → ⊥
+pair_apart (statement Label) (statement ExprStmt) cs ds p h g a b = label_apart cs ds h g a b
+pair_apart (program ExportNames) (program ExportFrom) cs ds p h g a b = exports_apart cs ds h g a b
+pair_apart (statement Label) (statement _) cs ds p h g a b = cc
+pair_apart (statement Label) _ cs ds p h g a b = cc
+pair_apart (program ExportNames) (program _) cs ds p h g a b = cc
+pair_apart (program ExportNames) _ cs ds p h g a b = cc
+pair_apart (statement _) l cs ds p h g a b = cc
+pair_apart (program _) l cs ds p h g a b = cc
+pair_apart _ l cs ds p h g a b = cc
 
 -- ---- a node
 
@@ -213,24 +215,24 @@ kind_apart c {x = x} k l cs ds o s t i j n h g a b m m' = by_front (test (front_
     told : pair_told c k l ≡ true
     told = for_stated (pair_told c k) (for_stated (λ k. every (pair_told c k) stated_kinds) (all_pairs c o) k s) l t
 
-    rest : (front_apart (front (want_of c) (production k)) (front (want_of c) (production l)) || (label_pair k l || (label_pair l k || (prefix_apart c k l || prefix_apart c l k)))) ≡ true
+    rest : (front_apart (front (want_of c) (production k)) (front (want_of c) (production l)) || (odd_pair k l || (odd_pair l k || (prefix_apart c k l || prefix_apart c l k)))) ≡ true
     rest = or_else (nat_eq (place k) (place l)) _ (or_else (not (in_homes c (homes l))) _ (or_else (not (in_homes c (homes k))) _ told (ap not i)) (ap not j)) n
 
     by_prefix : Test (prefix_apart c k l) → (prefix_apart c k l || prefix_apart c l k) ≡ true → ⊥
     by_prefix (yes' p) r = prefix_clash c k l p h g a b m m'
     by_prefix (no' p) r = prefix_clash c l k (or_else (prefix_apart c k l) _ r p) g h b a m' m
 
-    by_other : Test (label_pair l k) → (label_pair l k || (prefix_apart c k l || prefix_apart c l k)) ≡ true → ⊥
+    by_other : Test (odd_pair l k) → (odd_pair l k || (prefix_apart c k l || prefix_apart c l k)) ≡ true → ⊥
     by_other (yes' p) r = pair_apart l k ds cs p g h b a
-    by_other (no' p) r = by_prefix (test (prefix_apart c k l)) (or_else (label_pair l k) _ r p)
+    by_other (no' p) r = by_prefix (test (prefix_apart c k l)) (or_else (odd_pair l k) _ r p)
 
-    by_label : Test (label_pair k l) → (label_pair k l || (label_pair l k || (prefix_apart c k l || prefix_apart c l k))) ≡ true → ⊥
+    by_label : Test (odd_pair k l) → (odd_pair k l || (odd_pair l k || (prefix_apart c k l || prefix_apart c l k))) ≡ true → ⊥
     by_label (yes' p) r = pair_apart k l cs ds p h g a b
-    by_label (no' p) r = by_other (test (label_pair l k)) (or_else (label_pair k l) _ r p)
+    by_label (no' p) r = by_other (test (odd_pair l k)) (or_else (odd_pair k l) _ r p)
 
     by_front : Test (front_apart (front (want_of c) (production k)) (front (want_of c) (production l))) → ⊥
     by_front (yes' p) = fronts_apart (front (want_of c) (production k)) (front (want_of c) (production l)) x p (front_fits (want_of c) (production k) [] a.walk h m) (front_fits (want_of c) (production l) [] b.walk g m')
-    by_front (no' p) = by_label (test (label_pair k l)) (or_else (front_apart (front (want_of c) (production k)) (front (want_of c) (production l))) _ rest p)
+    by_front (no' p) = by_label (test (odd_pair k l)) (or_else (front_apart (front (want_of c) (production k)) (front (want_of c) (production l))) _ rest p)
 
 body_want : (c : Nonterminal) (x : Place) → is_own c ≡ true → in_homes c (homes (program FunctionBody)) ≡ true → meets (want_of c) x ≡ true → meets idle x ≡ true
 body_want Body x o h m = implied shutting idle x refl no_word m
