@@ -29,12 +29,8 @@ mod Wants
 mod Begins
 mod Rows
 mod Lists
-mod Declarators
-mod Specifiers
+mod Kinds
 mod Same
-mod Imports
-mod Exports
-mod Directives
 mod Prefixes
 mod Trees
 pub mod Decided

@@ -1,7 +1,7 @@
 -- The trees of which a text is proved to have one at most: all but those with a kind that is named here.
 use Rattle.std.specs.Prelude.{Bool, true, false, ◌&&◌}
 use Rattle.jsx_base.specs.Token.{TokenKind, Punctuator, JsxName, JsxString, JsxText, NoToken}
-use Rattle.jsx_tree.specs.Kinds.{ProgramKind, Module, Script, FunctionBody, Directive, ImportBare, Import, ImportAll, ImportList, ImportBoth, ExportAll, ExportAllAs, ExportDecl, ExportDefaultFn, ExportDefaultExpr, ExportNames, ExportFrom, Specifier, SpecifierAs, StatementKind, For, ForDeclaration, ForIn, ForOf, ForBinding, ClassDecl, FunctionKind, FunctionExpr, ClassExpr, Method, Getter, Setter, Field, ExpressionKind, OpAssign, ArrowBlock, BareArrowBlock, Kind, program, statement, function, expression, jsx, Tree, leaf, node, list, Forest, none, part}
+use Rattle.jsx_tree.specs.Kinds.{ProgramKind, Module, Script, FunctionBody, Directive, ImportBare, Import, ImportAll, ImportList, ImportBoth, ExportAll, ExportAllAs, ExportDecl, ExportDefaultFn, ExportDefaultExpr, ExportNames, ExportFrom, Specifier, SpecifierAs, StatementKind, ClassDecl, FunctionKind, FunctionExpr, ClassExpr, Method, Getter, Setter, Field, ExpressionKind, OpAssign, ArrowBlock, BareArrowBlock, Kind, program, statement, function, expression, jsx, Tree, leaf, node, list, Forest, none, part}
 use Rattle.jsx_tree.specs.Nonterminals.{assigns}
 
 -- not yet: classes
@@ -26,13 +26,8 @@ decides_program (Specifier s) = true
 decides_program (SpecifierAs s) = true
 decides_program k = false
 
--- not yet: `for`, and classes
+-- not yet: classes
 abbrev pub decides_statement : StatementKind → Bool
-decides_statement For = false
-decides_statement (ForDeclaration v) = false
-decides_statement ForIn = false
-decides_statement ForOf = false
-decides_statement (ForBinding v) = false
 decides_statement ClassDecl = false
 decides_statement k = true
 

@@ -1,5 +1,5 @@
 -- Two rows of which the first tokens differ don't stand at one place.
-use Rattle.jsx_tree.proofs.OneTree.Imports.{string_first}
+use Rattle.jsx_tree.proofs.OneTree.Kinds.Imports.{string_first}
 use Rattle.jsx_tree.proofs.OneTree.Rows.{clause_first}
 use Rattle.jsx_tree.specs.Nonterminals.{ImportClause}
 use Rattle.std.proofs.Common.{◌≡◌, Bool, true, false, not, List, [], ◌∷◌, refl, sym, ◌∙◌, ap, subst}

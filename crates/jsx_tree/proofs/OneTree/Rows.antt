@@ -52,7 +52,7 @@ pub record One (t : Tree) : Type 0 where
 
 pub data Each : Tree → Type 0 where
   each_leaf : {s : TokenKind} {t : Text} → Each (leaf s t)
-  each_node : {k : Kind} {cs : Forest} → One (node k cs) → Each (node k cs)
+  each_node : {k : Kind} {cs : Forest} → One (node k cs) → Each (list cs) → Each (node k cs)
   each_none : Each (list none)
   each_part : {t : Tree} {ts : Forest} → Each t → Each (list ts) → Each (list (part t ts))
 
@@ -62,6 +62,9 @@ All ts = Each (list ts)
 
 pub all_parts : {t : Tree} {ts : Forest} → All (part t ts) → Each t × All ts
 all_parts (each_part e es) = (e, es)
+
+pub each_all : {k : Kind} {cs : Forest} → Each (node k cs) → All cs
+each_all (each_node e a) = a
 
 -- ---- own places
 
@@ -243,7 +246,7 @@ own_same c {v} {w} {x} {y} {z} (leaf s t) u o each_leaf h g r p m n = by_leafles
     by_leafless (no' l) =
         let e = clause_is c o l in
         clause_same s t u g (subst (λ c. IsRead v false c x (leaf s t) y) e r) (subst (λ c. IsRead w false c x u z) e p) (subst (λ c. meets (want_of c) y ≡ true) e m)
-own_same c (node k cs) u o (each_node e) h g r p m n = e.one c u o h g r p m n
+own_same c (node k cs) u o (each_node e a) h g r p m n = e.one c u o h g r p m n
 own_same c (list ts) u o e h g r p m n = let bad = r.is in cc
 
 -- ---- a part of a row
@@ -304,7 +307,7 @@ single_part t u h k l r s p q =
     let j = tame_of u (Expr 1) refl l s.is in
     expr_same 1 1 (Expr 1) t u (omega arith) (record { kin' = refl; home' = refl; ended' = refl; seq' = refl }) refl i j r s (rest_meets (ended 1) p h (λ _. after_tree t (Expr 1) i refl r)) (rest_meets (ended 1) q h (λ _. after_tree u (Expr 1) j refl s))
 
-pattern_part : {v v' : Surroundings} {x y z : Place} (t u : Tree) → kept t ≡ true → kept u ≡ true → IsRead v false (Pat Binds) x t y → IsRead v' false (Pat Binds) x u z → SameAt t u y z
+pub pattern_part : {v v' : Surroundings} {x y z : Place} (t u : Tree) → kept t ≡ true → kept u ≡ true → IsRead v false (Pat Binds) x t y → IsRead v' false (Pat Binds) x u z → SameAt t u y z
 pattern_part {y = y} {z} t u k l r s =
     expr_same 19 19 (Pat Binds) t u (omega arith) (record { kin' = refl; home' = refl; ended' = refl; seq' = refl }) refl (tame_of t (Pat Binds) refl k r.is) (tame_of u (Pat Binds) refl l s.is) r s (calm_most y) (calm_most z)
 

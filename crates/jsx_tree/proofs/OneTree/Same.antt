@@ -17,7 +17,7 @@ use Rattle.jsx_tree.proofs.Tokens.{and_left, and_right, same_is}
 use Rattle.jsx_tree.specs.Signs.{Pad}
 use Rattle.jsx_tree.specs.Kinds.{Side, Imported}
 use Rattle.jsx_tree.specs.Nonterminals.{Specifiers}
-use Rattle.jsx_tree.proofs.OneTree.Specifiers.{specifiers_same}
+use Rattle.jsx_tree.proofs.OneTree.Kinds.Specifiers.{specifiers_same}
 use Rattle.jsx_tree.specs.Walk as W
 use Rattle.jsx_tree.specs.Walk.{is_found, is_heard, heard, keep, pieces, IsRead}
 use Rattle.jsx_tree.proofs.OneTree.Readings.{kind_at, text_at, broken}
@@ -31,9 +31,10 @@ use Rattle.jsx_tree.proofs.OneTree.Afters.{after_tree}
 use Rattle.jsx_tree.proofs.OneTree.Parts.{kept, kepts, tame_of, whole_starts}
 use Rattle.jsx_tree.proofs.OneTree.Wants.{Want, ended, other, is_calm, meets, is_at, looks, look_same, signed, follow, at_optional, read_start, mark}
 use Rattle.jsx_tree.proofs.OneTree.Begins.{fits, name', at_seen, ident_fits, is_listed, stop_of}
-use Rattle.jsx_tree.proofs.OneTree.Rows.{All, all_parts, Rest, rest_meets, is_whole, whole_is, part_good, part_same}
+use Rattle.jsx_tree.proofs.OneTree.Rows.{All, all_parts, Rest, rest_meets, is_whole, whole_is}
+use Rattle.jsx_tree.proofs.OneTree.Kinds.Inits.{any_good, any_same, no_signs, none_is, head_starts, starts_apart}
 use Rattle.jsx_tree.proofs.OneTree.Lists.{SameRow, liney, lines_same, params_same}
-use Rattle.jsx_tree.proofs.OneTree.Declarators.{ended_list, declarators_same}
+use Rattle.jsx_tree.proofs.OneTree.Kinds.Declarators.{ended_list, declarators_same}
 
 -- ---- what is known of a place behind `return`, `break` and the like: a semicolon that is missing would stand after the word
 
@@ -97,16 +98,12 @@ abbrev pub is_name_place : Nonterminal → Bool
 is_name_place BindingIdent = true
 is_name_place c = false
 
-abbrev pub no_signs : List Sign → Bool
-no_signs [] = true
-no_signs ms = false
-
 abbrev pub head_name : List Sign → Nonterminal → Production → Bool
 head_name ms c ps = no_signs ms && (is_name_place c && mark_first ps)
 
 -- why it isn't both absent and present
 abbrev pub tells : Bool → Want → List Sign → Nonterminal → List Sign → List Text → Production → Bool
-tells d e m c b r ps = head_name (heard m) c ps || (head_in r (heard m) || (head_other e ps (heard m) || (d && (head_line (heard m) && (semi_first ps && starty e (fixed b ++ ps) c)))))
+tells d e m c b r ps = head_starts (heard m) c (fixed b ++ ps) ps || (head_name (heard m) c ps || (head_in r (heard m) || (head_other e ps (heard m) || (d && (head_line (heard m) && (semi_first ps && starty e (fixed b ++ ps) c))))))
 
 ident_is : (c : Nonterminal) → is_ident_place c ≡ true → c ≡ Ident
 ident_is Ident h = refl
@@ -206,10 +203,6 @@ name_is : (c : Nonterminal) → is_name_place c ≡ true → c ≡ BindingIdent
 name_is BindingIdent h = refl
 name_is _ h = cc
 
-none_is : (ms : List Sign) → no_signs ms ≡ true → ms ≡ []
-none_is [] h = refl
-none_is (m ∷ ms) h = cc
-
 name_leaf : (s : TokenKind) (t : Text) → leaf_in BindingIdent s t ≡ true → kind_number s ≡ 0
 name_leaf IdentifierName t h = refl
 name_leaf _ t h = cc
@@ -238,7 +231,7 @@ name_apart {v = v} a ms c ps x {y} {z} t h w e k r =
 
 absent_present : {V V' : List Context → Surroundings} {v : Surroundings} {a : List Context} (d : Bool) (e : Want) (m : List Sign) (c : Nonterminal) (b : List Sign) (r : List Text) (ps : Production) (x : Place) {n y z : Place} (t : Tree) → tells d e m c b r ps ≡ true
     → (d ≡ true → worded x ≡ true) → forth (Unless r) x ≡ n → IsTrue (is_found n) → Rest V a e ps n → scan x (heard m) ≡ y → kept t ≡ true → IsRead v false c y t z → Rest V' a e (fixed b ++ ps) z → ⊥
-absent_present {V = V} {a = a} d e m c b r ps x {n} {y} {z} t h w f g p i k j q = by_name (test (head_name (heard m) c ps))
+absent_present {V = V} {a = a} d e m c b r ps x {n} {y} {z} t h w f g p i k j q = by_starts (test (head_starts (heard m) c (fixed b ++ ps) ps))
   where
     same' : x ≡ n
     same' = look_same (Unless r) x n refl f g
@@ -263,14 +256,18 @@ absent_present {V = V} {a = a} d e m c b r ps x {n} {y} {z} t h w f g p i k j q 
     by_in (yes' o) u = in_apart r (heard m) x n y o f g i (read_start j)
     by_in (no' o) u = by_other (test (head_other e ps (heard m))) (or_else (head_in r (heard m)) _ u o)
 
-    by_name : Test (head_name (heard m) c ps) → ⊥
-    by_name (yes' o) = name_apart a (heard m) c ps x t o rest.walk i k j
-    by_name (no' o) = by_in (test (head_in r (heard m))) (or_else (head_name (heard m) c ps) _ h o)
+    by_name : Test (head_name (heard m) c ps) → (head_name (heard m) c ps || (head_in r (heard m) || (head_other e ps (heard m) || (d && (head_line (heard m) && (semi_first ps && starty e (fixed b ++ ps) c)))))) ≡ true → ⊥
+    by_name (yes' o) u = name_apart a (heard m) c ps x t o rest.walk i k j
+    by_name (no' o) u = by_in (test (head_in r (heard m))) (or_else (head_name (heard m) c ps) _ u o)
+
+    by_starts : Test (head_starts (heard m) c (fixed b ++ ps) ps) → ⊥
+    by_starts (yes' o) = starts_apart a (heard m) c (fixed b ++ ps) ps x t o rest.walk q.walk i k j
+    by_starts (no' o) = by_name (test (head_name (heard m) c ps)) (or_else (head_starts (heard m) c (fixed b ++ ps) ps) _ h o)
 
 unscanned : {V : List Context → Surroundings} {a : List Context} {e : Want} (b : List Sign) (ps : Production) (x : Place) {y : Place} → scan x (heard b) ≡ y → IsTrue (is_found y) → Rest V a e ps y → Rest V a e (fixed b ++ ps) x
 unscanned {a = a} b ps x g f r = record { trees = r.trees; end = r.end; walk = unscan a b ps {x = x} g f r.walk; good = r.good; ends = r.ends }
 
-optional_same : {V V' : List Context → Surroundings} {v v' : Surroundings} {a : List Context} (d : Bool) (e : Want) (m : List Sign) (c : Nonterminal) (b : List Sign) (r : List Text) (ps : Production) (x : Place) {n n' : Place} (ts us : Forest) → part_good e (fixed b ++ ps) c ≡ true → tells d e m c b r ps ≡ true → (d ≡ true → worded x ≡ true)
+optional_same : {V V' : List Context → Surroundings} {v v' : Surroundings} {a : List Context} (d : Bool) (e : Want) (m : List Sign) (c : Nonterminal) (b : List Sign) (r : List Text) (ps : Production) (x : Place) {n n' : Place} (ts us : Forest) → any_good e (fixed b ++ ps) c ≡ true → tells d e m c b r ps ≡ true → (d ≡ true → worded x ≡ true)
     → W.Past IsRead v (Optional (heard m) c (heard b) r) x (W.one (list ts)) n → W.Past IsRead v' (Optional (heard m) c (heard b) r) x (W.one (list us)) n' → All ts → kepts ts ≡ true → kepts us ≡ true → Rest V a e ps n → Rest V' a e ps n' → SameRow ts us n n'
 optional_same d e m c b r ps x _ _ g h w (W.absent i f) (W.absent i' f') o k l p q = record { trees = refl; place = sym i ∙ i' }
 optional_same d e m c b r ps x _ _ g h w (W.absent i f) (W.present {z = z} {t = u} i' r' s' f') o k l p q =
@@ -279,7 +276,7 @@ optional_same d e m c b r ps x _ _ g h w (W.present {z = z} {t = t} i r' s f) (W
     absurd (absent_present d e m c b r ps x t h w i' f' q i (and_left (kept t) true k) r' (unscanned b ps z s f p))
 optional_same {v' = v'} d e m c b r ps x _ _ g h w (W.present {y = y} {z = z} {t = t} i r1 s f) (W.present {y = y'} {z = z'} {t = u} i' r2 s' f') o k l p q =
     let back : y ≡ y' = sym i ∙ i' in
-    let s1 = part_same c t u g (all_parts o).0 (and_left (kept t) true k) (and_left (kept u) true l) r1 (subst (λ y. IsRead v' false c y u z') (sym back) r2) (unscanned b ps z s f p) (unscanned b ps z' s' f' q) in
+    let s1 = any_same c t u g (all_parts o).0 (and_left (kept t) true k) (and_left (kept u) true l) r1 (subst (λ y. IsRead v' false c y u z') (sym back) r2) (unscanned b ps z s f p) (unscanned b ps z' s' f' q) in
     record { trees = ap (λ t. part t none) s1.tree; place = sym s ∙ (ap (λ z. scan z (heard b)) s1.place ∙ s') }
 
 -- ---- lists
@@ -439,8 +436,8 @@ abbrev pub row_good : Bool → Want → Production → Bool
 row_good d e [] = true
 row_good d e (Fixed s ∷ ps) = row_good (still_worded d s) e ps
 row_good d e (Within a ∷ ps) = row_good d e ps
-row_good d e (Part c ∷ ps) = part_good e ps c && row_good false e ps
-row_good d e (Optional m c b r ∷ ps) = (part_good e (fixed b ++ ps) c && tells d e m c b r ps) && row_good false e ps
+row_good d e (Part c ∷ ps) = any_good e ps c && row_good false e ps
+row_good d e (Optional m c b r ∷ ps) = (any_good e (fixed b ++ ps) c && tells d e m c b r ps) && row_good false e ps
 row_good d e (Many s c ∷ ps) = many_good e s c ps && row_good false e ps
 
 move_walk : {V : List Context → Surroundings} {ps : List W.Piece} {x y z : Place} {ts : Forest} → x ≡ y → W.Walk IsRead V ps y ts z → W.Walk IsRead V ps x ts z
@@ -463,9 +460,9 @@ row_same {V} {V'} d e (Part c ∷ ps) a {x} {y} {z} ts us g w i j o k l m n =
     let o' = all_parts (subst All p.is o) in
     let k' = subst (λ ts. kepts ts ≡ true) p.is k in
     let l' = subst (λ ts. kepts ts ≡ true) q.is l in
-    let s = part_same {e = e} {ps = ps} c p.tree q.tree (and_left (part_good e ps c) _ g) o'.0 (and_left (kept p.tree) _ k') (and_left (kept q.tree) _ l') p.read q.read
+    let s = any_same {e = e} {ps = ps} c p.tree q.tree (and_left (any_good e ps c) _ g) o'.0 (and_left (kept p.tree) _ k') (and_left (kept q.tree) _ l') p.read q.read
     (record { trees = p.others; end = y; walk = p.walk; good = and_right (kept p.tree) _ k'; ends = m }) (record { trees = q.others; end = z; walk = q.walk; good = and_right (kept q.tree) _ l'; ends = n }) in
-    let r = row_same false e ps a p.others q.others (and_right (part_good e ps c) _ g) no_word p.walk (move_walk s.place q.walk) o'.1 (and_right (kept p.tree) _ k') (and_right (kept q.tree) _ l') m n in
+    let r = row_same false e ps a p.others q.others (and_right (any_good e ps c) _ g) no_word p.walk (move_walk s.place q.walk) o'.1 (and_right (kept p.tree) _ k') (and_right (kept q.tree) _ l') m n in
     record { trees = p.is ∙ ((λ i. part (s.tree i) (r.trees i)) ∙ sym q.is); place = r.place }
 row_same {V} {V'} d e (Optional x' c b t ∷ ps) a {x} {y} {z} ts us g w i j o k l m n =
     let p = at_optional i in
@@ -473,10 +470,10 @@ row_same {V} {V'} d e (Optional x' c b t ∷ ps) a {x} {y} {z} ts us g w i j o k
     let o' = all_parts (subst All p.is o) in
     let k' = subst (λ ts. kepts ts ≡ true) p.is k in
     let l' = subst (λ ts. kepts ts ≡ true) q.is l in
-    let h = and_left (part_good e (fixed b ++ ps) c && tells d e x' c b t ps) _ g in
-    let s = optional_same d e x' c b t ps x p.trees q.trees (and_left (part_good e (fixed b ++ ps) c) _ h) (and_right (part_good e (fixed b ++ ps) c) _ h) w p.past q.past o'.0 (and_left (kepts p.trees) _ k') (and_left (kepts q.trees) _ l')
+    let h = and_left (any_good e (fixed b ++ ps) c && tells d e x' c b t ps) _ g in
+    let s = optional_same d e x' c b t ps x p.trees q.trees (and_left (any_good e (fixed b ++ ps) c) _ h) (and_right (any_good e (fixed b ++ ps) c) _ h) w p.past q.past o'.0 (and_left (kepts p.trees) _ k') (and_left (kepts q.trees) _ l')
     (record { trees = p.others; end = y; walk = p.walk; good = and_right (kepts p.trees) _ k'; ends = m }) (record { trees = q.others; end = z; walk = q.walk; good = and_right (kepts q.trees) _ l'; ends = n }) in
-    let r = row_same false e ps a p.others q.others (and_right (part_good e (fixed b ++ ps) c && tells d e x' c b t ps) _ g) no_word p.walk (move_walk s.place q.walk) o'.1 (and_right (kepts p.trees) _ k') (and_right (kepts q.trees) _ l') m n in
+    let r = row_same false e ps a p.others q.others (and_right (any_good e (fixed b ++ ps) c && tells d e x' c b t ps) _ g) no_word p.walk (move_walk s.place q.walk) o'.1 (and_right (kepts p.trees) _ k') (and_right (kepts q.trees) _ l') m n in
     record { trees = p.is ∙ ((λ i. part (list (s.trees i)) (r.trees i)) ∙ sym q.is); place = r.place }
 row_same {V} {V'} d e (Many s c ∷ ps) a {x} {y} {z} ts us g w i j o k l m n =
     let p = at_many i in

@@ -1,15 +1,15 @@
 -- A text has one tree: two kinds at one place begin with tokens that differ, and one kind reads its row in one way.
 use Rattle.std.specs.Prelude.{◌&&◌}
 use Rattle.jsx_tree.proofs.OneTree.Wants.{still}
-use Rattle.jsx_tree.proofs.OneTree.Directives.{is_expr_stmt, expr_stmt_is}
-use Rattle.jsx_tree.proofs.OneTree.Imports.{import_row, import_clash}
+use Rattle.jsx_tree.proofs.OneTree.Kinds.Directives.{is_expr_stmt, expr_stmt_is}
+use Rattle.jsx_tree.proofs.OneTree.Kinds.Imports.{import_row, import_clash}
 use Rattle.std.proofs.Common.{◌≡◌, Bool, true, false, not, List, [], ◌∷◌, refl, sym, ◌∙◌, ap, subst, arith}
 use Rattle.std.specs.Prelude.{IsTrue, ◌||◌, nat_eq, nat_le, codes}
 use Rattle.jsx_base.specs.Token.{Text, Operator, TokenKind, IdentifierName, Punctuator, same, breaks}
 use Rattle.jsx_tree.specs.declared.text.Goal.{Goal}
 use Rattle.jsx_tree.specs.declared.text.Goal.TheVariants as goals
 use Rattle.jsx_tree.specs.Signs.{Tok, Semicolon, Unless, AfterExpr}
-use Rattle.jsx_tree.specs.Kinds.{Imported, Exported, From, ProgramKind, Module, Script, FunctionBody, ExprStmt, Label, Kind, ExportNames, ExportFrom, program, statement, Tree, leaf, node, list, Forest, none, part}
+use Rattle.jsx_tree.specs.Kinds.{Imported, Exported, From, ProgramKind, Module, Script, FunctionBody, ExprStmt, Label, For, ForIn, ForOf, Kind, ExportNames, ExportFrom, program, statement, Tree, leaf, node, list, Forest, none, part}
 use Rattle.jsx_tree.specs.Nonterminals.{Nonterminal, Expr, Ident, Stmt, SubStmt, Item, Declaration, BlockOnly, CatchClause, CaseClause, Declarators, Body, DirectiveOnly, Specifiers, ImportBindings, ImportClause, WholeProgram, homes, in_homes, leaf_in, is_ident}
 use Rattle.jsx_tree.specs.Grammar.{heads, Lines, TopLines, InCode, InModuleCode, production}
 use Rattle.jsx_tree.specs.Form.{admits, is, fits_below}
@@ -46,8 +46,9 @@ use Rattle.jsx_tree.proofs.OneTree.Rows.{One, Each, each_leaf, each_node, each_n
 use Rattle.jsx_tree.proofs.OneTree.Lists.{SameRow}
 use Rattle.jsx_tree.proofs.OneTree.Same.{row_good, row_same}
 use Rattle.jsx_tree.proofs.OneTree.Prefixes.{front_apart, fronts_apart, rows_apart, rows_clash, words_apart, words_clash}
-use Rattle.jsx_tree.proofs.OneTree.Directives.{body_same}
-use Rattle.jsx_tree.proofs.OneTree.Exports.{exports_apart}
+use Rattle.jsx_tree.proofs.OneTree.Kinds.Directives.{body_same}
+use Rattle.jsx_tree.proofs.OneTree.Kinds.Exports.{exports_apart}
+use Rattle.jsx_tree.proofs.OneTree.Kinds.ForHeads.{for_in_apart, for_of_apart, in_of_apart}
 
 -- ---- a label and an expression
 
@@ -115,6 +116,9 @@ no_word h = cc
 -- pairs with an argument of their own
 abbrev pub odd_pair : Kind → Kind → Bool
 odd_pair (statement Label) (statement ExprStmt) = true
+odd_pair (statement For) (statement ForIn) = true
+odd_pair (statement For) (statement ForOf) = true
+odd_pair (statement ForIn) (statement ForOf) = true
 odd_pair (program ExportNames) (program ExportFrom) = true
 odd_pair k l = false
 
@@ -183,9 +187,16 @@ all_rows _ o = cc
 
 pair_apart : {v w : Surroundings} {x y z : Place} (k l : Kind) (cs ds : Forest) → odd_pair k l ≡ true → kepts cs ≡ true → kepts ds ≡ true → IsNode IsRead v false k x cs y → IsNode IsRead w false l x ds z → ⊥
 pair_apart (statement Label) (statement ExprStmt) cs ds p h g a b = label_apart cs ds h g a b
+pair_apart (statement For) (statement ForIn) cs ds p h g a b = for_in_apart cs ds h g a b
+pair_apart (statement For) (statement ForOf) cs ds p h g a b = for_of_apart cs ds h g a b
+pair_apart (statement ForIn) (statement ForOf) cs ds p h g a b = in_of_apart cs ds h g a b
 pair_apart (program ExportNames) (program ExportFrom) cs ds p h g a b = exports_apart cs ds h g a b
 pair_apart (statement Label) (statement _) cs ds p h g a b = cc
 pair_apart (statement Label) _ cs ds p h g a b = cc
+pair_apart (statement For) (statement _) cs ds p h g a b = cc
+pair_apart (statement For) _ cs ds p h g a b = cc
+pair_apart (statement ForIn) (statement _) cs ds p h g a b = cc
+pair_apart (statement ForIn) _ cs ds p h g a b = cc
 pair_apart (program ExportNames) (program _) cs ds p h g a b = cc
 pair_apart (program ExportNames) _ cs ds p h g a b = cc
 pair_apart (statement _) l cs ds p h g a b = cc
@@ -313,7 +324,7 @@ one_node k cs a = record { one = by_other }
 mutual
   pub each : (t : Tree) → Each t
   each (leaf s t) = each_leaf
-  each (node k cs) = each_node (one_node k cs (alls cs))
+  each (node k cs) = each_node (one_node k cs (alls cs)) (alls cs)
   each (list ts) = alls ts
 
   alls : (ts : Forest) → All ts

@@ -26,7 +26,7 @@ use Rattle.jsx_tree.proofs.OneTree.Wants.{parted, meets}
 use Rattle.jsx_tree.proofs.OneTree.Rows.{own_leaf, own_kind}
 use Rattle.jsx_tree.proofs.OneTree.Lists.{move_items}
 use Rattle.jsx_tree.proofs.OneTree.Prefixes.{same_next, move_walk}
-use Rattle.jsx_tree.proofs.OneTree.Specifiers.{after_comma, items_start, comma_parted, trail_parted, no_item, trail_more}
+use Rattle.jsx_tree.proofs.OneTree.Kinds.Specifiers.{after_comma, items_start, comma_parted, trail_parted, no_item, trail_more}
 
 -- ---- two specifiers
 

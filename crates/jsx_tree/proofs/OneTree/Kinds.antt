@@ -1,0 +1,8 @@
+-- What single kinds of rows ask of their own.
+pub mod Specifiers
+pub mod Inits
+pub mod Declarators
+pub mod Imports
+pub mod Exports
+pub mod ForHeads
+pub mod Directives
