@@ -1,5 +1,7 @@
 -- What single kinds of rows ask of their own.
+pub mod Keys
 pub mod Specifiers
+pub mod Members
 pub mod Inits
 pub mod Declarators
 pub mod Imports

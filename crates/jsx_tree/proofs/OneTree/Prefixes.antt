@@ -103,7 +103,7 @@ same_next x k l t u h e f = sym e ∙ ((λ i. forth (Tok Operator (kind_is k l (
 pub move_walk : {V : List Context → Surroundings} {ps : List W.Piece} {x y z : Place} {ts : Forest} → x ≡ y → W.Walk IsRead V ps y ts z → W.Walk IsRead V ps x ts z
 move_walk {V} {ps} {z = z} {ts} e w = subst (λ x. W.Walk IsRead V ps x ts z) (sym e) w
 
-token_clash : (k l : TokenKind) (t u : Text) (x : Place) {b : Bool} → Seen x k t → Seen x l u → (not (same_token k t l u) || b) ≡ true → (same_token k t l u ≡ true → b ≡ true → ⊥) → ⊥
+pub token_clash : (k l : TokenKind) (t u : Text) (x : Place) {b : Bool} → Seen x k t → Seen x l u → (not (same_token k t l u) || b) ≡ true → (same_token k t l u ≡ true → b ≡ true → ⊥) → ⊥
 token_clash k l t u x {b} p q h rest = rest (same_seen p q) (by_not (same_token k t l u) (same_seen p q) h)
   where
     by_not : (a : Bool) → a ≡ true → (not a || b) ≡ true → b ≡ true

@@ -9,7 +9,7 @@ use Rattle.std.proofs.Common.{◌≡◌, zero, suc, Bool, true, false, not, List
 use Rattle.std.specs.Prelude.{◌&&◌, ◌||◌}
 use Rattle.jsx_base.specs.Token.{Text, TokenKind, IdentifierName}
 use Rattle.jsx_tree.specs.Kinds.{Imported, Exported, From, Binds, Seq, Kind, expression, Tree, leaf, node, list, Forest, none, part}
-use Rattle.jsx_tree.specs.Nonterminals.{Nonterminal, Expr, Pat, Stmt, SubStmt, Item, Declaration, BlockOnly, CatchClause, CaseClause, Declarators, Body, DirectiveOnly, Specifiers, ImportBindings, homes, in_homes, leaf_in}
+use Rattle.jsx_tree.specs.Nonterminals.{Nonterminal, Expr, Pat, Stmt, SubStmt, Item, Declaration, BlockOnly, CatchClause, CaseClause, ClassMember, Declarators, Body, DirectiveOnly, Specifiers, ImportBindings, homes, in_homes, leaf_in}
 use Rattle.jsx_tree.specs.Grammar.{Context, Production}
 use Rattle.jsx_tree.specs.StaticRules.{Surroundings}
 use Rattle.jsx_tree.specs.Reading.{Place}
@@ -76,6 +76,7 @@ own_clean Declaration o = refl
 own_clean BlockOnly o = refl
 own_clean CatchClause o = refl
 own_clean CaseClause o = refl
+own_clean ClassMember o = refl
 own_clean Declarators o = refl
 own_clean Body o = refl
 own_clean DirectiveOnly o = refl
@@ -94,6 +95,7 @@ own_seq Declaration o = refl
 own_seq BlockOnly o = refl
 own_seq CatchClause o = refl
 own_seq CaseClause o = refl
+own_seq ClassMember o = refl
 own_seq Declarators o = refl
 own_seq Body o = refl
 own_seq DirectiveOnly o = refl
@@ -124,6 +126,8 @@ own_leaf CatchClause IdentifierName t o h = cc
 own_leaf CatchClause _ t o h = cc
 own_leaf CaseClause IdentifierName t o h = cc
 own_leaf CaseClause _ t o h = cc
+own_leaf ClassMember IdentifierName t o h = cc
+own_leaf ClassMember _ t o h = cc
 own_leaf Declarators IdentifierName t o h = cc
 own_leaf Declarators _ t o h = cc
 own_leaf Body IdentifierName t o h = cc
@@ -195,6 +199,7 @@ clause_is Declaration o n = cc
 clause_is BlockOnly o n = cc
 clause_is CatchClause o n = cc
 clause_is CaseClause o n = cc
+clause_is ClassMember o n = cc
 clause_is Declarators o n = cc
 clause_is Body o n = cc
 clause_is DirectiveOnly o n = cc
@@ -332,6 +337,7 @@ part_same {e = e} {ps} c {x} {y} {z} t u h f k l r s p q = by_whole (test (is_wh
         no_calm BlockOnly o h = cc
         no_calm CatchClause o h = cc
         no_calm CaseClause o h = cc
+        no_calm ClassMember o h = cc
         no_calm Declarators o h = cc
         no_calm Body o h = cc
         no_calm DirectiveOnly o h = cc

@@ -10,7 +10,7 @@ use Rattle.jsx_tree.specs.declared.text.Goal.{Goal}
 use Rattle.jsx_tree.specs.declared.text.Goal.TheVariants as goals
 use Rattle.jsx_tree.specs.Signs.{Tok, Semicolon, Unless, AfterExpr}
 use Rattle.jsx_tree.specs.Kinds.{Imported, Exported, From, ProgramKind, Module, Script, FunctionBody, ExprStmt, Label, For, ForIn, ForOf, Kind, ExportNames, ExportFrom, program, statement, Tree, leaf, node, list, Forest, none, part}
-use Rattle.jsx_tree.specs.Nonterminals.{Nonterminal, Expr, Ident, Stmt, SubStmt, Item, Declaration, BlockOnly, CatchClause, CaseClause, Declarators, Body, DirectiveOnly, Specifiers, ImportBindings, ImportClause, WholeProgram, homes, in_homes, leaf_in, is_ident}
+use Rattle.jsx_tree.specs.Nonterminals.{Nonterminal, Expr, Ident, Stmt, SubStmt, Item, Declaration, BlockOnly, CatchClause, CaseClause, ClassMember, Declarators, Body, DirectiveOnly, Specifiers, ImportBindings, ImportClause, WholeProgram, homes, in_homes, leaf_in, is_ident}
 use Rattle.jsx_tree.specs.Grammar.{heads, Lines, TopLines, InCode, InModuleCode, production}
 use Rattle.jsx_tree.specs.Form.{admits, is, fits_below}
 use Rattle.jsx_tree.specs.StaticRules.{Surroundings, outside, rule}
@@ -44,9 +44,10 @@ use Rattle.jsx_tree.proofs.OneTree.Wants.{parted, idle, shutting, idle_at, meets
 use Rattle.jsx_tree.proofs.OneTree.Begins.{is_own, want_of, front, front_fits}
 use Rattle.jsx_tree.proofs.OneTree.Rows.{One, Each, each_leaf, each_node, each_none, each_part, All, leafless, own_leaf, own_kind, clause_is, clause_clash}
 use Rattle.jsx_tree.proofs.OneTree.Lists.{SameRow}
-use Rattle.jsx_tree.proofs.OneTree.Same.{row_good, row_same}
+use Rattle.jsx_tree.proofs.OneTree.Same.{no_ending, row_good, row_same}
 use Rattle.jsx_tree.proofs.OneTree.Prefixes.{front_apart, fronts_apart, rows_apart, rows_clash, words_apart, words_clash}
 use Rattle.jsx_tree.proofs.OneTree.Kinds.Directives.{body_same}
+use Rattle.jsx_tree.proofs.OneTree.Kinds.Members.{members_apart, members_clash}
 use Rattle.jsx_tree.proofs.OneTree.Kinds.Exports.{exports_apart}
 use Rattle.jsx_tree.proofs.OneTree.Kinds.ForHeads.{for_in_apart, for_of_apart, in_of_apart}
 
@@ -126,6 +127,7 @@ odd_pair k l = false
 abbrev pub prefix_apart : Nonterminal → Kind → Kind → Bool
 prefix_apart Item k l = rows_apart (W.row false k) (W.row false l) || (import_row (W.row false k) && is_expr_stmt l)
 prefix_apart (Specifiers s) k l = words_apart parted (W.row false k) (W.row false l)
+prefix_apart ClassMember k l = members_apart (W.row false k) (W.row false l)
 prefix_apart c k l = false
 
 abbrev pub pair_told : Nonterminal → Kind → Kind → Bool
@@ -147,7 +149,7 @@ body_is (program _) h = cc
 body_is _ h = cc
 
 abbrev pub row_told : Nonterminal → Kind → Bool
-row_told c k = not (in_homes c (homes k)) || (is_body k || row_good false (want_of c) (production k))
+row_told c k = not (in_homes c (homes k)) || (is_body k || row_good no_ending (want_of c) (production k))
 
 all_pairs : (c : Nonterminal) → is_own c ≡ true → pairs_told c ≡ true
 all_pairs Stmt o = refl
@@ -157,6 +159,7 @@ all_pairs Declaration o = refl
 all_pairs BlockOnly o = refl
 all_pairs CatchClause o = refl
 all_pairs CaseClause o = refl
+all_pairs ClassMember o = refl
 all_pairs Declarators o = refl
 all_pairs Body o = refl
 all_pairs DirectiveOnly o = refl
@@ -175,6 +178,7 @@ all_rows Declaration o = refl
 all_rows BlockOnly o = refl
 all_rows CatchClause o = refl
 all_rows CaseClause o = refl
+all_rows ClassMember o = refl
 all_rows Declarators o = refl
 all_rows Body o = refl
 all_rows DirectiveOnly o = refl
@@ -217,6 +221,7 @@ item_clash {w = w} {x} {y} {z} {cs} {ds} k l h f g a b m = by_rows (test (rows_a
 prefix_clash : (c : Nonterminal) {v w : Surroundings} {x y z : Place} {cs ds : Forest} (k l : Kind) → prefix_apart c k l ≡ true → kepts cs ≡ true → kepts ds ≡ true → IsNode IsRead v false k x cs y → IsNode IsRead w false l x ds z → meets (want_of c) y ≡ true → meets (want_of c) z ≡ true → ⊥
 prefix_clash Item k l h f g a b m m' = item_clash k l h f g a b m'
 prefix_clash (Specifiers s) k l h f g a b m m' = words_clash parted (W.row false k) (W.row false l) h f g a.walk b.walk m
+prefix_clash ClassMember k l h f g a b m m' = members_clash (W.row false k) (W.row false l) h f g a.walk b.walk
 prefix_clash _ k l h f g a b m m' = cc
 
 kind_apart : (c : Nonterminal) {v w : Surroundings} {x y z : Place} (k l : Kind) (cs ds : Forest) → is_own c ≡ true → stated k ≡ true → stated l ≡ true → in_homes c (homes k) ≡ true → in_homes c (homes l) ≡ true → nat_eq (place k) (place l) ≡ false
@@ -254,6 +259,7 @@ body_want Declaration x o h m = cc
 body_want BlockOnly x o h m = cc
 body_want CatchClause x o h m = cc
 body_want CaseClause x o h m = cc
+body_want ClassMember x o h m = cc
 body_want Declarators x o h m = cc
 body_want DirectiveOnly x o h m = cc
 body_want (Specifiers Imported) x o h m = cc
@@ -263,12 +269,12 @@ body_want ImportBindings x o h m = cc
 body_want ImportClause x o h m = cc
 body_want _ x o h m = cc
 
-kind_same : (c : Nonterminal) {v w : Surroundings} {x y z : Place} (k : Kind) (cs ds : Forest) → is_own c ≡ true → in_homes c (homes k) ≡ true → (is_body k || row_good false (want_of c) (production k)) ≡ true → IsNode IsRead v false k x cs y → IsNode IsRead w false k x ds z
+kind_same : (c : Nonterminal) {v w : Surroundings} {x y z : Place} (k : Kind) (cs ds : Forest) → is_own c ≡ true → in_homes c (homes k) ≡ true → (is_body k || row_good no_ending (want_of c) (production k)) ≡ true → IsNode IsRead v false k x cs y → IsNode IsRead w false k x ds z
     → All cs → kepts cs ≡ true → kepts ds ≡ true → meets (want_of c) y ≡ true → meets (want_of c) z ≡ true → SameRow cs ds y z
 kind_same c {v} {w} {x} {y} {z} k cs ds o i g a b e h h' m n = by_body (test (is_body k))
   where
     by_body : Test (is_body k) → SameRow cs ds y z
-    by_body (no' p) = row_same false (want_of c) (production k) [] cs ds (or_else (is_body k) _ g p) no_word a.walk b.walk e h h' m n
+    by_body (no' p) = row_same no_ending (want_of c) (production k) [] cs ds (or_else (is_body k) _ g p) refl a.walk b.walk e h h' m n
     by_body (yes' p) =
         let q = body_is k p in
         let a' : IsNode IsRead v false (program FunctionBody) x cs y = subst (λ k. IsNode IsRead v false k x cs y) q a in

@@ -1,32 +1,32 @@
 -- What a `for` begins with: declarations, or an expression; a name that is bound, or a target.
-use Rattle.std.proofs.Common.{◌≡◌, ℕ, Bool, true, false, not, List, [], ◌∷◌, refl, sym, ◌∙◌, ap, subst, arith}
+use Rattle.std.proofs.Common.{◌≡◌, Bool, true, false, not, List, [], ◌∷◌, refl, sym, ◌∙◌, ap, subst, arith}
 use Rattle.std.specs.Prelude.{IsTrue, ◌&&◌, ◌||◌, codes}
 use Rattle.jsx_base.specs.Token.{Text, Operator, TokenKind, IdentifierName, NumericLiteral, BigIntLiteral, StringLiteral, RegExpLiteral, Punctuator, same}
-use Rattle.jsx_tree.specs.Signs.{Sign, Tok, Space}
+use Rattle.jsx_tree.specs.Signs.{Sign, Tok}
 use Rattle.jsx_tree.specs.Kinds.{DeclareWord, VarWord, LetWord, ConstWord, ForDeclaration, ForBinding, Seq, Binds, Assigns, Kind, statement, expression, Tree, leaf, node, list, Forest, none, part}
 use Rattle.jsx_tree.specs.Nonterminals.{Nonterminal, Expr, Pat, ForInit, ForHead, ForOfHead, homes, in_homes, leaf_in, is_bound}
 use Rattle.jsx_tree.specs.Grammar.{Context, Fixed, Production, vars}
-use Rattle.jsx_tree.specs.Form.{admits, fits_below, fit_slots, positions, is_leaf}
+use Rattle.jsx_tree.specs.Form.{admits, fits_below}
 use Rattle.jsx_tree.specs.StaticRules.{Surroundings}
 use Rattle.jsx_tree.specs.Reading.{Place, forth, scan}
-use Rattle.jsx_tree.proofs.Tokens.{and_left, and_right, and_both, same_is}
+use Rattle.jsx_tree.proofs.Tokens.{and_left, and_right, same_is}
 use Rattle.jsx_tree.specs.Walk as W
 use Rattle.jsx_tree.specs.Walk.{is_found, pieces, IsRead, IsNode}
 use Rattle.jsx_tree.proofs.Rows.Bridge.{node_walk}
-use Rattle.jsx_tree.proofs.OneTree.Table.{kinds, scope}
-use Rattle.jsx_tree.proofs.OneTree.Statements.{stated, stated_kinds, for_stated}
+use Rattle.jsx_tree.proofs.OneTree.Table.{kinds}
+use Rattle.jsx_tree.proofs.OneTree.Statements.{stated_kinds, for_stated}
 use Rattle.jsx_tree.proofs.OneTree.Readings.{kind_at, text_at, calm}
 use Rattle.jsx_tree.proofs.OneTree.Checks.{every, starts}
 use Rattle.jsx_tree.proofs.OneTree.Facts.{never, or_else, not_is, Test, yes', no', test, for_kind, Seen, took}
 use Rattle.jsx_tree.proofs.OneTree.Pairs.{two_tokens}
-use Rattle.jsx_tree.proofs.OneTree.Places.{taken, is_seq}
 use Rattle.jsx_tree.proofs.OneTree.Fine.{at_sign, at_part, at_many, at_end}
-use Rattle.jsx_tree.proofs.OneTree.Spines.{home_of, seq_is, taken_scope}
+use Rattle.jsx_tree.proofs.OneTree.Spines.{home_of}
 use Rattle.jsx_tree.proofs.OneTree.Placed.{Placed}
-use Rattle.jsx_tree.proofs.OneTree.Parts.{known, kept, kepts, tame_of, SameAt, expr_same, expr_starts, whole_same, whole_starts}
-use Rattle.jsx_tree.proofs.OneTree.Wants.{Want, ended, mark, met, look_met, signed}
+use Rattle.jsx_tree.proofs.OneTree.Parts.{Which, a_statement, a_taken, a_seq, which, re_home, known, kept, kepts, tame_of, SameAt, expr_same, expr_starts, whole_same, whole_starts}
+use Rattle.jsx_tree.proofs.OneTree.Wants.{Want, mark, signed, calm_next, next_calm}
 use Rattle.jsx_tree.proofs.OneTree.Rows.{Each, each_all, All, all_parts, Rest, is_whole, whole_is, pattern_part, part_good, part_same}
 use Rattle.jsx_tree.proofs.OneTree.Lists.{move_items}
+use Rattle.jsx_tree.proofs.OneTree.Kinds.Members.{member_good, member_same}
 use Rattle.jsx_tree.proofs.OneTree.Kinds.Declarators.{ended_list, declarators_same}
 
 abbrev pub is_init : Nonterminal → Bool
@@ -41,13 +41,6 @@ is_head c = false
 init_is : (c : Nonterminal) → is_init c ≡ true → c ≡ ForInit
 init_is ForInit h = refl
 init_is _ h = cc
-
--- ---- a tree at another place
-
-re_home : {v : Surroundings} {x y : Place} (c d : Nonterminal) (t : Tree) → admits d t ≡ true → IsRead v false c x t y → IsRead v false d x t y
-re_home c d (leaf s u) h r = record { is = and_both (leaf_in d s u) (is_leaf s u) h (and_right (leaf_in c s u) _ r.is); is_legal = r.is_legal; scans = r.scans; found = r.found }
-re_home c d (node k cs) h r = record { is = and_both (admits d (node k cs)) (fit_slots (positions k) cs) h (and_right (admits c (node k cs)) _ r.is); is_legal = r.is_legal; scans = r.scans; found = r.found }
-re_home c d (list ts) h r = cc
 
 -- ---- declarations
 
@@ -95,24 +88,6 @@ word_off ConstWord = refl
 -- no expression begins with the word of a declaration
 pub word_start : (w : DeclareWord) (x : Place) → Seen x IdentifierName (vars w) → starts (kind_at x) (text_at x) ≡ true → ⊥
 word_start w x s h = never (starts 0 (vars w)) ((λ i. starts (sym s.kind i) (sym s.text i)) ∙ h) (word_off w)
-
--- ---- which kind it is
-
-data Which (k : Kind) : Type 0 where
-  a_statement : stated k ≡ true → Which k
-  a_taken : scope k ≡ true → Which k
-  a_seq : k ≡ expression Seq → Which k
-
-which : (k : Kind) → known k ≡ true → Which k
-which k h = by_stated (test (taken k || is_seq k))
-  where
-    by_taken : Test (taken k) → (taken k || is_seq k) ≡ true → Which k
-    by_taken (yes' t) g = a_taken (taken_scope k t)
-    by_taken (no' t) g = a_seq (seq_is k (or_else (taken k) (is_seq k) g t))
-
-    by_stated : Test (taken k || is_seq k) → Which k
-    by_stated (yes' g) = by_taken (test (taken k)) g
-    by_stated (no' g) = a_statement (or_else (taken k || is_seq k) (stated k) h g)
 
 -- declarations, or an expression
 pub data Init (v : Surroundings) (x : Place) : Tree → Place → Type 0 where
@@ -279,11 +254,6 @@ abbrev pub mark_off : Production → Bool
 mark_off (Fixed (Tok Operator Punctuator u) ∷ ps) = not (starts 1 u)
 mark_off ps = false
 
-abbrev pub calm_next : ℕ → Production → Bool
-calm_next n (Fixed (Tok Operator k t) ∷ ps) = met (ended n) k t
-calm_next n (Fixed Space ∷ ps) = calm_next n ps
-calm_next n ps = false
-
 mark_found : {V : List Context → Surroundings} (a : List Context) (t : Text) (ps : Production) {x z : Place} {ts : Forest} → mark_next t ps ≡ true → W.Walk IsRead V (pieces a ps) x ts z → IsTrue (is_found (forth (mark t) x))
 mark_found a t (Fixed (Tok Operator Punctuator u) ∷ ps) {x} h w =
     let s = signed (Tok Operator Punctuator u) ps a w in
@@ -293,16 +263,6 @@ mark_found a t (Fixed (Tok _ k u) ∷ ps) h w = cc
 mark_found a t (Fixed _ ∷ ps) h w = cc
 mark_found a t (_ ∷ ps) h w = cc
 mark_found a t [] h w = cc
-
-next_calm : {V : List Context → Surroundings} (n : ℕ) (a : List Context) (ps : Production) {x z : Place} {ts : Forest} → calm_next n ps ≡ true → W.Walk IsRead V (pieces a ps) x ts z → calm n x ≡ true
-next_calm n a (Fixed (Tok Operator k t) ∷ ps) {x} h w =
-    let s = signed (Tok Operator k t) ps a w in
-    look_met (ended n) k t x refl (took k t x s.moves (s.found refl)) h
-next_calm n a (Fixed Space ∷ ps) h w = next_calm n a ps h w
-next_calm n a (Fixed (Tok _ k u) ∷ ps) h w = cc
-next_calm n a (Fixed _ ∷ ps) h w = cc
-next_calm n a (_ ∷ ps) h w = cc
-next_calm n a [] h w = cc
 
 -- ---- a part of a row
 
@@ -332,15 +292,19 @@ begins_same {v = v} {v'} {a} {ps = ps} c {x} {y} {z} t u h o k l r s p q = by_in
         head_same k l (head_view c t i k r) (head_view c u i l s) (next_calm 17 a ps n p.walk) (next_calm 17 a ps n q.walk)
 
 abbrev pub any_good : Want → Production → Nonterminal → Bool
-any_good e ps c = part_good e ps c || begins_good ps c
+any_good e ps c = part_good e ps c || (begins_good ps c || member_good ps c)
 
 pub any_same : {V V' : List Context → Surroundings} {v v' : Surroundings} {a : List Context} {e : Want} {ps : Production} (c : Nonterminal) {x y z : Place} (t u : Tree) → any_good e ps c ≡ true → Each t → kept t ≡ true → kept u ≡ true
     → IsRead v false c x t y → IsRead v' false c x u z → Rest V a e ps y → Rest V' a e ps z → SameAt t u y z
 any_same {e = e} {ps} c {x} {y} {z} t u h o k l r s p q = by_part (test (part_good e ps c))
   where
+    by_begins : Test (begins_good ps c) → (begins_good ps c || member_good ps c) ≡ true → SameAt t u y z
+    by_begins (yes' g) f = begins_same c t u g o k l r s p q
+    by_begins (no' g) f = member_same c t u (or_else (begins_good ps c) _ f g) k l r s p q
+
     by_part : Test (part_good e ps c) → SameAt t u y z
     by_part (yes' g) = part_same c t u g o k l r s p q
-    by_part (no' g) = begins_same c t u (or_else (part_good e ps c) _ h g) o k l r s p q
+    by_part (no' g) = by_begins (test (begins_good ps c)) (or_else (part_good e ps c) _ h g)
 
 -- ---- an expression that may be absent before a punctuator
 
