@@ -29,11 +29,8 @@ mod Wants
 mod Begins
 mod Rows
 mod Lists
-mod Declarators
-mod Specifiers
+mod Kinds
 mod Same
-mod Imports
-mod Directives
 mod Prefixes
 mod Trees
 pub mod Decided

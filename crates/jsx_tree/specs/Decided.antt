@@ -1,10 +1,10 @@
 -- The trees of which a text is proved to have one at most: all but those with a kind that is named here.
 use Rattle.std.specs.Prelude.{Bool, true, false, ◌&&◌}
 use Rattle.jsx_base.specs.Token.{TokenKind, Punctuator, JsxName, JsxString, JsxText, NoToken}
-use Rattle.jsx_tree.specs.Kinds.{ProgramKind, Module, Script, FunctionBody, Directive, ImportBare, Import, ImportAll, ImportList, ImportBoth, ExportAll, ExportAllAs, ExportDecl, ExportDefaultFn, ExportDefaultExpr, ExportNames, Specifier, SpecifierAs, StatementKind, For, ForDeclaration, ForIn, ForOf, ForBinding, ClassDecl, FunctionKind, FunctionExpr, ClassExpr, Method, Getter, Setter, Field, ExpressionKind, OpAssign, ArrowBlock, BareArrowBlock, Kind, program, statement, function, expression, jsx, Tree, leaf, node, list, Forest, none, part}
+use Rattle.jsx_tree.specs.Kinds.{ProgramKind, Module, Script, FunctionBody, Directive, ImportBare, Import, ImportAll, ImportList, ImportBoth, ExportAll, ExportAllAs, ExportDecl, ExportDefaultFn, ExportDefaultExpr, ExportNames, ExportFrom, Specifier, SpecifierAs, StatementKind, InObject, FunctionKind, FunctionExpr, ClassExpr, Method, Getter, Setter, Field, ExpressionKind, OpAssign, ArrowBlock, BareArrowBlock, Kind, program, statement, function, expression, jsx, Tree, leaf, node, list, Forest, none, part}
 use Rattle.jsx_tree.specs.Nonterminals.{assigns}
 
--- not yet: lists that are exported from another module, and classes
+-- not yet: a class that is exported as the default
 abbrev pub decides_program : ProgramKind → Bool
 decides_program Module = true
 decides_program Script = true
@@ -21,28 +21,22 @@ decides_program ExportDecl = true
 decides_program ExportDefaultFn = true
 decides_program ExportDefaultExpr = true
 decides_program ExportNames = true
+decides_program ExportFrom = true
 decides_program (Specifier s) = true
 decides_program (SpecifierAs s) = true
 decides_program k = false
 
--- not yet: `for`, and classes
 abbrev pub decides_statement : StatementKind → Bool
-decides_statement For = false
-decides_statement (ForDeclaration v) = false
-decides_statement ForIn = false
-decides_statement ForOf = false
-decides_statement (ForBinding v) = false
-decides_statement ClassDecl = false
 decides_statement k = true
 
--- not yet: functions, classes and methods inside of expressions
+-- not yet: functions, classes and methods inside of expressions. An object has no fields.
 abbrev pub decides_function : FunctionKind → Bool
 decides_function FunctionExpr = false
 decides_function ClassExpr = false
-decides_function (Method h) = false
-decides_function (Getter h) = false
-decides_function (Setter h) = false
-decides_function (Field h) = false
+decides_function (Method InObject) = false
+decides_function (Getter InObject) = false
+decides_function (Setter InObject) = false
+decides_function (Field InObject) = false
 decides_function k = true
 
 -- not yet: arrows whose body is a block. An operator that has no assignment of its own has no such kind of node.

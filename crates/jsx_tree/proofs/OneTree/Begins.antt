@@ -3,9 +3,9 @@ use Rattle.jsx_base.specs.Token.{Punctuator}
 use Rattle.std.proofs.Common.{◌≡◌, ℕ, zero, Bool, true, false, not, cond, List, [], ◌∷◌, refl, sym, ◌∙◌, ap, subst}
 use Rattle.std.specs.Prelude.{◌&&◌, ◌||◌, nat_eq, codes}
 use Rattle.jsx_base.specs.Token.{Text, Operator, TokenKind, IdentifierName, kind_number, among, same}
-use Rattle.jsx_tree.specs.Signs.{Tok, Unless, Count}
+use Rattle.jsx_tree.specs.Signs.{Tok, Unless, Count, One}
 use Rattle.jsx_tree.specs.Kinds.{Kind, Tree, Forest}
-use Rattle.jsx_tree.specs.Nonterminals.{Nonterminal, Expr, Ident, BindingIdent, ImportClause, Stmt, SubStmt, Item, Declaration, BlockOnly, CatchClause, CaseClause, Declarators, Body, DirectiveOnly, Specifiers, ImportBindings, homes, in_homes, leaf_in, is_ident}
+use Rattle.jsx_tree.specs.Nonterminals.{Nonterminal, Expr, Ident, BindingIdent, Key, ImportClause, Stmt, SubStmt, Item, Declaration, BlockOnly, CatchClause, CaseClause, ClassMember, Declarators, Body, DirectiveOnly, Specifiers, ImportBindings, homes, in_homes, leaf_in, is_ident}
 use Rattle.jsx_tree.specs.Grammar.{Context, Fixed, Part, Production, production}
 use Rattle.jsx_tree.specs.Form.{is}
 use Rattle.jsx_tree.specs.StaticRules.{Surroundings}
@@ -20,6 +20,7 @@ use Rattle.jsx_tree.proofs.OneTree.Checks.{every, starts}
 use Rattle.jsx_tree.proofs.OneTree.Facts.{never, or_else, not_is, Test, yes', no', test, eq_nat, Seen, took}
 use Rattle.jsx_tree.proofs.OneTree.Fine.{at_sign, at_part}
 use Rattle.jsx_tree.proofs.OneTree.Next.{unless_kept}
+use Rattle.jsx_tree.proofs.OneTree.Kinds.Keys.{key_at, key_first, key_view}
 use Rattle.jsx_tree.proofs.OneTree.Afters.{after_tree}
 use Rattle.jsx_tree.proofs.OneTree.Parts.{kept, kepts, tame_of, whole_starts, word_read}
 use Rattle.jsx_tree.proofs.OneTree.Wants.{Want, parted, anything, ended, still, idle, shutting, declared, other, meets, met, still_at, shutting_at, idle_at, is_look, look_met, is_at, is_seen, follow, follow_meets}
@@ -33,6 +34,7 @@ is_own Declaration = true
 is_own BlockOnly = true
 is_own CatchClause = true
 is_own CaseClause = true
+is_own ClassMember = true
 is_own Declarators = true
 is_own Body = true
 is_own DirectiveOnly = true
@@ -56,6 +58,7 @@ want_of c = anything
 -- what stands behind a list of them
 abbrev pub stop_of : Nonterminal → Want
 stop_of CaseClause = shutting
+stop_of ClassMember = shutting
 stop_of c = idle
 
 pub data Front : Type 0 where
@@ -65,12 +68,16 @@ pub data Front : Type 0 where
   expr' : List Text → Front
   -- a name
   name' : Front
+  -- a key
+  key' : Front
   unknown : Front
 
 abbrev pub front : Want → Production → Front
 front e (Fixed (Tok Operator k t) ∷ ps) = token' k t
 front e (Fixed Count ∷ ps) = front e ps
+front e (Fixed One ∷ ps) = front e ps
 front e (Fixed (Unless ts) ∷ Part (Expr zero) ∷ ps) = cond (not (among [] ts) && follow e ps (ended 0)) (expr' ts) unknown
+front e (Part Key ∷ ps) = key'
 front e (Part Ident ∷ ps) = name'
 front e (Part BindingIdent ∷ ps) = name'
 front e ps = unknown
@@ -79,6 +86,7 @@ abbrev pub fits : Front → Place → Bool
 fits (token' k t) x = is_at x k t
 fits (expr' ts) x = starts (kind_at x) (text_at x) && not (among (text_at x) ts)
 fits name' x = nat_eq (kind_at x) 0 && is_ident (text_at x)
+fits key' x = key_at (kind_at x) (text_at x)
 fits unknown x = true
 
 pub at_seen : {x : Place} {k : TokenKind} {t : Text} → Seen x k t → is_at x k t ≡ true
@@ -105,6 +113,8 @@ bound_fits {v} {x} {y} t h r =
 pub front_fits : {V : List Context → Surroundings} (e : Want) (ps : Production) (a : List Context) {x z : Place} {ts : Forest} → W.Walk IsRead V (pieces a ps) x ts z → kepts ts ≡ true → meets e z ≡ true → fits (front e ps) x ≡ true
 front_fits e (Fixed (Tok Operator k t) ∷ ps) a {x} w h m = let s = at_sign w in at_seen (took k t x s.moves s.found)
 front_fits e (Fixed Count ∷ ps) a w h m = front_fits e ps a w h m
+front_fits e (Fixed One ∷ ps) a w h m = front_fits e ps a w h m
+front_fits e (Part Key ∷ ps) a w h m = let p = at_part w in key_first (key_view p.tree (and_left (kept p.tree) _ (subst (λ ts. kepts ts ≡ true) p.is h)) p.read)
 front_fits {V} e (Fixed (Unless us) ∷ Part (Expr zero) ∷ ps) a {x} {z} {ts} w h m = by_follow (test (not (among [] us) && follow e ps (ended 0)))
   where
     by_follow : Test (not (among [] us) && follow e ps (ended 0)) → fits (cond (not (among [] us) && follow e ps (ended 0)) (expr' us) unknown) x ≡ true
@@ -128,6 +138,8 @@ abbrev pub front_stop : Want → Front → Bool
 front_stop w (token' k t) = not (met w k t)
 front_stop w (expr' ts) = true
 front_stop w name' = true
+front_stop shutting key' = true
+front_stop _ key' = false
 front_stop w unknown = false
 
 abbrev pub front_met : Want → Front → Bool
@@ -178,6 +190,8 @@ pub front_stops : (w : Want) (f : Front) (x : Place) → is_stop w ≡ true → 
 front_stops w (token' k t) x l h f m = never (met w k t) (met_back w k t x l (is_seen x k t f) m) (not_is (met w k t) h)
 front_stops w (expr' ts) x l h f m = no_case starts refl (λ t. refl) refl refl (kind_at x) (text_at x) (stop_idle w x l m) (and_left (starts (kind_at x) (text_at x)) _ f)
 front_stops w name' x l h f m = no_case (λ k t. nat_eq k 0 && is_ident t) refl (λ t. refl) refl refl (kind_at x) (text_at x) (stop_idle w x l m) f
+front_stops shutting key' x l h f m = never (key_at (kind_at x) (text_at x)) f (λ i. key_at (eq_nat {a = kind_at x} {b = 1} (and_left (nat_eq (kind_at x) 1) _ m) i) (same_is (text_at x) (codes "}") (and_right (nat_eq (kind_at x) 1) _ m) i))
+front_stops _ key' x l h f m = cc
 front_stops w unknown x l h f m = cc
 
 -- neither an expression nor a name begins with `catch` or `finally`
@@ -214,6 +228,7 @@ abbrev pub is_listed : Nonterminal → Bool
 is_listed Stmt = true
 is_listed Item = true
 is_listed CaseClause = true
+is_listed ClassMember = true
 is_listed c = false
 
 abbrev pub front_ok : Nonterminal → Front → Bool
@@ -231,8 +246,12 @@ item_fronts = refl
 case_fronts : every (fronts_ok CaseClause) stated_kinds ≡ true
 case_fronts = refl
 
+member_fronts : every (fronts_ok ClassMember) stated_kinds ≡ true
+member_fronts = refl
+
 pub listed_fronts : (c : Nonterminal) → is_listed c ≡ true → every (fronts_ok c) stated_kinds ≡ true
 listed_fronts Stmt l = stmt_fronts
 listed_fronts Item l = item_fronts
 listed_fronts CaseClause l = case_fronts
+listed_fronts ClassMember l = member_fronts
 listed_fronts _ l = cc

@@ -3,7 +3,7 @@ use Rattle.std.proofs.Common.{◌≡◌, true, false, refl}
 use Rattle.jsx_base.specs.Token.{TokenKind, IdentifierName, NumericLiteral, BigIntLiteral, StringLiteral, RegExpLiteral, NoSubstitution, TemplateHead, TemplateMiddle, TemplateTail, Elision}
 use Rattle.jsx_tree.specs.declared.text.Goal.{Goal}
 use Rattle.jsx_base.specs.Token.{Text}
-use Rattle.jsx_tree.specs.Kinds.{Imported, Exported, From, ProgramKind, StatementKind, FunctionKind, ExpressionKind, Kind, program, statement, function, expression, jsx, Tree, leaf, node, list, Forest, none, part, Add, And, Array, ArrayPat, Arrow, ArrowBlock, Assign, Assigns, AtLeast, AtMost, BareArrow, BareArrowBlock, Binary, Binds, BitAnd, BitOr, BitXor, Block, Break, Call, CallLink, Case, Catch, Chain, ClassDecl, ClassExpr, Complement, ComputedKey, Cond, ConstWord, Continue, Debugger, Declarator, Decrement, Default, Delete, Directive, Divide, Do, Empty, Equal, Exponentiate, ExportAll, ExportAllAs, ExportDecl, ExportDefaultClass, ExportDefaultExpr, ExportDefaultFn, ExportFrom, ExportNames, ExprStmt, Field, For, ForBinding, ForDeclaration, ForIn, ForOf, FunctionBody, FunctionDecl, FunctionExpr, Getter, Greater, If, Import, ImportAll, ImportBare, ImportBoth, ImportCall, ImportList, ImportMeta, InOp, Increment, Index, IndexLink, InstanceOf, Label, Less, LetWord, Member, Method, Module, Multiply, NameLink, Negative, New, NewTarget, NewWithoutArguments, Not, Nullish, Object, ObjectPat, OpAssign, Or, ParenTarget, Parenthesized, PlainTemplate, Positive, PostfixUpdate, PrefixUpdate, Property, PropertyPat, Remainder, RestPat, RestProperty, Return, Script, Seq, Setter, ShiftLeft, ShiftOut, ShiftRight, Shorthand, ShorthandInit, ShorthandPat, Specifier, SpecifierAs, Spread, StrictEqual, StrictUnequal, SubstitutedTemplate, Subtract, SuperCall, SuperIndex, SuperMember, Switch, Tagged, TemplateSpan, Throw, Try, TypeOf, Unary, Unequal, Var, VarWord, Void, While, WithInit}
+use Rattle.jsx_tree.specs.Kinds.{InObject, InClass, Static, Imported, Exported, From, ProgramKind, StatementKind, FunctionKind, ExpressionKind, Kind, program, statement, function, expression, jsx, Tree, leaf, node, list, Forest, none, part, Add, And, Array, ArrayPat, Arrow, ArrowBlock, Assign, Assigns, AtLeast, AtMost, BareArrow, BareArrowBlock, Binary, Binds, BitAnd, BitOr, BitXor, Block, Break, Call, CallLink, Case, Catch, Chain, ClassDecl, ClassExpr, Complement, ComputedKey, Cond, ConstWord, Continue, Debugger, Declarator, Decrement, Default, Delete, Directive, Divide, Do, Empty, Equal, Exponentiate, ExportAll, ExportAllAs, ExportDecl, ExportDefaultClass, ExportDefaultExpr, ExportDefaultFn, ExportFrom, ExportNames, ExprStmt, Field, For, ForBinding, ForDeclaration, ForIn, ForOf, FunctionBody, FunctionDecl, FunctionExpr, Getter, Greater, If, Import, ImportAll, ImportBare, ImportBoth, ImportCall, ImportList, ImportMeta, InOp, Increment, Index, IndexLink, InstanceOf, Label, Less, LetWord, Member, Method, Module, Multiply, NameLink, Negative, New, NewTarget, NewWithoutArguments, Not, Nullish, Object, ObjectPat, OpAssign, Or, ParenTarget, Parenthesized, PlainTemplate, Positive, PostfixUpdate, PrefixUpdate, Property, PropertyPat, Remainder, RestPat, RestProperty, Return, Script, Seq, Setter, ShiftLeft, ShiftOut, ShiftRight, Shorthand, ShorthandInit, ShorthandPat, Specifier, SpecifierAs, Spread, StrictEqual, StrictUnequal, SubstitutedTemplate, Subtract, SuperCall, SuperIndex, SuperMember, Switch, Tagged, TemplateSpan, Throw, Try, TypeOf, Unary, Unequal, Var, VarWord, Void, While, WithInit}
 use Rattle.jsx_tree.specs.Program.{Reads}
 use Rattle.jsx_tree.specs.Decided.{decides_program, decides_statement, decides_function, decides_expression, decides, decides_leaf, is_decided, are_decided}
 use Rattle.jsx_tree.proofs.Tokens.{and_left, and_right, and_both}
@@ -27,7 +27,7 @@ known_program (SpecifierAs Imported) h = refl
 known_program (SpecifierAs Exported) h = refl
 known_program (SpecifierAs From) h = refl
 known_program ExportNames h = refl
-known_program ExportFrom h = cc
+known_program ExportFrom h = refl
 known_program ExportAll h = refl
 known_program ExportAllAs h = refl
 known_program ExportDecl h = refl
@@ -46,11 +46,15 @@ known_statement ExprStmt h = refl
 known_statement If h = refl
 known_statement Do h = refl
 known_statement While h = refl
-known_statement For h = cc
-known_statement (ForDeclaration x) h = cc
-known_statement ForIn h = cc
-known_statement ForOf h = cc
-known_statement (ForBinding x) h = cc
+known_statement For h = refl
+known_statement (ForDeclaration VarWord) h = refl
+known_statement (ForDeclaration LetWord) h = refl
+known_statement (ForDeclaration ConstWord) h = refl
+known_statement ForIn h = refl
+known_statement ForOf h = refl
+known_statement (ForBinding VarWord) h = refl
+known_statement (ForBinding LetWord) h = refl
+known_statement (ForBinding ConstWord) h = refl
 known_statement Continue h = refl
 known_statement Break h = refl
 known_statement Return h = refl
@@ -63,15 +67,23 @@ known_statement Default h = refl
 known_statement Try h = refl
 known_statement Catch h = refl
 known_statement FunctionDecl h = refl
-known_statement ClassDecl h = cc
+known_statement ClassDecl h = refl
 
 known_function : (k : FunctionKind) → decides_function k ≡ true → known (function k) ≡ true
 known_function FunctionExpr h = cc
 known_function ClassExpr h = cc
-known_function (Method x) h = cc
-known_function (Getter x) h = cc
-known_function (Setter x) h = cc
-known_function (Field x) h = cc
+known_function (Method InObject) h = cc
+known_function (Method InClass) h = refl
+known_function (Method Static) h = refl
+known_function (Getter InObject) h = cc
+known_function (Getter InClass) h = refl
+known_function (Getter Static) h = refl
+known_function (Setter InObject) h = cc
+known_function (Setter InClass) h = refl
+known_function (Setter Static) h = refl
+known_function (Field InObject) h = cc
+known_function (Field InClass) h = refl
+known_function (Field Static) h = refl
 known_function ComputedKey h = refl
 known_function (ArrayPat Binds) h = refl
 known_function (ArrayPat Assigns) h = refl

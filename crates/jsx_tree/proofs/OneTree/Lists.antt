@@ -4,7 +4,7 @@ use Rattle.std.specs.Prelude.{IsTrue, ◌&&◌, codes}
 use Rattle.jsx_base.specs.Token.{Punctuator}
 use Rattle.jsx_tree.specs.Signs.{Sign, TrailingComma, Line, Space}
 use Rattle.jsx_tree.specs.Kinds.{Tree, leaf, node, list, Forest, none, part}
-use Rattle.jsx_tree.specs.Nonterminals.{Nonterminal, Stmt, Item, CaseClause, Param, homes, in_homes, leaf_in}
+use Rattle.jsx_tree.specs.Nonterminals.{Nonterminal, Stmt, Item, CaseClause, ClassMember, Param, homes, in_homes, leaf_in}
 use Rattle.jsx_tree.specs.Grammar.{ListShape, Commas, Lines, TopLines, production}
 use Rattle.jsx_tree.specs.Form.{admits, fits_below}
 use Rattle.jsx_tree.specs.StaticRules.{Surroundings}
@@ -60,18 +60,21 @@ pub listed_own : (c : Nonterminal) → is_listed c ≡ true → is_own c ≡ tru
 listed_own Stmt l = refl
 listed_own Item l = refl
 listed_own CaseClause l = refl
+listed_own ClassMember l = refl
 listed_own _ l = cc
 
 pub listed_leafless : (c : Nonterminal) → is_listed c ≡ true → leafless c ≡ true
 listed_leafless Stmt l = refl
 listed_leafless Item l = refl
 listed_leafless CaseClause l = refl
+listed_leafless ClassMember l = refl
 listed_leafless _ l = cc
 
 listed_wants : (c : Nonterminal) → is_listed c ≡ true → (implies (stop_of c) (want_of c) && (is_look (want_of c) && (is_stop (stop_of c) && not (is_calm (want_of c))))) ≡ true
 listed_wants Stmt l = refl
 listed_wants Item l = refl
 listed_wants CaseClause l = refl
+listed_wants ClassMember l = refl
 listed_wants _ l = cc
 
 pub stop_want : (c : Nonterminal) (x : Place) → is_listed c ≡ true → meets (stop_of c) x ≡ true → meets (want_of c) x ≡ true
@@ -198,7 +201,7 @@ params_start t (part u us) h (W.more {y = p} n r e i) s = param_starts t (and_le
 close_starts : {x : Place} → Seen x Punctuator (codes ")") → starts (kind_at x) (text_at x) ≡ true → ⊥
 close_starts {x} s h = never (starts 1 (codes ")")) ((λ i. starts (sym s.kind i) (sym s.text i)) ∙ h) refl
 
-param_same : {v w : Surroundings} {x y z : Place} (t u : Tree) → kept t ≡ true → kept u ≡ true → IsRead v false Param x t y → IsRead w false Param x u z → meets (ended 1) y ≡ true → meets (ended 1) z ≡ true → SameAt t u y z
+pub param_same : {v w : Surroundings} {x y z : Place} (t u : Tree) → kept t ≡ true → kept u ≡ true → IsRead v false Param x t y → IsRead w false Param x u z → meets (ended 1) y ≡ true → meets (ended 1) z ≡ true → SameAt t u y z
 param_same t u h k r s m n = expr_same 1 1 Param t u (omega arith) param_placed refl (tame_of t Param refl h r.is) (tame_of u Param refl k s.is) r s m n
 
 trail_more : {p q y w : Place} → p ≡ q → Trail p y → Seen y Punctuator (codes ")") → forth comma q ≡ w → IsTrue (is_found w) → starts (kind_at w) (text_at w) ≡ true → ⊥

@@ -4,15 +4,15 @@ use Rattle.std.proofs.Common.{◌≡◌, ℕ, ◌≤◌, Bool, true, false, not,
 use Rattle.std.specs.Prelude.{IsTrue, ◌&&◌, ◌||◌, nat_eq, nat_le}
 use Rattle.jsx_base.specs.Token.{Text, Operator, TokenKind, IdentifierName, StringLiteral, Punctuator, kind_number, same}
 use Rattle.jsx_tree.specs.Signs.{Tok, One}
-use Rattle.jsx_tree.specs.Kinds.{Kind, Tree, leaf, node, list, Forest, none, part}
+use Rattle.jsx_tree.specs.Kinds.{Seq, Kind, expression, Tree, leaf, node, list, Forest, none, part}
 use Rattle.jsx_tree.specs.Nonterminals.{Nonterminal, Expr, Ident, BindingIdent, Name, StringOnly, ImportClause, homes, in_homes, leaf_in}
-use Rattle.jsx_tree.specs.Form.{Form, Single, Maybe, Several, Position, position, positions, shaped, admits, is, fits_below, fit_slots, fit_each}
+use Rattle.jsx_tree.specs.Form.{Form, Single, Maybe, Several, Position, position, positions, shaped, admits, is, is_leaf, fits_below, fit_slots, fit_each}
 use Rattle.jsx_tree.specs.StaticRules.{Surroundings}
 use Rattle.jsx_tree.specs.Spelling.{spelled}
 use Rattle.jsx_tree.specs.Reading.{Place, Lost, At, forth, scan, is_backquote}
 use Rattle.jsx_tree.proofs.Tokens.{and_left, and_right, and_both}
 use Rattle.jsx_tree.specs.Walk.{is_found, IsRead}
-use Rattle.jsx_tree.proofs.OneTree.Table.{kinds}
+use Rattle.jsx_tree.proofs.OneTree.Table.{kinds, scope}
 use Rattle.jsx_tree.proofs.OneTree.Statements.{stated, stated_kinds}
 use Rattle.jsx_tree.proofs.OneTree.Readings.{calm, Entry, entry, entries, lookup, is_step, kind_at, text_at, broken}
 use Rattle.jsx_tree.proofs.OneTree.Checks.{every, starts}
@@ -237,3 +237,28 @@ clause_read {v} {x} {y} s t r =
     let e = clause_leaf s t (and_left (leaf_in ImportClause s t) _ r.is) in
     let q : IsRead v false ImportClause x (leaf IdentifierName t) y = subst (λ s. IsRead v false ImportClause x (leaf s t) y) e r in
     record { word = record { kind = IdentifierName; text = t; is_leaf = (λ i. leaf (e i) t); moves = ap (forth (Tok Operator IdentifierName t)) (sym (one_sign x)) ∙ q.scans; found = r.found }; is_name = refl }
+
+-- ---- a tree at another place
+
+pub re_home : {v : Surroundings} {x y : Place} (c d : Nonterminal) (t : Tree) → admits d t ≡ true → IsRead v false c x t y → IsRead v false d x t y
+re_home c d (leaf s u) h r = record { is = and_both (leaf_in d s u) (is_leaf s u) h (and_right (leaf_in c s u) _ r.is); is_legal = r.is_legal; scans = r.scans; found = r.found }
+re_home c d (node k cs) h r = record { is = and_both (admits d (node k cs)) (fit_slots (positions k) cs) h (and_right (admits c (node k cs)) _ r.is); is_legal = r.is_legal; scans = r.scans; found = r.found }
+re_home c d (list ts) h r = cc
+
+-- ---- which kind it is
+
+pub data Which (k : Kind) : Type 0 where
+  a_statement : stated k ≡ true → Which k
+  a_taken : scope k ≡ true → Which k
+  a_seq : k ≡ expression Seq → Which k
+
+pub which : (k : Kind) → known k ≡ true → Which k
+which k h = by_stated (test (taken k || is_seq k))
+  where
+    by_taken : Test (taken k) → (taken k || is_seq k) ≡ true → Which k
+    by_taken (yes' t) g = a_taken (taken_scope k t)
+    by_taken (no' t) g = a_seq (seq_is k (or_else (taken k) (is_seq k) g t))
+
+    by_stated : Test (taken k || is_seq k) → Which k
+    by_stated (yes' g) = by_taken (test (taken k)) g
+    by_stated (no' g) = a_statement (or_else (taken k || is_seq k) (stated k) h g)

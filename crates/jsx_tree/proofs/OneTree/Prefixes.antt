@@ -1,5 +1,5 @@
 -- Two rows of which the first tokens differ don't stand at one place.
-use Rattle.jsx_tree.proofs.OneTree.Imports.{string_first}
+use Rattle.jsx_tree.proofs.OneTree.Kinds.Imports.{string_first}
 use Rattle.jsx_tree.proofs.OneTree.Rows.{clause_first}
 use Rattle.jsx_tree.specs.Nonterminals.{ImportClause}
 use Rattle.std.proofs.Common.{◌≡◌, Bool, true, false, not, List, [], ◌∷◌, refl, sym, ◌∙◌, ap, subst}
@@ -97,13 +97,13 @@ part_clash {x = x} k t Declaration (node l cs) h o g r m =
     fronts_apart (token' k t) (front still (production l)) x a (at_seen o) (front_fits still (production l) [] (node_walk false l refl r).walk (and_right (known l) (kepts cs) g) m)
 part_clash k t _ u h s g r m = cc
 
-same_next : (x : Place) (k l : TokenKind) (t u : Text) {y z : Place} → same_token k t l u ≡ true → forth (Tok Operator k t) x ≡ y → forth (Tok Operator l u) x ≡ z → y ≡ z
+pub same_next : (x : Place) (k l : TokenKind) (t u : Text) {y z : Place} → same_token k t l u ≡ true → forth (Tok Operator k t) x ≡ y → forth (Tok Operator l u) x ≡ z → y ≡ z
 same_next x k l t u h e f = sym e ∙ ((λ i. forth (Tok Operator (kind_is k l (eq_nat (and_left (nat_eq (kind_number k) (kind_number l)) _ h)) i) (same_is t u (and_right (nat_eq (kind_number k) (kind_number l)) _ h) i)) x) ∙ f)
 
-move_walk : {V : List Context → Surroundings} {ps : List W.Piece} {x y z : Place} {ts : Forest} → x ≡ y → W.Walk IsRead V ps y ts z → W.Walk IsRead V ps x ts z
+pub move_walk : {V : List Context → Surroundings} {ps : List W.Piece} {x y z : Place} {ts : Forest} → x ≡ y → W.Walk IsRead V ps y ts z → W.Walk IsRead V ps x ts z
 move_walk {V} {ps} {z = z} {ts} e w = subst (λ x. W.Walk IsRead V ps x ts z) (sym e) w
 
-token_clash : (k l : TokenKind) (t u : Text) (x : Place) {b : Bool} → Seen x k t → Seen x l u → (not (same_token k t l u) || b) ≡ true → (same_token k t l u ≡ true → b ≡ true → ⊥) → ⊥
+pub token_clash : (k l : TokenKind) (t u : Text) (x : Place) {b : Bool} → Seen x k t → Seen x l u → (not (same_token k t l u) || b) ≡ true → (same_token k t l u ≡ true → b ≡ true → ⊥) → ⊥
 token_clash k l t u x {b} p q h rest = rest (same_seen p q) (by_not (same_token k t l u) (same_seen p q) h)
   where
     by_not : (a : Bool) → a ≡ true → (not a || b) ≡ true → b ≡ true

@@ -9,7 +9,7 @@ use Rattle.std.proofs.Common.{◌≡◌, zero, suc, Bool, true, false, not, List
 use Rattle.std.specs.Prelude.{◌&&◌, ◌||◌}
 use Rattle.jsx_base.specs.Token.{Text, TokenKind, IdentifierName}
 use Rattle.jsx_tree.specs.Kinds.{Imported, Exported, From, Binds, Seq, Kind, expression, Tree, leaf, node, list, Forest, none, part}
-use Rattle.jsx_tree.specs.Nonterminals.{Nonterminal, Expr, Pat, Stmt, SubStmt, Item, Declaration, BlockOnly, CatchClause, CaseClause, Declarators, Body, DirectiveOnly, Specifiers, ImportBindings, homes, in_homes, leaf_in}
+use Rattle.jsx_tree.specs.Nonterminals.{Nonterminal, Expr, Pat, Stmt, SubStmt, Item, Declaration, BlockOnly, CatchClause, CaseClause, ClassMember, Declarators, Body, DirectiveOnly, Specifiers, ImportBindings, homes, in_homes, leaf_in}
 use Rattle.jsx_tree.specs.Grammar.{Context, Production}
 use Rattle.jsx_tree.specs.StaticRules.{Surroundings}
 use Rattle.jsx_tree.specs.Reading.{Place}
@@ -52,7 +52,7 @@ pub record One (t : Tree) : Type 0 where
 
 pub data Each : Tree → Type 0 where
   each_leaf : {s : TokenKind} {t : Text} → Each (leaf s t)
-  each_node : {k : Kind} {cs : Forest} → One (node k cs) → Each (node k cs)
+  each_node : {k : Kind} {cs : Forest} → One (node k cs) → Each (list cs) → Each (node k cs)
   each_none : Each (list none)
   each_part : {t : Tree} {ts : Forest} → Each t → Each (list ts) → Each (list (part t ts))
 
@@ -62,6 +62,9 @@ All ts = Each (list ts)
 
 pub all_parts : {t : Tree} {ts : Forest} → All (part t ts) → Each t × All ts
 all_parts (each_part e es) = (e, es)
+
+pub each_all : {k : Kind} {cs : Forest} → Each (node k cs) → All cs
+each_all (each_node e a) = a
 
 -- ---- own places
 
@@ -73,6 +76,7 @@ own_clean Declaration o = refl
 own_clean BlockOnly o = refl
 own_clean CatchClause o = refl
 own_clean CaseClause o = refl
+own_clean ClassMember o = refl
 own_clean Declarators o = refl
 own_clean Body o = refl
 own_clean DirectiveOnly o = refl
@@ -91,6 +95,7 @@ own_seq Declaration o = refl
 own_seq BlockOnly o = refl
 own_seq CatchClause o = refl
 own_seq CaseClause o = refl
+own_seq ClassMember o = refl
 own_seq Declarators o = refl
 own_seq Body o = refl
 own_seq DirectiveOnly o = refl
@@ -121,6 +126,8 @@ own_leaf CatchClause IdentifierName t o h = cc
 own_leaf CatchClause _ t o h = cc
 own_leaf CaseClause IdentifierName t o h = cc
 own_leaf CaseClause _ t o h = cc
+own_leaf ClassMember IdentifierName t o h = cc
+own_leaf ClassMember _ t o h = cc
 own_leaf Declarators IdentifierName t o h = cc
 own_leaf Declarators _ t o h = cc
 own_leaf Body IdentifierName t o h = cc
@@ -192,6 +199,7 @@ clause_is Declaration o n = cc
 clause_is BlockOnly o n = cc
 clause_is CatchClause o n = cc
 clause_is CaseClause o n = cc
+clause_is ClassMember o n = cc
 clause_is Declarators o n = cc
 clause_is Body o n = cc
 clause_is DirectiveOnly o n = cc
@@ -243,7 +251,7 @@ own_same c {v} {w} {x} {y} {z} (leaf s t) u o each_leaf h g r p m n = by_leafles
     by_leafless (no' l) =
         let e = clause_is c o l in
         clause_same s t u g (subst (λ c. IsRead v false c x (leaf s t) y) e r) (subst (λ c. IsRead w false c x u z) e p) (subst (λ c. meets (want_of c) y ≡ true) e m)
-own_same c (node k cs) u o (each_node e) h g r p m n = e.one c u o h g r p m n
+own_same c (node k cs) u o (each_node e a) h g r p m n = e.one c u o h g r p m n
 own_same c (list ts) u o e h g r p m n = let bad = r.is in cc
 
 -- ---- a part of a row
@@ -304,7 +312,7 @@ single_part t u h k l r s p q =
     let j = tame_of u (Expr 1) refl l s.is in
     expr_same 1 1 (Expr 1) t u (omega arith) (record { kin' = refl; home' = refl; ended' = refl; seq' = refl }) refl i j r s (rest_meets (ended 1) p h (λ _. after_tree t (Expr 1) i refl r)) (rest_meets (ended 1) q h (λ _. after_tree u (Expr 1) j refl s))
 
-pattern_part : {v v' : Surroundings} {x y z : Place} (t u : Tree) → kept t ≡ true → kept u ≡ true → IsRead v false (Pat Binds) x t y → IsRead v' false (Pat Binds) x u z → SameAt t u y z
+pub pattern_part : {v v' : Surroundings} {x y z : Place} (t u : Tree) → kept t ≡ true → kept u ≡ true → IsRead v false (Pat Binds) x t y → IsRead v' false (Pat Binds) x u z → SameAt t u y z
 pattern_part {y = y} {z} t u k l r s =
     expr_same 19 19 (Pat Binds) t u (omega arith) (record { kin' = refl; home' = refl; ended' = refl; seq' = refl }) refl (tame_of t (Pat Binds) refl k r.is) (tame_of u (Pat Binds) refl l s.is) r s (calm_most y) (calm_most z)
 
@@ -329,6 +337,7 @@ part_same {e = e} {ps} c {x} {y} {z} t u h f k l r s p q = by_whole (test (is_wh
         no_calm BlockOnly o h = cc
         no_calm CatchClause o h = cc
         no_calm CaseClause o h = cc
+        no_calm ClassMember o h = cc
         no_calm Declarators o h = cc
         no_calm Body o h = cc
         no_calm DirectiveOnly o h = cc

@@ -6,18 +6,18 @@ use Rattle.jsx_base.specs.Token.{kind_number, IdentifierName}
 use Rattle.jsx_tree.specs.Form.{is}
 use Rattle.jsx_tree.specs.Nonterminals.{leaf_in}
 use Rattle.jsx_tree.proofs.OneTree.Parts.{word_read}
-use Rattle.jsx_tree.specs.Signs.{Sign, Tok, Semicolon, TrailingComma, Unless, SameLine, Ends, AfterWord}
+use Rattle.jsx_tree.specs.Signs.{Sign, Tok, Semicolon, TrailingComma, Unless, SameLine, Ends, AfterWord, AfterKey}
 use Rattle.jsx_tree.specs.Kinds.{Tree, list, Forest, none, part}
-use Rattle.jsx_tree.specs.Nonterminals.{Nonterminal, Expr, Ident, BindingIdent, Declarators, Param, CaseClause, is_ident}
+use Rattle.jsx_tree.specs.Nonterminals.{Nonterminal, Expr, Ident, BindingIdent, Declarators, Param, CaseClause, ClassMember, is_ident}
 use Rattle.jsx_tree.specs.Grammar.{ListShape, Commas, NoTrailing, Context, Fixed, Part, Optional, Many, Within, Production, fixed}
 use Rattle.jsx_tree.specs.Form.{enough}
 use Rattle.jsx_tree.specs.StaticRules.{Surroundings}
-use Rattle.jsx_tree.specs.Reading.{Place, Lost, At, forth, scan}
+use Rattle.jsx_tree.specs.Reading.{Place, Lost, At, forth, scan, continues}
 use Rattle.jsx_tree.proofs.Tokens.{and_left, and_right, same_is}
 use Rattle.jsx_tree.specs.Signs.{Pad}
 use Rattle.jsx_tree.specs.Kinds.{Side, Imported}
 use Rattle.jsx_tree.specs.Nonterminals.{Specifiers}
-use Rattle.jsx_tree.proofs.OneTree.Specifiers.{specifiers_same}
+use Rattle.jsx_tree.proofs.OneTree.Kinds.Specifiers.{specifiers_same}
 use Rattle.jsx_tree.specs.Walk as W
 use Rattle.jsx_tree.specs.Walk.{is_found, is_heard, heard, keep, pieces, IsRead}
 use Rattle.jsx_tree.proofs.OneTree.Readings.{kind_at, text_at, broken}
@@ -31,36 +31,65 @@ use Rattle.jsx_tree.proofs.OneTree.Afters.{after_tree}
 use Rattle.jsx_tree.proofs.OneTree.Parts.{kept, kepts, tame_of, whole_starts}
 use Rattle.jsx_tree.proofs.OneTree.Wants.{Want, ended, other, is_calm, meets, is_at, looks, look_same, signed, follow, at_optional, read_start, mark}
 use Rattle.jsx_tree.proofs.OneTree.Begins.{fits, name', at_seen, ident_fits, is_listed, stop_of}
-use Rattle.jsx_tree.proofs.OneTree.Rows.{All, all_parts, Rest, rest_meets, is_whole, whole_is, part_good, part_same}
+use Rattle.jsx_tree.proofs.OneTree.Rows.{All, all_parts, Rest, rest_meets, is_whole, whole_is}
+use Rattle.jsx_tree.proofs.OneTree.Kinds.Inits.{any_good, any_same, no_signs, none_is, head_starts, starts_apart}
 use Rattle.jsx_tree.proofs.OneTree.Lists.{SameRow, liney, lines_same, params_same}
-use Rattle.jsx_tree.proofs.OneTree.Declarators.{ended_list, declarators_same}
+use Rattle.jsx_tree.proofs.OneTree.Kinds.Declarators.{ended_list, declarators_same}
 
--- ---- what is known of a place behind `return`, `break` and the like: a semicolon that is missing would stand after the word
+-- ---- what a row has said that a missing semicolon would stand after
 
-abbrev pub worded : Place → Bool
-worded (At q AfterWord text) = true
-worded x = false
+pub data Said : Type 0 where
+  no_ending : Said
+  -- behind `return`, `break` and the like
+  word_ending : Said
+  -- behind the key of a field
+  key_ending : Said
 
-abbrev pub still_worded : Bool → Sign → Bool
-still_worded d (Ends AfterWord) = true
-still_worded d s = looks s && d
+abbrev pub said_at : Said → Place → Bool
+said_at no_ending x = true
+said_at word_ending (At q AfterWord text) = true
+said_at key_ending (At q AfterKey text) = true
+said_at d x = false
 
-ends_word : (x y : Place) → forth (Ends AfterWord) x ≡ y → IsTrue (is_found y) → worded y ≡ true
+abbrev pub still_said : Said → Sign → Said
+still_said d (Ends AfterWord) = word_ending
+still_said d (Ends AfterKey) = key_ending
+still_said d s = cond (looks s) d no_ending
+
+ends_word : (x y : Place) → forth (Ends AfterWord) x ≡ y → IsTrue (is_found y) → said_at word_ending y ≡ true
 ends_word Lost y e f = absurd (never false (subst (λ p. is_found p ≡ true) (sym e) f) refl)
-ends_word (At q g text) y e f = subst (λ p. worded p ≡ true) e refl
+ends_word (At q g text) y e f = subst (λ p. said_at word_ending p ≡ true) e refl
 
-look_worded : (d : Bool) (s : Sign) {x y : Place} → (d ≡ true → worded x ≡ true) → (looks s ≡ true → x ≡ y) → (looks s && d) ≡ true → worded y ≡ true
-look_worded d s w l h = subst (λ z. worded z ≡ true) (l (and_left (looks s) d h)) (w (and_right (looks s) d h))
+ends_key : (x y : Place) → forth (Ends AfterKey) x ≡ y → IsTrue (is_found y) → said_at key_ending y ≡ true
+ends_key Lost y e f = absurd (never false (subst (λ p. is_found p ≡ true) (sym e) f) refl)
+ends_key (At q g text) y e f = subst (λ p. said_at key_ending p ≡ true) e refl
 
-keeps_word : (d : Bool) (s : Sign) {x y : Place} → (d ≡ true → worded x ≡ true) → forth s x ≡ y → (is_heard s ≡ true → IsTrue (is_found y)) → (looks s ≡ true → x ≡ y) → still_worded d s ≡ true → worded y ≡ true
-keeps_word d (Ends AfterWord) {x} {y} w e f l h = ends_word x y e (f refl)
-keeps_word d (Ends _) w e f l h = cc
-keeps_word d (Tok m k t) w e f l h = cc
-keeps_word d Semicolon w e f l h = cc
-keeps_word d TrailingComma w e f l h = cc
-keeps_word d (Unless ts) w e f l h = look_worded d (Unless ts) w l h
-keeps_word d SameLine w e f l h = look_worded d SameLine w l h
-keeps_word d _ w e f l h = subst (λ z. worded z ≡ true) (l refl) (w h)
+keeps_said : (d : Said) (s : Sign) {x y : Place} → said_at d x ≡ true → forth s x ≡ y → (is_heard s ≡ true → IsTrue (is_found y)) → (looks s ≡ true → x ≡ y) → said_at (still_said d s) y ≡ true
+keeps_said d (Ends AfterWord) {x} {y} w e f l = ends_word x y e (f refl)
+keeps_said d (Ends AfterKey) {x} {y} w e f l = ends_key x y e (f refl)
+keeps_said d (Ends _) w e f l = refl
+keeps_said d (Tok m k t) w e f l = refl
+keeps_said d Semicolon w e f l = refl
+keeps_said d TrailingComma w e f l = refl
+keeps_said d (Unless ts) w e f l = subst (λ z. said_at d z ≡ true) (l refl) w
+keeps_said d SameLine w e f l = subst (λ z. said_at d z ≡ true) (l refl) w
+keeps_said d _ w e f l = subst (λ z. said_at d z ≡ true) (l refl) w
+
+abbrev pub is_word : Said → Bool
+is_word word_ending = true
+is_word d = false
+
+abbrev pub is_keyed : Said → Bool
+is_keyed key_ending = true
+is_keyed d = false
+
+word_said : (d : Said) (x : Place) → is_word d ≡ true → said_at d x ≡ true → said_at word_ending x ≡ true
+word_said word_ending x h w = w
+word_said _ x h w = cc
+
+key_said : (d : Said) (x : Place) → is_keyed d ≡ true → said_at d x ≡ true → said_at key_ending x ≡ true
+key_said key_ending x h w = w
+key_said _ x h w = cc
 
 -- ---- a part that may be absent
 
@@ -75,6 +104,10 @@ head_other e ps ms = false
 abbrev pub head_line : List Sign → Bool
 head_line (SameLine ∷ []) = true
 head_line ms = false
+
+abbrev pub head_equals : List Sign → Bool
+head_equals (Tok Operator Punctuator t ∷ ms) = same t (codes "=")
+head_equals ms = false
 
 abbrev pub semi_first : Production → Bool
 semi_first (Fixed Semicolon ∷ ps) = true
@@ -97,16 +130,12 @@ abbrev pub is_name_place : Nonterminal → Bool
 is_name_place BindingIdent = true
 is_name_place c = false
 
-abbrev pub no_signs : List Sign → Bool
-no_signs [] = true
-no_signs ms = false
-
 abbrev pub head_name : List Sign → Nonterminal → Production → Bool
 head_name ms c ps = no_signs ms && (is_name_place c && mark_first ps)
 
 -- why it isn't both absent and present
-abbrev pub tells : Bool → Want → List Sign → Nonterminal → List Sign → List Text → Production → Bool
-tells d e m c b r ps = head_name (heard m) c ps || (head_in r (heard m) || (head_other e ps (heard m) || (d && (head_line (heard m) && (semi_first ps && starty e (fixed b ++ ps) c)))))
+abbrev pub tells : Said → Want → List Sign → Nonterminal → List Sign → List Text → Production → Bool
+tells d e m c b r ps = head_starts (heard m) c (fixed b ++ ps) ps || (head_name (heard m) c ps || (head_in r (heard m) || (head_other e ps (heard m) || ((is_word d && (head_line (heard m) && (semi_first ps && starty e (fixed b ++ ps) c))) || (is_keyed d && (head_equals (heard m) && semi_first ps))))))
 
 ident_is : (c : Nonterminal) → is_ident_place c ≡ true → c ≡ Ident
 ident_is Ident h = refl
@@ -163,7 +192,7 @@ word_start x h = (λ i. starts (zero_kind (kind_at x) (and_left (nat_eq (kind_at
     by_ident true b c h = refl
     by_ident false b c h = cc
 
-worded_apart : (x : Place) → worded x ≡ true → IsTrue (is_found (forth Semicolon x)) → broken x ≡ false → starts (kind_at x) (text_at x) ≡ true → ⊥
+worded_apart : (x : Place) → said_at word_ending x ≡ true → IsTrue (is_found (forth Semicolon x)) → broken x ≡ false → starts (kind_at x) (text_at x) ≡ true → ⊥
 worded_apart (At q AfterWord text) w f b s = by_end (test (nat_eq (kind_at (At q AfterWord text)) 14))
   where
     by_behind : Behind AfterWord q (breaks text) (kind_at (At q AfterWord text)) (text_at (At q AfterWord text)) → ⊥
@@ -178,6 +207,25 @@ worded_apart (At q AfterWord text) w f b s = by_end (test (nat_eq (kind_at (At q
         end_is k h = eq_nat {a = k} {b = 14} h
     by_end (no' n) = by_behind (behind q AfterWord text refl f n)
 worded_apart _ w f b s = cc
+
+-- the key of a field, and an initialiser
+keyed_apart : (x : Place) → said_at key_ending x ≡ true → IsTrue (is_found (forth Semicolon x)) → Seen x Punctuator (codes "=") → ⊥
+keyed_apart (At q AfterKey text) w f s = by_behind (behind q AfterKey text refl f (ap (λ k. nat_eq k 14) s.kind))
+  where
+    by_behind : Behind AfterKey q (breaks text) (kind_at (At q AfterKey text)) (text_at (At q AfterKey text)) → ⊥
+    by_behind (a_mark k t) = never (same (codes "=") (codes ";")) (ap (λ u. same u (codes ";")) (sym s.text ∙ t)) refl
+    by_behind (a_brace k t) = never (same (codes "=") (codes "}")) (ap (λ u. same u (codes "}")) (sym s.text ∙ t)) refl
+    by_behind (a_line b c) = never (continues AfterKey q (codes "=")) refl (ap (continues AfterKey q) (sym s.text) ∙ c)
+keyed_apart _ w f s = cc
+
+equals_seen : (ms : List Sign) (x y : Place) → head_equals ms ≡ true → scan x ms ≡ y → IsTrue (is_found y) → Seen x Punctuator (codes "=")
+equals_seen (Tok Operator Punctuator t ∷ ms) x y h e f =
+    let s = head_seen {x = x} {y = y} Punctuator t ms e f in
+    record { kind = s.kind; text = s.text ∙ same_is t (codes "=") h }
+equals_seen (Tok Operator _ t ∷ ms) x y h e f = cc
+equals_seen (Tok _ k t ∷ ms) x y h e f = cc
+equals_seen (_ ∷ ms) x y h e f = cc
+equals_seen [] x y h e f = cc
 
 starty_starts : {V : List Context → Surroundings} {v : Surroundings} {a : List Context} {e : Want} {ps : Production} (c : Nonterminal) {x y : Place} (t : Tree) → starty e ps c ≡ true → kept t ≡ true → IsRead v false c x t y → Rest V a e ps y → starts (kind_at x) (text_at x) ≡ true
 starty_starts {v = v} {e = e} {ps} c {x} {y} t h k r p = by_whole (test (is_whole c && follow e ps (ended 0)))
@@ -206,10 +254,6 @@ name_is : (c : Nonterminal) → is_name_place c ≡ true → c ≡ BindingIdent
 name_is BindingIdent h = refl
 name_is _ h = cc
 
-none_is : (ms : List Sign) → no_signs ms ≡ true → ms ≡ []
-none_is [] h = refl
-none_is (m ∷ ms) h = cc
-
 name_leaf : (s : TokenKind) (t : Text) → leaf_in BindingIdent s t ≡ true → kind_number s ≡ 0
 name_leaf IdentifierName t h = refl
 name_leaf _ t h = cc
@@ -236,9 +280,9 @@ name_apart {v = v} a ms c ps x {y} {z} t h w e k r =
     let d = name_leaf n.kind n.text (and_left (leaf_in BindingIdent n.kind n.text) _ (subst (λ t. is BindingIdent t ≡ true) n.is_leaf r'.is)) in
     never (nat_eq (kind_at x) 0) (ap (λ x. nat_eq (kind_at x) 0) back ∙ ap (λ n. nat_eq n 0) (s.kind ∙ d)) (mark_kind a ps (and_right (is_name_place c) _ o) w)
 
-absent_present : {V V' : List Context → Surroundings} {v : Surroundings} {a : List Context} (d : Bool) (e : Want) (m : List Sign) (c : Nonterminal) (b : List Sign) (r : List Text) (ps : Production) (x : Place) {n y z : Place} (t : Tree) → tells d e m c b r ps ≡ true
-    → (d ≡ true → worded x ≡ true) → forth (Unless r) x ≡ n → IsTrue (is_found n) → Rest V a e ps n → scan x (heard m) ≡ y → kept t ≡ true → IsRead v false c y t z → Rest V' a e (fixed b ++ ps) z → ⊥
-absent_present {V = V} {a = a} d e m c b r ps x {n} {y} {z} t h w f g p i k j q = by_name (test (head_name (heard m) c ps))
+absent_present : {V V' : List Context → Surroundings} {v : Surroundings} {a : List Context} (d : Said) (e : Want) (m : List Sign) (c : Nonterminal) (b : List Sign) (r : List Text) (ps : Production) (x : Place) {n y z : Place} (t : Tree) → tells d e m c b r ps ≡ true
+    → said_at d x ≡ true → forth (Unless r) x ≡ n → IsTrue (is_found n) → Rest V a e ps n → scan x (heard m) ≡ y → kept t ≡ true → IsRead v false c y t z → Rest V' a e (fixed b ++ ps) z → ⊥
+absent_present {V = V} {a = a} d e m c b r ps x {n} {y} {z} t h w f g p i k j q = by_starts (test (head_starts (heard m) c (fixed b ++ ps) ps))
   where
     same' : x ≡ n
     same' = look_same (Unless r) x n refl f g
@@ -246,31 +290,42 @@ absent_present {V = V} {a = a} d e m c b r ps x {n} {y} {z} t h w f g p i k j q 
     rest : Rest V a e ps x
     rest = subst (Rest V a e ps) (sym same') p
 
-    by_line : (d && (head_line (heard m) && (semi_first ps && starty e (fixed b ++ ps) c))) ≡ true → ⊥
+    by_line : (is_word d && (head_line (heard m) && (semi_first ps && starty e (fixed b ++ ps) c))) ≡ true → ⊥
     by_line o =
-        let o1 = and_right d _ o in
+        let o1 = and_right (is_word d) _ o in
         let o2 = and_right (head_line (heard m)) _ o1 in
         let l : forth SameLine x ≡ y = ap (scan x) (sym (line_is (heard m) (and_left (head_line (heard m)) _ o1))) ∙ i in
         let s = starty_starts c t (and_right (semi_first ps) _ o2) k j q in
         let back = look_same SameLine x y refl l (read_start j) in
-        worded_apart x (w (and_left d _ o)) (semi_found a ps (and_left (semi_first ps) _ o2) rest.walk) (not_broken x y l (read_start j)) (subst (λ z. starts (kind_at z) (text_at z) ≡ true) (sym back) s)
+        worded_apart x (word_said d x (and_left (is_word d) _ o) w) (semi_found a ps (and_left (semi_first ps) _ o2) rest.walk) (not_broken x y l (read_start j)) (subst (λ z. starts (kind_at z) (text_at z) ≡ true) (sym back) s)
 
-    by_other : Test (head_other e ps (heard m)) → (head_other e ps (heard m) || (d && (head_line (heard m) && (semi_first ps && starty e (fixed b ++ ps) c)))) ≡ true → ⊥
+    by_said : Test (is_word d && (head_line (heard m) && (semi_first ps && starty e (fixed b ++ ps) c))) → ((is_word d && (head_line (heard m) && (semi_first ps && starty e (fixed b ++ ps) c))) || (is_keyed d && (head_equals (heard m) && semi_first ps))) ≡ true → ⊥
+    by_said (yes' o) u = by_line o
+    by_said (no' o) u =
+        let o1 = or_else (is_word d && (head_line (heard m) && (semi_first ps && starty e (fixed b ++ ps) c))) _ u o in
+        let o2 = and_right (is_keyed d) _ o1 in
+        keyed_apart x (key_said d x (and_left (is_keyed d) _ o1) w) (semi_found a ps (and_right (head_equals (heard m)) _ o2) rest.walk) (equals_seen (heard m) x y (and_left (head_equals (heard m)) _ o2) i (read_start j))
+
+    by_other : Test (head_other e ps (heard m)) → (head_other e ps (heard m) || ((is_word d && (head_line (heard m) && (semi_first ps && starty e (fixed b ++ ps) c))) || (is_keyed d && (head_equals (heard m) && semi_first ps)))) ≡ true → ⊥
     by_other (yes' o) u = other_apart e ps (heard m) x y o rest i (read_start j)
-    by_other (no' o) u = by_line (or_else (head_other e ps (heard m)) _ u o)
+    by_other (no' o) u = by_said (test (is_word d && (head_line (heard m) && (semi_first ps && starty e (fixed b ++ ps) c)))) (or_else (head_other e ps (heard m)) _ u o)
 
-    by_in : Test (head_in r (heard m)) → (head_in r (heard m) || (head_other e ps (heard m) || (d && (head_line (heard m) && (semi_first ps && starty e (fixed b ++ ps) c))))) ≡ true → ⊥
+    by_in : Test (head_in r (heard m)) → (head_in r (heard m) || (head_other e ps (heard m) || ((is_word d && (head_line (heard m) && (semi_first ps && starty e (fixed b ++ ps) c))) || (is_keyed d && (head_equals (heard m) && semi_first ps))))) ≡ true → ⊥
     by_in (yes' o) u = in_apart r (heard m) x n y o f g i (read_start j)
     by_in (no' o) u = by_other (test (head_other e ps (heard m))) (or_else (head_in r (heard m)) _ u o)
 
-    by_name : Test (head_name (heard m) c ps) → ⊥
-    by_name (yes' o) = name_apart a (heard m) c ps x t o rest.walk i k j
-    by_name (no' o) = by_in (test (head_in r (heard m))) (or_else (head_name (heard m) c ps) _ h o)
+    by_name : Test (head_name (heard m) c ps) → (head_name (heard m) c ps || (head_in r (heard m) || (head_other e ps (heard m) || ((is_word d && (head_line (heard m) && (semi_first ps && starty e (fixed b ++ ps) c))) || (is_keyed d && (head_equals (heard m) && semi_first ps)))))) ≡ true → ⊥
+    by_name (yes' o) u = name_apart a (heard m) c ps x t o rest.walk i k j
+    by_name (no' o) u = by_in (test (head_in r (heard m))) (or_else (head_name (heard m) c ps) _ u o)
+
+    by_starts : Test (head_starts (heard m) c (fixed b ++ ps) ps) → ⊥
+    by_starts (yes' o) = starts_apart a (heard m) c (fixed b ++ ps) ps x t o rest.walk q.walk i k j
+    by_starts (no' o) = by_name (test (head_name (heard m) c ps)) (or_else (head_starts (heard m) c (fixed b ++ ps) ps) _ h o)
 
 unscanned : {V : List Context → Surroundings} {a : List Context} {e : Want} (b : List Sign) (ps : Production) (x : Place) {y : Place} → scan x (heard b) ≡ y → IsTrue (is_found y) → Rest V a e ps y → Rest V a e (fixed b ++ ps) x
 unscanned {a = a} b ps x g f r = record { trees = r.trees; end = r.end; walk = unscan a b ps {x = x} g f r.walk; good = r.good; ends = r.ends }
 
-optional_same : {V V' : List Context → Surroundings} {v v' : Surroundings} {a : List Context} (d : Bool) (e : Want) (m : List Sign) (c : Nonterminal) (b : List Sign) (r : List Text) (ps : Production) (x : Place) {n n' : Place} (ts us : Forest) → part_good e (fixed b ++ ps) c ≡ true → tells d e m c b r ps ≡ true → (d ≡ true → worded x ≡ true)
+optional_same : {V V' : List Context → Surroundings} {v v' : Surroundings} {a : List Context} (d : Said) (e : Want) (m : List Sign) (c : Nonterminal) (b : List Sign) (r : List Text) (ps : Production) (x : Place) {n n' : Place} (ts us : Forest) → any_good e (fixed b ++ ps) c ≡ true → tells d e m c b r ps ≡ true → said_at d x ≡ true
     → W.Past IsRead v (Optional (heard m) c (heard b) r) x (W.one (list ts)) n → W.Past IsRead v' (Optional (heard m) c (heard b) r) x (W.one (list us)) n' → All ts → kepts ts ≡ true → kepts us ≡ true → Rest V a e ps n → Rest V' a e ps n' → SameRow ts us n n'
 optional_same d e m c b r ps x _ _ g h w (W.absent i f) (W.absent i' f') o k l p q = record { trees = refl; place = sym i ∙ i' }
 optional_same d e m c b r ps x _ _ g h w (W.absent i f) (W.present {z = z} {t = u} i' r' s' f') o k l p q =
@@ -279,7 +334,7 @@ optional_same d e m c b r ps x _ _ g h w (W.present {z = z} {t = t} i r' s f) (W
     absurd (absent_present d e m c b r ps x t h w i' f' q i (and_left (kept t) true k) r' (unscanned b ps z s f p))
 optional_same {v' = v'} d e m c b r ps x _ _ g h w (W.present {y = y} {z = z} {t = t} i r1 s f) (W.present {y = y'} {z = z'} {t = u} i' r2 s' f') o k l p q =
     let back : y ≡ y' = sym i ∙ i' in
-    let s1 = part_same c t u g (all_parts o).0 (and_left (kept t) true k) (and_left (kept u) true l) r1 (subst (λ y. IsRead v' false c y u z') (sym back) r2) (unscanned b ps z s f p) (unscanned b ps z' s' f' q) in
+    let s1 = any_same c t u g (all_parts o).0 (and_left (kept t) true k) (and_left (kept u) true l) r1 (subst (λ y. IsRead v' false c y u z') (sym back) r2) (unscanned b ps z s f p) (unscanned b ps z' s' f' q) in
     record { trees = ap (λ t. part t none) s1.tree; place = sym s ∙ (ap (λ z. scan z (heard b)) s1.place ∙ s') }
 
 -- ---- lists
@@ -430,32 +485,30 @@ many_same {a = a} e s c ps {x} {y} {z} ts us h o k l g g' i j p q = by_lines (te
       where
         no_calm : (c : Nonterminal) {P : Type 0} → is_calm (stop_of c) ≡ true → P
         no_calm CaseClause h = cc
+        no_calm ClassMember h = cc
         no_calm _ h = cc
     by_lines (no' b) = by_commas (test (is_commas s && (is_param c && shuts ps))) (or_else (liney s && (is_listed c && follow e ps (stop_of c))) _ h b)
 
 -- ---- a row
 
-abbrev pub row_good : Bool → Want → Production → Bool
+abbrev pub row_good : Said → Want → Production → Bool
 row_good d e [] = true
-row_good d e (Fixed s ∷ ps) = row_good (still_worded d s) e ps
+row_good d e (Fixed s ∷ ps) = row_good (still_said d s) e ps
 row_good d e (Within a ∷ ps) = row_good d e ps
-row_good d e (Part c ∷ ps) = part_good e ps c && row_good false e ps
-row_good d e (Optional m c b r ∷ ps) = (part_good e (fixed b ++ ps) c && tells d e m c b r ps) && row_good false e ps
-row_good d e (Many s c ∷ ps) = many_good e s c ps && row_good false e ps
+row_good d e (Part c ∷ ps) = any_good e ps c && row_good no_ending e ps
+row_good d e (Optional m c b r ∷ ps) = (any_good e (fixed b ++ ps) c && tells d e m c b r ps) && row_good no_ending e ps
+row_good d e (Many s c ∷ ps) = many_good e s c ps && row_good no_ending e ps
 
 move_walk : {V : List Context → Surroundings} {ps : List W.Piece} {x y z : Place} {ts : Forest} → x ≡ y → W.Walk IsRead V ps y ts z → W.Walk IsRead V ps x ts z
 move_walk {V} {ps} {z = z} {ts} e w = subst (λ x. W.Walk IsRead V ps x ts z) (sym e) w
 
-no_word : {P : Type 0} → false ≡ true → P
-no_word h = cc
-
-pub row_same : {V V' : List Context → Surroundings} (d : Bool) (e : Want) (ps : Production) (a : List Context) {x y z : Place} (ts us : Forest) → row_good d e ps ≡ true → (d ≡ true → worded x ≡ true)
+pub row_same : {V V' : List Context → Surroundings} (d : Said) (e : Want) (ps : Production) (a : List Context) {x y z : Place} (ts us : Forest) → row_good d e ps ≡ true → said_at d x ≡ true
     → W.Walk IsRead V (pieces a ps) x ts y → W.Walk IsRead V' (pieces a ps) x us z → All ts → kepts ts ≡ true → kepts us ≡ true → meets e y ≡ true → meets e z ≡ true → SameRow ts us y z
 row_same d e [] a ts us g w i j o k l m n = record { trees = (at_end i).0 ∙ sym (at_end j).0; place = sym (at_end i).1 ∙ (at_end j).1 }
 row_same d e (Fixed s ∷ ps) a ts us g w i j o k l m n =
     let p = signed s ps a i in
     let q = signed s ps a j in
-    row_same (still_worded d s) e ps a ts us g (keeps_word d s w p.moves p.found p.looked) p.walk (move_walk (sym p.moves ∙ q.moves) q.walk) o k l m n
+    row_same (still_said d s) e ps a ts us g (keeps_said d s w p.moves p.found p.looked) p.walk (move_walk (sym p.moves ∙ q.moves) q.walk) o k l m n
 row_same d e (Within b ∷ ps) a ts us g w i j o k l m n = row_same d e ps (b ∷ a) ts us g w i j o k l m n
 row_same {V} {V'} d e (Part c ∷ ps) a {x} {y} {z} ts us g w i j o k l m n =
     let p = at_part i in
@@ -463,9 +516,9 @@ row_same {V} {V'} d e (Part c ∷ ps) a {x} {y} {z} ts us g w i j o k l m n =
     let o' = all_parts (subst All p.is o) in
     let k' = subst (λ ts. kepts ts ≡ true) p.is k in
     let l' = subst (λ ts. kepts ts ≡ true) q.is l in
-    let s = part_same {e = e} {ps = ps} c p.tree q.tree (and_left (part_good e ps c) _ g) o'.0 (and_left (kept p.tree) _ k') (and_left (kept q.tree) _ l') p.read q.read
+    let s = any_same {e = e} {ps = ps} c p.tree q.tree (and_left (any_good e ps c) _ g) o'.0 (and_left (kept p.tree) _ k') (and_left (kept q.tree) _ l') p.read q.read
     (record { trees = p.others; end = y; walk = p.walk; good = and_right (kept p.tree) _ k'; ends = m }) (record { trees = q.others; end = z; walk = q.walk; good = and_right (kept q.tree) _ l'; ends = n }) in
-    let r = row_same false e ps a p.others q.others (and_right (part_good e ps c) _ g) no_word p.walk (move_walk s.place q.walk) o'.1 (and_right (kept p.tree) _ k') (and_right (kept q.tree) _ l') m n in
+    let r = row_same no_ending e ps a p.others q.others (and_right (any_good e ps c) _ g) refl p.walk (move_walk s.place q.walk) o'.1 (and_right (kept p.tree) _ k') (and_right (kept q.tree) _ l') m n in
     record { trees = p.is ∙ ((λ i. part (s.tree i) (r.trees i)) ∙ sym q.is); place = r.place }
 row_same {V} {V'} d e (Optional x' c b t ∷ ps) a {x} {y} {z} ts us g w i j o k l m n =
     let p = at_optional i in
@@ -473,10 +526,10 @@ row_same {V} {V'} d e (Optional x' c b t ∷ ps) a {x} {y} {z} ts us g w i j o k
     let o' = all_parts (subst All p.is o) in
     let k' = subst (λ ts. kepts ts ≡ true) p.is k in
     let l' = subst (λ ts. kepts ts ≡ true) q.is l in
-    let h = and_left (part_good e (fixed b ++ ps) c && tells d e x' c b t ps) _ g in
-    let s = optional_same d e x' c b t ps x p.trees q.trees (and_left (part_good e (fixed b ++ ps) c) _ h) (and_right (part_good e (fixed b ++ ps) c) _ h) w p.past q.past o'.0 (and_left (kepts p.trees) _ k') (and_left (kepts q.trees) _ l')
+    let h = and_left (any_good e (fixed b ++ ps) c && tells d e x' c b t ps) _ g in
+    let s = optional_same d e x' c b t ps x p.trees q.trees (and_left (any_good e (fixed b ++ ps) c) _ h) (and_right (any_good e (fixed b ++ ps) c) _ h) w p.past q.past o'.0 (and_left (kepts p.trees) _ k') (and_left (kepts q.trees) _ l')
     (record { trees = p.others; end = y; walk = p.walk; good = and_right (kepts p.trees) _ k'; ends = m }) (record { trees = q.others; end = z; walk = q.walk; good = and_right (kepts q.trees) _ l'; ends = n }) in
-    let r = row_same false e ps a p.others q.others (and_right (part_good e (fixed b ++ ps) c && tells d e x' c b t ps) _ g) no_word p.walk (move_walk s.place q.walk) o'.1 (and_right (kepts p.trees) _ k') (and_right (kepts q.trees) _ l') m n in
+    let r = row_same no_ending e ps a p.others q.others (and_right (any_good e (fixed b ++ ps) c && tells d e x' c b t ps) _ g) refl p.walk (move_walk s.place q.walk) o'.1 (and_right (kepts p.trees) _ k') (and_right (kepts q.trees) _ l') m n in
     record { trees = p.is ∙ ((λ i. part (list (s.trees i)) (r.trees i)) ∙ sym q.is); place = r.place }
 row_same {V} {V'} d e (Many s c ∷ ps) a {x} {y} {z} ts us g w i j o k l m n =
     let p = at_many i in
@@ -486,5 +539,5 @@ row_same {V} {V'} d e (Many s c ∷ ps) a {x} {y} {z} ts us g w i j o k l m n =
     let l' = subst (λ ts. kepts ts ≡ true) q.is l in
     let s' = many_same e s c ps p.trees q.trees (and_left (many_good e s c ps) _ g) o'.0 (and_left (kepts p.trees) _ k') (and_left (kepts q.trees) _ l') p.enough' q.enough' p.read q.read
     (record { trees = p.others; end = y; walk = p.walk; good = and_right (kepts p.trees) _ k'; ends = m }) (record { trees = q.others; end = z; walk = q.walk; good = and_right (kepts q.trees) _ l'; ends = n }) in
-    let r = row_same false e ps a p.others q.others (and_right (many_good e s c ps) _ g) no_word p.walk (move_walk s'.place q.walk) o'.1 (and_right (kepts p.trees) _ k') (and_right (kepts q.trees) _ l') m n in
+    let r = row_same no_ending e ps a p.others q.others (and_right (many_good e s c ps) _ g) refl p.walk (move_walk s'.place q.walk) o'.1 (and_right (kepts p.trees) _ k') (and_right (kepts q.trees) _ l') m n in
     record { trees = p.is ∙ ((λ i. part (list (s'.trees i)) (r.trees i)) ∙ sym q.is); place = r.place }

@@ -1,6 +1,6 @@
 -- The kinds of statements, and of what stands in them, in a list.
 use Rattle.std.specs.Prelude.{ℕ, zero, suc, List, [], ◌∷◌, Bool, true, false}
-use Rattle.jsx_tree.specs.Kinds.{Script, Module, FunctionBody, Directive, ImportBare, Import, ImportAll, ImportList, ImportBoth, ExportAll, ExportAllAs, ExportDecl, ExportDefaultFn, ExportDefaultExpr, ExportNames, Specifier, SpecifierAs, Imported, Exported, From, Var, VarWord, LetWord, ConstWord, Block, Declarator, Empty, ExprStmt, If, Do, While, Continue, Break, Return, Throw, Debugger, Label, Switch, Case, Default, Try, Catch, FunctionDecl, Kind, program, statement}
+use Rattle.jsx_tree.specs.Kinds.{Script, Module, FunctionBody, Directive, ImportBare, Import, ImportAll, ImportList, ImportBoth, ExportAll, ExportAllAs, ExportDecl, ExportDefaultFn, ExportDefaultExpr, ExportNames, ExportFrom, Specifier, SpecifierAs, Imported, Exported, From, Var, VarWord, LetWord, ConstWord, Block, Declarator, Empty, ExprStmt, If, Do, While, For, ForDeclaration, ForIn, ForOf, ForBinding, Continue, Break, Return, Throw, Debugger, Label, Switch, Case, Default, Try, Catch, FunctionDecl, ClassDecl, InClass, Static, Method, Getter, Setter, Field, Kind, program, statement, function}
 use Rattle.std.proofs.Common.{◌≡◌, refl, subst}
 use Rattle.jsx_tree.proofs.OneTree.Checks.{every}
 use Rattle.jsx_tree.proofs.Tokens.{and_left, and_right}
@@ -21,6 +21,7 @@ stated (program ExportDecl) = true
 stated (program ExportDefaultFn) = true
 stated (program ExportDefaultExpr) = true
 stated (program ExportNames) = true
+stated (program ExportFrom) = true
 stated (program (Specifier Imported)) = true
 stated (program (Specifier Exported)) = true
 stated (program (Specifier From)) = true
@@ -49,6 +50,24 @@ stated (statement Default) = true
 stated (statement Try) = true
 stated (statement Catch) = true
 stated (statement FunctionDecl) = true
+stated (statement For) = true
+stated (statement (ForDeclaration VarWord)) = true
+stated (statement (ForDeclaration LetWord)) = true
+stated (statement (ForDeclaration ConstWord)) = true
+stated (statement ForIn) = true
+stated (statement ForOf) = true
+stated (statement (ForBinding VarWord)) = true
+stated (statement (ForBinding LetWord)) = true
+stated (statement (ForBinding ConstWord)) = true
+stated (statement ClassDecl) = true
+stated (function (Method InClass)) = true
+stated (function (Method Static)) = true
+stated (function (Getter InClass)) = true
+stated (function (Getter Static)) = true
+stated (function (Setter InClass)) = true
+stated (function (Setter Static)) = true
+stated (function (Field InClass)) = true
+stated (function (Field Static)) = true
 stated k = false
 
 abbrev pub place : Kind → ℕ
@@ -95,11 +114,30 @@ place (statement Default) = 39
 place (statement Try) = 40
 place (statement Catch) = 41
 place (statement FunctionDecl) = 42
+place (program ExportFrom) = 43
+place (statement For) = 44
+place (statement (ForDeclaration VarWord)) = 45
+place (statement (ForDeclaration LetWord)) = 46
+place (statement (ForDeclaration ConstWord)) = 47
+place (statement ForIn) = 48
+place (statement ForOf) = 49
+place (statement (ForBinding VarWord)) = 50
+place (statement (ForBinding LetWord)) = 51
+place (statement (ForBinding ConstWord)) = 52
+place (statement ClassDecl) = 53
+place (function (Method InClass)) = 54
+place (function (Method Static)) = 55
+place (function (Getter InClass)) = 56
+place (function (Getter Static)) = 57
+place (function (Setter InClass)) = 58
+place (function (Setter Static)) = 59
+place (function (Field InClass)) = 60
+place (function (Field Static)) = 61
 place k = 0
 
 abbrev pub stated_kinds : List Kind
 stated_kinds =
-    program Script ∷ program Module ∷ program FunctionBody ∷ program Directive ∷ program ImportBare ∷ program Import ∷ program ImportAll ∷ program ImportList ∷ program ImportBoth ∷ program ExportAll ∷ program ExportAllAs ∷ program ExportDecl ∷ program ExportDefaultFn ∷ program ExportDefaultExpr ∷ program ExportNames ∷ program (Specifier Imported) ∷ program (Specifier Exported) ∷ program (Specifier From) ∷ program (SpecifierAs Imported) ∷ program (SpecifierAs Exported) ∷ program (SpecifierAs From) ∷ statement Block ∷ statement (Var VarWord) ∷ statement (Var LetWord) ∷ statement (Var ConstWord) ∷ statement Declarator ∷ statement Empty ∷ statement ExprStmt ∷ statement If ∷ statement Do ∷ statement While ∷ statement Continue ∷ statement Break ∷ statement Return ∷ statement Throw ∷ statement Debugger ∷ statement Label ∷ statement Switch ∷ statement Case ∷ statement Default ∷ statement Try ∷ statement Catch ∷ statement FunctionDecl ∷ []
+    program Script ∷ program Module ∷ program FunctionBody ∷ program Directive ∷ program ImportBare ∷ program Import ∷ program ImportAll ∷ program ImportList ∷ program ImportBoth ∷ program ExportAll ∷ program ExportAllAs ∷ program ExportDecl ∷ program ExportDefaultFn ∷ program ExportDefaultExpr ∷ program ExportNames ∷ program (Specifier Imported) ∷ program (Specifier Exported) ∷ program (Specifier From) ∷ program (SpecifierAs Imported) ∷ program (SpecifierAs Exported) ∷ program (SpecifierAs From) ∷ statement Block ∷ statement (Var VarWord) ∷ statement (Var LetWord) ∷ statement (Var ConstWord) ∷ statement Declarator ∷ statement Empty ∷ statement ExprStmt ∷ statement If ∷ statement Do ∷ statement While ∷ statement Continue ∷ statement Break ∷ statement Return ∷ statement Throw ∷ statement Debugger ∷ statement Label ∷ statement Switch ∷ statement Case ∷ statement Default ∷ statement Try ∷ statement Catch ∷ statement FunctionDecl ∷ program ExportFrom ∷ statement For ∷ statement (ForDeclaration VarWord) ∷ statement (ForDeclaration LetWord) ∷ statement (ForDeclaration ConstWord) ∷ statement ForIn ∷ statement ForOf ∷ statement (ForBinding VarWord) ∷ statement (ForBinding LetWord) ∷ statement (ForBinding ConstWord) ∷ statement ClassDecl ∷ function (Method InClass) ∷ function (Method Static) ∷ function (Getter InClass) ∷ function (Getter Static) ∷ function (Setter InClass) ∷ function (Setter Static) ∷ function (Field InClass) ∷ function (Field Static) ∷ []
 
 abbrev pub nth : List Kind → ℕ → Kind
 nth [] n = program Script
@@ -150,6 +188,25 @@ stated_nth (statement Default) h = refl
 stated_nth (statement Try) h = refl
 stated_nth (statement Catch) h = refl
 stated_nth (statement FunctionDecl) h = refl
+stated_nth (program ExportFrom) h = refl
+stated_nth (statement For) h = refl
+stated_nth (statement (ForDeclaration VarWord)) h = refl
+stated_nth (statement (ForDeclaration LetWord)) h = refl
+stated_nth (statement (ForDeclaration ConstWord)) h = refl
+stated_nth (statement ForIn) h = refl
+stated_nth (statement ForOf) h = refl
+stated_nth (statement (ForBinding VarWord)) h = refl
+stated_nth (statement (ForBinding LetWord)) h = refl
+stated_nth (statement (ForBinding ConstWord)) h = refl
+stated_nth (statement ClassDecl) h = refl
+stated_nth (function (Method InClass)) h = refl
+stated_nth (function (Method Static)) h = refl
+stated_nth (function (Getter InClass)) h = refl
+stated_nth (function (Getter Static)) h = refl
+stated_nth (function (Setter InClass)) h = refl
+stated_nth (function (Setter Static)) h = refl
+stated_nth (function (Field InClass)) h = refl
+stated_nth (function (Field Static)) h = refl
 stated_nth _ h = cc
 
 every_nth : (p : Kind → Bool) (ks : List Kind) (n : ℕ) → p (nth [] 0) ≡ true → every p ks ≡ true → p (nth ks n) ≡ true

@@ -1,16 +1,16 @@
 -- A text has one tree: two kinds at one place begin with tokens that differ, and one kind reads its row in one way.
 use Rattle.std.specs.Prelude.{◌&&◌}
 use Rattle.jsx_tree.proofs.OneTree.Wants.{still}
-use Rattle.jsx_tree.proofs.OneTree.Directives.{is_expr_stmt, expr_stmt_is}
-use Rattle.jsx_tree.proofs.OneTree.Imports.{import_row, import_clash}
+use Rattle.jsx_tree.proofs.OneTree.Kinds.Directives.{is_expr_stmt, expr_stmt_is}
+use Rattle.jsx_tree.proofs.OneTree.Kinds.Imports.{import_row, import_clash}
 use Rattle.std.proofs.Common.{◌≡◌, Bool, true, false, not, List, [], ◌∷◌, refl, sym, ◌∙◌, ap, subst, arith}
 use Rattle.std.specs.Prelude.{IsTrue, ◌||◌, nat_eq, nat_le, codes}
 use Rattle.jsx_base.specs.Token.{Text, Operator, TokenKind, IdentifierName, Punctuator, same, breaks}
 use Rattle.jsx_tree.specs.declared.text.Goal.{Goal}
 use Rattle.jsx_tree.specs.declared.text.Goal.TheVariants as goals
 use Rattle.jsx_tree.specs.Signs.{Tok, Semicolon, Unless, AfterExpr}
-use Rattle.jsx_tree.specs.Kinds.{Imported, Exported, From, ProgramKind, Module, Script, FunctionBody, ExprStmt, Label, Kind, program, statement, Tree, leaf, node, list, Forest, none, part}
-use Rattle.jsx_tree.specs.Nonterminals.{Nonterminal, Expr, Ident, Stmt, SubStmt, Item, Declaration, BlockOnly, CatchClause, CaseClause, Declarators, Body, DirectiveOnly, Specifiers, ImportBindings, ImportClause, WholeProgram, homes, in_homes, leaf_in, is_ident}
+use Rattle.jsx_tree.specs.Kinds.{Imported, Exported, From, ProgramKind, Module, Script, FunctionBody, ExprStmt, Label, For, ForIn, ForOf, Kind, ExportNames, ExportFrom, program, statement, Tree, leaf, node, list, Forest, none, part}
+use Rattle.jsx_tree.specs.Nonterminals.{Nonterminal, Expr, Ident, Stmt, SubStmt, Item, Declaration, BlockOnly, CatchClause, CaseClause, ClassMember, Declarators, Body, DirectiveOnly, Specifiers, ImportBindings, ImportClause, WholeProgram, homes, in_homes, leaf_in, is_ident}
 use Rattle.jsx_tree.specs.Grammar.{heads, Lines, TopLines, InCode, InModuleCode, production}
 use Rattle.jsx_tree.specs.Form.{admits, is, fits_below}
 use Rattle.jsx_tree.specs.StaticRules.{Surroundings, outside, rule}
@@ -44,9 +44,12 @@ use Rattle.jsx_tree.proofs.OneTree.Wants.{parted, idle, shutting, idle_at, meets
 use Rattle.jsx_tree.proofs.OneTree.Begins.{is_own, want_of, front, front_fits}
 use Rattle.jsx_tree.proofs.OneTree.Rows.{One, Each, each_leaf, each_node, each_none, each_part, All, leafless, own_leaf, own_kind, clause_is, clause_clash}
 use Rattle.jsx_tree.proofs.OneTree.Lists.{SameRow}
-use Rattle.jsx_tree.proofs.OneTree.Same.{row_good, row_same}
+use Rattle.jsx_tree.proofs.OneTree.Same.{no_ending, row_good, row_same}
 use Rattle.jsx_tree.proofs.OneTree.Prefixes.{front_apart, fronts_apart, rows_apart, rows_clash, words_apart, words_clash}
-use Rattle.jsx_tree.proofs.OneTree.Directives.{body_same}
+use Rattle.jsx_tree.proofs.OneTree.Kinds.Directives.{body_same}
+use Rattle.jsx_tree.proofs.OneTree.Kinds.Members.{members_apart, members_clash}
+use Rattle.jsx_tree.proofs.OneTree.Kinds.Exports.{exports_apart}
+use Rattle.jsx_tree.proofs.OneTree.Kinds.ForHeads.{for_in_apart, for_of_apart, in_of_apart}
 
 -- ---- a label and an expression
 
@@ -111,20 +114,26 @@ no_word h = cc
 
 -- ---- two kinds at one place
 
-abbrev pub label_pair : Kind → Kind → Bool
-label_pair (statement Label) (statement ExprStmt) = true
-label_pair k l = false
+-- pairs with an argument of their own
+abbrev pub odd_pair : Kind → Kind → Bool
+odd_pair (statement Label) (statement ExprStmt) = true
+odd_pair (statement For) (statement ForIn) = true
+odd_pair (statement For) (statement ForOf) = true
+odd_pair (statement ForIn) (statement ForOf) = true
+odd_pair (program ExportNames) (program ExportFrom) = true
+odd_pair k l = false
 
 -- the first tokens differ behind one that both have
 abbrev pub prefix_apart : Nonterminal → Kind → Kind → Bool
 prefix_apart Item k l = rows_apart (W.row false k) (W.row false l) || (import_row (W.row false k) && is_expr_stmt l)
 prefix_apart (Specifiers s) k l = words_apart parted (W.row false k) (W.row false l)
+prefix_apart ClassMember k l = members_apart (W.row false k) (W.row false l)
 prefix_apart c k l = false
 
 abbrev pub pair_told : Nonterminal → Kind → Kind → Bool
 pair_told c k l =
     not (in_homes c (homes k)) || (not (in_homes c (homes l)) || (nat_eq (place k) (place l)
-    || (front_apart (front (want_of c) (production k)) (front (want_of c) (production l)) || (label_pair k l || (label_pair l k || (prefix_apart c k l || prefix_apart c l k))))))
+    || (front_apart (front (want_of c) (production k)) (front (want_of c) (production l)) || (odd_pair k l || (odd_pair l k || (prefix_apart c k l || prefix_apart c l k))))))
 
 abbrev pub pairs_told : Nonterminal → Bool
 pairs_told c = every (λ k. every (pair_told c k) stated_kinds) stated_kinds
@@ -140,7 +149,7 @@ body_is (program _) h = cc
 body_is _ h = cc
 
 abbrev pub row_told : Nonterminal → Kind → Bool
-row_told c k = not (in_homes c (homes k)) || (is_body k || row_good false (want_of c) (production k))
+row_told c k = not (in_homes c (homes k)) || (is_body k || row_good no_ending (want_of c) (production k))
 
 all_pairs : (c : Nonterminal) → is_own c ≡ true → pairs_told c ≡ true
 all_pairs Stmt o = refl
@@ -150,6 +159,7 @@ all_pairs Declaration o = refl
 all_pairs BlockOnly o = refl
 all_pairs CatchClause o = refl
 all_pairs CaseClause o = refl
+all_pairs ClassMember o = refl
 all_pairs Declarators o = refl
 all_pairs Body o = refl
 all_pairs DirectiveOnly o = refl
@@ -168,6 +178,7 @@ all_rows Declaration o = refl
 all_rows BlockOnly o = refl
 all_rows CatchClause o = refl
 all_rows CaseClause o = refl
+all_rows ClassMember o = refl
 all_rows Declarators o = refl
 all_rows Body o = refl
 all_rows DirectiveOnly o = refl
@@ -178,17 +189,23 @@ all_rows ImportBindings o = refl
 all_rows ImportClause o = refl
 all_rows _ o = cc
 
-label_is : (k l : Kind) → label_pair k l ≡ true → (k ≡ statement Label) × (l ≡ statement ExprStmt)
-label_is (statement Label) (statement ExprStmt) h = (refl, refl)
-label_is (statement Label) (statement _) h = cc
-label_is (statement Label) _ h = cc
-label_is (statement _) l h = cc
-label_is _ l h = cc
-
-pair_apart : {v w : Surroundings} {x y z : Place} (k l : Kind) (cs ds : Forest) → label_pair k l ≡ true → kepts cs ≡ true → kepts ds ≡ true → IsNode IsRead v false k x cs y → IsNode IsRead w false l x ds z → ⊥
-pair_apart {v} {w} {x} {y} {z} k l cs ds p h g a b =
-    let i = label_is k l p in
-    label_apart cs ds h g (subst (λ k. IsNode IsRead v false k x cs y) i.0 a) (subst (λ l. IsNode IsRead w false l x ds z) i.1 b)
+pair_apart : {v w : Surroundings} {x y z : Place} (k l : Kind) (cs ds : Forest) → odd_pair k l ≡ true → kepts cs ≡ true → kepts ds ≡ true → IsNode IsRead v false k x cs y → IsNode IsRead w false l x ds z → ⊥
+pair_apart (statement Label) (statement ExprStmt) cs ds p h g a b = label_apart cs ds h g a b
+pair_apart (statement For) (statement ForIn) cs ds p h g a b = for_in_apart cs ds h g a b
+pair_apart (statement For) (statement ForOf) cs ds p h g a b = for_of_apart cs ds h g a b
+pair_apart (statement ForIn) (statement ForOf) cs ds p h g a b = in_of_apart cs ds h g a b
+pair_apart (program ExportNames) (program ExportFrom) cs ds p h g a b = exports_apart cs ds h g a b
+pair_apart (statement Label) (statement _) cs ds p h g a b = cc
+pair_apart (statement Label) _ cs ds p h g a b = cc
+pair_apart (statement For) (statement _) cs ds p h g a b = cc
+pair_apart (statement For) _ cs ds p h g a b = cc
+pair_apart (statement ForIn) (statement _) cs ds p h g a b = cc
+pair_apart (statement ForIn) _ cs ds p h g a b = cc
+pair_apart (program ExportNames) (program _) cs ds p h g a b = cc
+pair_apart (program ExportNames) _ cs ds p h g a b = cc
+pair_apart (statement _) l cs ds p h g a b = cc
+pair_apart (program _) l cs ds p h g a b = cc
+pair_apart _ l cs ds p h g a b = cc
 
 -- ---- a node
 
@@ -204,6 +221,7 @@ item_clash {w = w} {x} {y} {z} {cs} {ds} k l h f g a b m = by_rows (test (rows_a
 prefix_clash : (c : Nonterminal) {v w : Surroundings} {x y z : Place} {cs ds : Forest} (k l : Kind) → prefix_apart c k l ≡ true → kepts cs ≡ true → kepts ds ≡ true → IsNode IsRead v false k x cs y → IsNode IsRead w false l x ds z → meets (want_of c) y ≡ true → meets (want_of c) z ≡ true → ⊥
 prefix_clash Item k l h f g a b m m' = item_clash k l h f g a b m'
 prefix_clash (Specifiers s) k l h f g a b m m' = words_clash parted (W.row false k) (W.row false l) h f g a.walk b.walk m
+prefix_clash ClassMember k l h f g a b m m' = members_clash (W.row false k) (W.row false l) h f g a.walk b.walk
 prefix_clash _ k l h f g a b m m' = cc
 
 kind_apart : (c : Nonterminal) {v w : Surroundings} {x y z : Place} (k l : Kind) (cs ds : Forest) → is_own c ≡ true → stated k ≡ true → stated l ≡ true → in_homes c (homes k) ≡ true → in_homes c (homes l) ≡ true → nat_eq (place k) (place l) ≡ false
@@ -213,24 +231,24 @@ kind_apart c {x = x} k l cs ds o s t i j n h g a b m m' = by_front (test (front_
     told : pair_told c k l ≡ true
     told = for_stated (pair_told c k) (for_stated (λ k. every (pair_told c k) stated_kinds) (all_pairs c o) k s) l t
 
-    rest : (front_apart (front (want_of c) (production k)) (front (want_of c) (production l)) || (label_pair k l || (label_pair l k || (prefix_apart c k l || prefix_apart c l k)))) ≡ true
+    rest : (front_apart (front (want_of c) (production k)) (front (want_of c) (production l)) || (odd_pair k l || (odd_pair l k || (prefix_apart c k l || prefix_apart c l k)))) ≡ true
     rest = or_else (nat_eq (place k) (place l)) _ (or_else (not (in_homes c (homes l))) _ (or_else (not (in_homes c (homes k))) _ told (ap not i)) (ap not j)) n
 
     by_prefix : Test (prefix_apart c k l) → (prefix_apart c k l || prefix_apart c l k) ≡ true → ⊥
     by_prefix (yes' p) r = prefix_clash c k l p h g a b m m'
     by_prefix (no' p) r = prefix_clash c l k (or_else (prefix_apart c k l) _ r p) g h b a m' m
 
-    by_other : Test (label_pair l k) → (label_pair l k || (prefix_apart c k l || prefix_apart c l k)) ≡ true → ⊥
+    by_other : Test (odd_pair l k) → (odd_pair l k || (prefix_apart c k l || prefix_apart c l k)) ≡ true → ⊥
     by_other (yes' p) r = pair_apart l k ds cs p g h b a
-    by_other (no' p) r = by_prefix (test (prefix_apart c k l)) (or_else (label_pair l k) _ r p)
+    by_other (no' p) r = by_prefix (test (prefix_apart c k l)) (or_else (odd_pair l k) _ r p)
 
-    by_label : Test (label_pair k l) → (label_pair k l || (label_pair l k || (prefix_apart c k l || prefix_apart c l k))) ≡ true → ⊥
+    by_label : Test (odd_pair k l) → (odd_pair k l || (odd_pair l k || (prefix_apart c k l || prefix_apart c l k))) ≡ true → ⊥
     by_label (yes' p) r = pair_apart k l cs ds p h g a b
-    by_label (no' p) r = by_other (test (label_pair l k)) (or_else (label_pair k l) _ r p)
+    by_label (no' p) r = by_other (test (odd_pair l k)) (or_else (odd_pair k l) _ r p)
 
     by_front : Test (front_apart (front (want_of c) (production k)) (front (want_of c) (production l))) → ⊥
     by_front (yes' p) = fronts_apart (front (want_of c) (production k)) (front (want_of c) (production l)) x p (front_fits (want_of c) (production k) [] a.walk h m) (front_fits (want_of c) (production l) [] b.walk g m')
-    by_front (no' p) = by_label (test (label_pair k l)) (or_else (front_apart (front (want_of c) (production k)) (front (want_of c) (production l))) _ rest p)
+    by_front (no' p) = by_label (test (odd_pair k l)) (or_else (front_apart (front (want_of c) (production k)) (front (want_of c) (production l))) _ rest p)
 
 body_want : (c : Nonterminal) (x : Place) → is_own c ≡ true → in_homes c (homes (program FunctionBody)) ≡ true → meets (want_of c) x ≡ true → meets idle x ≡ true
 body_want Body x o h m = implied shutting idle x refl no_word m
@@ -241,6 +259,7 @@ body_want Declaration x o h m = cc
 body_want BlockOnly x o h m = cc
 body_want CatchClause x o h m = cc
 body_want CaseClause x o h m = cc
+body_want ClassMember x o h m = cc
 body_want Declarators x o h m = cc
 body_want DirectiveOnly x o h m = cc
 body_want (Specifiers Imported) x o h m = cc
@@ -250,12 +269,12 @@ body_want ImportBindings x o h m = cc
 body_want ImportClause x o h m = cc
 body_want _ x o h m = cc
 
-kind_same : (c : Nonterminal) {v w : Surroundings} {x y z : Place} (k : Kind) (cs ds : Forest) → is_own c ≡ true → in_homes c (homes k) ≡ true → (is_body k || row_good false (want_of c) (production k)) ≡ true → IsNode IsRead v false k x cs y → IsNode IsRead w false k x ds z
+kind_same : (c : Nonterminal) {v w : Surroundings} {x y z : Place} (k : Kind) (cs ds : Forest) → is_own c ≡ true → in_homes c (homes k) ≡ true → (is_body k || row_good no_ending (want_of c) (production k)) ≡ true → IsNode IsRead v false k x cs y → IsNode IsRead w false k x ds z
     → All cs → kepts cs ≡ true → kepts ds ≡ true → meets (want_of c) y ≡ true → meets (want_of c) z ≡ true → SameRow cs ds y z
 kind_same c {v} {w} {x} {y} {z} k cs ds o i g a b e h h' m n = by_body (test (is_body k))
   where
     by_body : Test (is_body k) → SameRow cs ds y z
-    by_body (no' p) = row_same false (want_of c) (production k) [] cs ds (or_else (is_body k) _ g p) no_word a.walk b.walk e h h' m n
+    by_body (no' p) = row_same no_ending (want_of c) (production k) [] cs ds (or_else (is_body k) _ g p) refl a.walk b.walk e h h' m n
     by_body (yes' p) =
         let q = body_is k p in
         let a' : IsNode IsRead v false (program FunctionBody) x cs y = subst (λ k. IsNode IsRead v false k x cs y) q a in
@@ -311,7 +330,7 @@ one_node k cs a = record { one = by_other }
 mutual
   pub each : (t : Tree) → Each t
   each (leaf s t) = each_leaf
-  each (node k cs) = each_node (one_node k cs (alls cs))
+  each (node k cs) = each_node (one_node k cs (alls cs)) (alls cs)
   each (list ts) = alls ts
 
   alls : (ts : Forest) → All ts

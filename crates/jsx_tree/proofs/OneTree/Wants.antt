@@ -2,7 +2,7 @@
 use Rattle.std.proofs.Common.{◌≡◌, ℕ, ◌≤◌, Bool, true, false, not, List, [], ◌∷◌, refl, sym, ◌∙◌, ap, subst, arith}
 use Rattle.std.specs.Prelude.{IsTrue, ◌&&◌, ◌||◌, nat_eq, nat_le, codes}
 use Rattle.jsx_base.specs.Token.{Text, Operator, TokenKind, IdentifierName, Punctuator, kind_number, among, same, breaks}
-use Rattle.jsx_tree.specs.Signs.{Sign, Tok, Semicolon, TrailingComma, Unless, SameLine, Ends, AfterExpr, AfterBinding}
+use Rattle.jsx_tree.specs.Signs.{Sign, Space, Tok, Semicolon, TrailingComma, Unless, SameLine, Ends, AfterExpr, AfterBinding}
 use Rattle.jsx_tree.specs.Kinds.{Block, Kind, statement, Tree, leaf, node, list, Forest, none, part}
 use Rattle.jsx_tree.specs.Grammar.{Context, Fixed, Part, Optional, Many, Within, Production}
 use Rattle.jsx_tree.specs.StaticRules.{Surroundings}
@@ -12,7 +12,7 @@ use Rattle.jsx_tree.specs.Walk as W
 use Rattle.jsx_tree.specs.Walk.{is_found, is_heard, heard, keep, pieces, IsRead}
 use Rattle.jsx_tree.proofs.OneTree.Readings.{calm, reach, reach_of, kind_at, text_at, broken, comma}
 use Rattle.jsx_tree.proofs.OneTree.Checks.{every, same_token}
-use Rattle.jsx_tree.proofs.OneTree.Facts.{for_kind, never, or_else, not_is, Test, yes', no', test, eq_nat, le_nat, kind_is, Seen, seen}
+use Rattle.jsx_tree.proofs.OneTree.Facts.{for_kind, never, or_else, not_is, Test, yes', no', test, eq_nat, le_nat, kind_is, Seen, seen, took}
 use Rattle.jsx_tree.proofs.OneTree.Fine.{at_sign, at_part, at_end}
 use Rattle.jsx_tree.proofs.OneTree.Fine.{calm_more}
 use Rattle.jsx_tree.proofs.OneTree.Spines.{seq_is, taken_scope}
@@ -454,3 +454,22 @@ follow_meets e (Part BlockOnly ∷ ps) w a {y} h c k g m =
     seen_met w Punctuator (codes "{") y (block_first p.tree (and_left (kept p.tree) _ (subst (λ ts. kepts ts ≡ true) p.is g)) p.read) h
 follow_meets e (Part _ ∷ ps) w a h c k g m = cc
 follow_meets e (Many s d ∷ ps) w a h c k g m = cc
+
+-- ---- a token that ends an expression of this level
+
+abbrev pub calm_next : ℕ → Production → Bool
+calm_next n (Fixed (Tok Operator k t) ∷ ps) = met (ended n) k t
+calm_next n (Fixed Space ∷ ps) = calm_next n ps
+calm_next n (Within d ∷ ps) = calm_next n ps
+calm_next n ps = false
+
+pub next_calm : {V : List Context → Surroundings} (n : ℕ) (a : List Context) (ps : Production) {x z : Place} {ts : Forest} → calm_next n ps ≡ true → W.Walk IsRead V (pieces a ps) x ts z → calm n x ≡ true
+next_calm n a (Fixed (Tok Operator k t) ∷ ps) {x} h w =
+    let s = signed (Tok Operator k t) ps a w in
+    look_met (ended n) k t x refl (took k t x s.moves (s.found refl)) h
+next_calm n a (Fixed Space ∷ ps) h w = next_calm n a ps h w
+next_calm n a (Within d ∷ ps) h w = next_calm n (d ∷ a) ps h w
+next_calm n a (Fixed (Tok _ k u) ∷ ps) h w = cc
+next_calm n a (Fixed _ ∷ ps) h w = cc
+next_calm n a (_ ∷ ps) h w = cc
+next_calm n a [] h w = cc

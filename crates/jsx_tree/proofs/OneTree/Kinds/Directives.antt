@@ -28,7 +28,7 @@ use Rattle.jsx_tree.proofs.OneTree.Statements.{stated, place, stated_kinds, nth}
 use Rattle.jsx_tree.proofs.OneTree.Statements.{stated_nth, for_stated}
 use Rattle.jsx_tree.proofs.OneTree.Parts.{known, kept, kepts, tame_of, word_read}
 use Rattle.jsx_tree.proofs.OneTree.Wants.{idle, meets, idle_at, is_seen, look_same}
-use Rattle.jsx_tree.proofs.OneTree.Begins.{want_of, stop_of, Front, token', expr', name', unknown, front, fits, front_fits, is_listed}
+use Rattle.jsx_tree.proofs.OneTree.Begins.{want_of, stop_of, Front, token', expr', name', key', unknown, front, fits, front_fits, is_listed}
 use Rattle.jsx_tree.proofs.OneTree.Rows.{All, all_parts, own_leaf, own_kind, own_same}
 use Rattle.jsx_tree.proofs.OneTree.Lists.{SameRow, liney, listed_own, listed_leafless, lines_same, first_item, rest_want}
 
@@ -101,6 +101,7 @@ front_string : (f : Front) (x : Place) → no_string f ≡ true → fits f x ≡
 front_string (token' k t) x n f e = never (nat_eq (kind_number k) 4) (ap (λ n. nat_eq n 4) (sym (is_seen x k t f).kind ∙ e)) (not_is _ n)
 front_string name' x n f e = never (nat_eq (kind_at x) 0) (and_left (nat_eq (kind_at x) 0) _ f) (ap (λ n. nat_eq n 0) e)
 front_string (expr' ts) x n f e = cc
+front_string key' x n f e = cc
 front_string unknown x n f e = cc
 
 -- an expression statement that begins as a directive does is a string alone

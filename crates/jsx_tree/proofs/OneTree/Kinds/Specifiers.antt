@@ -84,10 +84,10 @@ space_sign : (x : Place) → forth Space x ≡ x
 space_sign Lost = refl
 space_sign (At q e text) = refl
 
-after_comma : (y : Place) {z : Place} → scan y (between Commas) ≡ z → forth comma y ≡ z
+pub after_comma : (y : Place) {z : Place} → scan y (between Commas) ≡ z → forth comma y ≡ z
 after_comma y e = sym (space_sign (forth comma y)) ∙ e
 
-items_start : {v : Surroundings} {c : Nonterminal} {x y : Place} {t : Tree} {ts : Forest} → W.Items IsRead v Commas c x (part t ts) y → IsTrue (is_found x)
+pub items_start : {v : Surroundings} {c : Nonterminal} {x y : Place} {t : Tree} {ts : Forest} → W.Items IsRead v Commas c x (part t ts) y → IsTrue (is_found x)
 items_start (W.last r e f) = read_start r
 items_start (W.more n r e i) = read_start r
 
@@ -95,21 +95,21 @@ first_read : {v : Surroundings} {c : Nonterminal} {x y : Place} (t : Tree) (ts :
 first_read t none (W.last {y = z} r e f) P k = k z r
 first_read t (part u us) (W.more {y = z} n r e i) P k = k z r
 
-comma_parted : (x : Place) {y : Place} → forth comma x ≡ y → IsTrue (is_found y) → meets parted x ≡ true
+pub comma_parted : (x : Place) {y : Place} → forth comma x ≡ y → IsTrue (is_found y) → meets parted x ≡ true
 comma_parted x e f = look_met parted Punctuator (codes ",") x refl (took Punctuator (codes ",") x e f) refl
 
 brace_parted : (x : Place) → Seen x Punctuator (codes "}") → meets parted x ≡ true
 brace_parted x s = look_met parted Punctuator (codes "}") x refl s refl
 
-trail_parted : (x y : Place) → Trail x y → Seen y Punctuator (codes "}") → meets parted x ≡ true
+pub trail_parted : (x y : Place) → Trail x y → Seen y Punctuator (codes "}") → meets parted x ≡ true
 trail_parted x y (with_comma e f) s = comma_parted x e f
 trail_parted x y (without e) s = brace_parted x (subst (λ z. Seen z Punctuator (codes "}")) (sym e) s)
 
-no_item : (s : Side) {v : Surroundings} {x y : Place} (t : Tree) (ts : Forest) → kepts (part t ts) ≡ true → W.Items IsRead v Commas (Specifiers s) x (part t ts) y → Seen x Punctuator (codes "}") → ⊥
+pub no_item : (s : Side) {v : Surroundings} {x y : Place} (t : Tree) (ts : Forest) → kepts (part t ts) ≡ true → W.Items IsRead v Commas (Specifiers s) x (part t ts) y → Seen x Punctuator (codes "}") → ⊥
 no_item s {x = x} t ts h i b = first_read t ts i ⊥ (λ z r. never (nat_eq (kind_at x) 0) (ap (λ n. nat_eq n 0) (specifier_kind s t (and_left (kept t) (kepts ts) h) r)) (ap (λ n. nat_eq n 0) b.kind))
 
 -- one list ends behind an item where the other goes on
-trail_more : (s : Side) {v : Surroundings} {p q y w z : Place} (t : Tree) (ts : Forest) → p ≡ q → Trail p y → Seen y Punctuator (codes "}") → forth comma q ≡ w → IsTrue (is_found w) → kepts (part t ts) ≡ true → W.Items IsRead v Commas (Specifiers s) w (part t ts) z → ⊥
+pub trail_more : (s : Side) {v : Surroundings} {p q y w z : Place} (t : Tree) (ts : Forest) → p ≡ q → Trail p y → Seen y Punctuator (codes "}") → forth comma q ≡ w → IsTrue (is_found w) → kepts (part t ts) ≡ true → W.Items IsRead v Commas (Specifiers s) w (part t ts) z → ⊥
 trail_more s t ts o (with_comma e f) b g k h i = no_item s t ts h i (subst (λ z. Seen z Punctuator (codes "}")) (sym e ∙ (ap (forth comma) o ∙ g)) b)
 trail_more s {p = p} {q = q} t ts o (without e) b g k h i = two_tokens (subst (λ z. Seen z Punctuator (codes "}")) (sym (sym o ∙ e)) b) (took Punctuator (codes ",") q g k) refl
 

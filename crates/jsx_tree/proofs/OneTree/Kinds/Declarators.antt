@@ -33,7 +33,7 @@ use Rattle.jsx_tree.proofs.OneTree.Lists.{SameRow}
 declarator_kinds : every (λ k. not (in_homes Declarators (homes k)) || nat_eq (place k) (place (statement Declarator))) stated_kinds ≡ true
 declarator_kinds = refl
 
-declarator_kind : (k : Kind) → stated k ≡ true → in_homes Declarators (homes k) ≡ true → k ≡ statement Declarator
+pub declarator_kind : (k : Kind) → stated k ≡ true → in_homes Declarators (homes k) ≡ true → k ≡ statement Declarator
 declarator_kind k t h =
     let e = or_else (not (in_homes Declarators (homes k))) _ (for_stated (λ k. not (in_homes Declarators (homes k)) || nat_eq (place k) (place (statement Declarator))) declarator_kinds k t) (ap not h) in
     sym (stated_nth k t) ∙ ap (nth stated_kinds) (eq_nat {a = place k} {b = place (statement Declarator)} e)
@@ -111,10 +111,10 @@ space_sign : (x : Place) → forth Space x ≡ x
 space_sign Lost = refl
 space_sign (At q e text) = refl
 
-after_comma : (y : Place) {z : Place} → scan y (between NoTrailing) ≡ z → forth comma y ≡ z
+pub after_comma : (y : Place) {z : Place} → scan y (between NoTrailing) ≡ z → forth comma y ≡ z
 after_comma y e = sym (space_sign (forth comma y)) ∙ e
 
-items_start : {v : Surroundings} {x y : Place} {t : Tree} {ts : Forest} → W.Items IsRead v NoTrailing Declarators x (part t ts) y → IsTrue (is_found x)
+pub items_start : {v : Surroundings} {x y : Place} {t : Tree} {ts : Forest} → W.Items IsRead v NoTrailing Declarators x (part t ts) y → IsTrue (is_found x)
 items_start (W.last r e f) = read_start r
 items_start (W.more n r e i) = read_start r
 
