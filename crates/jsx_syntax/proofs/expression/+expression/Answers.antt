@@ -9,7 +9,7 @@ use Rattle.jsx_tree.specs.SoFar.{in_module, so_far}
 use Rattle.jsx_syntax.specs.Here.{place_of, left}
 use Rattle.jsx_syntax.specs.Spans.{IsPlacedList, end_of}
 use Rattle.jsx_tree.proofs.Rows.SoFar.{of_so_far}
-use Rattle.jsx_tree.proofs.Rows.Lists.{begun, ended, ended_behind, no_more, not_closed, one_more, round}
+use Rattle.jsx_tree.proofs.Rows.Lists.{begun, ended, ended_behind, no_more, not_closed, item_more, round}
 use Rattle.jsx_syntax.proofs.Values.{only_argument, barred_argument, member_follows, member_barred, call_follows, call_barred, value_only}
 use Rattle.jsx_syntax.proofs.Places.{spans_from}
 use Rattle.jsx_syntax.proofs.Steps.{passed}
@@ -47,7 +47,7 @@ arguments-arguments-preserved t c =
     let told_all = map_pushed told_expr c.arguments.all.items _ c.in_ok-argument.argument _ c.in_ok-push.ensures.items refl in
     let view_all = map_pushed view_expr c.arguments.all.items _ c.in_ok-argument.argument _ c.in_ok-push.ensures.items refl in
     record {
-      so_far = one_more _ _ of_so_far refl c.arguments.invariant.so_far (record { same = sym (ap place_of (c.take.ensures.stays c.arguments-test.true)); stuck = record { is = c.take.ensures.missing c.arguments-test.true } }) (only_argument c.in_ok-argument.ensures.read)
+      so_far = item_more _ _ of_so_far refl c.arguments.invariant.so_far (record { same = sym (ap place_of (c.take.ensures.stays c.arguments-test.true)); stuck = record { is = c.take.ensures.missing c.arguments-test.true } }) (only_argument c.in_ok-argument.ensures.read)
           (record { is = c.take-in-arguments.ensures.taken c.if-not-take.false; found = refl }) (pushed view_expr _ _ _ c.in_ok-push.ensures.items);
       within = omega (arith, same, c.take-in-arguments.ensures.shorter c.if-not-take.false, c.in_ok-argument.ensures.shorter, c.arguments.invariant.within);
       placed = front_more plain_commas c.arguments.invariant.placed argument comma.same comma.leads told_all view_all;
