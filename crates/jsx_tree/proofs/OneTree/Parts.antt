@@ -73,7 +73,7 @@ clean_known c k cs h s i = by_taken (test (taken k || is_seq k))
     by_taken (yes' t) = t
     by_taken (no' n) = absurd (stated_home c k h (or_else (taken k || is_seq k) (stated k) s n) (home_of c k cs i))
 
-node_admits : (o : Form) (c : Nonterminal) (k : Kind) (cs : Forest) → shaped o c (node k cs) ≡ true → admits c (node k cs) ≡ true
+pub node_admits : (o : Form) (c : Nonterminal) (k : Kind) (cs : Forest) → shaped o c (node k cs) ≡ true → admits c (node k cs) ≡ true
 node_admits Single c k cs h = h
 node_admits Maybe c k cs h = cc
 node_admits (Several s) c k cs h = cc
