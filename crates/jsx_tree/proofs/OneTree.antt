@@ -18,6 +18,7 @@ mod Templates
 mod RowWalks
 mod Braces
 mod Chains
+mod Kept
 mod Turn
 mod Semis
 mod Endings

@@ -40,7 +40,8 @@ use Rattle.jsx_tree.proofs.OneTree.Places.{taken, is_seq}
 use Rattle.jsx_tree.proofs.OneTree.Spines.{seq_is, taken_scope}
 use Rattle.jsx_tree.proofs.OneTree.Endings.{after}
 use Rattle.jsx_tree.proofs.OneTree.Afters.{after_tree}
-use Rattle.jsx_tree.proofs.OneTree.Parts.{known, kept, kepts, tame_of, calm_most, SameAt, expr_same, whole_same, wordy, word_read, word_same}
+use Rattle.jsx_tree.proofs.OneTree.Kept.{known, kept, kepts}
+use Rattle.jsx_tree.proofs.OneTree.Parts.{tame_of, calm_most, SameAt, expr_same, whole_same, wordy, word_read, word_same}
 use Rattle.jsx_tree.proofs.OneTree.Wants.{Want, ended, meets, is_calm, follow, follow_meets}
 use Rattle.jsx_tree.proofs.OneTree.Begins.{is_own, want_of}
 

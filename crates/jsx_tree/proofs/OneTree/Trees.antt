@@ -39,7 +39,8 @@ use Rattle.jsx_tree.proofs.OneTree.Endings.{after, at_semi}
 use Rattle.jsx_tree.proofs.OneTree.Endings.{end_kind}
 use Rattle.jsx_tree.proofs.OneTree.Missing.{Behind, a_mark, a_brace, a_line, behind}
 use Rattle.jsx_tree.proofs.OneTree.Afters.{after_tok, after_tree}
-use Rattle.jsx_tree.proofs.OneTree.Parts.{known, kept, kepts, tame_of, SameAt, word_read}
+use Rattle.jsx_tree.proofs.OneTree.Kept.{known, kept, kepts}
+use Rattle.jsx_tree.proofs.OneTree.Parts.{tame_of, SameAt, word_read}
 use Rattle.jsx_tree.proofs.OneTree.Wants.{parted, idle, shutting, idle_at, meets, implied, mark, look_same}
 use Rattle.jsx_tree.proofs.OneTree.Begins.{is_own, want_of, front, front_fits}
 use Rattle.jsx_tree.proofs.OneTree.Rows.{One, Each, each_leaf, each_node, each_none, each_part, All, leafless, own_leaf, own_kind, clause_is, clause_clash}

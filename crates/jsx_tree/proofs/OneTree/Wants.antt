@@ -25,7 +25,7 @@ use Rattle.jsx_tree.proofs.OneTree.Table.{kinds}
 use Rattle.jsx_tree.proofs.OneTree.Statements.{stated, place, stated_kinds, nth}
 use Rattle.jsx_tree.proofs.OneTree.Statements.{stated_nth, for_stated}
 use Rattle.jsx_tree.proofs.OneTree.Places.{taken, is_seq}
-use Rattle.jsx_tree.proofs.OneTree.Parts.{known, kept, kepts}
+use Rattle.jsx_tree.proofs.OneTree.Kept.{known, kept, kepts}
 use Rattle.jsx_tree.specs.Spelling.{spelled}
 
 abbrev pub mark : Text → Sign

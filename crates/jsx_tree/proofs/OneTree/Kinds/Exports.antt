@@ -21,7 +21,8 @@ use Rattle.jsx_tree.proofs.OneTree.Fine.{at_sign, at_part, at_many, at_end}
 use Rattle.jsx_tree.proofs.OneTree.Spines.{home_of}
 use Rattle.jsx_tree.proofs.OneTree.Placed.{trail}
 use Rattle.jsx_tree.proofs.OneTree.Missing.{Behind, a_mark, a_brace, a_line, behind}
-use Rattle.jsx_tree.proofs.OneTree.Parts.{known, kept, kepts, wordy, word_read, word_same}
+use Rattle.jsx_tree.proofs.OneTree.Kept.{known, kept, kepts}
+use Rattle.jsx_tree.proofs.OneTree.Parts.{wordy, word_read, word_same}
 use Rattle.jsx_tree.proofs.OneTree.Wants.{parted, meets}
 use Rattle.jsx_tree.proofs.OneTree.Rows.{own_leaf, own_kind}
 use Rattle.jsx_tree.proofs.OneTree.Lists.{move_items}

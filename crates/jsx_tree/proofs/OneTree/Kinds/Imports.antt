@@ -24,7 +24,8 @@ use Rattle.jsx_tree.proofs.OneTree.Placed.{whole_reads}
 use Rattle.jsx_tree.proofs.OneTree.Chains.{fine}
 use Rattle.jsx_tree.proofs.OneTree.Endings.{at_semi}
 use Rattle.jsx_tree.proofs.OneTree.Afters.{after_tree}
-use Rattle.jsx_tree.proofs.OneTree.Parts.{kept, kepts, tame_of, word_read}
+use Rattle.jsx_tree.proofs.OneTree.Kept.{kept, kepts}
+use Rattle.jsx_tree.proofs.OneTree.Parts.{tame_of, word_read}
 use Rattle.jsx_tree.proofs.OneTree.Wants.{look_same}
 use Rattle.jsx_tree.proofs.OneTree.Rows.{calls_on, clause_first}
 

@@ -22,7 +22,8 @@ use Rattle.jsx_tree.proofs.OneTree.Places.{is_key}
 use Rattle.jsx_tree.proofs.OneTree.Fine.{one_sign, at_sign, at_part, at_end}
 use Rattle.jsx_tree.proofs.OneTree.Spines.{home_of}
 use Rattle.jsx_tree.proofs.OneTree.Placed.{one_placed}
-use Rattle.jsx_tree.proofs.OneTree.Parts.{Which, a_statement, a_taken, a_seq, which, known, kept, kepts, tame_of, stated_home, SameAt, expr_same, word_same}
+use Rattle.jsx_tree.proofs.OneTree.Kept.{Which, a_statement, a_taken, a_seq, which, known, kept, kepts}
+use Rattle.jsx_tree.proofs.OneTree.Parts.{tame_of, stated_home, SameAt, expr_same, word_same}
 
 -- what a key begins with: a token's kind, by its number, and text
 abbrev pub key_at : ℕ → Text → Bool
