@@ -1,5 +1,7 @@
 -- A text has one tree.
 mod Table
+mod Known
+mod Sealed
 mod Readings
 mod Checks
 mod Facts

@@ -9,7 +9,7 @@ use Rattle.jsx_tree.specs.Form.{Form, Single, Position, position, positions, sha
 use Rattle.jsx_tree.specs.Program.{Reads}
 use Rattle.jsx_tree.specs.Decided.{decides_program, decides_function, decides_expression, decides, decides_leaf, is_decided, are_decided}
 use Rattle.jsx_tree.proofs.Tokens.{and_left, and_right, and_both}
-use Rattle.jsx_tree.proofs.OneTree.Kept.{known, kept, kepts}
+use Rattle.jsx_tree.proofs.OneTree.Known.{known, kept, kepts}
 use Rattle.jsx_tree.proofs.OneTree.Parts.{node_admits}
 use Rattle.jsx_tree.proofs.OneTree.Facts.{never}
 use Rattle.jsx_tree.proofs.OneTree.Spines.{home_of}

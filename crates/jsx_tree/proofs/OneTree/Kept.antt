@@ -1,28 +1,13 @@
 -- The trees that the law is proved of.
 use Rattle.std.proofs.Common.{◌≡◌, Bool, true, false, refl}
-use Rattle.std.specs.Prelude.{◌&&◌, ◌||◌}
+use Rattle.std.specs.Prelude.{◌||◌}
 use Rattle.jsx_tree.specs.Kinds.{Seq, Kind, expression, Tree, leaf, node, list, Forest, none, part}
 use Rattle.jsx_tree.proofs.Tokens.{and_left, and_right, and_both}
 use Rattle.jsx_tree.proofs.OneTree.Table.{scope}
-use Rattle.jsx_tree.proofs.OneTree.Statements.{stated}
+use Rattle.jsx_tree.proofs.OneTree.Known.{stated, taken, is_seq, known, kept, kepts}
 use Rattle.jsx_tree.proofs.OneTree.Facts.{or_else, Test, yes', no', test}
-use Rattle.jsx_tree.proofs.OneTree.Places.{taken, is_seq}
-use Rattle.jsx_tree.proofs.OneTree.Fine.{plain_leaf, is_piece, is_regexp, tame, tames}
+use Rattle.jsx_tree.proofs.OneTree.Fine.{tame, tames}
 use Rattle.jsx_tree.proofs.OneTree.Spines.{seq_is, taken_scope}
-
--- the kinds that are taken
-abbrev pub known : Kind → Bool
-known k = (taken k || is_seq k) || stated k
-
-abbrev mutual
-  pub kept : Tree → Bool
-  kept (leaf s t) = plain_leaf s || (is_piece s || is_regexp s)
-  kept (node k cs) = known k && kepts cs
-  kept (list ts) = kepts ts
-
-  pub kepts : Forest → Bool
-  kepts none = true
-  kepts (part t ts) = kept t && kepts ts
 
 or_left : (a b : Bool) → a ≡ true → (a || b) ≡ true
 or_left true b h = refl

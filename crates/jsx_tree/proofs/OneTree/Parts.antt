@@ -1,4 +1,5 @@
 -- One part of a row: where two trees of one place end as the row asks, they are one.
+use Rattle.jsx_tree.proofs.OneTree.Known.{stated, taken, is_seq, known, kept, kepts}
 use Rattle.std.proofs.Common.{subst}
 use Rattle.std.proofs.Common.{◌≡◌, ℕ, ◌≤◌, Bool, true, false, not, cond, List, [], ◌∷◌, refl, sym, ◌∙◌, ap}
 use Rattle.std.specs.Prelude.{IsTrue, ◌&&◌, ◌||◌, nat_eq, nat_le}
@@ -13,11 +14,11 @@ use Rattle.jsx_tree.specs.Reading.{Place, Lost, At, forth, scan, is_backquote}
 use Rattle.jsx_tree.proofs.Tokens.{and_left, and_right, and_both}
 use Rattle.jsx_tree.specs.Walk.{is_found, IsRead}
 use Rattle.jsx_tree.proofs.OneTree.Table.{kinds}
-use Rattle.jsx_tree.proofs.OneTree.Statements.{stated, stated_kinds}
+use Rattle.jsx_tree.proofs.OneTree.Statements.{stated_kinds}
 use Rattle.jsx_tree.proofs.OneTree.Readings.{calm, Entry, entry, entries, lookup, is_step, kind_at, text_at, broken}
 use Rattle.jsx_tree.proofs.OneTree.Checks.{every, starts}
 use Rattle.jsx_tree.proofs.OneTree.Facts.{never, or_else, not_is, Test, yes', no', test, kind_is, Seen, took, for_kind}
-use Rattle.jsx_tree.proofs.OneTree.Places.{taken, is_seq, no_hole}
+use Rattle.jsx_tree.proofs.OneTree.Places.{no_hole}
 use Rattle.jsx_tree.proofs.OneTree.Starting.{begins}
 use Rattle.jsx_tree.proofs.OneTree.Growths.{split}
 use Rattle.jsx_tree.proofs.OneTree.Pairs.{ends}
@@ -26,7 +27,7 @@ use Rattle.jsx_tree.proofs.OneTree.Fine.{tame, tames}
 use Rattle.jsx_tree.proofs.OneTree.Spines.{home_of, seq_is, taken_scope}
 use Rattle.jsx_tree.proofs.OneTree.Placed.{Placed, tree_reads, hole_free, whole_reads}
 use Rattle.jsx_tree.proofs.OneTree.Chains.{fine}
-use Rattle.jsx_tree.proofs.OneTree.Kept.{known, kept, kepts, tame_kept}
+use Rattle.jsx_tree.proofs.OneTree.Kept.{tame_kept}
 use Rattle.jsx_tree.proofs.OneTree.Turn.{tree_same}
 use Rattle.jsx_tree.proofs.OneTree.Statements.{for_stated}
 use Rattle.jsx_tree.proofs.OneTree.Endings.{whole_begins}

@@ -1,4 +1,5 @@
 -- Two trees at one place that are the same up to patterns and literals are one tree.
+use Rattle.jsx_tree.proofs.OneTree.Known.{stated, known, kept, kepts}
 use Rattle.std.proofs.Common.{◌≡◌, ℕ, Bool, true, false, not, List, [], ◌∷◌, refl, sym, ◌∙◌, ap, subst, arith}
 use Rattle.std.specs.Prelude.{◌&&◌, ◌||◌, nat_eq, nat_le}
 use Rattle.jsx_base.specs.Token.{Text, TokenKind}
@@ -14,9 +15,9 @@ use Rattle.jsx_tree.proofs.OneTree.Table.{listed}
 use Rattle.jsx_tree.proofs.OneTree.Checks.{every}
 use Rattle.jsx_tree.proofs.OneTree.Facts.{never, or_else, not_is, Test, yes', no', test, eq_nat, for_kind}
 use Rattle.jsx_tree.proofs.OneTree.Growths.{made_plain, made_paren, unseq_made}
-use Rattle.jsx_tree.proofs.OneTree.Statements.{stated, place, stated_kinds, stated_nth, for_stated}
+use Rattle.jsx_tree.proofs.OneTree.Statements.{place, stated_kinds, stated_nth, for_stated}
 use Rattle.jsx_tree.proofs.OneTree.Statements as S
-use Rattle.jsx_tree.proofs.OneTree.Kept.{known, kept, kepts, Which, a_statement, a_taken, a_seq, which}
+use Rattle.jsx_tree.proofs.OneTree.Kept.{Which, a_statement, a_taken, a_seq, which}
 use Rattle.jsx_tree.proofs.OneTree.Spines.{home_of}
 
 -- ---- homes that no place takes both of

@@ -1,4 +1,5 @@
 -- Two readings of directives and what stands behind them are one: no statement is a string alone where a directive might stand.
+use Rattle.jsx_tree.proofs.OneTree.Known.{stated, known, kept, kepts}
 use Rattle.std.proofs.Common.{◌≡◌, Bool, true, false, not, List, [], ◌∷◌, refl, sym, ◌∙◌, ap, subst}
 use Rattle.std.specs.Prelude.{IsTrue, ◌||◌, nat_eq}
 use Rattle.jsx_base.specs.Token.{Text, Operator, TokenKind, StringLiteral, kind_number}
@@ -24,9 +25,9 @@ use Rattle.jsx_tree.proofs.OneTree.Chains.{fine}
 use Rattle.jsx_tree.proofs.OneTree.Turn.{tree_same}
 use Rattle.jsx_tree.proofs.OneTree.Endings.{at_semi}
 use Rattle.jsx_tree.proofs.OneTree.Afters.{after_tok, after_tree}
-use Rattle.jsx_tree.proofs.OneTree.Statements.{stated, place, stated_kinds, nth}
+use Rattle.jsx_tree.proofs.OneTree.Statements.{place, stated_kinds, nth}
 use Rattle.jsx_tree.proofs.OneTree.Statements.{stated_nth, for_stated}
-use Rattle.jsx_tree.proofs.OneTree.Kept.{tame_kept, known, kept, kepts}
+use Rattle.jsx_tree.proofs.OneTree.Kept.{tame_kept}
 use Rattle.jsx_tree.proofs.OneTree.Parts.{tame_of, word_read}
 use Rattle.jsx_tree.proofs.OneTree.Wants.{idle, meets, idle_at, is_seen, look_same}
 use Rattle.jsx_tree.proofs.OneTree.Begins.{want_of, stop_of, Front, token', expr', name', key', unknown, front, fits, front_fits, is_listed}
