@@ -1,5 +1,7 @@
 -- A text has one tree.
 mod Table
+mod Known
+mod Sealed
 mod Readings
 mod Checks
 mod Facts
@@ -18,6 +20,7 @@ mod Templates
 mod RowWalks
 mod Braces
 mod Chains
+mod Kept
 mod Turn
 mod Semis
 mod Endings

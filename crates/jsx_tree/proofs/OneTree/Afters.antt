@@ -1,4 +1,5 @@
 -- Behind an expression a missing semicolon would stand after an expression, whatever stood before it: each has a token.
+use Rattle.jsx_tree.proofs.OneTree.Known.{taken, is_seq}
 use Rattle.std.proofs.Common.{◌≡◌, Bool, true, false, List, [], ◌∷◌, ◌++◌, refl, sym, ap, subst}
 use Rattle.std.specs.Prelude.{IsTrue, ◌||◌}
 use Rattle.jsx_base.specs.Token.{Text, TokenKind, Elision, is_token, token, same}
@@ -15,7 +16,7 @@ use Rattle.jsx_tree.specs.Walk.{is_found, IsRead}
 use Rattle.jsx_tree.proofs.OneTree.Table.{kinds}
 use Rattle.jsx_tree.proofs.OneTree.Checks.{every}
 use Rattle.jsx_tree.proofs.OneTree.Facts.{never, or_else, not_is, Test, yes', no', test, for_kind}
-use Rattle.jsx_tree.proofs.OneTree.Places.{taken, is_seq, no_hole}
+use Rattle.jsx_tree.proofs.OneTree.Places.{no_hole}
 use Rattle.jsx_tree.proofs.OneTree.Fine.{tame, tames}
 use Rattle.jsx_tree.proofs.OneTree.Spines.{seq_is, taken_scope}
 use Rattle.jsx_tree.proofs.OneTree.Endings.{after, go_after, no_ends, first_sign, found_first, keep_after, spelled_ok}

@@ -22,7 +22,8 @@ use Rattle.jsx_tree.proofs.OneTree.Fine.{at_sign, at_part}
 use Rattle.jsx_tree.proofs.OneTree.Next.{unless_kept}
 use Rattle.jsx_tree.proofs.OneTree.Kinds.Keys.{key_at, key_first, key_view}
 use Rattle.jsx_tree.proofs.OneTree.Afters.{after_tree}
-use Rattle.jsx_tree.proofs.OneTree.Parts.{kept, kepts, tame_of, whole_starts, word_read}
+use Rattle.jsx_tree.proofs.OneTree.Known.{kept, kepts}
+use Rattle.jsx_tree.proofs.OneTree.Parts.{tame_of, whole_starts, word_read}
 use Rattle.jsx_tree.proofs.OneTree.Wants.{Want, parted, anything, ended, still, idle, shutting, declared, other, meets, met, still_at, shutting_at, idle_at, is_look, look_met, is_at, is_seen, follow, follow_meets}
 
 -- the places whose trees are read as rows, and what stands behind each of them

@@ -1,4 +1,5 @@
 -- What the definitions read, with what may stand behind each part: properties in braces.
+use Rattle.jsx_tree.proofs.OneTree.Known.{is_seq, taken, plain_leaf}
 use Rattle.std.proofs.Common.{◌≡◌, ℕ, ◌≤◌, Bool, true, false, not, List, [], ◌∷◌, refl, sym, ◌∙◌, ap, subst}
 use Rattle.std.specs.Prelude.{IsTrue, ◌&&◌, ◌||◌, nat_le, codes}
 use Rattle.jsx_base.specs.Token.{Text, Operator, TokenKind, IdentifierName, Punctuator, NumericLiteral, BigIntLiteral, StringLiteral, RegExpLiteral, Elision}
@@ -14,13 +15,13 @@ use Rattle.jsx_tree.specs.Walk.{is_found, IsRead}
 use Rattle.jsx_tree.proofs.Tokens.{and_left, and_right, and_both}
 use Rattle.jsx_tree.proofs.OneTree.Table.{code, kinds}
 use Rattle.jsx_tree.proofs.OneTree.Readings.{calm, is_arrow, Reads, head, grow, done, take, under, Prop, long, computed, short, preset, rest, Props, p_shut, p_last, p_more, may_key}
-use Rattle.jsx_tree.proofs.OneTree.Readings.{braces}
+use Rattle.jsx_tree.proofs.OneTree.Readings.{sealed, braces}
 use Rattle.jsx_tree.proofs.OneTree.Checks.{every}
 use Rattle.jsx_tree.proofs.OneTree.Facts.{never, or_else, not_is, Test, yes', no', test, le_nat, for_kind}
-use Rattle.jsx_tree.proofs.OneTree.Places.{is_prop, is_key, is_brace, at_home, no_seq, no_hole, is_inner, free, is_seq, taken}
+use Rattle.jsx_tree.proofs.OneTree.Places.{is_prop, is_key, is_brace, at_home, no_seq, no_hole, is_inner, free}
 use Rattle.jsx_tree.proofs.Rows.Bridge.{node_walk}
 use Rattle.jsx_tree.proofs.OneTree.Fine.{at_sign, at_part, at_many, at_end}
-use Rattle.jsx_tree.proofs.OneTree.Fine.{plain_leaf, tame, tames, Good, Fine, fine_leaf, fine_regexp, fine_piece, fine_node, fine_prop, fine_seq, fine_list, Fines, fine_part, one_sign, in_is, no_piece, leaf_reads}
+use Rattle.jsx_tree.proofs.OneTree.Fine.{tame, tames, Good, Fine, fine_leaf, fine_regexp, fine_piece, fine_node, fine_prop, fine_seq, fine_list, Fines, fine_part, one_sign, in_is, no_piece, leaf_reads}
 use Rattle.jsx_tree.proofs.OneTree.Spines.{home_of, at_kind, taken_scope, no_seq_here}
 use Rattle.jsx_tree.proofs.OneTree.Next.{unless_kept, calm_at}
 use Rattle.jsx_tree.proofs.OneTree.Placed.{Placed, no_elision, hole_free, regexp_reads, tree_reads, comma_calm, Trail, with_comma, without, trail, close_reach, comma_space, found_start, one_placed, list_fines}
@@ -256,6 +257,7 @@ rest_reads k {x = x} {y} cs d o f w q =
 spread_prop : {n : ℕ} {x y : Place} {cs : Forest} → Reads n x (node (expression Spread) cs) y → Prop x (node (expression Spread) cs) y
 spread_prop (head s a i l d (take e f (under r c done))) = rest refl refl e f r c
 spread_prop (grow s d l r w) = cc
+spread_prop (sealed l s) = let bad = s.kind' in cc
 spread_prop (braces l c a e f p) = cc
 
 element_placed : (r : Role) → Placed 1 1 (PatElement r)

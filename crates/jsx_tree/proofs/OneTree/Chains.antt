@@ -1,4 +1,5 @@
 -- What the definitions read, with what may stand behind each part: chains, and at last every tree.
+use Rattle.jsx_tree.proofs.OneTree.Known.{is_seq, taken, plain_leaf, is_piece, is_regexp}
 use Rattle.std.proofs.Common.{◌≡◌, ℕ, suc, Bool, true, false, not, List, [], ◌∷◌, refl, sym, ◌∙◌, ap, subst, arith}
 use Rattle.std.specs.Prelude.{IsTrue, ◌&&◌, ◌||◌, nat_le, codes}
 use Rattle.std.proofs.lemmas.Bool.{le-leb}
@@ -19,10 +20,10 @@ use Rattle.jsx_tree.proofs.OneTree.Readings.{linked}
 use Rattle.jsx_tree.proofs.OneTree.Facts.{never, or_else, Test, yes', no', test, le_nat, for_kind, found_at}
 use Rattle.jsx_tree.proofs.OneTree.Starting.{goes_on, of_grow}
 use Rattle.jsx_tree.proofs.OneTree.Pairs.{link_reach}
-use Rattle.jsx_tree.proofs.OneTree.Places.{ending, first_of, kin, is_prop, is_brace, place_at, ends_by, is_chain, link_rows, link_home, link_props, row_ok, is_seq, taken}
+use Rattle.jsx_tree.proofs.OneTree.Places.{ending, first_of, kin, is_prop, is_brace, place_at, ends_by, is_chain, link_rows, link_home, link_props, row_ok}
 use Rattle.jsx_tree.proofs.Rows.Bridge.{node_walk}
 use Rattle.jsx_tree.proofs.OneTree.Fine.{at_many, at_end}
-use Rattle.jsx_tree.proofs.OneTree.Fine.{plain_leaf, is_piece, is_regexp, tame, tames, spine_ok, first_ok, Good, Fine, fine_leaf, fine_regexp, fine_piece, fine_node, fine_prop, fine_seq, fine_list, Fines, fine_none, fine_part, calm_more, in_is, no_piece}
+use Rattle.jsx_tree.proofs.OneTree.Fine.{tame, tames, spine_ok, first_ok, Good, Fine, fine_leaf, fine_regexp, fine_piece, fine_node, fine_prop, fine_seq, fine_list, Fines, fine_none, fine_part, calm_more, in_is, no_piece}
 use Rattle.jsx_tree.proofs.OneTree.Spines.{home_of, at_kind, taken_scope, lead_facts, head_row, no_seq_here}
 use Rattle.jsx_tree.proofs.OneTree.Next.{calm_at}
 use Rattle.jsx_tree.proofs.OneTree.Placed.{hole_free, tree_reads, one_placed, list_fines, spined_reads}

@@ -15,7 +15,7 @@ use Rattle.jsx_tree.proofs.OneTree.Readings.{calm, Whole, single, several, kind_
 use Rattle.jsx_tree.proofs.OneTree.Checks.{every, starts}
 use Rattle.jsx_tree.proofs.OneTree.Facts.{or_else, Test, yes', no', test, for_kind}
 use Rattle.jsx_tree.proofs.OneTree.Semis.{semi_calm}
-use Rattle.jsx_tree.proofs.OneTree.Places.{taken, is_seq}
+use Rattle.jsx_tree.proofs.OneTree.Known.{taken, is_seq}
 use Rattle.jsx_tree.proofs.OneTree.Fine.{tame, tames}
 use Rattle.jsx_tree.proofs.OneTree.Spines.{seq_is, taken_scope}
 use Rattle.jsx_tree.proofs.OneTree.Starting.{begins}

@@ -1,4 +1,5 @@
 -- A walk along a row taken apart; trees that can be read at their places, and leaves.
+use Rattle.jsx_tree.proofs.OneTree.Known.{is_seq, taken, plain_leaf, is_piece, is_regexp}
 use Rattle.jsx_tree.specs.Walk as W
 use Rattle.std.proofs.Common.{◌≡◌, ℕ, ◌≤◌, Bool, true, false, not, refl, sym, ◌∙◌, ap, arith, List, [], ◌∷◌}
 use Rattle.std.specs.Prelude.{◌&&◌, ◌||◌, nat_eq, nat_le, IsTrue}
@@ -15,7 +16,7 @@ use Rattle.jsx_tree.specs.Walk.{IsRead, is_found}
 use Rattle.jsx_tree.proofs.Tokens.{and_left, and_right, and_both}
 use Rattle.jsx_tree.proofs.OneTree.Readings.{level, reach, calm, Reads, word}
 use Rattle.jsx_tree.proofs.OneTree.Facts.{never, not_is, le_nat}
-use Rattle.jsx_tree.proofs.OneTree.Places.{needs, kin, is_prop, free, is_seq, taken}
+use Rattle.jsx_tree.proofs.OneTree.Places.{needs, kin, is_prop, free}
 
 -- ---- walks of the other relation, taken apart
 
@@ -55,20 +56,6 @@ pub at_end : {V : List Context → Surroundings} {x z : Place} {ts : Forest} →
 at_end (W.done f) = (refl, refl)
 
 -- ---- trees that can be read at their places
-
-abbrev pub plain_leaf : TokenKind → Bool
-plain_leaf s = nat_eq (kind_number s) 0 || (nat_eq (kind_number s) 2 || (nat_eq (kind_number s) 3 || (nat_eq (kind_number s) 4 || nat_eq (kind_number s) 13)))
-
-abbrev pub is_piece : TokenKind → Bool
-is_piece NoSubstitution = true
-is_piece TemplateHead = true
-is_piece TemplateMiddle = true
-is_piece TemplateTail = true
-is_piece s = false
-
-abbrev pub is_regexp : TokenKind → Bool
-is_regexp RegExpLiteral = true
-is_regexp s = false
 
 abbrev mutual
   pub tame : Tree → Bool

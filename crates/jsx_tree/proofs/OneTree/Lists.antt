@@ -21,7 +21,8 @@ use Rattle.jsx_tree.proofs.Rows.Bridge.{node_walk}
 use Rattle.jsx_tree.proofs.OneTree.Spines.{home_of}
 use Rattle.jsx_tree.proofs.OneTree.Placed.{Placed, Trail, with_comma, without, trail}
 use Rattle.jsx_tree.proofs.OneTree.Statements.{for_stated}
-use Rattle.jsx_tree.proofs.OneTree.Parts.{known, kept, kepts, tame_of, SameAt, expr_same, expr_starts}
+use Rattle.jsx_tree.proofs.OneTree.Known.{known, kept, kepts}
+use Rattle.jsx_tree.proofs.OneTree.Parts.{tame_of, SameAt, expr_same, expr_starts}
 use Rattle.jsx_tree.proofs.OneTree.Wants.{ended, meets, is_look, look_met, implies, implied, is_calm, mark, read_start}
 use Rattle.jsx_tree.proofs.OneTree.Begins.{is_own, want_of, stop_of, Front, front, fits, front_fits, front_stop, is_stop, front_stops, front_meets, is_listed, front_ok, fronts_ok, listed_fronts}
 use Rattle.jsx_tree.proofs.OneTree.Rows.{All, all_parts, leafless, own_leaf, own_kind, own_same}

@@ -1,10 +1,11 @@
 -- One part of a row: where two trees of one place end as the row asks, they are one.
+use Rattle.jsx_tree.proofs.OneTree.Known.{stated, taken, is_seq, known, kept, kepts}
 use Rattle.std.proofs.Common.{subst}
 use Rattle.std.proofs.Common.{◌≡◌, ℕ, ◌≤◌, Bool, true, false, not, cond, List, [], ◌∷◌, refl, sym, ◌∙◌, ap}
 use Rattle.std.specs.Prelude.{IsTrue, ◌&&◌, ◌||◌, nat_eq, nat_le}
 use Rattle.jsx_base.specs.Token.{Text, Operator, TokenKind, IdentifierName, StringLiteral, Punctuator, kind_number, same}
 use Rattle.jsx_tree.specs.Signs.{Tok, One}
-use Rattle.jsx_tree.specs.Kinds.{Seq, Kind, expression, Tree, leaf, node, list, Forest, none, part}
+use Rattle.jsx_tree.specs.Kinds.{Kind, Tree, leaf, node, list, Forest, none, part}
 use Rattle.jsx_tree.specs.Nonterminals.{Nonterminal, Expr, Ident, BindingIdent, Name, StringOnly, ImportClause, homes, in_homes, leaf_in}
 use Rattle.jsx_tree.specs.Form.{Form, Single, Maybe, Several, Position, position, positions, shaped, admits, is, is_leaf, fits_below, fit_slots, fit_each}
 use Rattle.jsx_tree.specs.StaticRules.{Surroundings}
@@ -12,37 +13,24 @@ use Rattle.jsx_tree.specs.Spelling.{spelled}
 use Rattle.jsx_tree.specs.Reading.{Place, Lost, At, forth, scan, is_backquote}
 use Rattle.jsx_tree.proofs.Tokens.{and_left, and_right, and_both}
 use Rattle.jsx_tree.specs.Walk.{is_found, IsRead}
-use Rattle.jsx_tree.proofs.OneTree.Table.{kinds, scope}
-use Rattle.jsx_tree.proofs.OneTree.Statements.{stated, stated_kinds}
+use Rattle.jsx_tree.proofs.OneTree.Table.{kinds}
+use Rattle.jsx_tree.proofs.OneTree.Statements.{stated_kinds}
 use Rattle.jsx_tree.proofs.OneTree.Readings.{calm, Entry, entry, entries, lookup, is_step, kind_at, text_at, broken}
 use Rattle.jsx_tree.proofs.OneTree.Checks.{every, starts}
 use Rattle.jsx_tree.proofs.OneTree.Facts.{never, or_else, not_is, Test, yes', no', test, kind_is, Seen, took, for_kind}
-use Rattle.jsx_tree.proofs.OneTree.Places.{taken, is_seq, no_hole}
+use Rattle.jsx_tree.proofs.OneTree.Places.{no_hole}
 use Rattle.jsx_tree.proofs.OneTree.Starting.{begins}
 use Rattle.jsx_tree.proofs.OneTree.Growths.{split}
 use Rattle.jsx_tree.proofs.OneTree.Pairs.{ends}
 use Rattle.jsx_tree.proofs.OneTree.Agreeing.{passes, one_whole}
-use Rattle.jsx_tree.proofs.OneTree.Fine.{plain_leaf, is_piece, is_regexp, tame, tames}
+use Rattle.jsx_tree.proofs.OneTree.Fine.{tame, tames}
 use Rattle.jsx_tree.proofs.OneTree.Spines.{home_of, seq_is, taken_scope}
 use Rattle.jsx_tree.proofs.OneTree.Placed.{Placed, tree_reads, hole_free, whole_reads}
 use Rattle.jsx_tree.proofs.OneTree.Chains.{fine}
+use Rattle.jsx_tree.proofs.OneTree.Kept.{tame_kept}
 use Rattle.jsx_tree.proofs.OneTree.Turn.{tree_same}
 use Rattle.jsx_tree.proofs.OneTree.Statements.{for_stated}
 use Rattle.jsx_tree.proofs.OneTree.Endings.{whole_begins}
-
--- the kinds that are taken
-abbrev pub known : Kind → Bool
-known k = (taken k || is_seq k) || stated k
-
-abbrev mutual
-  pub kept : Tree → Bool
-  kept (leaf s t) = plain_leaf s || (is_piece s || is_regexp s)
-  kept (node k cs) = known k && kepts cs
-  kept (list ts) = kepts ts
-
-  pub kepts : Forest → Bool
-  kepts none = true
-  kepts (part t ts) = kept t && kepts ts
 
 -- ---- no statement stands in an expression
 
@@ -73,7 +61,7 @@ clean_known c k cs h s i = by_taken (test (taken k || is_seq k))
     by_taken (yes' t) = t
     by_taken (no' n) = absurd (stated_home c k h (or_else (taken k || is_seq k) (stated k) s n) (home_of c k cs i))
 
-node_admits : (o : Form) (c : Nonterminal) (k : Kind) (cs : Forest) → shaped o c (node k cs) ≡ true → admits c (node k cs) ≡ true
+pub node_admits : (o : Form) (c : Nonterminal) (k : Kind) (cs : Forest) → shaped o c (node k cs) ≡ true → admits c (node k cs) ≡ true
 node_admits Single c k cs h = h
 node_admits Maybe c k cs h = cc
 node_admits (Several s) c k cs h = cc
@@ -140,12 +128,12 @@ expr_same n m c t u le p h i j r s cy cz =
     let a = tree_reads n m c (fine t i) i (hole_free t c h r) r p cy in
     let b = tree_reads n m c (fine u j) j (hole_free u c h s) s p cz in
     let o = ends (passes a le (split b le) cz) cy in
-    record { tree = tree_same t u c i j r.is s.is o.tree; place = o.place }
+    record { tree = tree_same t u c (tame_kept t i) (tame_kept u j) r.is s.is o.tree; place = o.place }
 
 pub whole_same : {v w : Surroundings} {x y z : Place} (t u : Tree) → tame t ≡ true → tame u ≡ true → IsRead v false (Expr 0) x t y → IsRead w false (Expr 0) x u z → calm 0 y ≡ true → calm 0 z ≡ true → SameAt t u y z
 whole_same t u i j r s cy cz =
     let o = one_whole (whole_reads t (fine t i) i r cy) (whole_reads u (fine u j) j s cz) in
-    record { tree = tree_same t u (Expr 0) i j r.is s.is o.tree; place = o.place }
+    record { tree = tree_same t u (Expr 0) (tame_kept t i) (tame_kept u j) r.is s.is o.tree; place = o.place }
 
 pub whole_starts : {v : Surroundings} {x y : Place} (t : Tree) → tame t ≡ true → IsRead v false (Expr 0) x t y → calm 0 y ≡ true → starts (kind_at x) (text_at x) ≡ true
 whole_starts t i r c = whole_begins (whole_reads t (fine t i) i r c)
@@ -244,21 +232,3 @@ pub re_home : {v : Surroundings} {x y : Place} (c d : Nonterminal) (t : Tree) �
 re_home c d (leaf s u) h r = record { is = and_both (leaf_in d s u) (is_leaf s u) h (and_right (leaf_in c s u) _ r.is); is_legal = r.is_legal; scans = r.scans; found = r.found }
 re_home c d (node k cs) h r = record { is = and_both (admits d (node k cs)) (fit_slots (positions k) cs) h (and_right (admits c (node k cs)) _ r.is); is_legal = r.is_legal; scans = r.scans; found = r.found }
 re_home c d (list ts) h r = cc
-
--- ---- which kind it is
-
-pub data Which (k : Kind) : Type 0 where
-  a_statement : stated k ≡ true → Which k
-  a_taken : scope k ≡ true → Which k
-  a_seq : k ≡ expression Seq → Which k
-
-pub which : (k : Kind) → known k ≡ true → Which k
-which k h = by_stated (test (taken k || is_seq k))
-  where
-    by_taken : Test (taken k) → (taken k || is_seq k) ≡ true → Which k
-    by_taken (yes' t) g = a_taken (taken_scope k t)
-    by_taken (no' t) g = a_seq (seq_is k (or_else (taken k) (is_seq k) g t))
-
-    by_stated : Test (taken k || is_seq k) → Which k
-    by_stated (yes' g) = by_taken (test (taken k)) g
-    by_stated (no' g) = a_statement (or_else (taken k || is_seq k) (stated k) h g)

@@ -1,4 +1,5 @@
 -- What the definitions read, with what may stand behind each part: parts, lists and whole expressions.
+use Rattle.jsx_tree.proofs.OneTree.Known.{is_seq, taken, plain_leaf}
 use Rattle.std.proofs.Common.{◌≡◌, ℕ, ◌≤◌, Bool, true, false, not, cond, [], ◌∷◌, refl, sym, ◌∙◌, ap, subst, arith}
 use Rattle.std.specs.Prelude.{IsTrue, ◌&&◌, ◌||◌, nat_eq, nat_le, codes}
 use Rattle.jsx_base.specs.Token.{Text, Operand, Operator, TokenKind, IdentifierName, Punctuator, NumericLiteral, BigIntLiteral, StringLiteral, RegExpLiteral, NoSubstitution, TemplateHead, TemplateMiddle, TemplateTail, Elision, Lexeme, kind_number, same, begins, state, lexed, no_token, at_front, token, skip, breaks, is_token}
@@ -16,11 +17,11 @@ use Rattle.jsx_tree.proofs.Tokens.{and_left, and_right, and_both, same_is}
 use Rattle.jsx_tree.proofs.OneTree.Table.{scope}
 use Rattle.jsx_tree.proofs.OneTree.Readings.{level, reach_of, calm, broken, comma, Reads, regexp, Whole, single, several, Rest, final, also, Items, shut, gap, last, more}
 use Rattle.jsx_tree.proofs.OneTree.Facts.{never, not_is, Test, yes', no', test, eq_nat, le_nat, kind_is, Seen, took}
-use Rattle.jsx_tree.proofs.OneTree.Places.{ending, kin, is_prop, place_at, no_seq, no_hole, ended_at, ends_by, closes, is_seq, taken}
+use Rattle.jsx_tree.proofs.OneTree.Places.{ending, kin, is_prop, place_at, no_seq, no_hole, ended_at, ends_by, closes}
 use Rattle.jsx_tree.proofs.Rows.Bridge.{node_walk}
 use Rattle.jsx_tree.proofs.Laws.{scan_lost}
 use Rattle.jsx_tree.proofs.OneTree.Fine.{at_many, at_end}
-use Rattle.jsx_tree.proofs.OneTree.Fine.{plain_leaf, tame, tames, spine_ok, Good, Fine, fine_leaf, fine_regexp, fine_piece, fine_node, fine_prop, fine_seq, fine_list, Fines, fine_part, calm_more, one_sign, in_is, no_piece, kin_free, leaf_reads}
+use Rattle.jsx_tree.proofs.OneTree.Fine.{tame, tames, spine_ok, Good, Fine, fine_leaf, fine_regexp, fine_piece, fine_node, fine_prop, fine_seq, fine_list, Fines, fine_part, calm_more, one_sign, in_is, no_piece, kin_free, leaf_reads}
 use Rattle.jsx_tree.proofs.OneTree.Spines.{home_of, at_kind, taken_scope, seq_is, node_spine, no_seq_here, home_spine, home_first}
 use Rattle.jsx_tree.proofs.OneTree.Next.{reach_seen, calm_at}
 

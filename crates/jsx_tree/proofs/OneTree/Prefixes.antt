@@ -25,7 +25,8 @@ use Rattle.jsx_tree.proofs.OneTree.Fine.{at_sign, at_part, at_end}
 use Rattle.jsx_tree.proofs.OneTree.Next.{unless_kept}
 use Rattle.jsx_tree.proofs.OneTree.Spines.{home_of}
 use Rattle.jsx_tree.proofs.OneTree.Statements.{for_stated}
-use Rattle.jsx_tree.proofs.OneTree.Parts.{known, kept, kepts, wordy, word_read, word_same}
+use Rattle.jsx_tree.proofs.OneTree.Known.{known, kept, kepts}
+use Rattle.jsx_tree.proofs.OneTree.Parts.{wordy, word_read, word_same}
 use Rattle.jsx_tree.proofs.OneTree.Wants.{Want, still, other, is_calm, implies, implied, meets, is_at, is_seen}
 use Rattle.jsx_tree.proofs.OneTree.Begins.{Front, token', expr', name', front, fits, front_fits, at_seen}
 use Rattle.jsx_tree.proofs.OneTree.Rows.{own_leaf, own_kind}

@@ -10,6 +10,7 @@ use Rattle.jsx_tree.specs.Reading.{Place, Lost, At, forth, is_backquote}
 use Rattle.jsx_tree.specs.Form.{leads, is_close}
 use Rattle.jsx_tree.specs.Walk.{is_found}
 use Rattle.jsx_tree.proofs.OneTree.Table.{code, scope}
+use Rattle.jsx_tree.proofs.OneTree.Sealed.{Sealed}
 
 -- ---- a row as reading goes along it
 
@@ -307,6 +308,7 @@ mutual
     target : {n : ℕ} {x p y z : Place} {t : Tree} → n ≤ 19 → forth (Tok Operator Punctuator (codes "(")) x ≡ p → IsTrue (is_found p) → Reads 17 p t y → IsTrue (calm 0 y) → forth (Tok Operator Punctuator (codes ")")) y ≡ z → IsTrue (is_found z) → Reads n x (node (function ParenTarget) (part t none)) z
     grow : {n : ℕ} {k : Kind} {x y z : Place} {t : Tree} {ts : Forest} → IsTrue (scope k) → IsTrue (grows k) → n ≤ level k → Reads n x t y → Walk (tail k) y ts z → Reads n x (node k (part t ts)) z
     arrow : {n : ℕ} {x y z : Place} {p : Tree} {ts : Forest} → n ≤ 1 → Walk parens x (part p none) y → Walk (tail (expression BareArrow)) y ts z → Reads n x (node (expression Arrow) (part p ts)) z
+    sealed : {n : ℕ} {k : Kind} {x y : Place} {cs : Forest} → n ≤ 19 → Sealed x k cs y → Reads n x (node k cs) y
     braces : {n : ℕ} {k : Kind} {x p y : Place} {ts : Forest} → n ≤ 19 → code k ≡ 54 → is_arrow k ≡ false → forth (Tok Operator Punctuator (codes "{")) x ≡ p → IsTrue (is_found p) → Props p ts y → Reads n x (node k (part (list ts) none)) y
 
   -- a property of a literal or a pattern

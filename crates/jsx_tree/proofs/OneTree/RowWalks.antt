@@ -1,4 +1,5 @@
 -- What the definitions read, with what may stand behind each part: rows and nodes.
+use Rattle.jsx_tree.proofs.OneTree.Known.{taken}
 use Rattle.std.proofs.Common.{◌≡◌, ℕ, ◌≤◌, zero, Bool, true, false, not, List, [], ◌∷◌, refl, sym, ◌∙◌, ap, subst, arith}
 use Rattle.std.specs.Prelude.{IsTrue, ◌&&◌, ◌||◌, nat_le}
 use Rattle.jsx_base.specs.Token.{Text, Operator, IdentifierName, Punctuator, NumericLiteral, BigIntLiteral, StringLiteral, NoSubstitution, Elision, among}
@@ -14,7 +15,7 @@ use Rattle.jsx_tree.specs.Walk.{is_found, IsRead, pieces}
 use Rattle.jsx_tree.proofs.Tokens.{and_left, and_right}
 use Rattle.jsx_tree.proofs.OneTree.Readings.{Step, lit, sub, many, row, tail_of, step_of, steps, holes, base, low, level, calm, Reads, head, paren, target, arrow, Walk, done, take, pass, literal, under, all, each, Items}
 use Rattle.jsx_tree.proofs.OneTree.Facts.{never, or_else, not_is, for_kind}
-use Rattle.jsx_tree.proofs.OneTree.Places.{first_of, kin, is_prop, is_brace, place_at, no_seq, no_hole, no_names, quiet, ended_at, ended_on, ends_over, ends_by, part_ok, closes, good_shape, holed, row_ok, taken}
+use Rattle.jsx_tree.proofs.OneTree.Places.{first_of, kin, is_prop, is_brace, place_at, no_seq, no_hole, no_names, quiet, ended_at, ended_on, ends_over, ends_by, part_ok, closes, good_shape, holed, row_ok}
 use Rattle.jsx_tree.proofs.OneTree.Fine.{at_sign, AtPart, at_part, at_many, at_end}
 use Rattle.jsx_tree.proofs.OneTree.Fine.{tame, tames, spine_ok, first_ok, Fine, fine_leaf, fine_regexp, fine_piece, fine_node, fine_prop, fine_seq, fine_list, Fines, fine_part, one_sign, in_is, no_piece}
 use Rattle.jsx_tree.proofs.OneTree.Spines.{home_of, at_kind, taken_scope, no_seq_here, home_spine, callee_spine, callee_calls}

@@ -28,7 +28,8 @@ use Rattle.jsx_tree.proofs.OneTree.Next.{unless_kept}
 use Rattle.jsx_tree.proofs.OneTree.Missing.{Behind, a_mark, a_brace, a_line, behind}
 use Rattle.jsx_tree.proofs.OneTree.Endings.{found_first}
 use Rattle.jsx_tree.proofs.OneTree.Afters.{after_tree}
-use Rattle.jsx_tree.proofs.OneTree.Parts.{kept, kepts, tame_of, whole_starts}
+use Rattle.jsx_tree.proofs.OneTree.Known.{kept, kepts}
+use Rattle.jsx_tree.proofs.OneTree.Parts.{tame_of, whole_starts}
 use Rattle.jsx_tree.proofs.OneTree.Wants.{Want, ended, other, is_calm, meets, is_at, looks, look_same, signed, follow, at_optional, read_start, mark}
 use Rattle.jsx_tree.proofs.OneTree.Begins.{fits, name', at_seen, ident_fits, is_listed, stop_of}
 use Rattle.jsx_tree.proofs.OneTree.Rows.{All, all_parts, Rest, rest_meets, is_whole, whole_is}

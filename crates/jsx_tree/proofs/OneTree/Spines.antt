@@ -1,4 +1,5 @@
 -- Down the left side of a tree the levels are those that its place asks.
+use Rattle.jsx_tree.proofs.OneTree.Known.{is_seq, taken}
 use Rattle.std.proofs.Common.{◌≡◌, ℕ, ◌≤◌, suc, Bool, true, false, not, cond, [], ◌∷◌, refl, sym, ◌∙◌, ap, subst, arith}
 use Rattle.std.specs.Prelude.{◌&&◌, ◌||◌, nat_le}
 use Rattle.std.proofs.lemmas.Bool.{le-leb}
@@ -10,7 +11,7 @@ use Rattle.jsx_tree.proofs.Tokens.{and_left, and_right, and_both}
 use Rattle.jsx_tree.proofs.OneTree.Table.{scope}
 use Rattle.jsx_tree.proofs.OneTree.Readings.{tail_of, base, level}
 use Rattle.jsx_tree.proofs.OneTree.Facts.{never, or_else, not_is, Test, yes', no', test, le_nat, for_kind}
-use Rattle.jsx_tree.proofs.OneTree.Places.{ending, first_of, kin, is_prop, is_brace, at_home, spine_check, place_at, place_ok, no_seq, no_hole, only_calls, ended_at, is_chain, row_ok, is_seq, taken, kind_ok, rows}
+use Rattle.jsx_tree.proofs.OneTree.Places.{ending, first_of, kin, is_prop, is_brace, at_home, spine_check, place_at, place_ok, no_seq, no_hole, only_calls, ended_at, is_chain, row_ok, kind_ok, rows}
 use Rattle.jsx_tree.proofs.OneTree.Fine.{tame, tames, spine_ok, first_ok}
 
 -- ---- spines

@@ -1,74 +1,10 @@
 -- The kinds of statements, and of what stands in them, in a list.
-use Rattle.std.specs.Prelude.{ℕ, zero, suc, List, [], ◌∷◌, Bool, true, false}
+use Rattle.jsx_tree.proofs.OneTree.Known.{stated}
+use Rattle.std.specs.Prelude.{ℕ, zero, suc, List, [], ◌∷◌, Bool, true}
 use Rattle.jsx_tree.specs.Kinds.{Script, Module, FunctionBody, Directive, ImportBare, Import, ImportAll, ImportList, ImportBoth, ExportAll, ExportAllAs, ExportDecl, ExportDefaultFn, ExportDefaultExpr, ExportNames, ExportFrom, Specifier, SpecifierAs, Imported, Exported, From, Var, VarWord, LetWord, ConstWord, Block, Declarator, Empty, ExprStmt, If, Do, While, For, ForDeclaration, ForIn, ForOf, ForBinding, Continue, Break, Return, Throw, Debugger, Label, Switch, Case, Default, Try, Catch, FunctionDecl, ClassDecl, InClass, Static, Method, Getter, Setter, Field, Kind, program, statement, function}
 use Rattle.std.proofs.Common.{◌≡◌, refl, subst}
 use Rattle.jsx_tree.proofs.OneTree.Checks.{every}
 use Rattle.jsx_tree.proofs.Tokens.{and_left, and_right}
-
-abbrev pub stated : Kind → Bool
-stated (program Script) = true
-stated (program Module) = true
-stated (program FunctionBody) = true
-stated (program Directive) = true
-stated (program ImportBare) = true
-stated (program Import) = true
-stated (program ImportAll) = true
-stated (program ImportList) = true
-stated (program ImportBoth) = true
-stated (program ExportAll) = true
-stated (program ExportAllAs) = true
-stated (program ExportDecl) = true
-stated (program ExportDefaultFn) = true
-stated (program ExportDefaultExpr) = true
-stated (program ExportNames) = true
-stated (program ExportFrom) = true
-stated (program (Specifier Imported)) = true
-stated (program (Specifier Exported)) = true
-stated (program (Specifier From)) = true
-stated (program (SpecifierAs Imported)) = true
-stated (program (SpecifierAs Exported)) = true
-stated (program (SpecifierAs From)) = true
-stated (statement Block) = true
-stated (statement (Var VarWord)) = true
-stated (statement (Var LetWord)) = true
-stated (statement (Var ConstWord)) = true
-stated (statement Declarator) = true
-stated (statement Empty) = true
-stated (statement ExprStmt) = true
-stated (statement If) = true
-stated (statement Do) = true
-stated (statement While) = true
-stated (statement Continue) = true
-stated (statement Break) = true
-stated (statement Return) = true
-stated (statement Throw) = true
-stated (statement Debugger) = true
-stated (statement Label) = true
-stated (statement Switch) = true
-stated (statement Case) = true
-stated (statement Default) = true
-stated (statement Try) = true
-stated (statement Catch) = true
-stated (statement FunctionDecl) = true
-stated (statement For) = true
-stated (statement (ForDeclaration VarWord)) = true
-stated (statement (ForDeclaration LetWord)) = true
-stated (statement (ForDeclaration ConstWord)) = true
-stated (statement ForIn) = true
-stated (statement ForOf) = true
-stated (statement (ForBinding VarWord)) = true
-stated (statement (ForBinding LetWord)) = true
-stated (statement (ForBinding ConstWord)) = true
-stated (statement ClassDecl) = true
-stated (function (Method InClass)) = true
-stated (function (Method Static)) = true
-stated (function (Getter InClass)) = true
-stated (function (Getter Static)) = true
-stated (function (Setter InClass)) = true
-stated (function (Setter Static)) = true
-stated (function (Field InClass)) = true
-stated (function (Field Static)) = true
-stated k = false
 
 abbrev pub place : Kind → ℕ
 place (program Script) = 0

@@ -1,4 +1,5 @@
 -- What the definitions read, with what may stand behind each part: templates.
+use Rattle.jsx_tree.proofs.OneTree.Known.{is_seq, taken, plain_leaf, is_piece}
 use Rattle.std.proofs.Common.{◌≡◌, Bool, true, false, List, [], ◌∷◌, refl, sym, ◌∙◌, ap, subst}
 use Rattle.std.specs.Prelude.{IsTrue, ◌&&◌, ◌||◌, nat_le, codes}
 use Rattle.jsx_base.specs.Token.{Text, TokenKind, IdentifierName, Punctuator, NumericLiteral, BigIntLiteral, StringLiteral, NoSubstitution, TemplateHead, TemplateMiddle, TemplateTail, Elision}
@@ -17,10 +18,10 @@ use Rattle.jsx_tree.proofs.OneTree.Table.{code}
 use Rattle.jsx_tree.proofs.OneTree.Readings.{Step, lit, spans, quoted, row, reach_of, calm, broken, Walk, done, literal, Spans, t_tail, t_more, is_tagged, is_span, brace}
 use Rattle.jsx_tree.proofs.OneTree.Readings.{filled, tagged}
 use Rattle.jsx_tree.proofs.OneTree.Facts.{never, Seen, took}
-use Rattle.jsx_tree.proofs.OneTree.Places.{is_prop, at_home, no_seq, tagged_home, span_home, free, is_seq, taken}
+use Rattle.jsx_tree.proofs.OneTree.Places.{is_prop, at_home, no_seq, tagged_home, span_home, free}
 use Rattle.jsx_tree.proofs.Rows.Bridge.{node_walk}
 use Rattle.jsx_tree.proofs.OneTree.Fine.{at_sign, at_part, at_many, at_end}
-use Rattle.jsx_tree.proofs.OneTree.Fine.{plain_leaf, is_piece, tame, tames, Fine, fine_leaf, fine_regexp, fine_piece, fine_node, fine_prop, fine_seq, fine_list, Fines, fine_part, one_sign, in_is, no_piece}
+use Rattle.jsx_tree.proofs.OneTree.Fine.{tame, tames, Fine, fine_leaf, fine_regexp, fine_piece, fine_node, fine_prop, fine_seq, fine_list, Fines, fine_part, one_sign, in_is, no_piece}
 use Rattle.jsx_tree.proofs.OneTree.Spines.{home_of, at_kind, taken_scope, no_seq_here}
 use Rattle.jsx_tree.proofs.OneTree.Placed.{whole_reads}
 

@@ -20,7 +20,7 @@ use Rattle.jsx_tree.specs.Program.{is_goal, Reads}
 use Rattle.jsx_tree.proofs.Tokens.{and_left, and_right}
 use Rattle.jsx_tree.specs.Walk as W
 use Rattle.jsx_tree.specs.Walk.{is_found, IsRead, IsNode}
-use Rattle.jsx_tree.proofs.OneTree.Statements.{stated, place, stated_kinds, nth}
+use Rattle.jsx_tree.proofs.OneTree.Statements.{place, stated_kinds, nth}
 use Rattle.jsx_tree.proofs.OneTree.Readings as R
 use Rattle.jsx_tree.proofs.OneTree.Readings.{Whole, single, several, calm, reach_of, kind_at, text_at, broken}
 use Rattle.jsx_tree.proofs.OneTree.Checks.{every}
@@ -39,7 +39,8 @@ use Rattle.jsx_tree.proofs.OneTree.Endings.{after, at_semi}
 use Rattle.jsx_tree.proofs.OneTree.Endings.{end_kind}
 use Rattle.jsx_tree.proofs.OneTree.Missing.{Behind, a_mark, a_brace, a_line, behind}
 use Rattle.jsx_tree.proofs.OneTree.Afters.{after_tok, after_tree}
-use Rattle.jsx_tree.proofs.OneTree.Parts.{known, kept, kepts, tame_of, SameAt, word_read}
+use Rattle.jsx_tree.proofs.OneTree.Known.{stated, known, kept, kepts}
+use Rattle.jsx_tree.proofs.OneTree.Parts.{tame_of, SameAt, word_read}
 use Rattle.jsx_tree.proofs.OneTree.Wants.{parted, idle, shutting, idle_at, meets, implied, mark, look_same}
 use Rattle.jsx_tree.proofs.OneTree.Begins.{is_own, want_of, front, front_fits}
 use Rattle.jsx_tree.proofs.OneTree.Rows.{One, Each, each_leaf, each_node, each_none, each_part, All, leafless, own_leaf, own_kind, clause_is, clause_clash}

@@ -22,10 +22,9 @@ use Rattle.jsx_tree.proofs.Laws.{scan_lost}
 use Rattle.jsx_tree.specs.Nonterminals.{Nonterminal, BlockOnly, homes, in_homes, leaf_in}
 use Rattle.jsx_tree.proofs.Rows.Bridge.{node_walk}
 use Rattle.jsx_tree.proofs.OneTree.Table.{kinds}
-use Rattle.jsx_tree.proofs.OneTree.Statements.{stated, place, stated_kinds, nth}
+use Rattle.jsx_tree.proofs.OneTree.Statements.{place, stated_kinds, nth}
 use Rattle.jsx_tree.proofs.OneTree.Statements.{stated_nth, for_stated}
-use Rattle.jsx_tree.proofs.OneTree.Places.{taken, is_seq}
-use Rattle.jsx_tree.proofs.OneTree.Parts.{known, kept, kepts}
+use Rattle.jsx_tree.proofs.OneTree.Known.{stated, taken, is_seq, known, kept, kepts}
 use Rattle.jsx_tree.specs.Spelling.{spelled}
 
 abbrev pub mark : Text → Sign

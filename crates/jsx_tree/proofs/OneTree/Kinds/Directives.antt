@@ -1,4 +1,5 @@
 -- Two readings of directives and what stands behind them are one: no statement is a string alone where a directive might stand.
+use Rattle.jsx_tree.proofs.OneTree.Known.{stated, known, kept, kepts}
 use Rattle.std.proofs.Common.{◌≡◌, Bool, true, false, not, List, [], ◌∷◌, refl, sym, ◌∙◌, ap, subst}
 use Rattle.std.specs.Prelude.{IsTrue, ◌||◌, nat_eq}
 use Rattle.jsx_base.specs.Token.{Text, Operator, TokenKind, StringLiteral, kind_number}
@@ -24,9 +25,10 @@ use Rattle.jsx_tree.proofs.OneTree.Chains.{fine}
 use Rattle.jsx_tree.proofs.OneTree.Turn.{tree_same}
 use Rattle.jsx_tree.proofs.OneTree.Endings.{at_semi}
 use Rattle.jsx_tree.proofs.OneTree.Afters.{after_tok, after_tree}
-use Rattle.jsx_tree.proofs.OneTree.Statements.{stated, place, stated_kinds, nth}
+use Rattle.jsx_tree.proofs.OneTree.Statements.{place, stated_kinds, nth}
 use Rattle.jsx_tree.proofs.OneTree.Statements.{stated_nth, for_stated}
-use Rattle.jsx_tree.proofs.OneTree.Parts.{known, kept, kepts, tame_of, word_read}
+use Rattle.jsx_tree.proofs.OneTree.Kept.{tame_kept}
+use Rattle.jsx_tree.proofs.OneTree.Parts.{tame_of, word_read}
 use Rattle.jsx_tree.proofs.OneTree.Wants.{idle, meets, idle_at, is_seen, look_same}
 use Rattle.jsx_tree.proofs.OneTree.Begins.{want_of, stop_of, Front, token', expr', name', key', unknown, front, fits, front_fits, is_listed}
 use Rattle.jsx_tree.proofs.OneTree.Rows.{All, all_parts, own_leaf, own_kind, own_same}
@@ -117,7 +119,7 @@ string_alone {x = x} cs h n d =
     let w = whole_reads p.tree (fine p.tree i) i p.read c in
     let a : Reads 1 x (leaf StringLiteral d.text) d.next = word refl d.moves d.found in
     let o = one_whole (single a (at_semi d.next (after_tok Operator StringLiteral d.text x d.moves d.found) d.semi)) (subst (λ z. Whole z p.tree p.next) (sym back) w) in
-    let e : leaf StringLiteral d.text ≡ p.tree = tree_same (leaf StringLiteral d.text) p.tree (Expr 0) refl i (and_both true _ refl d.is_text) p.read.is o.tree in
+    let e : leaf StringLiteral d.text ≡ p.tree = tree_same (leaf StringLiteral d.text) p.tree (Expr 0) refl (tame_kept p.tree i) (and_both true _ refl d.is_text) p.read.is o.tree in
     subst (λ cs. is_string_stmt (node (statement ExprStmt) cs) ≡ true) (sym (p.is ∙ (λ i. part (sym e i) (z.0 i)))) refl
 
 told_kind : {x : Place} → Told x → kind_at x ≡ 4

@@ -13,7 +13,7 @@ use Rattle.jsx_tree.proofs.Tokens.{and_left, and_right}
 use Rattle.jsx_tree.specs.Walk as W
 use Rattle.jsx_tree.specs.Walk.{is_found, IsRead, IsNode}
 use Rattle.jsx_tree.proofs.Rows.Bridge.{node_walk}
-use Rattle.jsx_tree.proofs.OneTree.Statements.{stated, stated_kinds, for_stated}
+use Rattle.jsx_tree.proofs.OneTree.Statements.{stated_kinds, for_stated}
 use Rattle.jsx_tree.proofs.OneTree.Readings.{kind_at, text_at, comma}
 use Rattle.jsx_tree.proofs.OneTree.Checks.{every, same_token}
 use Rattle.jsx_tree.proofs.OneTree.Facts.{never, or_else, eq_nat, Seen, took}
@@ -21,7 +21,8 @@ use Rattle.jsx_tree.proofs.OneTree.Fine.{at_sign, at_part, at_many, at_end}
 use Rattle.jsx_tree.proofs.OneTree.Spines.{home_of}
 use Rattle.jsx_tree.proofs.OneTree.Placed.{trail}
 use Rattle.jsx_tree.proofs.OneTree.Missing.{Behind, a_mark, a_brace, a_line, behind}
-use Rattle.jsx_tree.proofs.OneTree.Parts.{known, kept, kepts, wordy, word_read, word_same}
+use Rattle.jsx_tree.proofs.OneTree.Known.{stated, known, kept, kepts}
+use Rattle.jsx_tree.proofs.OneTree.Parts.{wordy, word_read, word_same}
 use Rattle.jsx_tree.proofs.OneTree.Wants.{parted, meets}
 use Rattle.jsx_tree.proofs.OneTree.Rows.{own_leaf, own_kind}
 use Rattle.jsx_tree.proofs.OneTree.Lists.{move_items}

@@ -25,7 +25,8 @@ use Rattle.jsx_tree.proofs.OneTree.Fine.{at_sign, at_part, at_many, at_end}
 use Rattle.jsx_tree.proofs.OneTree.Spines.{home_of}
 use Rattle.jsx_tree.proofs.OneTree.Placed.{whole_reads, tree_reads, hole_free}
 use Rattle.jsx_tree.proofs.OneTree.Chains.{fine}
-use Rattle.jsx_tree.proofs.OneTree.Parts.{known, kept, kepts, tame_of}
+use Rattle.jsx_tree.proofs.OneTree.Known.{known, kept, kepts}
+use Rattle.jsx_tree.proofs.OneTree.Parts.{tame_of}
 use Rattle.jsx_tree.proofs.OneTree.Wants.{ended, mark, met, look_met, look_same, read_start, at_optional}
 use Rattle.jsx_tree.proofs.OneTree.Rows.{own_leaf, own_kind, pattern_part}
 use Rattle.jsx_tree.proofs.OneTree.Kinds.Declarators.{declarator_kind, after_comma, items_start}

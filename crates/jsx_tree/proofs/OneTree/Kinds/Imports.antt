@@ -14,7 +14,9 @@ use Rattle.jsx_tree.proofs.Tokens.{and_left, and_right, same_is}
 use Rattle.jsx_tree.specs.Walk as W
 use Rattle.jsx_tree.specs.Walk.{is_found, IsRead, IsNode}
 use Rattle.jsx_tree.proofs.OneTree.Table.{kinds}
-use Rattle.jsx_tree.proofs.OneTree.Readings.{Step, tok, lit, row, grows, is_arrow, is_paren, is_quote, may_be, kind_at, text_at, Reads, word, regexp, head, paren, target, grow, arrow, braces, Walk, take, literal, Whole, single, several}
+use Rattle.jsx_tree.proofs.OneTree.Readings.{Step, tok, lit, row, grows, is_arrow, is_paren, is_quote, may_be, kind_at, text_at, Reads, word, regexp, head, paren, target, grow, arrow, sealed, braces, Walk, take, literal, Whole, single, several}
+use Rattle.jsx_tree.proofs.OneTree.Sealed.{Opener, of_function, of_class}
+use Rattle.jsx_tree.proofs.OneTree.Starting.{opener_seen}
 use Rattle.jsx_tree.proofs.OneTree.Checks.{every, is_op, same_token}
 use Rattle.jsx_tree.proofs.OneTree.Facts.{never, or_else, eq_nat, kind_is, Seen, took, took_in, same_seen, for_kind, found_at}
 use Rattle.jsx_tree.proofs.OneTree.Slashes.{regexp_slash}
@@ -24,7 +26,8 @@ use Rattle.jsx_tree.proofs.OneTree.Placed.{whole_reads}
 use Rattle.jsx_tree.proofs.OneTree.Chains.{fine}
 use Rattle.jsx_tree.proofs.OneTree.Endings.{at_semi}
 use Rattle.jsx_tree.proofs.OneTree.Afters.{after_tree}
-use Rattle.jsx_tree.proofs.OneTree.Parts.{kept, kepts, tame_of, word_read}
+use Rattle.jsx_tree.proofs.OneTree.Known.{kept, kepts}
+use Rattle.jsx_tree.proofs.OneTree.Parts.{tame_of, word_read}
 use Rattle.jsx_tree.proofs.OneTree.Wants.{look_same}
 use Rattle.jsx_tree.proofs.OneTree.Rows.{calls_on, clause_first}
 
@@ -78,6 +81,10 @@ word_import BigIntLiteral t a k e = never (nat_eq 3 0) (ap (λ n. nat_eq n 0) k)
 word_import StringLiteral t a k e = never (nat_eq 4 0) (ap (λ n. nat_eq n 0) k) refl
 word_import _ t a k e = cc
 
+opener_import : {x p : Place} {w : Text} → Opener w → Seen x IdentifierName w → Import x p → ⊥
+opener_import of_function s i = no_import s refl i
+opener_import of_class s i = no_import s refl i
+
 -- an expression that begins with the word
 reads_calls : {n : ℕ} {x y p : Place} {t : Tree} → Reads n x t y → Import x p → calls_on p ≡ true
 reads_calls (word {s = s} {t = t} {x = x} a e f) i =
@@ -85,6 +92,7 @@ reads_calls (word {s = s} {t = t} {x = x} a e f) i =
     absurd (word_import s t a (sym r.kind ∙ (import_seen i).kind) (sym r.text ∙ (import_seen i).text))
 reads_calls (regexp {t = t} {x = x} e f) i = absurd (never (nat_eq 1 0) (ap (λ n. nat_eq n 0) (sym (regexp_slash t x (found_at e f)).kind ∙ (import_seen i).kind)) refl)
 reads_calls (head {k = k} s a q l d w) i = row_calls w (or_else (is_paren k) _ (or_else (is_arrow k) _ (or_else (grows k) _ (for_kind imports_ok import_rows k s) d) a) q) i
+reads_calls (sealed {x = x} l s) i = absurd (opener_import s.opener (opener_seen x s) i)
 reads_calls (braces {x = x} l c a e f p) i = absurd (no_import (took Punctuator (codes "{") x e f) refl i)
 reads_calls (paren {x = x} l e f a g h) i = absurd (no_import (took Punctuator (codes "(") x e f) refl i)
 reads_calls (target {x = x} l e f r c g h) i = absurd (no_import (took Punctuator (codes "(") x e f) refl i)

@@ -1,4 +1,5 @@
 -- What a `for` begins with: declarations, or an expression; a name that is bound, or a target.
+use Rattle.jsx_tree.proofs.OneTree.Known.{known, kept, kepts}
 use Rattle.std.proofs.Common.{◌≡◌, Bool, true, false, not, List, [], ◌∷◌, refl, sym, ◌∙◌, ap, subst, arith}
 use Rattle.std.specs.Prelude.{IsTrue, ◌&&◌, ◌||◌, codes}
 use Rattle.jsx_base.specs.Token.{Text, Operator, TokenKind, IdentifierName, NumericLiteral, BigIntLiteral, StringLiteral, RegExpLiteral, Punctuator, same}
@@ -22,7 +23,8 @@ use Rattle.jsx_tree.proofs.OneTree.Pairs.{two_tokens}
 use Rattle.jsx_tree.proofs.OneTree.Fine.{at_sign, at_part, at_many, at_end}
 use Rattle.jsx_tree.proofs.OneTree.Spines.{home_of}
 use Rattle.jsx_tree.proofs.OneTree.Placed.{Placed}
-use Rattle.jsx_tree.proofs.OneTree.Parts.{Which, a_statement, a_taken, a_seq, which, re_home, known, kept, kepts, tame_of, SameAt, expr_same, expr_starts, whole_same, whole_starts}
+use Rattle.jsx_tree.proofs.OneTree.Kept.{Which, a_statement, a_taken, a_seq, which}
+use Rattle.jsx_tree.proofs.OneTree.Parts.{re_home, tame_of, SameAt, expr_same, expr_starts, whole_same, whole_starts}
 use Rattle.jsx_tree.proofs.OneTree.Wants.{Want, mark, signed, calm_next, next_calm}
 use Rattle.jsx_tree.proofs.OneTree.Rows.{Each, each_all, All, all_parts, Rest, is_whole, whole_is, pattern_part, part_good, part_same}
 use Rattle.jsx_tree.proofs.OneTree.Lists.{move_items}

@@ -1,4 +1,5 @@
 -- Two readings of one key from one place are one.
+use Rattle.jsx_tree.proofs.OneTree.Known.{known, kept, kepts}
 use Rattle.std.proofs.Common.{◌≡◌, ℕ, Bool, true, false, not, [], ◌∷◌, refl, sym, ◌∙◌, ap, subst, arith}
 use Rattle.std.specs.Prelude.{IsTrue, ◌&&◌, ◌||◌, nat_eq, nat_le, codes}
 use Rattle.jsx_base.specs.Token.{Text, Operator, TokenKind, IdentifierName, NumericLiteral, BigIntLiteral, StringLiteral, Punctuator, kind_number, same}
@@ -22,7 +23,8 @@ use Rattle.jsx_tree.proofs.OneTree.Places.{is_key}
 use Rattle.jsx_tree.proofs.OneTree.Fine.{one_sign, at_sign, at_part, at_end}
 use Rattle.jsx_tree.proofs.OneTree.Spines.{home_of}
 use Rattle.jsx_tree.proofs.OneTree.Placed.{one_placed}
-use Rattle.jsx_tree.proofs.OneTree.Parts.{Which, a_statement, a_taken, a_seq, which, known, kept, kepts, tame_of, stated_home, SameAt, expr_same, word_same}
+use Rattle.jsx_tree.proofs.OneTree.Kept.{Which, a_statement, a_taken, a_seq, which}
+use Rattle.jsx_tree.proofs.OneTree.Parts.{tame_of, stated_home, SameAt, expr_same, word_same}
 
 -- what a key begins with: a token's kind, by its number, and text
 abbrev pub key_at : ℕ → Text → Bool

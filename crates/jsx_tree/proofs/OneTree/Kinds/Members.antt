@@ -1,4 +1,5 @@
 -- Members of a class: the words `static`, `get` and `set` stand before a key, or are one.
+use Rattle.jsx_tree.proofs.OneTree.Known.{known, kept, kepts}
 use Rattle.std.proofs.Common.{◌≡◌, ℕ, Bool, true, false, not, List, [], ◌∷◌, refl, sym, ◌∙◌, ap, subst, arith}
 use Rattle.std.specs.Prelude.{IsTrue, ◌&&◌, ◌||◌, nat_eq, codes}
 use Rattle.jsx_base.specs.Token.{Text, Operator, Mode, TokenKind, IdentifierName, Punctuator, same, among, breaks, is_token, token}
@@ -21,7 +22,8 @@ use Rattle.jsx_tree.proofs.OneTree.Fine.{at_sign, at_part}
 use Rattle.jsx_tree.proofs.OneTree.Spines.{home_of}
 use Rattle.jsx_tree.proofs.OneTree.Placed.{Placed}
 use Rattle.jsx_tree.proofs.OneTree.Missing.{Behind, a_mark, a_brace, a_line, behind}
-use Rattle.jsx_tree.proofs.OneTree.Parts.{Which, a_statement, a_taken, a_seq, which, re_home, known, kept, kepts, tame_of, stated_home, SameAt, expr_same}
+use Rattle.jsx_tree.proofs.OneTree.Kept.{Which, a_statement, a_taken, a_seq, which}
+use Rattle.jsx_tree.proofs.OneTree.Parts.{re_home, tame_of, stated_home, SameAt, expr_same}
 use Rattle.jsx_tree.proofs.OneTree.Wants.{Want, look_same, read_start, at_optional, calm_next, next_calm}
 use Rattle.jsx_tree.proofs.OneTree.Rows.{Rest}
 use Rattle.jsx_tree.proofs.OneTree.Lists.{param_same}

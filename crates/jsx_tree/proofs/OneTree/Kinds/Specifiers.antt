@@ -23,7 +23,8 @@ use Rattle.jsx_tree.proofs.OneTree.Pairs.{two_tokens}
 use Rattle.jsx_tree.proofs.OneTree.Fine.{at_part}
 use Rattle.jsx_tree.proofs.OneTree.Spines.{home_of}
 use Rattle.jsx_tree.proofs.OneTree.Placed.{Trail, with_comma, without, trail}
-use Rattle.jsx_tree.proofs.OneTree.Parts.{known, kept, kepts, wordy, word_read}
+use Rattle.jsx_tree.proofs.OneTree.Known.{known, kept, kepts}
+use Rattle.jsx_tree.proofs.OneTree.Parts.{wordy, word_read}
 use Rattle.jsx_tree.proofs.OneTree.Wants.{parted, meets, look_met, read_start}
 use Rattle.jsx_tree.proofs.OneTree.Rows.{All, all_parts, own_leaf, own_kind, own_same}
 use Rattle.jsx_tree.proofs.OneTree.Lists.{SameRow, move_items}
