@@ -13,6 +13,7 @@ mod Pairs
 mod Agreeing
 mod Places
 mod Fine
+mod Evidence
 mod Spines
 mod Next
 mod Placed

@@ -1,17 +1,10 @@
 -- The trees of which a text is proved to have one at most: all but those with a kind that is named here.
 use Rattle.std.specs.Prelude.{Bool, true, false, ◌&&◌}
 use Rattle.jsx_base.specs.Token.{TokenKind, JsxName, JsxString, JsxText}
-use Rattle.jsx_tree.specs.Kinds.{ProgramKind, ExportDefaultClass, InObject, FunctionKind, FunctionExpr, ClassExpr, Method, Getter, Setter, ExpressionKind, ArrowBlock, BareArrowBlock, Kind, program, statement, function, expression, jsx, Tree, leaf, node, list, Forest, none, part}
+use Rattle.jsx_tree.specs.Kinds.{InObject, FunctionKind, Method, Getter, Setter, ExpressionKind, ArrowBlock, BareArrowBlock, Kind, program, statement, function, expression, jsx, Tree, leaf, node, list, Forest, none, part}
 
--- not yet: a class that is exported as the default
-abbrev pub decides_program : ProgramKind → Bool
-decides_program ExportDefaultClass = false
-decides_program k = true
-
--- not yet: functions, classes and methods inside of expressions
+-- not yet: methods inside of expressions
 abbrev pub decides_function : FunctionKind → Bool
-decides_function FunctionExpr = false
-decides_function ClassExpr = false
 decides_function (Method InObject) = false
 decides_function (Getter InObject) = false
 decides_function (Setter InObject) = false
@@ -24,7 +17,7 @@ decides_expression BareArrowBlock = false
 decides_expression k = true
 
 abbrev pub decides : Kind → Bool
-decides (program k) = decides_program k
+decides (program k) = true
 decides (statement k) = true
 decides (function k) = decides_function k
 decides (expression k) = decides_expression k

@@ -22,7 +22,7 @@ use Rattle.jsx_tree.proofs.OneTree.Fine.{at_sign, at_part}
 use Rattle.jsx_tree.proofs.OneTree.Next.{unless_kept}
 use Rattle.jsx_tree.proofs.OneTree.Kinds.Keys.{key_at, key_first, key_view}
 use Rattle.jsx_tree.proofs.OneTree.Afters.{after_tree}
-use Rattle.jsx_tree.proofs.OneTree.Known.{kept, kepts}
+use Rattle.jsx_tree.proofs.OneTree.Evidence.{Kept, Kepts, kept_left, kept_right}
 use Rattle.jsx_tree.proofs.OneTree.Parts.{tame_of, whole_starts, word_read}
 use Rattle.jsx_tree.proofs.OneTree.Wants.{Want, parted, anything, ended, still, idle, shutting, declared, other, meets, met, still_at, shutting_at, idle_at, is_look, look_met, is_at, is_seen, follow, follow_meets}
 
@@ -97,7 +97,7 @@ ident_leaf : (s : TokenKind) (t : Text) (x : Place) → leaf_in Ident s t ≡ tr
 ident_leaf IdentifierName t x h s = and_both (nat_eq (kind_at x) 0) (is_ident (text_at x)) (eq-eqb (kind_at x) 0 s.kind) (subst (λ u. is_ident u ≡ true) (sym s.text) h)
 ident_leaf _ t x h s = cc
 
-pub ident_fits : {v : Surroundings} {x y : Place} (t : Tree) → kept t ≡ true → IsRead v false Ident x t y → fits name' x ≡ true
+pub ident_fits : {v : Surroundings} {x y : Place} (t : Tree) → Kept t → IsRead v false Ident x t y → fits name' x ≡ true
 ident_fits {v} {x} {y} t h r =
     let w = word_read Ident t refl h r in
     ident_leaf w.kind w.text x (and_left (leaf_in Ident w.kind w.text) _ (subst (λ t. is Ident t ≡ true) w.is_leaf r.is)) (took w.kind w.text x w.moves w.found)
@@ -106,16 +106,16 @@ bound_leaf : (s : TokenKind) (t : Text) (x : Place) → leaf_in BindingIdent s t
 bound_leaf IdentifierName t x h s = and_both (nat_eq (kind_at x) 0) (is_ident (text_at x)) (eq-eqb (kind_at x) 0 s.kind) (subst (λ u. is_ident u ≡ true) (sym s.text) (and_left (is_ident t) _ h))
 bound_leaf _ t x h s = cc
 
-pub bound_fits : {v : Surroundings} {x y : Place} (t : Tree) → kept t ≡ true → IsRead v false BindingIdent x t y → fits name' x ≡ true
+pub bound_fits : {v : Surroundings} {x y : Place} (t : Tree) → Kept t → IsRead v false BindingIdent x t y → fits name' x ≡ true
 bound_fits {v} {x} {y} t h r =
     let w = word_read BindingIdent t refl h r in
     bound_leaf w.kind w.text x (and_left (leaf_in BindingIdent w.kind w.text) _ (subst (λ t. is BindingIdent t ≡ true) w.is_leaf r.is)) (took w.kind w.text x w.moves w.found)
 
-pub front_fits : {V : List Context → Surroundings} (e : Want) (ps : Production) (a : List Context) {x z : Place} {ts : Forest} → W.Walk IsRead V (pieces a ps) x ts z → kepts ts ≡ true → meets e z ≡ true → fits (front e ps) x ≡ true
+pub front_fits : {V : List Context → Surroundings} (e : Want) (ps : Production) (a : List Context) {x z : Place} {ts : Forest} → W.Walk IsRead V (pieces a ps) x ts z → Kepts ts → meets e z ≡ true → fits (front e ps) x ≡ true
 front_fits e (Fixed (Tok Operator k t) ∷ ps) a {x} w h m = let s = at_sign w in at_seen (took k t x s.moves s.found)
 front_fits e (Fixed Count ∷ ps) a w h m = front_fits e ps a w h m
 front_fits e (Fixed One ∷ ps) a w h m = front_fits e ps a w h m
-front_fits e (Part Key ∷ ps) a w h m = let p = at_part w in key_first (key_view p.tree (and_left (kept p.tree) _ (subst (λ ts. kepts ts ≡ true) p.is h)) p.read)
+front_fits e (Part Key ∷ ps) a w h m = let p = at_part w in key_first (key_view p.tree (kept_left (subst Kepts p.is h)) p.read)
 front_fits {V} e (Fixed (Unless us) ∷ Part (Expr zero) ∷ ps) a {x} {z} {ts} w h m = by_follow (test (not (among [] us) && follow e ps (ended 0)))
   where
     by_follow : Test (not (among [] us) && follow e ps (ended 0)) → fits (cond (not (among [] us) && follow e ps (ended 0)) (expr' us) unknown) x ≡ true
@@ -124,12 +124,12 @@ front_fits {V} e (Fixed (Unless us) ∷ Part (Expr zero) ∷ ps) a {x} {z} {ts} 
         let s = at_sign w in
         let k = unless_kept us x s.next (not_is (among [] us) (and_left (not (among [] us)) _ g)) s.moves s.found in
         let p = at_part s.walk in
-        let i = tame_of p.tree (Expr 0) refl (and_left (kept p.tree) _ (subst (λ ts. kepts ts ≡ true) p.is h)) p.read.is in
-        let c = follow_meets e ps (ended 0) a (and_right (not (among [] us)) _ g) (λ _. after_tree p.tree (Expr 0) i refl p.read) p.walk (and_right (kept p.tree) _ (subst (λ ts. kepts ts ≡ true) p.is h)) m in
+        let i = tame_of p.tree (Expr 0) refl (kept_left (subst Kepts p.is h)) p.read.is in
+        let c = follow_meets e ps (ended 0) a (and_right (not (among [] us)) _ g) (λ _. after_tree p.tree (Expr 0) i refl p.read) p.walk (kept_right (subst Kepts p.is h)) m in
         let b : starts (kind_at x) (text_at x) ≡ true = subst (λ z. starts (kind_at z) (text_at z) ≡ true) (sym k.place) (whole_starts p.tree i p.read c) in
         (λ j. fits (cond (g j) (expr' us) unknown) x) ∙ and_both (starts (kind_at x) (text_at x)) (not (among (text_at x) us)) b k.held
-front_fits e (Part Ident ∷ ps) a w h m = let p = at_part w in ident_fits p.tree (and_left (kept p.tree) _ (subst (λ ts. kepts ts ≡ true) p.is h)) p.read
-front_fits e (Part BindingIdent ∷ ps) a w h m = let p = at_part w in bound_fits p.tree (and_left (kept p.tree) _ (subst (λ ts. kepts ts ≡ true) p.is h)) p.read
+front_fits e (Part Ident ∷ ps) a w h m = let p = at_part w in ident_fits p.tree (kept_left (subst Kepts p.is h)) p.read
+front_fits e (Part BindingIdent ∷ ps) a w h m = let p = at_part w in bound_fits p.tree (kept_left (subst Kepts p.is h)) p.read
 front_fits e _ a w h m = refl
 
 -- ---- what a front says

@@ -1,5 +1,5 @@
 -- What the definitions read, with what may stand behind each part: properties in braces.
-use Rattle.jsx_tree.proofs.OneTree.Known.{is_seq, taken, plain_leaf}
+use Rattle.jsx_tree.proofs.OneTree.Known.{taken, plain_leaf}
 use Rattle.std.proofs.Common.{◌≡◌, ℕ, ◌≤◌, Bool, true, false, not, List, [], ◌∷◌, refl, sym, ◌∙◌, ap, subst}
 use Rattle.std.specs.Prelude.{IsTrue, ◌&&◌, ◌||◌, nat_le, codes}
 use Rattle.jsx_base.specs.Token.{Text, Operator, TokenKind, IdentifierName, Punctuator, NumericLiteral, BigIntLiteral, StringLiteral, RegExpLiteral, Elision}
@@ -21,8 +21,8 @@ use Rattle.jsx_tree.proofs.OneTree.Facts.{never, or_else, not_is, Test, yes', no
 use Rattle.jsx_tree.proofs.OneTree.Places.{is_prop, is_key, is_brace, at_home, no_seq, no_hole, is_inner, free}
 use Rattle.jsx_tree.proofs.Rows.Bridge.{node_walk}
 use Rattle.jsx_tree.proofs.OneTree.Fine.{at_sign, at_part, at_many, at_end}
-use Rattle.jsx_tree.proofs.OneTree.Fine.{tame, tames, Good, Fine, fine_leaf, fine_regexp, fine_piece, fine_node, fine_prop, fine_seq, fine_list, Fines, fine_part, one_sign, in_is, no_piece, leaf_reads}
-use Rattle.jsx_tree.proofs.OneTree.Spines.{home_of, at_kind, taken_scope, no_seq_here}
+use Rattle.jsx_tree.proofs.OneTree.Fine.{tame, tames, tames_of, Good, Fine, fine_leaf, fine_regexp, fine_piece, fine_node, fine_prop, fine_seq, fine_sealed, fine_list, Fines, fine_part, one_sign, in_is, no_piece, leaf_reads}
+use Rattle.jsx_tree.proofs.OneTree.Spines.{absent, no_sealed, home_of, at_kind, taken_scope, no_seq_here}
 use Rattle.jsx_tree.proofs.OneTree.Next.{unless_kept, calm_at}
 use Rattle.jsx_tree.proofs.OneTree.Placed.{Placed, no_elision, hole_free, regexp_reads, tree_reads, comma_calm, Trail, with_comma, without, trail, close_reach, comma_space, found_start, one_placed, list_fines}
 use Rattle.jsx_tree.proofs.OneTree.Templates.{template_walk}
@@ -58,6 +58,7 @@ key_leaf nk (fine_leaf {s = Elision} p) r = let bad = in_is r in cc
 key_leaf nk (fine_leaf {s = s} p) r = cc
 key_leaf nk (fine_piece {s = s} {t = t} p) r = absurd (no_piece Key s t refl p (in_is r))
 key_leaf nk (fine_regexp) r = let bad = in_is r in cc
+key_leaf nk (fine_sealed {k = k} {cs = cs} s f) r = absurd (no_sealed Key k cs s refl r.is)
 key_leaf nk (fine_list f) r = let bad = r.is in cc
 key_leaf nk (fine_seq {k = k} {cs = cs} s f) r = absurd (no_seq_here Key k cs s refl r.is)
 key_leaf nk (fine_node {k = k} {cs = cs} t np g) r =
@@ -95,7 +96,7 @@ key_at {v} {x} {y} (fine_prop {k = k} {cs = cs} t p g) m r = by_case (test (is_k
   where
     by_case : Test (is_key k) → KeyAt x (node k cs) y
     by_case (no' n) = by_leaf (key_leaf n (fine_prop t p g) r)
-    by_case (yes' b) = subst (λ k. KeyAt x (node k cs) y) (sym (key_is k b)) (computed_key cs g (and_right (taken k || is_seq k) (tames cs) m) (subst (λ k. IsRead v false Key x (node k cs) y) (key_is k b) r))
+    by_case (yes' b) = subst (λ k. KeyAt x (node k cs) y) (sym (key_is k b)) (computed_key cs g (tames_of k cs t m) (subst (λ k. IsRead v false Key x (node k cs) y) (key_is k b) r))
 key_at {v} {x} {y} (fine_node {k = k} {cs = cs} t p g) m r = by_leaf (key_leaf (no_key k p) (fine_node t p g) r)
   where
     no_key : (k : Kind) → is_prop k ≡ false → is_key k ≡ false
@@ -107,6 +108,7 @@ key_at {v} {x} {y} (fine_node {k = k} {cs = cs} t p g) m r = by_leaf (key_leaf (
 key_at (fine_piece p) m r = by_leaf (key_leaf refl (fine_piece p) r)
 key_at (fine_regexp) m r = by_leaf (key_leaf refl fine_regexp r)
 key_at (fine_leaf p) m r = by_leaf (key_leaf refl (fine_leaf p) r)
+key_at (fine_sealed {k = k} {cs = cs} s f) m r = absurd (no_sealed Key k cs s refl r.is)
 key_at (fine_list f) m r = by_leaf (key_leaf refl (fine_list f) r)
 key_at (fine_seq {k = k} {cs = cs} s f) m r = absurd (no_seq_here Key k cs s refl r.is)
 
@@ -119,6 +121,11 @@ name_home : (c : Nonterminal) (k : Kind) → is_name_place c ≡ true → taken 
 name_home Ident k n t = not_is _ (and_left (not (in_homes Ident (homes k))) _ (and_right (is_key k || not (in_homes Key (homes k))) _ (for_kind (λ l. (is_key l || not (in_homes Key (homes l))) && (not (in_homes Ident (homes l)) && not (in_homes BindingIdent (homes l)))) no_keys k (taken_scope k t))))
 name_home BindingIdent k n t = not_is _ (and_right (not (in_homes Ident (homes k))) _ (and_right (is_key k || not (in_homes Key (homes k))) _ (for_kind (λ l. (is_key l || not (in_homes Key (homes l))) && (not (in_homes Ident (homes l)) && not (in_homes BindingIdent (homes l)))) no_keys k (taken_scope k t))))
 name_home _ k n t = cc
+
+name_absent : (c : Nonterminal) → is_name_place c ≡ true → absent c ≡ true
+name_absent Ident n = refl
+name_absent BindingIdent n = refl
+name_absent _ n = cc
 
 name_seq : (c : Nonterminal) → is_name_place c ≡ true → no_seq c ≡ true
 name_seq Ident n = refl
@@ -157,6 +164,7 @@ name_leaf c n (fine_leaf {s = Elision} {t = t} p) r = absurd (other_leaf c Elisi
 name_leaf c n (fine_leaf {s = s} p) r = cc
 name_leaf c n (fine_piece {s = s} {t = t} p) r = absurd (no_piece c s t (name_free c n) p (in_is r))
 name_leaf c n (fine_regexp {t = t}) r = absurd (name_regexp c t n (in_is r))
+name_leaf c n (fine_sealed {k = k} {cs = cs} s f) r = absurd (no_sealed c k cs s (name_absent c n) r.is)
 name_leaf c n (fine_list f) r = let bad = r.is in cc
 name_leaf c n (fine_seq {k = k} {cs = cs} s f) r = absurd (no_seq_here c k cs s (name_seq c n) r.is)
 name_leaf c n (fine_node {k = k} {cs = cs} t np g) r = absurd (never _ (home_of c k cs (and_left (admits c (node k cs)) (fits_below c (node k cs)) r.is)) (name_home c k n t))
@@ -248,6 +256,7 @@ rest_reads k {x = x} {y} cs d o f w q =
     name_reads (fine_leaf {s = s} {t = t} p) r = leaf_reads 1 s t r refl p (no_elision BindingIdent s t refl (in_is r))
     name_reads (fine_piece {s = s} {t = t} p) r = absurd (no_piece BindingIdent s t refl p (in_is r))
     name_reads (fine_regexp {t = t}) r = regexp_reads 1 t r
+    name_reads (fine_sealed {k = k} {cs = cs} s f) r = absurd (no_sealed BindingIdent k cs s refl r.is)
     name_reads (fine_list f) r = let bad = r.is in cc
     name_reads (fine_seq {k = k} {cs = cs} s f) r = absurd (no_seq_here BindingIdent k cs s refl r.is)
     name_reads (fine_node {k = k} {cs = cs} t np g) r = absurd (never _ (home_of BindingIdent k cs (and_left (admits BindingIdent (node k cs)) (fits_below BindingIdent (node k cs)) r.is)) (name_home BindingIdent k refl t))
@@ -321,6 +330,12 @@ prop_homes (PatProp Binds) p = refl
 prop_homes (PatProp Assigns) p = refl
 prop_homes _ p = cc
 
+prop_absent : (c : Nonterminal) → prop_place c ≡ true → absent c ≡ true
+prop_absent ObjectMember p = refl
+prop_absent (PatProp Binds) p = refl
+prop_absent (PatProp Assigns) p = refl
+prop_absent _ p = cc
+
 prop_seq : (c : Nonterminal) → prop_place c ≡ true → no_seq c ≡ true
 prop_seq ObjectMember p = refl
 prop_seq (PatProp Binds) p = refl
@@ -374,12 +389,13 @@ prop_reads : (c : Nonterminal) {v : Surroundings} {x y : Place} {t : Tree} → p
 prop_reads c p (fine_leaf {s = s} {t = t} l) m r q = absurd (prop_leaf c s t p (in_is r) l)
 prop_reads c p (fine_piece {s = s} {t = t} l) m r q = absurd (no_piece c s t (prop_free c p) l (in_is r))
 prop_reads c p (fine_regexp {t = t}) m r q = absurd (prop_regexp c t p (in_is r))
+prop_reads c p (fine_sealed {k = k} {cs = cs} s f) m r q = absurd (no_sealed c k cs s (prop_absent c p) r.is)
 prop_reads c p (fine_list f) m r q = let bad = r.is in cc
 prop_reads c p (fine_seq {k = k} {cs = cs} s f) m r q = absurd (no_seq_here c k cs s (prop_seq c p) r.is)
 prop_reads c {x = x} {y} p (fine_prop {k = k} {cs = cs} t g f) m r q = by_case (test (is_inner k))
   where
     by_case : Test (is_inner k) → Prop x (node k cs) y
-    by_case (no' n) = own_prop k cs n g f (and_right (taken k || is_seq k) (tames cs) m) r q
+    by_case (no' n) = own_prop k cs n g f (tames_of k cs t m) r q
     by_case (yes' b) =
         let i = home_of c k cs (and_left (admits c (node k cs)) (fits_below c (node k cs)) r.is) in
         absurd (never (is_inner k) b (not_is _ (at_kind c (λ l. not (is_inner l)) k (inner_home c p) (taken_scope k t) i)))

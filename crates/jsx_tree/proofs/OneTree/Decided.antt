@@ -7,7 +7,7 @@ use Rattle.jsx_tree.specs.Kinds.{InObject, InClass, Static, Imported, Exported, 
 use Rattle.jsx_tree.specs.Nonterminals.{Nonterminal, NullishLeft, NewCallee, DotObject, ForOfHead, WholeProgram, homes, in_homes}
 use Rattle.jsx_tree.specs.Form.{Form, Single, Position, position, positions, shaped, admits, is, fits_below, fit_slots, fit_each}
 use Rattle.jsx_tree.specs.Program.{Reads}
-use Rattle.jsx_tree.specs.Decided.{decides_program, decides_function, decides_expression, decides, decides_leaf, is_decided, are_decided}
+use Rattle.jsx_tree.specs.Decided.{decides_function, decides_expression, decides, decides_leaf, is_decided, are_decided}
 use Rattle.jsx_tree.proofs.Tokens.{and_left, and_right, and_both}
 use Rattle.jsx_tree.proofs.OneTree.Known.{known, kept, kepts}
 use Rattle.jsx_tree.proofs.OneTree.Parts.{node_admits}
@@ -23,30 +23,30 @@ no_home DotObject = refl
 no_home ForOfHead = refl
 no_home _ = refl
 
-known_program : (k : ProgramKind) → decides_program k ≡ true → known (program k) ≡ true
-known_program Module h = refl
-known_program Script h = refl
-known_program FunctionBody h = refl
-known_program Directive h = refl
-known_program ImportBare h = refl
-known_program Import h = refl
-known_program ImportAll h = refl
-known_program ImportList h = refl
-known_program ImportBoth h = refl
-known_program (Specifier Imported) h = refl
-known_program (Specifier Exported) h = refl
-known_program (Specifier From) h = refl
-known_program (SpecifierAs Imported) h = refl
-known_program (SpecifierAs Exported) h = refl
-known_program (SpecifierAs From) h = refl
-known_program ExportNames h = refl
-known_program ExportFrom h = refl
-known_program ExportAll h = refl
-known_program ExportAllAs h = refl
-known_program ExportDecl h = refl
-known_program ExportDefaultFn h = refl
-known_program ExportDefaultClass h = cc
-known_program ExportDefaultExpr h = refl
+known_program : (k : ProgramKind) → known (program k) ≡ true
+known_program Module = refl
+known_program Script = refl
+known_program FunctionBody = refl
+known_program Directive = refl
+known_program ImportBare = refl
+known_program Import = refl
+known_program ImportAll = refl
+known_program ImportList = refl
+known_program ImportBoth = refl
+known_program (Specifier Imported) = refl
+known_program (Specifier Exported) = refl
+known_program (Specifier From) = refl
+known_program (SpecifierAs Imported) = refl
+known_program (SpecifierAs Exported) = refl
+known_program (SpecifierAs From) = refl
+known_program ExportNames = refl
+known_program ExportFrom = refl
+known_program ExportAll = refl
+known_program ExportAllAs = refl
+known_program ExportDecl = refl
+known_program ExportDefaultFn = refl
+known_program ExportDefaultClass = refl
+known_program ExportDefaultExpr = refl
 
 known_statement : (k : StatementKind) → known (statement k) ≡ true
 known_statement Block = refl
@@ -83,8 +83,8 @@ known_statement FunctionDecl = refl
 known_statement ClassDecl = refl
 
 known_function : (k : FunctionKind) (c : Nonterminal) → decides_function k ≡ true → in_homes c (homes (function k)) ≡ true → known (function k) ≡ true
-known_function FunctionExpr c h i = cc
-known_function ClassExpr c h i = cc
+known_function FunctionExpr c h i = refl
+known_function ClassExpr c h i = refl
 known_function (Method InObject) c h i = cc
 known_function (Method InClass) c h i = refl
 known_function (Method Static) c h i = refl
@@ -218,7 +218,7 @@ known_expression (TemplateSpan true) c h i = refl
 known_expression (TemplateSpan false) c h i = refl
 
 known_kind : (k : Kind) (c : Nonterminal) → decides k ≡ true → in_homes c (homes k) ≡ true → known k ≡ true
-known_kind (program k) c h i = known_program k h
+known_kind (program k) c h i = known_program k
 known_kind (statement k) c h i = known_statement k
 known_kind (function k) c h i = known_function k c h i
 known_kind (expression k) c h i = known_expression k c h i

@@ -1,7 +1,7 @@
 -- The trees that the law is proved of, and how large they are.
 use Rattle.std.specs.Prelude.{ℕ, suc, ◌+◌, nat_eq, Bool, true, false, ◌&&◌, ◌||◌}
 use Rattle.jsx_base.specs.Token.{TokenKind, NoSubstitution, TemplateHead, TemplateMiddle, TemplateTail, RegExpLiteral, kind_number}
-use Rattle.jsx_tree.specs.Kinds.{Seq, Script, Module, FunctionBody, Directive, ImportBare, Import, ImportAll, ImportList, ImportBoth, ExportAll, ExportAllAs, ExportDecl, ExportDefaultFn, ExportDefaultExpr, ExportNames, ExportFrom, Specifier, SpecifierAs, Imported, Exported, From, Var, VarWord, LetWord, ConstWord, Block, Declarator, Empty, ExprStmt, If, Do, While, For, ForDeclaration, ForIn, ForOf, ForBinding, Continue, Break, Return, Throw, Debugger, Label, Switch, Case, Default, Try, Catch, FunctionDecl, ClassDecl, InClass, Static, Method, Getter, Setter, Field, Kind, program, statement, function, expression, Tree, leaf, node, list, Forest, none, part}
+use Rattle.jsx_tree.specs.Kinds.{Seq, Script, Module, FunctionBody, Directive, ImportBare, Import, ImportAll, ImportList, ImportBoth, ExportAll, ExportAllAs, ExportDecl, ExportDefaultFn, ExportDefaultClass, ExportDefaultExpr, ExportNames, ExportFrom, Specifier, SpecifierAs, Imported, Exported, From, Var, VarWord, LetWord, ConstWord, Block, Declarator, Empty, ExprStmt, If, Do, While, For, ForDeclaration, ForIn, ForOf, ForBinding, Continue, Break, Return, Throw, Debugger, Label, Switch, Case, Default, Try, Catch, FunctionDecl, ClassDecl, FunctionExpr, ClassExpr, InClass, Static, Method, Getter, Setter, Field, Kind, program, statement, function, expression, Tree, leaf, node, list, Forest, none, part}
 use Rattle.jsx_tree.proofs.OneTree.Table.{scope}
 
 abbrev pub is_seq : Kind → Bool
@@ -26,7 +26,7 @@ abbrev pub is_regexp : TokenKind → Bool
 is_regexp RegExpLiteral = true
 is_regexp s = false
 
--- statements, and what stands in them
+-- statements, what stands in them, and what holds some
 abbrev pub stated : Kind → Bool
 stated (program Script) = true
 stated (program Module) = true
@@ -41,6 +41,7 @@ stated (program ExportAll) = true
 stated (program ExportAllAs) = true
 stated (program ExportDecl) = true
 stated (program ExportDefaultFn) = true
+stated (program ExportDefaultClass) = true
 stated (program ExportDefaultExpr) = true
 stated (program ExportNames) = true
 stated (program ExportFrom) = true
@@ -82,6 +83,8 @@ stated (statement (ForBinding VarWord)) = true
 stated (statement (ForBinding LetWord)) = true
 stated (statement (ForBinding ConstWord)) = true
 stated (statement ClassDecl) = true
+stated (function FunctionExpr) = true
+stated (function ClassExpr) = true
 stated (function (Method InClass)) = true
 stated (function (Method Static)) = true
 stated (function (Getter InClass)) = true

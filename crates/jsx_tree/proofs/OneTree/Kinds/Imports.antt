@@ -26,7 +26,7 @@ use Rattle.jsx_tree.proofs.OneTree.Placed.{whole_reads}
 use Rattle.jsx_tree.proofs.OneTree.Chains.{fine}
 use Rattle.jsx_tree.proofs.OneTree.Endings.{at_semi}
 use Rattle.jsx_tree.proofs.OneTree.Afters.{after_tree}
-use Rattle.jsx_tree.proofs.OneTree.Known.{kept, kepts}
+use Rattle.jsx_tree.proofs.OneTree.Evidence.{Kept, Kepts, kept_left}
 use Rattle.jsx_tree.proofs.OneTree.Parts.{tame_of, word_read}
 use Rattle.jsx_tree.proofs.OneTree.Wants.{look_same}
 use Rattle.jsx_tree.proofs.OneTree.Rows.{calls_on, clause_first}
@@ -114,32 +114,32 @@ string_calls : (s : TokenKind) (t : Text) → leaf_in StringOnly s t ≡ true �
 string_calls StringLiteral t h = refl
 string_calls _ t h = cc
 
-pub string_first : {v : Surroundings} {x y : Place} (t : Tree) → kept t ≡ true → IsRead v false StringOnly x t y → kind_at x ≡ 4
+pub string_first : {v : Surroundings} {x y : Place} (t : Tree) → Kept t → IsRead v false StringOnly x t y → kind_at x ≡ 4
 string_first {x = x} t h r =
     let w = word_read StringOnly t refl h r in
     let s : Seen x w.kind w.text = took w.kind w.text x w.moves w.found in
     s.kind ∙ string_calls w.kind w.text (and_left (leaf_in StringOnly w.kind w.text) _ (subst (λ t. is StringOnly t ≡ true) w.is_leaf r.is))
 
-import_walk : {V : List Context → Surroundings} (ps : List W.Piece) {x z : Place} {us : Forest} (P : Type 0) → import_row ps ≡ true → kepts us ≡ true → W.Walk IsRead V ps x us z → ((p : Place) → Import x p → calls_on p ≡ false → P) → P
+import_walk : {V : List Context → Surroundings} (ps : List W.Piece) {x z : Place} {us : Forest} (P : Type 0) → import_row ps ≡ true → Kepts us → W.Walk IsRead V ps x us z → ((p : Place) → Import x p → calls_on p ≡ false → P) → P
 import_walk (W.piece a (Fixed (Tok Operator IdentifierName t)) ∷ W.piece b (Part StringOnly) ∷ ps) {x} P h k w rest =
     let s = at_sign w in
     let p = at_part s.walk in
-    let e = string_first p.tree (and_left (kept p.tree) _ (subst (λ ts. kepts ts ≡ true) p.is k)) p.read in
+    let e = string_first p.tree (kept_left (subst Kepts p.is k)) p.read in
     rest s.next (record { moves = (λ i. forth (Tok Operator IdentifierName (sym (same_is t (codes "import") h) i)) x) ∙ s.moves; found = s.found }) (λ i. nat_eq (e i) 1 && (same (text_at s.next) (codes "(") || same (text_at s.next) (codes ".")))
 import_walk (W.piece a (Fixed (Tok Operator IdentifierName t)) ∷ W.piece b (Part ImportClause) ∷ ps) {x} P h k w rest =
     let s = at_sign w in
     let p = at_part s.walk in
-    rest s.next (record { moves = (λ i. forth (Tok Operator IdentifierName (sym (same_is t (codes "import") h) i)) x) ∙ s.moves; found = s.found }) (clause_first p.tree (and_left (kept p.tree) _ (subst (λ ts. kepts ts ≡ true) p.is k)) p.read).0
+    rest s.next (record { moves = (λ i. forth (Tok Operator IdentifierName (sym (same_is t (codes "import") h) i)) x) ∙ s.moves; found = s.found }) (clause_first p.tree (kept_left (subst Kepts p.is k)) p.read).0
 import_walk _ P h k w rest = cc
 
 -- a declaration of imports is no expression statement
-pub import_clash : {V : List Context → Surroundings} {w : Surroundings} (ps : List W.Piece) {x y z : Place} {us : Forest} (ds : Forest) → import_row ps ≡ true → kepts us ≡ true → kepts ds ≡ true → W.Walk IsRead V ps x us y → IsNode IsRead w false (statement ExprStmt) x ds z → ⊥
+pub import_clash : {V : List Context → Surroundings} {w : Surroundings} (ps : List W.Piece) {x y z : Place} {us : Forest} (ds : Forest) → import_row ps ≡ true → Kepts us → Kepts ds → W.Walk IsRead V ps x us y → IsNode IsRead w false (statement ExprStmt) x ds z → ⊥
 import_clash ps {x} ds h f k i b =
     let s = at_sign b.walk in
     let e = at_part s.walk in
-    let o = tame_of e.tree (Expr 0) refl (and_left (kept e.tree) _ (subst (λ ts. kepts ts ≡ true) e.is k)) e.read.is in
+    let o = tame_of e.tree (Expr 0) refl (kept_left (subst Kepts e.is k)) e.read.is in
     let m = at_sign e.walk in
     let g = subst (λ z. IsTrue (is_found z)) (sym m.moves) m.found in
-    let whole = whole_reads e.tree (fine e.tree o) o e.read (at_semi e.next (after_tree e.tree (Expr 0) o refl e.read) g) in
+    let whole = whole_reads e.tree (fine e.tree o) o.tame' e.read (at_semi e.next (after_tree e.tree (Expr 0) o refl e.read) g) in
     let back = look_same (Unless heads) x s.next refl s.moves s.found in
     import_walk ps ⊥ h f i (λ p j n. never (calls_on p) (whole_calls (subst (λ z. Whole z e.tree e.next) (sym back) whole) j) n)
