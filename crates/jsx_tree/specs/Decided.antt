@@ -1,14 +1,7 @@
 -- The trees of which a text is proved to have one at most: all but those with a kind that is named here.
 use Rattle.std.specs.Prelude.{Bool, true, false, ◌&&◌}
 use Rattle.jsx_base.specs.Token.{TokenKind, JsxName, JsxString, JsxText}
-use Rattle.jsx_tree.specs.Kinds.{InObject, FunctionKind, Method, Getter, Setter, ExpressionKind, ArrowBlock, BareArrowBlock, Kind, program, statement, function, expression, jsx, Tree, leaf, node, list, Forest, none, part}
-
--- not yet: methods inside of expressions
-abbrev pub decides_function : FunctionKind → Bool
-decides_function (Method InObject) = false
-decides_function (Getter InObject) = false
-decides_function (Setter InObject) = false
-decides_function k = true
+use Rattle.jsx_tree.specs.Kinds.{ExpressionKind, ArrowBlock, BareArrowBlock, Kind, program, statement, function, expression, jsx, Tree, leaf, node, list, Forest, none, part}
 
 -- not yet: arrows whose body is a block
 abbrev pub decides_expression : ExpressionKind → Bool
@@ -19,7 +12,7 @@ decides_expression k = true
 abbrev pub decides : Kind → Bool
 decides (program k) = true
 decides (statement k) = true
-decides (function k) = decides_function k
+decides (function k) = true
 decides (expression k) = decides_expression k
 -- not yet
 decides (jsx k) = false

@@ -17,10 +17,10 @@ use Rattle.jsx_tree.proofs.OneTree.Table.{kinds}
 use Rattle.jsx_tree.proofs.OneTree.Checks.{every}
 use Rattle.jsx_tree.proofs.OneTree.Facts.{never, or_else, not_is, Test, yes', no', test, for_kind}
 use Rattle.jsx_tree.proofs.OneTree.Places.{no_hole}
-use Rattle.jsx_tree.proofs.OneTree.Fine.{tame, tames, Tamed, of_sealed, of_open, tamed}
+use Rattle.jsx_tree.proofs.OneTree.Fine.{tame, tames, Tamed, of_sealed, of_member, of_open, tamed}
 use Rattle.jsx_tree.proofs.OneTree.Evidence.{Tame}
 use Rattle.jsx_tree.proofs.OneTree.Spines.{seq_is, taken_scope}
-use Rattle.jsx_tree.proofs.OneTree.Endings.{after, go_after, after_sign, found_first, settle, keeps, settle_append, settle_any, row_ends, gathered_ok, fixed_ok, walk_ok, row_of_kind, sealed_settled, saids_ok, each_said_ok}
+use Rattle.jsx_tree.proofs.OneTree.Endings.{after, go_after, after_sign, found_first, settle, keeps, settle_append, settle_any, row_ends, gathered_ok, fixed_ok, walk_ok, row_of_kind, sealed_settled, member_settled, saids_ok, each_said_ok}
 
 abbrev pub is_tok : Sign → Bool
 is_tok (Tok m s t) = true
@@ -100,6 +100,7 @@ other_first _ ms h n g = g
 
 node_tok : (k : Kind) (cs : Forest) → Tamed k cs → fit_slots (positions k) cs ≡ true → ((taken k || is_seq k) ≡ true → tames cs ≡ true → settle false (walk (production k) (saids cs)) ≡ true) → settle false (joined (said (node k cs))) ≡ true
 node_tok k cs (of_sealed s f) g rest = sealed_settled false k cs s f
+node_tok k cs (of_member s f m) g rest = member_settled false k cs s f
 node_tok k cs (of_open t m) g rest = rest t m
 
 mutual

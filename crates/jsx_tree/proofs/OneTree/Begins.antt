@@ -20,7 +20,8 @@ use Rattle.jsx_tree.proofs.OneTree.Checks.{every, starts}
 use Rattle.jsx_tree.proofs.OneTree.Facts.{never, or_else, not_is, Test, yes', no', test, eq_nat, Seen, took}
 use Rattle.jsx_tree.proofs.OneTree.Fine.{at_sign, at_part}
 use Rattle.jsx_tree.proofs.OneTree.Next.{unless_kept}
-use Rattle.jsx_tree.proofs.OneTree.Kinds.Keys.{key_at, key_first, key_view}
+use Rattle.jsx_tree.proofs.OneTree.Readings.{key_start}
+use Rattle.jsx_tree.proofs.OneTree.Kinds.Keys.{key_first, key_view}
 use Rattle.jsx_tree.proofs.OneTree.Afters.{after_tree}
 use Rattle.jsx_tree.proofs.OneTree.Evidence.{Kept, Kepts, kept_left, kept_right}
 use Rattle.jsx_tree.proofs.OneTree.Parts.{tame_of, whole_starts, word_read}
@@ -87,7 +88,7 @@ abbrev pub fits : Front → Place → Bool
 fits (token' k t) x = is_at x k t
 fits (expr' ts) x = starts (kind_at x) (text_at x) && not (among (text_at x) ts)
 fits name' x = nat_eq (kind_at x) 0 && is_ident (text_at x)
-fits key' x = key_at (kind_at x) (text_at x)
+fits key' x = key_start (kind_at x) (text_at x)
 fits unknown x = true
 
 pub at_seen : {x : Place} {k : TokenKind} {t : Text} → Seen x k t → is_at x k t ≡ true
@@ -191,7 +192,7 @@ pub front_stops : (w : Want) (f : Front) (x : Place) → is_stop w ≡ true → 
 front_stops w (token' k t) x l h f m = never (met w k t) (met_back w k t x l (is_seen x k t f) m) (not_is (met w k t) h)
 front_stops w (expr' ts) x l h f m = no_case starts refl (λ t. refl) refl refl (kind_at x) (text_at x) (stop_idle w x l m) (and_left (starts (kind_at x) (text_at x)) _ f)
 front_stops w name' x l h f m = no_case (λ k t. nat_eq k 0 && is_ident t) refl (λ t. refl) refl refl (kind_at x) (text_at x) (stop_idle w x l m) f
-front_stops shutting key' x l h f m = never (key_at (kind_at x) (text_at x)) f (λ i. key_at (eq_nat {a = kind_at x} {b = 1} (and_left (nat_eq (kind_at x) 1) _ m) i) (same_is (text_at x) (codes "}") (and_right (nat_eq (kind_at x) 1) _ m) i))
+front_stops shutting key' x l h f m = never (key_start (kind_at x) (text_at x)) f (λ i. key_start (eq_nat {a = kind_at x} {b = 1} (and_left (nat_eq (kind_at x) 1) _ m) i) (same_is (text_at x) (codes "}") (and_right (nat_eq (kind_at x) 1) _ m) i))
 front_stops _ key' x l h f m = cc
 front_stops w unknown x l h f m = cc
 

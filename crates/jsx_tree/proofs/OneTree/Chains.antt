@@ -6,7 +6,7 @@ use Rattle.std.proofs.lemmas.Bool.{le-leb}
 use Rattle.jsx_base.specs.Token.{Text, Operator, TokenKind, IdentifierName, Punctuator, NumericLiteral, BigIntLiteral, StringLiteral, RegExpLiteral, Elision}
 use Rattle.jsx_tree.specs.Signs.{Tok}
 use Rattle.jsx_tree.specs.Kinds.{FunctionExpr, ClassExpr, TemplateSpan, Chain, NameLink, IndexLink, CallLink, Kind, function, expression, Tree, leaf, node, list, Forest, none, part}
-use Rattle.jsx_tree.specs.Nonterminals.{Nonterminal, Expr, ChainLink}
+use Rattle.jsx_tree.specs.Nonterminals.{Nonterminal, Expr, ObjectMember, ChainLink}
 use Rattle.jsx_tree.specs.Grammar.{OneOrMore, Context, Many, production}
 use Rattle.jsx_tree.specs.Form.{leads, admits, fits_below}
 use Rattle.jsx_tree.specs.StaticRules.{Surroundings, rule, first_of_list, is_optional}
@@ -23,10 +23,10 @@ use Rattle.jsx_tree.proofs.OneTree.Pairs.{link_reach}
 use Rattle.jsx_tree.proofs.OneTree.Places.{ending, first_of, kin, is_prop, is_brace, place_at, ends_by, is_chain, link_rows, link_home, link_props, row_ok}
 use Rattle.jsx_tree.proofs.Rows.Bridge.{node_walk}
 use Rattle.jsx_tree.proofs.OneTree.Fine.{at_sign, at_many, at_end}
-use Rattle.jsx_tree.proofs.OneTree.Sealed.{is_sealed, Opener, of_function, of_class, Sealed}
+use Rattle.jsx_tree.proofs.OneTree.Sealed.{is_sealed, is_member, Closed, Opener, of_function, of_class, Sealed}
 use Rattle.jsx_tree.proofs.OneTree.Evidence.{Kept, Kepts, kept_left, kept_right, kept_listed, kept_parts, Tame}
-use Rattle.jsx_tree.proofs.OneTree.Fine.{tame, tames, tames_of, Tamed, of_sealed, of_open, tamed, spine_ok, first_ok, Good, Fine, fine_leaf, fine_regexp, fine_piece, fine_node, fine_prop, fine_seq, Seals, fine_sealed, fine_list, Fines, fine_none, fine_part, calm_more, in_is, no_piece, re_home}
-use Rattle.jsx_tree.proofs.OneTree.Spines.{no_sealed, home_of, at_kind, taken_scope, lead_facts, head_row, no_seq_here}
+use Rattle.jsx_tree.proofs.OneTree.Fine.{tame, tames, tames_of, first_tame, Tamed, of_sealed, of_member, of_open, tamed, spine_ok, first_ok, Good, Fine, fine_leaf, fine_regexp, fine_piece, fine_node, fine_prop, fine_seq, Seals, fine_sealed, Closes, fine_member, fine_list, Fines, fine_none, fine_part, calm_more, in_is, no_piece, re_home}
+use Rattle.jsx_tree.proofs.OneTree.Spines.{no_sealed, no_member, home_of, at_kind, taken_scope, lead_facts, head_row, no_seq_here}
 use Rattle.jsx_tree.proofs.OneTree.Next.{calm_at}
 use Rattle.jsx_tree.proofs.OneTree.Placed.{hole_free, tree_reads, one_placed, list_fines, spined_reads}
 use Rattle.jsx_tree.proofs.OneTree.RowWalks.{row_walk, of_row, lead_parts, first_spine}
@@ -58,6 +58,7 @@ link_reads (fine_seq {k = k} {cs = cs} s f) m r q = absurd (no_seq_here ChainLin
 link_reads (fine_piece {s = s} {t = t} p) m r q = absurd (no_piece ChainLink s t refl p (in_is r))
 link_reads (fine_regexp) m r q = let bad = in_is r in cc
 link_reads (fine_sealed {k = k} {cs = cs} s f) m r q = absurd (no_sealed ChainLink k cs s refl r.is)
+link_reads (fine_member {k = k} {t = u} {ts = us} s f n g) m r q = absurd (no_member ChainLink k (part u us) s refl r.is)
 link_reads (fine_list f) m r q = let bad = r.is in cc
 link_reads (fine_leaf {s = IdentifierName} p) m r q = let bad = in_is r in cc
 link_reads (fine_leaf {s = NumericLiteral} p) m r q = let bad = in_is r in cc
@@ -202,17 +203,37 @@ seals k cs s e = record { seals = λ {v} {c} {x} {y} r. sealed_at v c x y r }
     sealed_at v c x y r =
         let w = first_word k cs s r in
         let r' = re_home c (Expr 18) (node k cs) (at_primary k cs s) r in
-        record { kind' = s; word = w.text; opener = w.opener; begins = w.begins'; bound = e.bound; small = e.small; good = e.good; surroundings = v; read = r'; law = λ l ds t m g q. e.law.one k l cs ds s t e.small m e.good g r' q }
+        record { closed = record { kind' = s; bound = e.bound; small = e.small; good = e.good; surroundings = v; read = r'; law = λ l ds t m g q. e.law.of_sealed.one k l cs ds s t e.small m e.good g r' q }; word = w.text; opener = w.opener; begins = w.begins' }
 
-node_of : (k : Kind) (cs : Forest) → Tamed k cs → Kept (node k cs) → (tames cs ≡ true → Fines cs) → Fine (node k cs)
-node_of k cs (of_sealed s f) e rest = fine_sealed s (seals k cs s e)
-node_of k cs (of_open h m) e rest = node_fine k cs h m (rest m) (test (taken k))
+closes : (k : Kind) (cs : Forest) → is_member k ≡ true → Kept (node k cs) → Closes k cs
+closes k cs s e = record { closes' = λ {v} {x} {y} r. closed_at v x y r }
+  where
+    closed_at : (v : Surroundings) (x y : Place) → IsRead v false ObjectMember x (node k cs) y → Closed is_member ObjectMember x k cs y
+    closed_at v x y r = record { kind' = s; bound = e.bound; small = e.small; good = e.good; surroundings = v; read = r; law = λ l ds t m g q. e.law.of_members.one k l cs ds s t e.small m e.good g r q }
+
+-- the first part, where there is one
+data FirstFine : Forest → Type 0 where
+  first_none : FirstFine none
+  first_fine : {t : Tree} {ts : Forest} → Fine t → FirstFine (part t ts)
+
+member_fine : (k : Kind) (cs : Forest) → is_member k ≡ true → first_tame cs ≡ true → Kept (node k cs) → FirstFine cs → Fine (node k cs)
+member_fine k none s m e f = cc
+member_fine k (part t ts) s m e (first_fine f) = fine_member s f m (closes k (part t ts) s e)
+
+node_of : (k : Kind) (cs : Forest) → Tamed k cs → Kept (node k cs) → (tames cs ≡ true → Fines cs) → (first_tame cs ≡ true → FirstFine cs) → Fine (node k cs)
+node_of k cs (of_member s f m) e rest first = member_fine k cs s m e (first m)
+node_of k cs (of_sealed s f) e rest first = fine_sealed s (seals k cs s e)
+node_of k cs (of_open h m) e rest first = node_fine k cs h m (rest m) (test (taken k))
 
 mutual
   fine_of : (t : Tree) → tame t ≡ true → Kept t → Fine t
   fine_of (leaf s t) h e = leaf_fine s t h (test (plain_leaf s)) (test (is_piece s))
-  fine_of (node k cs) h e = node_of k cs (tamed k cs h) e (λ m. fines_of cs m (kept_parts e))
+  fine_of (node k cs) h e = node_of k cs (tamed k cs h) e (λ m. fines_of cs m (kept_parts e)) (λ m. first_of' cs m (kept_parts e))
   fine_of (list ts) h e = fine_list (fines_of ts h (kept_listed e))
+
+  first_of' : (ts : Forest) → first_tame ts ≡ true → Kepts ts → FirstFine ts
+  first_of' none h e = first_none
+  first_of' (part t ts) h e = first_fine (fine_of t h (kept_left e))
 
   fines_of : (ts : Forest) → tames ts ≡ true → Kepts ts → Fines ts
   fines_of none h e = fine_none

@@ -7,7 +7,7 @@ use Rattle.jsx_tree.specs.Kinds.{InObject, InClass, Static, Imported, Exported, 
 use Rattle.jsx_tree.specs.Nonterminals.{Nonterminal, NullishLeft, NewCallee, DotObject, ForOfHead, WholeProgram, homes, in_homes}
 use Rattle.jsx_tree.specs.Form.{Form, Single, Position, position, positions, shaped, admits, is, fits_below, fit_slots, fit_each}
 use Rattle.jsx_tree.specs.Program.{Reads}
-use Rattle.jsx_tree.specs.Decided.{decides_function, decides_expression, decides, decides_leaf, is_decided, are_decided}
+use Rattle.jsx_tree.specs.Decided.{decides_expression, decides, decides_leaf, is_decided, are_decided}
 use Rattle.jsx_tree.proofs.Tokens.{and_left, and_right, and_both}
 use Rattle.jsx_tree.proofs.OneTree.Known.{known, kept, kepts}
 use Rattle.jsx_tree.proofs.OneTree.Parts.{node_admits}
@@ -82,39 +82,39 @@ known_statement Catch = refl
 known_statement FunctionDecl = refl
 known_statement ClassDecl = refl
 
-known_function : (k : FunctionKind) (c : Nonterminal) → decides_function k ≡ true → in_homes c (homes (function k)) ≡ true → known (function k) ≡ true
-known_function FunctionExpr c h i = refl
-known_function ClassExpr c h i = refl
-known_function (Method InObject) c h i = cc
-known_function (Method InClass) c h i = refl
-known_function (Method Static) c h i = refl
-known_function (Getter InObject) c h i = cc
-known_function (Getter InClass) c h i = refl
-known_function (Getter Static) c h i = refl
-known_function (Setter InObject) c h i = cc
-known_function (Setter InClass) c h i = refl
-known_function (Setter Static) c h i = refl
-known_function (Field InObject) c h i = absurd (never (in_homes c []) i (no_home c))
-known_function (Field InClass) c h i = refl
-known_function (Field Static) c h i = refl
-known_function ComputedKey c h i = refl
-known_function (ArrayPat Binds) c h i = refl
-known_function (ArrayPat Assigns) c h i = refl
-known_function (ObjectPat Binds) c h i = refl
-known_function (ObjectPat Assigns) c h i = refl
-known_function (PropertyPat Binds) c h i = refl
-known_function (PropertyPat Assigns) c h i = refl
-known_function (ShorthandPat Binds) c h i = refl
-known_function (ShorthandPat Assigns) c h i = refl
-known_function (ShorthandInit Binds) c h i = refl
-known_function (ShorthandInit Assigns) c h i = refl
-known_function (WithInit Binds) c h i = refl
-known_function (WithInit Assigns) c h i = refl
-known_function (RestPat Binds) c h i = refl
-known_function (RestPat Assigns) c h i = refl
-known_function (RestProperty Binds) c h i = refl
-known_function (RestProperty Assigns) c h i = refl
-known_function ParenTarget c h i = refl
+known_function : (k : FunctionKind) (c : Nonterminal) → in_homes c (homes (function k)) ≡ true → known (function k) ≡ true
+known_function FunctionExpr c i = refl
+known_function ClassExpr c i = refl
+known_function (Method InObject) c i = refl
+known_function (Method InClass) c i = refl
+known_function (Method Static) c i = refl
+known_function (Getter InObject) c i = refl
+known_function (Getter InClass) c i = refl
+known_function (Getter Static) c i = refl
+known_function (Setter InObject) c i = refl
+known_function (Setter InClass) c i = refl
+known_function (Setter Static) c i = refl
+known_function (Field InObject) c i = absurd (never (in_homes c []) i (no_home c))
+known_function (Field InClass) c i = refl
+known_function (Field Static) c i = refl
+known_function ComputedKey c i = refl
+known_function (ArrayPat Binds) c i = refl
+known_function (ArrayPat Assigns) c i = refl
+known_function (ObjectPat Binds) c i = refl
+known_function (ObjectPat Assigns) c i = refl
+known_function (PropertyPat Binds) c i = refl
+known_function (PropertyPat Assigns) c i = refl
+known_function (ShorthandPat Binds) c i = refl
+known_function (ShorthandPat Assigns) c i = refl
+known_function (ShorthandInit Binds) c i = refl
+known_function (ShorthandInit Assigns) c i = refl
+known_function (WithInit Binds) c i = refl
+known_function (WithInit Assigns) c i = refl
+known_function (RestPat Binds) c i = refl
+known_function (RestPat Assigns) c i = refl
+known_function (RestProperty Binds) c i = refl
+known_function (RestProperty Assigns) c i = refl
+known_function ParenTarget c i = refl
 
 known_expression : (k : ExpressionKind) (c : Nonterminal) → decides_expression k ≡ true → in_homes c (homes (expression k)) ≡ true → known (expression k) ≡ true
 known_expression Seq c h i = refl
@@ -220,7 +220,7 @@ known_expression (TemplateSpan false) c h i = refl
 known_kind : (k : Kind) (c : Nonterminal) → decides k ≡ true → in_homes c (homes k) ≡ true → known k ≡ true
 known_kind (program k) c h i = known_program k
 known_kind (statement k) c h i = known_statement k
-known_kind (function k) c h i = known_function k c h i
+known_kind (function k) c h i = known_function k c i
 known_kind (expression k) c h i = known_expression k c h i
 known_kind (jsx k) c h i = cc
 

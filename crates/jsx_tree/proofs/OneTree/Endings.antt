@@ -3,7 +3,7 @@ use Rattle.std.proofs.Common.{◌≡◌, Bool, true, false, cond, List, [], ◌�
 use Rattle.std.specs.Prelude.{IsTrue, ◌&&◌, ◌||◌}
 use Rattle.jsx_base.specs.Token.{Text, Operator, TokenKind, Elision, Punctuator, is_token, same, token, at_front, kind_number, skip, breaks}
 use Rattle.jsx_tree.specs.Signs.{Sign, AfterExpr, Tok, Semicolon, TrailingComma, Unless, SameLine, Ends}
-use Rattle.jsx_tree.specs.Kinds.{FunctionExpr, ClassExpr, Kind, function, Tree, leaf, node, list, Forest, none, part}
+use Rattle.jsx_tree.specs.Kinds.{FunctionExpr, ClassExpr, InObject, Method, Getter, Setter, Kind, function, Tree, leaf, node, list, Forest, none, part}
 use Rattle.jsx_tree.specs.Grammar.{ListShape, Commas, Elisions, TwoOrMore, OneOrMore, Adjacent, Context, Fixed, Part, Optional, Many, Within, Production, production}
 use Rattle.jsx_tree.specs.Spelling.{leaf_signs, maybe, before, between, behind, gathered, joined, walk, said, saids, each_said}
 use Rattle.jsx_tree.specs.Form.{Single, Maybe, Several, inside, is_piece, shaped, fits_below, fit_slots, slots, positions}
@@ -17,8 +17,8 @@ use Rattle.jsx_tree.proofs.OneTree.Checks.{every, starts}
 use Rattle.jsx_tree.proofs.OneTree.Facts.{or_else, Test, yes', no', test, for_kind}
 use Rattle.jsx_tree.proofs.OneTree.Semis.{semi_calm}
 use Rattle.jsx_tree.proofs.OneTree.Known.{taken, is_seq}
-use Rattle.jsx_tree.proofs.OneTree.Sealed.{is_sealed}
-use Rattle.jsx_tree.proofs.OneTree.Fine.{tame, tames, Tamed, of_sealed, of_open, tamed}
+use Rattle.jsx_tree.proofs.OneTree.Sealed.{is_sealed, is_member}
+use Rattle.jsx_tree.proofs.OneTree.Fine.{tame, tames, Tamed, of_sealed, of_member, of_open, tamed}
 use Rattle.jsx_tree.proofs.OneTree.Spines.{seq_is, taken_scope}
 use Rattle.jsx_tree.proofs.OneTree.Starting.{begins}
 
@@ -213,6 +213,16 @@ row_settled (Many e d ∷ ps) (part t ts) g i a b c s h f =
     let r = and_right (fits_below d t) _ (and_right (shaped (Several e) d t) _ f) in
     settle_append (gathered e (said t)) (walk ps (saids ts)) c ∙ row_settled ps ts [] i a false (settle c (gathered e (said t))) s no_flag r
 
+pub member_settled : (b : Bool) (k : Kind) (cs : Forest) → is_member k ≡ true → fit_slots (positions k) cs ≡ true → settle b (walk (production k) (saids cs)) ≡ true
+member_settled b (function (Method InObject)) cs s f = row_settled (production (function (Method InObject))) cs [] false [] false b refl no_flag f
+member_settled b (function (Getter InObject)) cs s f = row_settled (production (function (Getter InObject))) cs [] false [] false b refl no_flag f
+member_settled b (function (Setter InObject)) cs s f = row_settled (production (function (Setter InObject))) cs [] false [] false b refl no_flag f
+member_settled b (function (Method _)) cs s f = cc
+member_settled b (function (Getter _)) cs s f = cc
+member_settled b (function (Setter _)) cs s f = cc
+member_settled b (function _) cs s f = cc
+member_settled b _ cs s f = cc
+
 pub sealed_settled : (b : Bool) (k : Kind) (cs : Forest) → is_sealed k ≡ true → fit_slots (positions k) cs ≡ true → settle b (walk (production k) (saids cs)) ≡ true
 sealed_settled b (function FunctionExpr) cs s f = row_settled (production (function FunctionExpr)) cs [] false [] false b refl no_flag f
 sealed_settled b (function ClassExpr) cs s f = row_settled (production (function ClassExpr)) cs [] false [] false b refl no_flag f
@@ -232,6 +242,7 @@ row_of_kind k h = by_taken (test (taken k))
 
 node_ok : (k : Kind) (cs : Forest) → Tamed k cs → (tames cs ≡ true → all_ok (saids cs) ≡ true) → each_ok (said (node k cs)) ≡ true
 node_ok k cs (of_sealed s f) rest = and_both (keeps (walk (production k) (saids cs))) true (sealed_settled true k cs s f) refl
+node_ok k cs (of_member s f g) rest = and_both (keeps (walk (production k) (saids cs))) true (member_settled true k cs s f) refl
 node_ok k cs (of_open t m) rest = and_both (keeps (walk (production k) (saids cs))) true (walk_ok (production k) (saids cs) (row_of_kind k t) (rest m)) refl
 
 mutual

@@ -1,20 +1,24 @@
 -- What is known of a tree that the law is proved of: its kinds, and the law for what is sealed in it, by size.
-use Rattle.std.proofs.Common.{◌≡◌, ℕ, ◌≤◌, true, false, arith}
+use Rattle.std.proofs.Common.{◌≡◌, ℕ, ◌≤◌, Bool, true, false, arith}
 use Rattle.std.specs.Prelude.{suc, ◌+◌}
 use Rattle.jsx_tree.specs.Kinds.{Kind, Tree, node, list, Forest, part}
-use Rattle.jsx_tree.specs.Nonterminals.{Expr}
+use Rattle.jsx_tree.specs.Nonterminals.{Nonterminal, Expr, ObjectMember}
 use Rattle.jsx_tree.specs.StaticRules.{Surroundings}
 use Rattle.jsx_tree.specs.Reading.{Place}
 use Rattle.jsx_tree.specs.Walk.{IsRead}
 use Rattle.jsx_tree.proofs.Tokens.{and_left, and_right}
 use Rattle.jsx_tree.proofs.OneTree.Known.{known, kept, kepts, size, sizes}
-use Rattle.jsx_tree.proofs.OneTree.Sealed.{is_sealed}
+use Rattle.jsx_tree.proofs.OneTree.Sealed.{is_sealed, is_member}
 use Rattle.jsx_tree.proofs.OneTree.Fine.{tame}
 
--- two of what is sealed, of this size or less, that begin at one place are one
+-- two of such kinds, of this size or less, that begin at one place are one
+pub record Single (p : Kind → Bool) (c : Nonterminal) (n : ℕ) : Type 0 where
+  pub one : (k l : Kind) (cs ds : Forest) {v w : Surroundings} {x y z : Place} → p k ≡ true → p l ≡ true → size (node k cs) ≤ n → size (node l ds) ≤ n → kept (node k cs) ≡ true → kept (node l ds) ≡ true
+      → IsRead v false c x (node k cs) y → IsRead w false c x (node l ds) z → (node k cs ≡ node l ds) × (y ≡ z)
+
 pub record Law (n : ℕ) : Type 0 where
-  pub one : (k l : Kind) (cs ds : Forest) {v w : Surroundings} {x y z : Place} → is_sealed k ≡ true → is_sealed l ≡ true → size (node k cs) ≤ n → size (node l ds) ≤ n → kept (node k cs) ≡ true → kept (node l ds) ≡ true
-      → IsRead v false (Expr 18) x (node k cs) y → IsRead w false (Expr 18) x (node l ds) z → (node k cs ≡ node l ds) × (y ≡ z)
+  pub of_sealed : Single is_sealed (Expr 18) n
+  pub of_members : Single is_member ObjectMember n
 
 pub record Kept (t : Tree) : Type 0 where
   pub good : kept t ≡ true

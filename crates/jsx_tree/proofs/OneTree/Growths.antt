@@ -72,7 +72,7 @@ pub unseq_one : {n : ℕ} {x y : Place} {t : Tree} → Reads n x t y → unseq (
 unseq_one (word a e f) = refl
 unseq_one (regexp e f) = refl
 unseq_one (braces {k = k} {ts = ts} l c a e f p) = unseq_made k (cons (row_of (flats ts)) nil) a (ap (λ n. nat_eq n 19) c)
-unseq_one (sealed {k = k} {cs = cs} l s) = let p = sealed_plain k s.kind' in unseq_made k (flats cs) p.0 p.1
+unseq_one (sealed {k = k} {cs = cs} l s) = let p = sealed_plain k s.closed.kind' in unseq_made k (flats cs) p.0 p.1
 unseq_one (paren l e f a g h) = refl
 unseq_one (target l e f r c g h) = refl
 unseq_one (head {k = k} {ts = ts} s a i l d w) = unseq_made k (flats ts) a (of_head k s a d i).not_seq

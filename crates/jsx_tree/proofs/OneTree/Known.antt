@@ -1,7 +1,7 @@
 -- The trees that the law is proved of, and how large they are.
 use Rattle.std.specs.Prelude.{ℕ, suc, ◌+◌, nat_eq, Bool, true, false, ◌&&◌, ◌||◌}
 use Rattle.jsx_base.specs.Token.{TokenKind, NoSubstitution, TemplateHead, TemplateMiddle, TemplateTail, RegExpLiteral, kind_number}
-use Rattle.jsx_tree.specs.Kinds.{Seq, Script, Module, FunctionBody, Directive, ImportBare, Import, ImportAll, ImportList, ImportBoth, ExportAll, ExportAllAs, ExportDecl, ExportDefaultFn, ExportDefaultClass, ExportDefaultExpr, ExportNames, ExportFrom, Specifier, SpecifierAs, Imported, Exported, From, Var, VarWord, LetWord, ConstWord, Block, Declarator, Empty, ExprStmt, If, Do, While, For, ForDeclaration, ForIn, ForOf, ForBinding, Continue, Break, Return, Throw, Debugger, Label, Switch, Case, Default, Try, Catch, FunctionDecl, ClassDecl, FunctionExpr, ClassExpr, InClass, Static, Method, Getter, Setter, Field, Kind, program, statement, function, expression, Tree, leaf, node, list, Forest, none, part}
+use Rattle.jsx_tree.specs.Kinds.{Seq, Script, Module, FunctionBody, Directive, ImportBare, Import, ImportAll, ImportList, ImportBoth, ExportAll, ExportAllAs, ExportDecl, ExportDefaultFn, ExportDefaultClass, ExportDefaultExpr, ExportNames, ExportFrom, Specifier, SpecifierAs, Imported, Exported, From, Var, VarWord, LetWord, ConstWord, Block, Declarator, Empty, ExprStmt, If, Do, While, For, ForDeclaration, ForIn, ForOf, ForBinding, Continue, Break, Return, Throw, Debugger, Label, Switch, Case, Default, Try, Catch, FunctionDecl, ClassDecl, FunctionExpr, ClassExpr, InObject, InClass, Static, Method, Getter, Setter, Field, Kind, program, statement, function, expression, Tree, leaf, node, list, Forest, none, part}
 use Rattle.jsx_tree.proofs.OneTree.Table.{scope}
 
 abbrev pub is_seq : Kind → Bool
@@ -85,6 +85,9 @@ stated (statement (ForBinding ConstWord)) = true
 stated (statement ClassDecl) = true
 stated (function FunctionExpr) = true
 stated (function ClassExpr) = true
+stated (function (Method InObject)) = true
+stated (function (Getter InObject)) = true
+stated (function (Setter InObject)) = true
 stated (function (Method InClass)) = true
 stated (function (Method Static)) = true
 stated (function (Getter InClass)) = true

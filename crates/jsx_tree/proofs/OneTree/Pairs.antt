@@ -11,7 +11,7 @@ use Rattle.jsx_tree.specs.Walk.{is_found}
 use Rattle.jsx_tree.proofs.Tokens.{and_left, and_right, same_is}
 use Rattle.jsx_tree.proofs.OneTree.Table.{code, scope, kinds}
 use Rattle.jsx_tree.proofs.OneTree.Sealed.{Opener, of_function, of_class, Sealed, sealed_same}
-use Rattle.jsx_tree.proofs.OneTree.Readings.{Step, row, tail, level, grows, reach_of, reach, calm, text_at, broken, Flat, Flats, one, some, row_of, nil, cons, unseq, paren_of, is_arrow, is_paren, made, flat, flats, may_be, holds, comma, Reads, Prop, long, computed, short, preset, rest, Props, may_key, Walk, take, literal, is_link, is_tagged, is_quote, is_slash, Rest, Items, shut, gap, last, more}
+use Rattle.jsx_tree.proofs.OneTree.Readings.{Step, row, tail, level, grows, reach_of, reach, calm, text_at, broken, Flat, Flats, one, some, row_of, nil, cons, unseq, paren_of, is_arrow, is_paren, made, flat, flats, may_be, holds, comma, Reads, Prop, long, computed, short, preset, rest, member, Opening, o_named, o_computed, o_worded, Props, key_start, kind_at, may_key, Walk, take, literal, is_link, is_tagged, is_quote, is_slash, Rest, Items, shut, gap, last, more}
 use Rattle.jsx_tree.proofs.OneTree.Checks.{is_op, starts, blocks, same_token, apart, twin, bare, no_line, no_open, goes_by, every, heads_pair, tails_pair, no_opener, opener_ok, opener_ones, no_slash, slash_ok, slash_ones, tagged_pair, all_tagged, links_pair, link_ok, links, link_ones, heads, tails}
 use Rattle.jsx_tree.proofs.OneTree.Slashes.{Slash, regexp_slash}
 use Rattle.jsx_tree.proofs.OneTree.Facts.{never, or_else, not_is, Test, yes', no', test, eq_nat, le_nat, op_is, kind_is, Seen, seen, found_at, took, took_in, same_seen, for_kind}
@@ -334,7 +334,7 @@ as_unseq f {gs = gs} {y} {z} e s = subst (λ h. Same h gs y z) (sym e) s
 
 -- properties
 abbrev pub ends_prop : Text → Bool
-ends_prop d = not (same d (codes ":")) && not (same d (codes "="))
+ends_prop d = (not (same d (codes ":")) && not (same d (codes "="))) && (not (same (codes "(") d) && not (key_start 1 d))
 
 abbrev pub colon : Sign
 colon = Tok Operator Punctuator (codes ":")
@@ -376,14 +376,40 @@ no_end {d = d} {u} a h b g =
     by_case (subst (λ v. (same v (codes ":") || same v (codes "=")) ≡ true) (sym e) g) (test (same d (codes ":")))
   where
     by_case : (same d (codes ":") || same d (codes "=")) ≡ true → Test (same d (codes ":")) → ⊥
-    by_case g (yes' c) = never _ c (not_is _ (and_left (not (same d (codes ":"))) (not (same d (codes "="))) h))
-    by_case g (no' c) = never _ (or_else (same d (codes ":")) (same d (codes "=")) g c) (not_is _ (and_right (not (same d (codes ":"))) (not (same d (codes "="))) h))
+    by_case g (yes' c) = never _ c (not_is _ (and_left (not (same d (codes ":"))) (not (same d (codes "="))) (and_left (not (same d (codes ":")) && not (same d (codes "="))) _ h)))
+    by_case g (no' c) = never _ (or_else (same d (codes ":")) (same d (codes "=")) g c) (not_is _ (and_right (not (same d (codes ":"))) (not (same d (codes "="))) (and_left (not (same d (codes ":")) && not (same d (codes "="))) _ h)))
+
+-- what a method begins with isn't this punctuator
+pub open_mark : {x : Place} {u : Text} → Seen x Punctuator u → same (codes "[") u ≡ false → Opening x → ⊥
+open_mark b n (o_named s t {x = x} p m e f g) = key_dots m (took s t x e f) b
+open_mark b n (o_computed {x = x} a d p o e f r c g h i) = two_tokens (took Punctuator (codes "[") x e f) b n
+open_mark b n (o_worded t {x = x} p e f g) = key_dots refl (took IdentifierName t x e f) b
+
+-- nor does this punctuator stand behind the token that it begins with
+pub named_open : {x p : Place} {u : Text} (s : TokenKind) (t : Text) → may_key s ≡ true → forth (Tok Operator s t) x ≡ p → IsTrue (is_found p) → Seen p Punctuator u → same (codes "(") u ≡ false → key_start 1 u ≡ false → Opening x → ⊥
+named_open {x} {p} s t m e f b n k (o_named s' t' p' m' e' f' g) =
+    let w = same_name (took s t x e f) (took s' t' x e' f') in
+    let q : p ≡ p' = sym e ∙ ((λ i. forth (Tok Operator (w.0 i) (w.1 i)) x) ∙ e') in
+    two_tokens (seen Punctuator (codes "(") p' g) (seen_at (sym q) b) n
+named_open {x} {p} s t m e f b n k (o_computed a d q o e' f' r c g h i) = key_dots m (took s t x e f) (took Punctuator (codes "[") x e' f')
+named_open {x} {p} {u} s t m e f b n k (o_worded t' p' e' f' g) =
+    let w = same_name (took s t x e f) (took IdentifierName t' x e' f') in
+    let q : p ≡ p' = sym e ∙ ((λ i. forth (Tok Operator (w.0 i) (w.1 i)) x) ∙ e') in
+    let d : Seen p' Punctuator u = seen_at (sym q) b in
+    never (key_start (kind_at p') (text_at p')) g ((λ i. key_start (d.kind i) (d.text i)) ∙ k)
+
+-- behind a name alone
+pub short_open : {x p : Place} {d : Text} (t : Text) → forth (Tok Operator IdentifierName t) x ≡ p → IsTrue (is_found p) → Seen p Punctuator d → ends_prop d ≡ true → Opening x → ⊥
+short_open {d = d} t e f n h o =
+    let r = and_right (not (same d (codes ":")) && not (same d (codes "="))) _ h in
+    named_open IdentifierName t refl e f n (not_is _ (and_left (not (same (codes "(") d)) _ r)) (not_is _ (and_right (not (same (codes "(") d)) _ r)) o
 
 pub no_prop : {x y : Place} {t : Tree} → Seen x Punctuator (codes "}") → Prop x t y → ⊥
 no_prop b (long {s = s} {t = t} {x = x} c a m e f g o r d) = key_dots m (took s t x e f) b
 no_prop b (computed {x = x} c a e f r d g o e' f' r' d') = two_tokens (took Punctuator (codes "[") x e f) b refl
 no_prop b (short {t = t} {x = x} c a e f) = key_dots refl (took IdentifierName t x e f) b
 no_prop b (preset {t = t} {x = x} c a e f g o r d) = key_dots refl (took IdentifierName t x e f) b
+no_prop b (member c o) = open_mark b refl o
 no_prop b (rest {x = x} c a e f r d) = two_tokens (took Punctuator (codes "...") x e f) b refl
 
 -- links

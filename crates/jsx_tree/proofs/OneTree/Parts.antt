@@ -5,7 +5,7 @@ use Rattle.std.proofs.Common.{◌≡◌, ℕ, ◌≤◌, Bool, true, false, not,
 use Rattle.std.specs.Prelude.{IsTrue, ◌&&◌, ◌||◌, nat_eq, nat_le}
 use Rattle.jsx_base.specs.Token.{Text, Operator, TokenKind, IdentifierName, StringLiteral, Punctuator, kind_number, same}
 use Rattle.jsx_tree.specs.Signs.{Tok, One}
-use Rattle.jsx_tree.specs.Kinds.{Kind, Tree, leaf, node, list, Forest, none, part}
+use Rattle.jsx_tree.specs.Kinds.{InObject, Method, Getter, Setter, Kind, function, Tree, leaf, node, list, Forest, none, part}
 use Rattle.jsx_tree.specs.Nonterminals.{Nonterminal, Expr, Ident, BindingIdent, Name, StringOnly, ImportClause, homes, in_homes, leaf_in}
 use Rattle.jsx_tree.specs.Form.{Form, Single, Maybe, Several, Position, position, positions, shaped, admits, is, fits_below, fit_slots, fit_each}
 use Rattle.jsx_tree.specs.StaticRules.{Surroundings}
@@ -23,11 +23,11 @@ use Rattle.jsx_tree.proofs.OneTree.Starting.{begins}
 use Rattle.jsx_tree.proofs.OneTree.Growths.{split}
 use Rattle.jsx_tree.proofs.OneTree.Pairs.{ends}
 use Rattle.jsx_tree.proofs.OneTree.Agreeing.{passes, one_whole}
-use Rattle.jsx_tree.proofs.OneTree.Fine.{tame, tames}
+use Rattle.jsx_tree.proofs.OneTree.Fine.{tame, first_tame, tames}
 use Rattle.jsx_tree.proofs.OneTree.Spines.{home_of, seq_is, taken_scope}
 use Rattle.jsx_tree.proofs.OneTree.Placed.{Placed, tree_reads, hole_free, whole_reads}
 use Rattle.jsx_tree.proofs.OneTree.Chains.{fine}
-use Rattle.jsx_tree.proofs.OneTree.Sealed.{is_sealed}
+use Rattle.jsx_tree.proofs.OneTree.Sealed.{is_sealed, is_member}
 use Rattle.jsx_tree.proofs.OneTree.Evidence.{Kept, kept_kind, Tame}
 use Rattle.jsx_tree.proofs.OneTree.Turn.{tree_same}
 use Rattle.jsx_tree.proofs.OneTree.Statements.{for_stated}
@@ -39,7 +39,7 @@ abbrev pub bare : Nonterminal → Bool
 bare c = every (λ l. not (in_homes c (homes l))) stated_kinds
 
 abbrev pub clean : Nonterminal → Bool
-clean c = every (λ l. is_sealed l || not (in_homes c (homes l))) stated_kinds
+clean c = every (λ l. (is_sealed l || is_member l) || not (in_homes c (homes l))) stated_kinds
 
 abbrev pub clean_slots : List Position → Bool
 clean_slots [] = true
@@ -69,16 +69,22 @@ bare_known c k cs h s i = by_taken (test (taken k || is_seq k))
 data Fair (k : Kind) : Type 0 where
   is_open : (taken k || is_seq k) ≡ true → Fair k
   is_shut : is_sealed k ≡ true → Fair k
+  is_keyed : is_member k ≡ true → Fair k
 
 fair : (c : Nonterminal) (k : Kind) (cs : Forest) → clean c ≡ true → known k ≡ true → admits c (node k cs) ≡ true → Fair k
-fair c k cs h s i = by_taken (test (taken k || is_seq k)) (test (is_sealed k))
+fair c k cs h s i = by_taken (test (taken k || is_seq k)) (test (is_sealed k)) (test (is_member k))
   where
-    by_taken : Test (taken k || is_seq k) → Test (is_sealed k) → Fair k
-    by_taken (yes' t) q = is_open t
-    by_taken (no' n) (yes' q) = is_shut q
-    by_taken (no' n) (no' q) =
-        let g = for_stated (λ l. is_sealed l || not (in_homes c (homes l))) h k (or_else (taken k || is_seq k) (stated k) s n) in
-        absurd (never (in_homes c (homes k)) (home_of c k cs i) (not_is _ (or_else (is_sealed k) (not (in_homes c (homes k))) g q)))
+    or_false : (a b : Bool) → a ≡ false → b ≡ false → (a || b) ≡ false
+    or_false true b p q = absurd (never true refl p)
+    or_false false b p q = q
+
+    by_taken : Test (taken k || is_seq k) → Test (is_sealed k) → Test (is_member k) → Fair k
+    by_taken (yes' t) q m = is_open t
+    by_taken (no' n) (yes' q) m = is_shut q
+    by_taken (no' n) (no' q) (yes' m) = is_keyed m
+    by_taken (no' n) (no' q) (no' m) =
+        let g = for_stated (λ l. (is_sealed l || is_member l) || not (in_homes c (homes l))) h k (or_else (taken k || is_seq k) (stated k) s n) in
+        absurd (never (in_homes c (homes k)) (home_of c k cs i) (not_is _ (or_else (is_sealed k || is_member k) (not (in_homes c (homes k))) g (or_false (is_sealed k) (is_member k) q m))))
 
 or_left : (a b : Bool) → a ≡ true → (a || b) ≡ true
 or_left true b h = refl
@@ -88,9 +94,27 @@ or_right : (a b : Bool) → b ≡ true → (a || b) ≡ true
 or_right true b h = refl
 or_right false b h = h
 
-node_tame : (k : Kind) (cs : Forest) → Fair k → fit_slots (positions k) cs ≡ true → ((taken k || is_seq k) ≡ true → tames cs ≡ true) → tame (node k cs) ≡ true
-node_tame k cs (is_shut s) f rest = or_left (is_sealed k && fit_slots (positions k) cs) ((taken k || is_seq k) && tames cs) (and_both (is_sealed k) (fit_slots (positions k) cs) s f)
-node_tame k cs (is_open t) f rest = or_right (is_sealed k && fit_slots (positions k) cs) ((taken k || is_seq k) && tames cs) (and_both (taken k || is_seq k) (tames cs) t (rest t))
+abbrev clean_first : List Position → Bool
+clean_first [] = false
+clean_first (position f c g b a ∷ ss) = clean c
+
+-- a method begins with its key
+keyed_clean : (k : Kind) → is_member k ≡ true → clean_first (positions k) ≡ true
+keyed_clean (function (Method InObject)) h = refl
+keyed_clean (function (Getter InObject)) h = refl
+keyed_clean (function (Setter InObject)) h = refl
+keyed_clean (function (Method _)) h = cc
+keyed_clean (function (Getter _)) h = cc
+keyed_clean (function (Setter _)) h = cc
+keyed_clean (function _) h = cc
+keyed_clean _ h = cc
+
+node_tame : (k : Kind) (cs : Forest) → Fair k → fit_slots (positions k) cs ≡ true → ((taken k || is_seq k) ≡ true → tames cs ≡ true) → (clean_first (positions k) ≡ true → first_tame cs ≡ true) → tame (node k cs) ≡ true
+node_tame k cs (is_shut s) f rest first = or_left (is_sealed k && fit_slots (positions k) cs) _ (and_both (is_sealed k) (fit_slots (positions k) cs) s f)
+node_tame k cs (is_keyed s) f rest first =
+    or_right (is_sealed k && fit_slots (positions k) cs) _ (or_left (is_member k && (fit_slots (positions k) cs && first_tame cs)) _ (and_both (is_member k) _ s (and_both (fit_slots (positions k) cs) (first_tame cs) f (first (keyed_clean k s)))))
+node_tame k cs (is_open t) f rest first =
+    or_right (is_sealed k && fit_slots (positions k) cs) _ (or_right (is_member k && (fit_slots (positions k) cs && first_tame cs)) ((taken k || is_seq k) && tames cs) (and_both (taken k || is_seq k) (tames cs) t (rest t)))
 
 pub node_admits : (o : Form) (c : Nonterminal) (k : Kind) (cs : Forest) → shaped o c (node k cs) ≡ true → admits c (node k cs) ≡ true
 node_admits Single c k cs h = h
@@ -102,7 +126,14 @@ mutual
   tame_at (leaf s t) o c h k a f = k
   tame_at (list ts) o c h k a f = tame_each ts c h k f
   tame_at (node k cs) o c h g a f =
-      node_tame k cs (fair c k cs h (and_left (known k) (kepts cs) g) (node_admits o c k cs a)) f (λ q. tame_slots cs (positions k) (clean_kind k q) (and_right (known k) (kepts cs) g) f)
+      node_tame k cs (fair c k cs h (and_left (known k) (kepts cs) g) (node_admits o c k cs a)) f (λ q. tame_slots cs (positions k) (clean_kind k q) (and_right (known k) (kepts cs) g) f) (λ q. tame_first cs (positions k) q (and_right (known k) (kepts cs) g) f)
+
+  tame_first : (ts : Forest) (ss : List Position) → clean_first ss ≡ true → kepts ts ≡ true → fit_slots ss ts ≡ true → first_tame ts ≡ true
+  tame_first none [] h k f = cc
+  tame_first none (s ∷ ss) h k f = cc
+  tame_first (part t ts) [] h k f = cc
+  tame_first (part t ts) (position o c g b a ∷ ss) h k f =
+      tame_at t o c h (and_left (kept t) (kepts ts) k) (and_left (shaped o c t) _ f) (and_left (fits_below c t) _ (and_right (shaped o c t) _ f))
 
   tame_slots : (ts : Forest) (ss : List Position) → clean_slots ss ≡ true → kepts ts ≡ true → fit_slots ss ts ≡ true → tames ts ≡ true
   tame_slots none ss h k f = refl

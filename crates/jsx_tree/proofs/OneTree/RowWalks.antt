@@ -17,8 +17,8 @@ use Rattle.jsx_tree.proofs.OneTree.Readings.{Step, lit, sub, many, row, tail_of,
 use Rattle.jsx_tree.proofs.OneTree.Facts.{never, or_else, not_is, for_kind}
 use Rattle.jsx_tree.proofs.OneTree.Places.{first_of, kin, is_prop, is_brace, place_at, no_seq, no_hole, no_names, quiet, ended_at, ended_on, ends_over, ends_by, part_ok, closes, good_shape, holed, row_ok}
 use Rattle.jsx_tree.proofs.OneTree.Fine.{at_sign, AtPart, at_part, at_many, at_end}
-use Rattle.jsx_tree.proofs.OneTree.Fine.{tame, tames, spine_ok, first_ok, Fine, fine_leaf, fine_regexp, fine_piece, fine_node, fine_prop, fine_seq, fine_sealed, fine_list, Fines, fine_part, one_sign, in_is, no_piece}
-use Rattle.jsx_tree.proofs.OneTree.Spines.{no_sealed, home_of, at_kind, taken_scope, no_seq_here, home_spine, callee_spine, callee_calls}
+use Rattle.jsx_tree.proofs.OneTree.Fine.{tame, tames, spine_ok, first_ok, Fine, fine_leaf, fine_regexp, fine_piece, fine_node, fine_prop, fine_seq, fine_sealed, fine_member, fine_list, Fines, fine_part, one_sign, in_is, no_piece}
+use Rattle.jsx_tree.proofs.OneTree.Spines.{no_sealed, no_member, home_of, at_kind, taken_scope, no_seq_here, home_spine, callee_spine, callee_calls}
 use Rattle.jsx_tree.proofs.OneTree.Next.{unless_kept, line_kept, quiet_calm}
 use Rattle.jsx_tree.proofs.OneTree.Placed.{Placed, hole_free, tree_reads, commas_listed, holes_listed, whole_reads, spined_reads}
 use Rattle.jsx_tree.proofs.OneTree.Templates.{piece_walk, tag_walk}
@@ -38,6 +38,7 @@ name_walk (fine_prop {k = k} {cs = cs} t p f) r w =
     let i = home_of Name k cs (and_left (admits Name (node k cs)) (fits_below Name (node k cs)) r.is) in
     absurd (never (in_homes Name (homes k)) i (not_is _ (for_kind (λ l. not (in_homes Name (homes l))) no_names k (taken_scope k t))))
 name_walk (fine_sealed {k = k} {cs = cs} s f) r w = absurd (no_sealed Name k cs s refl r.is)
+name_walk (fine_member {k = k} {t = u} {ts = us} s f m g) r w = absurd (no_member Name k (part u us) s refl r.is)
 name_walk (fine_list f) r w = let bad = r.is in cc
 name_walk (fine_node {k = k} {cs = cs} t np g) r w =
     let i = home_of Name k cs (and_left (admits Name (node k cs)) (fits_below Name (node k cs)) r.is) in

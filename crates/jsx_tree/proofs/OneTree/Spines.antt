@@ -3,7 +3,7 @@ use Rattle.jsx_tree.proofs.OneTree.Known.{is_seq, taken}
 use Rattle.std.proofs.Common.{◌≡◌, ℕ, ◌≤◌, suc, Bool, true, false, not, cond, [], ◌∷◌, refl, sym, ◌∙◌, ap, subst, arith}
 use Rattle.std.specs.Prelude.{◌&&◌, ◌||◌, nat_le}
 use Rattle.std.proofs.lemmas.Bool.{le-leb}
-use Rattle.jsx_tree.specs.Kinds.{SubstitutedTemplate, Seq, Array, ObjectPat, Object, Binds, Assigns, FunctionExpr, ClassExpr, Kind, program, statement, function, expression, jsx, Tree, leaf, node, list, Forest, none, part}
+use Rattle.jsx_tree.specs.Kinds.{SubstitutedTemplate, Seq, Array, ObjectPat, Object, Binds, Assigns, FunctionExpr, ClassExpr, InObject, Method, Getter, Setter, Kind, program, statement, function, expression, jsx, Tree, leaf, node, list, Forest, none, part}
 use Rattle.jsx_tree.specs.Nonterminals.{Nonterminal, Expr, MemberObject, SimpleTarget, Ident, BindingIdent, Pat, Slot, PatElement, Param, Argument, ArrayItem, NullishLeft, NewCallee, DotObject, homes, in_homes}
 use Rattle.jsx_tree.specs.Grammar.{Part, Production, production}
 use Rattle.jsx_tree.specs.Form.{leads, admits, is, fits_below, fit_slots, slots, calls, spine_calls, first_calls}
@@ -12,8 +12,8 @@ use Rattle.jsx_tree.proofs.OneTree.Table.{scope}
 use Rattle.jsx_tree.proofs.OneTree.Readings.{tail_of, base, level}
 use Rattle.jsx_tree.proofs.OneTree.Facts.{never, or_else, not_is, Test, yes', no', test, le_nat, for_kind}
 use Rattle.jsx_tree.proofs.OneTree.Places.{ending, first_of, kin, is_prop, is_brace, at_home, spine_check, place_at, place_ok, no_seq, no_hole, only_calls, ended_at, is_chain, row_ok, kind_ok, rows}
-use Rattle.jsx_tree.proofs.OneTree.Sealed.{is_sealed}
-use Rattle.jsx_tree.proofs.OneTree.Fine.{tame, tames, Tamed, of_sealed, of_open, tamed, spine_ok, first_ok}
+use Rattle.jsx_tree.proofs.OneTree.Sealed.{is_sealed, is_member}
+use Rattle.jsx_tree.proofs.OneTree.Fine.{tame, tames, Tamed, of_sealed, of_member, of_open, tamed, spine_ok, first_ok}
 
 -- ---- spines
 
@@ -148,11 +148,50 @@ sealed_home c (statement _) l s i = cc
 sealed_home c (expression _) l s i = cc
 sealed_home c (jsx _) l s i = cc
 
--- a place where none stands
-abbrev pub absent : Nonterminal → Bool
-absent c = not (in_homes c (homes (function FunctionExpr))) && not (in_homes c (homes (function ClassExpr)))
+-- places where none stands
+abbrev pub sealless : Nonterminal → Bool
+sealless c = not (in_homes c (homes (function FunctionExpr))) && not (in_homes c (homes (function ClassExpr)))
 
-pub no_sealed : (c : Nonterminal) (k : Kind) (cs : Forest) → is_sealed k ≡ true → absent c ≡ true → is c (node k cs) ≡ true → ⊥
+abbrev pub memberless : Nonterminal → Bool
+memberless c = not (in_homes c (homes (function (Method InObject))))
+
+pub kin_memberless : (c : Nonterminal) → kin c ≡ true → memberless c ≡ true
+kin_memberless (Expr n) l = refl
+kin_memberless MemberObject l = refl
+kin_memberless DotObject l = refl
+kin_memberless NullishLeft l = refl
+kin_memberless SimpleTarget l = refl
+kin_memberless NewCallee l = refl
+kin_memberless Ident l = refl
+kin_memberless BindingIdent l = refl
+kin_memberless (Pat Binds) l = refl
+kin_memberless (Pat Assigns) l = refl
+kin_memberless (PatElement Binds) l = refl
+kin_memberless (PatElement Assigns) l = refl
+kin_memberless (Slot Binds) l = refl
+kin_memberless (Slot Assigns) l = refl
+kin_memberless Param l = refl
+kin_memberless Argument l = refl
+kin_memberless ArrayItem l = refl
+kin_memberless _ l = cc
+
+pub no_member : (c : Nonterminal) (k : Kind) (cs : Forest) → is_member k ≡ true → memberless c ≡ true → is c (node k cs) ≡ true → ⊥
+no_member c k cs s a i = by_kind k s (home_of c k cs (and_left (admits c (node k cs)) (fits_below c (node k cs)) i))
+  where
+    by_kind : (k : Kind) → is_member k ≡ true → in_homes c (homes k) ≡ true → ⊥
+    by_kind (function (Method InObject)) s h = never _ h (not_is _ a)
+    by_kind (function (Getter InObject)) s h = never _ h (not_is _ a)
+    by_kind (function (Setter InObject)) s h = never _ h (not_is _ a)
+    by_kind (function (Method _)) s h = cc
+    by_kind (function (Getter _)) s h = cc
+    by_kind (function (Setter _)) s h = cc
+    by_kind (function _) s h = cc
+    by_kind _ s h = cc
+
+abbrev pub absent : Nonterminal → Bool
+absent c = sealless c && memberless c
+
+pub no_sealed : (c : Nonterminal) (k : Kind) (cs : Forest) → is_sealed k ≡ true → sealless c ≡ true → is c (node k cs) ≡ true → ⊥
 no_sealed c k cs s a i = by_kind k s (home_of c k cs (and_left (admits c (node k cs)) (fits_below c (node k cs)) i))
   where
     by_kind : (k : Kind) → is_sealed k ≡ true → in_homes c (homes k) ≡ true → ⊥
@@ -174,6 +213,16 @@ level_spine (function ClassExpr) cs m s h = and_both (nat_le m 19) true h refl
 level_spine (function _) cs m s h = cc
 level_spine _ cs m s h = cc
 
+member_spine : (k : Kind) (cs : Forest) → is_member k ≡ true → spine_ok 18 (node k cs) ≡ true
+member_spine (function (Method InObject)) cs s = refl
+member_spine (function (Getter InObject)) cs s = refl
+member_spine (function (Setter InObject)) cs s = refl
+member_spine (function (Method _)) cs s = cc
+member_spine (function (Getter _)) cs s = cc
+member_spine (function (Setter _)) cs s = cc
+member_spine (function _) cs s = cc
+member_spine _ cs s = cc
+
 pub spine_level : (k : Kind) (cs : Forest) (m : ℕ) → is_sealed k ≡ true → spine_ok m (node k cs) ≡ true → m ≤ 19
 spine_level (function FunctionExpr) cs m s h = le_nat (and_left (nat_le m 19) _ h)
 spine_level (function ClassExpr) cs m s h = le_nat (and_left (nat_le m 19) _ h)
@@ -183,6 +232,7 @@ spine_level _ cs m s h = cc
 by_tamed : (k : Kind) (cs : Forest) (c : Nonterminal) (m n : ℕ) → m ≤ n → place_at n c ≡ true → no_seq c ≡ true → Tamed k cs → is c (node k cs) ≡ true
     → (tames cs ≡ true → m ≤ base (first_of (production k)) → place_at (base (first_of (production k))) (first_of (production k)) ≡ true → no_seq (first_of (production k)) ≡ true → leads (production k) ≡ true → fit_slots (slots [] false [] (production k)) cs ≡ true → first_ok m cs ≡ true) → spine_ok m (node k cs) ≡ true
 by_tamed k cs c m n le p q (of_open h t) i rec = by_taken k cs c m n le p q h i (test (taken k)) (rec t)
+by_tamed k cs c m n le p q (of_member s f g) i rec = absurd (no_member c k cs s (kin_memberless c (and_left (kin c) _ p)) i)
 by_tamed k cs c m n le p q (of_sealed s f) i rec = let l = sealed_level n c k cs s p i in level_spine k cs m s (le-leb m 19 (omega (arith, le, l)))
 
 mutual
@@ -222,6 +272,7 @@ callee_node k cs s h c rec =
 
 callee_tamed : (k : Kind) (cs : Forest) → Tamed k cs → spine_ok 17 (node k cs) ≡ true → spine_calls (node k cs) ≡ false → (tames cs ≡ true → first_ok 17 cs ≡ true → first_calls cs ≡ false → first_ok 18 cs ≡ true) → spine_ok 18 (node k cs) ≡ true
 callee_tamed k cs (of_open t m) h c rec = callee_node k cs t h c (rec m)
+callee_tamed k cs (of_member s f g) h c rec = member_spine k cs s
 callee_tamed k cs (of_sealed s f) h c rec = level_spine k cs 18 s refl
 
 mutual

@@ -1,7 +1,7 @@
 -- The kinds of statements, and of what stands in them, in a list.
 use Rattle.jsx_tree.proofs.OneTree.Known.{stated}
 use Rattle.std.specs.Prelude.{ℕ, zero, suc, List, [], ◌∷◌, Bool, true}
-use Rattle.jsx_tree.specs.Kinds.{Script, Module, FunctionBody, Directive, ImportBare, Import, ImportAll, ImportList, ImportBoth, ExportAll, ExportAllAs, ExportDecl, ExportDefaultFn, ExportDefaultClass, ExportDefaultExpr, ExportNames, ExportFrom, Specifier, SpecifierAs, Imported, Exported, From, Var, VarWord, LetWord, ConstWord, Block, Declarator, Empty, ExprStmt, If, Do, While, For, ForDeclaration, ForIn, ForOf, ForBinding, Continue, Break, Return, Throw, Debugger, Label, Switch, Case, Default, Try, Catch, FunctionDecl, ClassDecl, FunctionExpr, ClassExpr, InClass, Static, Method, Getter, Setter, Field, Kind, program, statement, function}
+use Rattle.jsx_tree.specs.Kinds.{Script, Module, FunctionBody, Directive, ImportBare, Import, ImportAll, ImportList, ImportBoth, ExportAll, ExportAllAs, ExportDecl, ExportDefaultFn, ExportDefaultClass, ExportDefaultExpr, ExportNames, ExportFrom, Specifier, SpecifierAs, Imported, Exported, From, Var, VarWord, LetWord, ConstWord, Block, Declarator, Empty, ExprStmt, If, Do, While, For, ForDeclaration, ForIn, ForOf, ForBinding, Continue, Break, Return, Throw, Debugger, Label, Switch, Case, Default, Try, Catch, FunctionDecl, ClassDecl, FunctionExpr, ClassExpr, InObject, InClass, Static, Method, Getter, Setter, Field, Kind, program, statement, function}
 use Rattle.std.proofs.Common.{◌≡◌, refl, subst}
 use Rattle.jsx_tree.proofs.OneTree.Checks.{every}
 use Rattle.jsx_tree.proofs.Tokens.{and_left, and_right}
@@ -72,11 +72,14 @@ place (function (Field Static)) = 61
 place (function FunctionExpr) = 62
 place (function ClassExpr) = 63
 place (program ExportDefaultClass) = 64
+place (function (Method InObject)) = 65
+place (function (Getter InObject)) = 66
+place (function (Setter InObject)) = 67
 place k = 0
 
 abbrev pub stated_kinds : List Kind
 stated_kinds =
-    program Script ∷ program Module ∷ program FunctionBody ∷ program Directive ∷ program ImportBare ∷ program Import ∷ program ImportAll ∷ program ImportList ∷ program ImportBoth ∷ program ExportAll ∷ program ExportAllAs ∷ program ExportDecl ∷ program ExportDefaultFn ∷ program ExportDefaultExpr ∷ program ExportNames ∷ program (Specifier Imported) ∷ program (Specifier Exported) ∷ program (Specifier From) ∷ program (SpecifierAs Imported) ∷ program (SpecifierAs Exported) ∷ program (SpecifierAs From) ∷ statement Block ∷ statement (Var VarWord) ∷ statement (Var LetWord) ∷ statement (Var ConstWord) ∷ statement Declarator ∷ statement Empty ∷ statement ExprStmt ∷ statement If ∷ statement Do ∷ statement While ∷ statement Continue ∷ statement Break ∷ statement Return ∷ statement Throw ∷ statement Debugger ∷ statement Label ∷ statement Switch ∷ statement Case ∷ statement Default ∷ statement Try ∷ statement Catch ∷ statement FunctionDecl ∷ program ExportFrom ∷ statement For ∷ statement (ForDeclaration VarWord) ∷ statement (ForDeclaration LetWord) ∷ statement (ForDeclaration ConstWord) ∷ statement ForIn ∷ statement ForOf ∷ statement (ForBinding VarWord) ∷ statement (ForBinding LetWord) ∷ statement (ForBinding ConstWord) ∷ statement ClassDecl ∷ function (Method InClass) ∷ function (Method Static) ∷ function (Getter InClass) ∷ function (Getter Static) ∷ function (Setter InClass) ∷ function (Setter Static) ∷ function (Field InClass) ∷ function (Field Static) ∷ function FunctionExpr ∷ function ClassExpr ∷ program ExportDefaultClass ∷ []
+    program Script ∷ program Module ∷ program FunctionBody ∷ program Directive ∷ program ImportBare ∷ program Import ∷ program ImportAll ∷ program ImportList ∷ program ImportBoth ∷ program ExportAll ∷ program ExportAllAs ∷ program ExportDecl ∷ program ExportDefaultFn ∷ program ExportDefaultExpr ∷ program ExportNames ∷ program (Specifier Imported) ∷ program (Specifier Exported) ∷ program (Specifier From) ∷ program (SpecifierAs Imported) ∷ program (SpecifierAs Exported) ∷ program (SpecifierAs From) ∷ statement Block ∷ statement (Var VarWord) ∷ statement (Var LetWord) ∷ statement (Var ConstWord) ∷ statement Declarator ∷ statement Empty ∷ statement ExprStmt ∷ statement If ∷ statement Do ∷ statement While ∷ statement Continue ∷ statement Break ∷ statement Return ∷ statement Throw ∷ statement Debugger ∷ statement Label ∷ statement Switch ∷ statement Case ∷ statement Default ∷ statement Try ∷ statement Catch ∷ statement FunctionDecl ∷ program ExportFrom ∷ statement For ∷ statement (ForDeclaration VarWord) ∷ statement (ForDeclaration LetWord) ∷ statement (ForDeclaration ConstWord) ∷ statement ForIn ∷ statement ForOf ∷ statement (ForBinding VarWord) ∷ statement (ForBinding LetWord) ∷ statement (ForBinding ConstWord) ∷ statement ClassDecl ∷ function (Method InClass) ∷ function (Method Static) ∷ function (Getter InClass) ∷ function (Getter Static) ∷ function (Setter InClass) ∷ function (Setter Static) ∷ function (Field InClass) ∷ function (Field Static) ∷ function FunctionExpr ∷ function ClassExpr ∷ program ExportDefaultClass ∷ function (Method InObject) ∷ function (Getter InObject) ∷ function (Setter InObject) ∷ []
 
 abbrev pub nth : List Kind → ℕ → Kind
 nth [] n = program Script
@@ -149,6 +152,9 @@ stated_nth (function (Field Static)) h = refl
 stated_nth (function FunctionExpr) h = refl
 stated_nth (function ClassExpr) h = refl
 stated_nth (program ExportDefaultClass) h = refl
+stated_nth (function (Method InObject)) h = refl
+stated_nth (function (Getter InObject)) h = refl
+stated_nth (function (Setter InObject)) h = refl
 stated_nth _ h = cc
 
 every_nth : (p : Kind → Bool) (ks : List Kind) (n : ℕ) → p (nth [] 0) ≡ true → every p ks ≡ true → p (nth ks n) ≡ true

@@ -21,8 +21,8 @@ use Rattle.jsx_tree.proofs.OneTree.Facts.{never, Seen, took}
 use Rattle.jsx_tree.proofs.OneTree.Places.{is_prop, at_home, no_seq, tagged_home, span_home, free}
 use Rattle.jsx_tree.proofs.Rows.Bridge.{node_walk}
 use Rattle.jsx_tree.proofs.OneTree.Fine.{at_sign, at_part, at_many, at_end}
-use Rattle.jsx_tree.proofs.OneTree.Fine.{tame, tames, tames_of, Fine, fine_leaf, fine_regexp, fine_piece, fine_node, fine_prop, fine_seq, fine_sealed, fine_list, Fines, fine_part, one_sign, in_is, no_piece}
-use Rattle.jsx_tree.proofs.OneTree.Spines.{absent, no_sealed, home_of, at_kind, taken_scope, no_seq_here}
+use Rattle.jsx_tree.proofs.OneTree.Fine.{tame, tames, tames_of, Fine, fine_leaf, fine_regexp, fine_piece, fine_node, fine_prop, fine_seq, fine_sealed, fine_member, fine_list, Fines, fine_part, one_sign, in_is, no_piece}
+use Rattle.jsx_tree.proofs.OneTree.Spines.{sealless, absent, no_sealed, no_member, home_of, at_kind, taken_scope, no_seq_here}
 use Rattle.jsx_tree.proofs.OneTree.Placed.{whole_reads}
 
 -- ---- templates
@@ -102,7 +102,8 @@ piece_at TemplateTail p (fine_leaf {s = BigIntLiteral} q) r = let bad = in_is r 
 piece_at TemplateTail p (fine_leaf {s = StringLiteral} q) r = let bad = in_is r in cc
 piece_at TemplateTail p (fine_leaf {s = Elision} q) r = let bad = in_is r in cc
 piece_at TemplateTail p (fine_leaf q) r = cc
-piece_at s p (fine_sealed {k = k} {cs = cs} q f) r = absurd (no_sealed (TemplatePart s) k cs q (piece_absent s p) r.is)
+piece_at s p (fine_sealed {k = k} {cs = cs} q f) r = absurd (no_sealed (TemplatePart s) k cs q (and_left (sealless (TemplatePart s)) _ (piece_absent s p)) r.is)
+piece_at s p (fine_member {k = k} {t = u} {ts = us} q f m g) r = absurd (no_member (TemplatePart s) k (part u us) q (and_right (sealless (TemplatePart s)) _ (piece_absent s p)) r.is)
 piece_at s p (fine_list f) r = let bad = r.is in cc
 piece_at s p (fine_seq {k = k} {cs = cs} q f) r = absurd (no_seq_here (TemplatePart s) k cs q (piece_seq s p) r.is)
 piece_at s p (fine_node {k = k} {cs = cs} t np g) r = absurd (never false (at_kind (TemplatePart s) (λ l. false) k (piece_home s p) (taken_scope k t) (home_of (TemplatePart s) k cs (and_left (admits (TemplatePart s) (node k cs)) (fits_below (TemplatePart s) (node k cs)) r.is))) refl)
@@ -172,7 +173,8 @@ more_spans b (fine_node {k = k} {cs = cs} t np g) m r i =
 more_spans b (fine_seq {k = k} {cs = cs} s f) m r i = absurd (no_seq_here (TemplateSpans b) k cs s (spans_free b).1 r.is)
 more_spans true (fine_regexp) m r i = let bad = in_is r in cc
 more_spans false (fine_regexp) m r i = let bad = in_is r in cc
-more_spans b (fine_sealed {k = k} {cs = cs} s f) m r i = absurd (no_sealed (TemplateSpans b) k cs s (spans_absent b) r.is)
+more_spans b (fine_sealed {k = k} {cs = cs} s f) m r i = absurd (no_sealed (TemplateSpans b) k cs s (and_left (sealless (TemplateSpans b)) _ (spans_absent b)) r.is)
+more_spans b (fine_member {k = k} {t = u} {ts = us} s f n g) m r i = absurd (no_member (TemplateSpans b) k (part u us) s (and_right (sealless (TemplateSpans b)) _ (spans_absent b)) r.is)
 more_spans b (fine_list f) m r i = let bad = r.is in cc
 more_spans b (fine_leaf {s = s} {t = t} p) m r i = absurd (spans_leaf b s t p (in_is r))
 more_spans b (fine_piece {s = s} {t = t} p) m r i = absurd (no_piece (TemplateSpans b) s t (spans_free b).0 p (in_is r))
@@ -233,6 +235,7 @@ tag_walk (fine_node {k = k} {cs = cs} t np g) m r w =
 tag_walk (fine_seq {k = k} {cs = cs} s f) m r w = absurd (no_seq_here TemplateOf k cs s refl r.is)
 tag_walk (fine_regexp) m r w = let bad = in_is r in cc
 tag_walk (fine_sealed {k = k} {cs = cs} s f) m r w = absurd (no_sealed TemplateOf k cs s refl r.is)
+tag_walk (fine_member {k = k} {t = u} {ts = us} s f n g) m r w = absurd (no_member TemplateOf k (part u us) s refl r.is)
 tag_walk (fine_list f) m r w = let bad = r.is in cc
 tag_walk (fine_leaf {s = IdentifierName} p) m r w = let bad = in_is r in cc
 tag_walk (fine_leaf {s = NumericLiteral} p) m r w = let bad = in_is r in cc

@@ -9,8 +9,8 @@ use Rattle.jsx_base.specs.Token.{Text, Operator, TokenKind, IdentifierName, Punc
 use Rattle.jsx_tree.specs.declared.text.Goal.{Goal}
 use Rattle.jsx_tree.specs.declared.text.Goal.TheVariants as goals
 use Rattle.jsx_tree.specs.Signs.{Tok, Semicolon, Unless, AfterExpr}
-use Rattle.jsx_tree.specs.Kinds.{FunctionExpr, ClassExpr, Imported, Exported, From, ProgramKind, Module, Script, FunctionBody, ExprStmt, Label, For, ForIn, ForOf, Kind, ExportNames, ExportFrom, program, statement, function, Tree, leaf, node, list, Forest, none, part}
-use Rattle.jsx_tree.specs.Nonterminals.{Nonterminal, Expr, Ident, Stmt, SubStmt, Item, Declaration, BlockOnly, CatchClause, CaseClause, ClassMember, Declarators, Body, DirectiveOnly, Specifiers, ImportBindings, ImportClause, WholeProgram, homes, in_homes, leaf_in, is_ident}
+use Rattle.jsx_tree.specs.Kinds.{FunctionExpr, ClassExpr, InObject, Method, Getter, Setter, Imported, Exported, From, ProgramKind, Module, Script, FunctionBody, ExprStmt, Label, For, ForIn, ForOf, Kind, ExportNames, ExportFrom, program, statement, function, Tree, leaf, node, list, Forest, none, part}
+use Rattle.jsx_tree.specs.Nonterminals.{Nonterminal, Expr, ObjectMember, Ident, Stmt, SubStmt, Item, Declaration, BlockOnly, CatchClause, CaseClause, ClassMember, Declarators, Body, DirectiveOnly, Specifiers, ImportBindings, ImportClause, WholeProgram, homes, in_homes, leaf_in, is_ident}
 use Rattle.jsx_tree.specs.Grammar.{heads, Lines, TopLines, InCode, InModuleCode, production}
 use Rattle.jsx_tree.specs.Form.{admits, is, fits_below}
 use Rattle.jsx_tree.specs.StaticRules.{Surroundings, outside, rule}
@@ -40,7 +40,7 @@ use Rattle.jsx_tree.proofs.OneTree.Endings.{end_kind}
 use Rattle.jsx_tree.proofs.OneTree.Missing.{Behind, a_mark, a_brace, a_line, behind}
 use Rattle.jsx_tree.proofs.OneTree.Afters.{after_tok, after_tree}
 use Rattle.jsx_tree.proofs.OneTree.Known.{stated, known, kept, kepts, size, sizes}
-use Rattle.jsx_tree.proofs.OneTree.Sealed.{is_sealed}
+use Rattle.jsx_tree.proofs.OneTree.Sealed.{is_sealed, is_member}
 use Rattle.jsx_tree.proofs.OneTree.Evidence.{Law, Kept, Kepts, kept_left, kept_kind, kept_parts}
 use Rattle.jsx_tree.proofs.OneTree.Parts.{tame_of, SameAt, word_read}
 use Rattle.jsx_tree.proofs.OneTree.Wants.{anything, parted, idle, shutting, idle_at, meets, implied, mark, look_same}
@@ -343,8 +343,8 @@ mutual
 -- ---- what is sealed
 
 -- where nothing is asked of what stands behind
-rows_one : (k : Kind) (cs ds : Forest) {v w : Surroundings} {x y z : Place} → row_good no_ending anything (production k) ≡ true → Kepts cs → Kepts ds → IsRead v false (Expr 18) x (node k cs) y → IsRead w false (Expr 18) x (node k ds) z → (node k cs ≡ node k ds) × (y ≡ z)
-rows_one k cs ds g h h' r s =
+rows_one : (c : Nonterminal) (k : Kind) (cs ds : Forest) {v w : Surroundings} {x y z : Place} → row_good no_ending anything (production k) ≡ true → Kepts cs → Kepts ds → IsRead v false c x (node k cs) y → IsRead w false c x (node k ds) z → (node k cs ≡ node k ds) × (y ≡ z)
+rows_one c k cs ds g h h' r s =
     let a = node_walk false k refl r in
     let b = node_walk false k refl s in
     let q = row_same no_ending anything (production k) [] cs ds g refl a.walk b.walk (alls cs) h h' refl refl in
@@ -357,8 +357,8 @@ class_word : {v : Surroundings} {x y : Place} {cs : Forest} → IsRead v false (
 class_word {x = x} r = let p = at_sign (node_walk false (function ClassExpr) refl r).walk in took IdentifierName (codes "class") x p.moves p.found
 
 sealed_one : (k l : Kind) (cs ds : Forest) {v w : Surroundings} {x y z : Place} → is_sealed k ≡ true → is_sealed l ≡ true → Kepts cs → Kepts ds → IsRead v false (Expr 18) x (node k cs) y → IsRead w false (Expr 18) x (node l ds) z → (node k cs ≡ node l ds) × (y ≡ z)
-sealed_one (function FunctionExpr) (function FunctionExpr) cs ds a b h h' r s = rows_one (function FunctionExpr) cs ds refl h h' r s
-sealed_one (function ClassExpr) (function ClassExpr) cs ds a b h h' r s = rows_one (function ClassExpr) cs ds refl h h' r s
+sealed_one (function FunctionExpr) (function FunctionExpr) cs ds a b h h' r s = rows_one (Expr 18) (function FunctionExpr) cs ds refl h h' r s
+sealed_one (function ClassExpr) (function ClassExpr) cs ds a b h h' r s = rows_one (Expr 18) (function ClassExpr) cs ds refl h h' r s
 sealed_one (function FunctionExpr) (function ClassExpr) cs ds a b h h' r s = absurd (two_tokens (function_word r) (class_word s) refl)
 sealed_one (function ClassExpr) (function FunctionExpr) cs ds a b h h' r s = absurd (two_tokens (function_word s) (class_word r) refl)
 sealed_one (function FunctionExpr) (function _) cs ds a b h h' r s = cc
@@ -368,13 +368,51 @@ sealed_one (function ClassExpr) _ cs ds a b h h' r s = cc
 sealed_one (function _) l cs ds a b h h' r s = cc
 sealed_one _ l cs ds a b h h' r s = cc
 
+-- two methods of objects
+two_members : {v w : Surroundings} {x y z : Place} (k l : Kind) (cs ds : Forest) → members_apart (W.row false k) (W.row false l) ≡ true → Kepts cs → Kepts ds → IsRead v false ObjectMember x (node k cs) y → IsRead w false ObjectMember x (node l ds) z → ⊥
+two_members k l cs ds h f g r s = members_clash (W.row false k) (W.row false l) h f g (node_walk false k refl r).walk (node_walk false l refl s).walk
+
+member_one : (k l : Kind) (cs ds : Forest) {v w : Surroundings} {x y z : Place} → is_member k ≡ true → is_member l ≡ true → Kepts cs → Kepts ds → IsRead v false ObjectMember x (node k cs) y → IsRead w false ObjectMember x (node l ds) z → (node k cs ≡ node l ds) × (y ≡ z)
+member_one (function (Method InObject)) (function (Method InObject)) cs ds a b h h' r s = rows_one ObjectMember (function (Method InObject)) cs ds refl h h' r s
+member_one (function (Getter InObject)) (function (Getter InObject)) cs ds a b h h' r s = rows_one ObjectMember (function (Getter InObject)) cs ds refl h h' r s
+member_one (function (Setter InObject)) (function (Setter InObject)) cs ds a b h h' r s = rows_one ObjectMember (function (Setter InObject)) cs ds refl h h' r s
+member_one (function (Method InObject)) (function (Getter InObject)) cs ds a b h h' r s = absurd (two_members (function (Method InObject)) (function (Getter InObject)) cs ds refl h h' r s)
+member_one (function (Method InObject)) (function (Setter InObject)) cs ds a b h h' r s = absurd (two_members (function (Method InObject)) (function (Setter InObject)) cs ds refl h h' r s)
+member_one (function (Getter InObject)) (function (Method InObject)) cs ds a b h h' r s = absurd (two_members (function (Method InObject)) (function (Getter InObject)) ds cs refl h' h s r)
+member_one (function (Setter InObject)) (function (Method InObject)) cs ds a b h h' r s = absurd (two_members (function (Method InObject)) (function (Setter InObject)) ds cs refl h' h s r)
+member_one (function (Getter InObject)) (function (Setter InObject)) cs ds a b h h' r s = absurd (two_members (function (Getter InObject)) (function (Setter InObject)) cs ds refl h h' r s)
+member_one (function (Setter InObject)) (function (Getter InObject)) cs ds a b h h' r s = absurd (two_members (function (Getter InObject)) (function (Setter InObject)) ds cs refl h' h s r)
+member_one (function (Method InObject)) (function (Method _)) cs ds a b h h' r s = cc
+member_one (function (Method InObject)) (function (Getter _)) cs ds a b h h' r s = cc
+member_one (function (Method InObject)) (function (Setter _)) cs ds a b h h' r s = cc
+member_one (function (Method InObject)) (function _) cs ds a b h h' r s = cc
+member_one (function (Method InObject)) _ cs ds a b h h' r s = cc
+member_one (function (Getter InObject)) (function (Method _)) cs ds a b h h' r s = cc
+member_one (function (Getter InObject)) (function (Getter _)) cs ds a b h h' r s = cc
+member_one (function (Getter InObject)) (function (Setter _)) cs ds a b h h' r s = cc
+member_one (function (Getter InObject)) (function _) cs ds a b h h' r s = cc
+member_one (function (Getter InObject)) _ cs ds a b h h' r s = cc
+member_one (function (Setter InObject)) (function (Method _)) cs ds a b h h' r s = cc
+member_one (function (Setter InObject)) (function (Getter _)) cs ds a b h h' r s = cc
+member_one (function (Setter InObject)) (function (Setter _)) cs ds a b h h' r s = cc
+member_one (function (Setter InObject)) (function _) cs ds a b h h' r s = cc
+member_one (function (Setter InObject)) _ cs ds a b h h' r s = cc
+member_one (function (Method _)) l cs ds a b h h' r s = cc
+member_one (function (Getter _)) l cs ds a b h h' r s = cc
+member_one (function (Setter _)) l cs ds a b h h' r s = cc
+member_one (function _) l cs ds a b h h' r s = cc
+member_one _ l cs ds a b h h' r s = cc
+
 -- by size: the parts of what is sealed are smaller
 law : (n : ℕ) → Law n
-law zero = record { one = λ k l cs ds s t le lf h g r q. absurd (no_size (sizes cs) le) }
+law zero = record { of_sealed = record { one = λ k l cs ds s t le lf h g r q. absurd (no_size (sizes cs) le) }; of_members = record { one = λ k l cs ds s t le lf h g r q. absurd (no_size (sizes cs) le) } }
   where
     no_size : (m : ℕ) → suc m ≤ 0 → ⊥
     no_size m le = omega (arith, le)
-law (suc n) = record { one = λ k l cs ds s t le lf h g r q. sealed_one k l cs ds s t (smaller k cs (law n) le h) (smaller l ds (law n) lf g) r q }
+law (suc n) = record {
+  of_sealed = record { one = λ k l cs ds s t le lf h g r q. sealed_one k l cs ds s t (smaller k cs (law n) le h) (smaller l ds (law n) lf g) r q };
+  of_members = record { one = λ k l cs ds s t le lf h g r q. member_one k l cs ds s t (smaller k cs (law n) le h) (smaller l ds (law n) lf g) r q };
+}
   where
     smaller : (k : Kind) (cs : Forest) → Law n → size (node k cs) ≤ suc n → kept (node k cs) ≡ true → Kepts cs
     smaller k cs w le h = let f : suc (sizes cs) ≤ suc n = le in record { good = and_right (known k) (kepts cs) h; bound = n; law = w; small = omega (arith, f) }

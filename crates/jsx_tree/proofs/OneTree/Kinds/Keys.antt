@@ -1,8 +1,8 @@
 -- Two readings of one key from one place are one.
 use Rattle.jsx_tree.proofs.OneTree.Evidence.{Kept, Kepts, kept_left, kept_kind, kept_parts}
-use Rattle.std.proofs.Common.{◌≡◌, ℕ, Bool, true, false, not, [], ◌∷◌, refl, sym, ◌∙◌, ap, subst, arith}
-use Rattle.std.specs.Prelude.{IsTrue, ◌&&◌, ◌||◌, nat_eq, nat_le, codes}
-use Rattle.jsx_base.specs.Token.{Text, Operator, TokenKind, IdentifierName, NumericLiteral, BigIntLiteral, StringLiteral, Punctuator, kind_number, same}
+use Rattle.std.proofs.Common.{◌≡◌, true, false, not, [], ◌∷◌, refl, sym, ◌∙◌, ap, subst, arith}
+use Rattle.std.specs.Prelude.{IsTrue, ◌||◌, nat_le, codes}
+use Rattle.jsx_base.specs.Token.{Text, Operator, TokenKind, IdentifierName, NumericLiteral, BigIntLiteral, StringLiteral, Punctuator, kind_number}
 use Rattle.jsx_tree.specs.Signs.{Tok, One}
 use Rattle.jsx_tree.specs.Kinds.{Seq, ComputedKey, Kind, function, expression, Tree, leaf, node, list, Forest, none, part}
 use Rattle.jsx_tree.specs.Nonterminals.{Expr, Key, homes, in_homes, leaf_in}
@@ -15,7 +15,7 @@ use Rattle.jsx_tree.specs.Walk as W
 use Rattle.jsx_tree.specs.Walk.{is_found, IsRead, IsNode}
 use Rattle.jsx_tree.proofs.Rows.Bridge.{node_walk}
 use Rattle.jsx_tree.proofs.OneTree.Table.{kinds}
-use Rattle.jsx_tree.proofs.OneTree.Readings.{kind_at, text_at, reach_of, calm, broken, may_key}
+use Rattle.jsx_tree.proofs.OneTree.Readings.{key_start, kind_at, text_at, reach_of, calm, broken, may_key}
 use Rattle.jsx_tree.proofs.OneTree.Checks.{every, same_token}
 use Rattle.jsx_tree.proofs.OneTree.Facts.{never, or_else, for_kind, Seen, took}
 use Rattle.jsx_tree.proofs.OneTree.Pairs.{two_tokens}
@@ -25,10 +25,6 @@ use Rattle.jsx_tree.proofs.OneTree.Spines.{home_of}
 use Rattle.jsx_tree.proofs.OneTree.Placed.{one_placed}
 use Rattle.jsx_tree.proofs.OneTree.Kept.{Which, a_statement, a_taken, a_seq, which}
 use Rattle.jsx_tree.proofs.OneTree.Parts.{tame_of, stated_home, SameAt, expr_same, word_same}
-
--- what a key begins with: a token's kind, by its number, and text
-abbrev pub key_at : ℕ → Text → Bool
-key_at k t = nat_eq k 0 || (nat_eq k 2 || (nat_eq k 3 || (nat_eq k 4 || (nat_eq k 1 && same t (codes "[")))))
 
 -- a token, or an expression in brackets
 pub data Keyed (v : Surroundings) (x : Place) : Tree → Place → Type 0 where
@@ -80,7 +76,7 @@ key_view {v} {x} {y} (node k cs) h r = by_which (which k (kept_kind h))
 bracket_seen : {v : Surroundings} {x y : Place} {cs : Forest} → IsNode IsRead v false (function ComputedKey) x cs y → Seen x Punctuator (codes "[")
 bracket_seen {x = x} n = let s = at_sign n.walk in took Punctuator (codes "[") x s.moves s.found
 
-named_at : (s : TokenKind) (t : Text) → may_key s ≡ true → key_at (kind_number s) t ≡ true
+named_at : (s : TokenKind) (t : Text) → may_key s ≡ true → key_start (kind_number s) t ≡ true
 named_at IdentifierName t h = refl
 named_at NumericLiteral t h = refl
 named_at BigIntLiteral t h = refl
@@ -94,9 +90,9 @@ named_mark BigIntLiteral t u h = refl
 named_mark StringLiteral t u h = refl
 named_mark _ t u h = cc
 
-pub key_first : {v : Surroundings} {x y : Place} {t : Tree} → Keyed v x t y → key_at (kind_at x) (text_at x) ≡ true
-key_first {x = x} (named s t m e f) = let r : Seen x s t = took s t x e f in (λ i. key_at (r.kind i) (r.text i)) ∙ named_at s t m
-key_first (bracketed g n) = let r = bracket_seen n in (λ i. key_at (r.kind i) (r.text i))
+pub key_first : {v : Surroundings} {x y : Place} {t : Tree} → Keyed v x t y → key_start (kind_at x) (text_at x) ≡ true
+key_first {x = x} (named s t m e f) = let r : Seen x s t = took s t x e f in (λ i. key_start (r.kind i) (r.text i)) ∙ named_at s t m
+key_first (bracketed g n) = let r = bracket_seen n in (λ i. key_start (r.kind i) (r.text i))
 
 pub key_same : {v w : Surroundings} {x y z : Place} {t u : Tree} → Keyed v x t y → Keyed w x u z → SameAt t u y z
 key_same (named s t m e f) (named r u n g h) = word_same (record { kind = s; text = t; is_leaf = refl; moves = e; found = f }) (record { kind = r; text = u; is_leaf = refl; moves = g; found = h })

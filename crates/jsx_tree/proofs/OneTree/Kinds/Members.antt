@@ -27,7 +27,8 @@ use Rattle.jsx_tree.proofs.OneTree.Parts.{tame_of, stated_home, SameAt, expr_sam
 use Rattle.jsx_tree.proofs.OneTree.Wants.{Want, look_same, read_start, at_optional, calm_next, next_calm}
 use Rattle.jsx_tree.proofs.OneTree.Rows.{Rest}
 use Rattle.jsx_tree.proofs.OneTree.Lists.{param_same}
-use Rattle.jsx_tree.proofs.OneTree.Kinds.Keys.{key_at, Keyed, named, bracketed, key_view, key_first, key_same}
+use Rattle.jsx_tree.proofs.OneTree.Readings.{key_start}
+use Rattle.jsx_tree.proofs.OneTree.Kinds.Keys.{Keyed, named, bracketed, key_view, key_first, key_same}
 use Rattle.jsx_tree.proofs.OneTree.Prefixes.{same_next, move_walk, token_clash}
 
 -- ---- parts of members, and what a class extends
@@ -149,15 +150,15 @@ field_next u (W.piece a (Fixed (Ends AfterKey)) ∷ W.piece b (Optional (Tok Ope
 field_next u _ q text h w n rest = cc
 
 -- no key begins at the end of a text, or with another punctuator than `[`
-key_end : (k : ℕ) (t : Text) → key_at k t ≡ true → nat_eq k 14 ≡ false
+key_end : (k : ℕ) (t : Text) → key_start k t ≡ true → nat_eq k 14 ≡ false
 key_end k t h = by_end (test (nat_eq k 14))
   where
     by_end : Test (nat_eq k 14) → nat_eq k 14 ≡ false
     by_end (no' n) = n
-    by_end (yes' e) = absurd (never (key_at 14 t) ((λ i. key_at (sym (eq_nat {a = k} {b = 14} e) i) t) ∙ h) refl)
+    by_end (yes' e) = absurd (never (key_start 14 t) ((λ i. key_start (sym (eq_nat {a = k} {b = 14} e) i) t) ∙ h) refl)
 
-key_mark : {x : Place} {t : Text} → same t (codes "[") ≡ false → Seen x Punctuator t → key_at (kind_at x) (text_at x) ≡ true → ⊥
-key_mark {t = t} n s h = never (key_at 1 t) ((λ i. key_at (sym s.kind i) (sym s.text i)) ∙ h) n
+key_mark : {x : Place} {t : Text} → same t (codes "[") ≡ false → Seen x Punctuator t → key_start (kind_at x) (text_at x) ≡ true → ⊥
+key_mark {t = t} n s h = never (key_start 1 t) ((λ i. key_start (sym s.kind i) (sym s.text i)) ∙ h) n
 
 abbrev pub stops_key : Text → List W.Piece → Bool
 stops_key u (W.piece a (Fixed (Tok Operator Punctuator t)) ∷ ps) = not (same t (codes "["))
@@ -167,11 +168,11 @@ or_right : (a b : Bool) → b ≡ true → (a || b) ≡ true
 or_right true b h = refl
 or_right false b h = h
 
-stops_field : {V : List Context → Surroundings} (u : Text) (ps : List W.Piece) (text : Text) {y : Place} {ts : Forest} → (is_field (codes "[") ps && among u prefix_words) ≡ true → W.Walk IsRead V ps (At u AfterExpr text) ts y → key_at (kind_at (At u AfterExpr text)) (text_at (At u AfterExpr text)) ≡ true → ⊥
+stops_field : {V : List Context → Surroundings} (u : Text) (ps : List W.Piece) (text : Text) {y : Place} {ts : Forest} → (is_field (codes "[") ps && among u prefix_words) ≡ true → W.Walk IsRead V ps (At u AfterExpr text) ts y → key_start (kind_at (At u AfterExpr text)) (text_at (At u AfterExpr text)) ≡ true → ⊥
 stops_field u ps text h w b = field_next (codes "[") ps u text (and_left (is_field (codes "[") ps) _ h) w (key_end (kind_at (At u AfterExpr text)) (text_at (At u AfterExpr text)) b) by_after
   where
-    mark_off : (k : ℕ) (t v : Text) → k ≡ 1 → t ≡ v → same v (codes "[") ≡ false → key_at k t ≡ true → ⊥
-    mark_off k t v e f n g = never (key_at 1 v) ((λ i. key_at (sym e i) (sym f i)) ∙ g) n
+    mark_off : (k : ℕ) (t v : Text) → k ≡ 1 → t ≡ v → same v (codes "[") ≡ false → key_start k t ≡ true → ⊥
+    mark_off k t v e f n g = never (key_start 1 v) ((λ i. key_start (sym e i) (sym f i)) ∙ g) n
 
     by_after : (t : Text) → same t (codes "[") ≡ false → AfterField u text t → ⊥
     by_after t n (preset s) = mark_off (kind_at (At u AfterExpr text)) (text_at (At u AfterExpr text)) t s.kind s.text n b
@@ -180,7 +181,7 @@ stops_field u ps text h w b = field_next (codes "[") ps u text (and_left (is_fie
     by_after t n (closed (a_line l c)) = never (continues AfterKey u (text_at (At u AfterKey text))) (or_right (among (text_at (At u AfterKey text)) (codes "=" ∷ codes "(" ∷ [])) _ (and_right (is_field (codes "[") ps) _ h)) c
 
 -- behind a word that is a key no key begins
-stops_clash : {V : List Context → Surroundings} (u : Text) (ps : List W.Piece) (text : Text) {y : Place} {ts : Forest} → stops_key u ps ≡ true → W.Walk IsRead V ps (At u AfterExpr text) ts y → key_at (kind_at (At u AfterExpr text)) (text_at (At u AfterExpr text)) ≡ true → ⊥
+stops_clash : {V : List Context → Surroundings} (u : Text) (ps : List W.Piece) (text : Text) {y : Place} {ts : Forest} → stops_key u ps ≡ true → W.Walk IsRead V ps (At u AfterExpr text) ts y → key_start (kind_at (At u AfterExpr text)) (text_at (At u AfterExpr text)) ≡ true → ⊥
 stops_clash u (W.piece a (Fixed (Tok Operator Punctuator t)) ∷ ps) text h w b = let s = at_sign w in key_mark {x = At u AfterExpr text} (not_is _ h) (took Punctuator t (At u AfterExpr text) s.moves s.found) b
 stops_clash u (W.piece a (Fixed (Ends e)) ∷ ps) text h w b = stops_field u (W.piece a (Fixed (Ends e)) ∷ ps) text h w b
 stops_clash u _ text h w b = cc
@@ -192,9 +193,9 @@ begins_key (W.piece a (Part Key) ∷ ps) = true
 begins_key (W.piece a (Fixed (Tok Operator IdentifierName t)) ∷ ps) = true
 begins_key ps = false
 
-begun_key : {V : List Context → Surroundings} (ps : List W.Piece) {x y : Place} {ts : Forest} → begins_key ps ≡ true → Kepts ts → W.Walk IsRead V ps x ts y → key_at (kind_at x) (text_at x) ≡ true
+begun_key : {V : List Context → Surroundings} (ps : List W.Piece) {x y : Place} {ts : Forest} → begins_key ps ≡ true → Kepts ts → W.Walk IsRead V ps x ts y → key_start (kind_at x) (text_at x) ≡ true
 begun_key (W.piece a (Part Key) ∷ ps) h k w = let p = at_part w in key_first (key_view p.tree (kept_left (subst Kepts p.is k)) p.read)
-begun_key (W.piece a (Fixed (Tok Operator IdentifierName t)) ∷ ps) {x} h k w = let s = at_sign w in let r : Seen x IdentifierName t = took IdentifierName t x s.moves s.found in (λ i. key_at (r.kind i) (r.text i))
+begun_key (W.piece a (Fixed (Tok Operator IdentifierName t)) ∷ ps) {x} h k w = let s = at_sign w in let r : Seen x IdentifierName t = took IdentifierName t x s.moves s.found in (λ i. key_start (r.kind i) (r.text i))
 begun_key _ h k w = cc
 
 abbrev pub is_open : List W.Piece → Bool
@@ -231,7 +232,7 @@ word_clash u ps qs {x} h o (bracketed k n) i m f g j = let s = at_sign n.walk in
 word_clash u ps qs {x} h o (named s t a e k) i m f g j =
     let back = same_next x s IdentifierName t u (same_seen (took s t x e k) (took IdentifierName u x m f)) e m in
     let r = took_at Operator IdentifierName u x m f in
-    stops_clash u ps r.text h (move_walk (sym (back ∙ r.is)) i) (subst (λ z. key_at (kind_at z) (text_at z) ≡ true) r.is (begun_key qs o g j))
+    stops_clash u ps r.text h (move_walk (sym (back ∙ r.is)) i) (subst (λ z. key_start (kind_at z) (text_at z) ≡ true) r.is (begun_key qs o g j))
 
 pub members_clash : {V V' : List Context → Surroundings} (ps qs : List W.Piece) {x y z : Place} {ts us : Forest} → members_apart ps qs ≡ true → Kepts ts → Kepts us → W.Walk IsRead V ps x ts y → W.Walk IsRead V' qs x us z → ⊥
 members_clash (W.piece a (Fixed (Tok Operator k t)) ∷ ps) (W.piece b (Fixed (Tok Operator l u)) ∷ qs) {x} h f g i j =
