@@ -1,5 +1,7 @@
 -- A text has one tree.
 mod Table
+mod Known
+mod Sealed
 mod Readings
 mod Checks
 mod Facts
@@ -11,6 +13,7 @@ mod Pairs
 mod Agreeing
 mod Places
 mod Fine
+mod Evidence
 mod Spines
 mod Next
 mod Placed
@@ -18,6 +21,7 @@ mod Templates
 mod RowWalks
 mod Braces
 mod Chains
+mod Kept
 mod Turn
 mod Semis
 mod Endings

@@ -8,13 +8,14 @@ use Rattle.jsx_tree.specs.Spelling.{mode_of}
 use Rattle.jsx_tree.specs.Reading.{Place, forth}
 use Rattle.jsx_tree.specs.Walk.{is_found}
 use Rattle.jsx_tree.proofs.Tokens.{and_left, and_right, same_is}
-use Rattle.jsx_tree.proofs.OneTree.Readings.{Step, tok, lit, sub, many, calm, Flat, one, some, row_of, nil, cons, unseq, made, flat, flats, comma, Reads, word, head, Prop, long, computed, short, preset, rest, Props, p_shut, p_last, p_more, paren, target, grow, arrow, Walk, done, take, pass, literal, under, all, each, Links, l_end, l_more, Spans, t_tail, t_more, regexp, brace, Whole, single, several, Rest, final, also, Items, shut, gap, last, more}
-use Rattle.jsx_tree.proofs.OneTree.Readings.{braces, linked, filled, tagged}
+use Rattle.jsx_tree.proofs.OneTree.Readings.{Step, tok, lit, sub, many, calm, Flat, one, some, row_of, nil, cons, unseq, made, flat, flats, comma, Reads, word, head, Prop, long, computed, short, preset, rest, member, o_named, o_computed, o_worded, Props, p_shut, p_last, p_more, paren, target, grow, arrow, Walk, done, take, pass, literal, under, all, each, Links, l_end, l_more, Spans, t_tail, t_more, regexp, brace, Whole, single, several, Rest, final, also, Items, shut, gap, last, more}
+use Rattle.jsx_tree.proofs.OneTree.Readings.{sealed, braces, linked, filled, tagged}
 use Rattle.jsx_tree.proofs.OneTree.Checks.{starts, same_bool, joins, apart, twin}
-use Rattle.jsx_tree.proofs.OneTree.Facts.{not_is, eq_nat, le_nat, Seen, found_at, took, took_in}
+use Rattle.jsx_tree.proofs.OneTree.Facts.{not_is, eq_nat, le_nat, Seen, seen, found_at, took, took_in}
+use Rattle.jsx_tree.proofs.OneTree.Sealed.{closed_same}
 use Rattle.jsx_tree.proofs.OneTree.Starting.{arrow_leads, of_grow, no_start, tagged_start}
 use Rattle.jsx_tree.proofs.OneTree.Growths.{Through, Split, made_plain, made_coded, unseq_one, calm_one, split}
-use Rattle.jsx_tree.proofs.OneTree.Pairs.{Same, SameOne, and3, same_sign, same_place, same_lit, two_tokens, move, move_items, move_rest, no_comma, seen_at, comma_seen, close_seen, move_tok, ends, onward, tail_only, settle, one_token, start_regexp, start_word, parens_same, braces_same, pass_take, nothing_more, take_take, take_literal, take_under, plain_same, one_against, as_unseq, ends_prop, colon, equals, colon_seen, equals_seen, dots_seen, bracket_seen, shut_seen, same_name, key_dots, no_end, no_prop, no_link, link_only, take_linked, take_tagged, linked_tagged, tagged_only, lit_lit, SameSpans}
+use Rattle.jsx_tree.proofs.OneTree.Pairs.{sealed_start, Same, SameOne, and3, same_sign, same_place, same_lit, two_tokens, move, move_items, move_rest, no_comma, seen_at, comma_seen, close_seen, move_tok, ends, onward, tail_only, settle, one_token, start_regexp, start_word, parens_same, braces_same, pass_take, nothing_more, take_take, take_literal, take_under, plain_same, one_against, as_unseq, ends_prop, colon, equals, colon_seen, equals_seen, dots_seen, bracket_seen, shut_seen, same_name, key_dots, open_mark, named_open, short_open, no_end, no_prop, no_link, link_only, take_linked, take_tagged, linked_tagged, tagged_only, lit_lit, SameSpans}
 
 mutual
   pub one_walk : {ps qs : List Step} {x y z : Place} {ts us : Forest} → twin ps qs ≡ true → Walk ps x ts y → Walk qs x us z → Same (flats ts) (flats us) y z
@@ -140,6 +141,7 @@ mutual
   passes (head {k = k} {ts = ts} s a i l d w) le p c = settle (plain_same k ts s a i d w (λ qs us q hh v. one_walk hh w v) (λ qs us q hh v. no_walk hh w v) p.start) p.through
   passes (braces {k = k} {y = y} {ts = ts} l d a e f i) le p c =
       settle (subst (λ g. SameOne g p.first y p.rest) (sym (made_coded k 54 (cons (row_of (flats ts)) nil) a refl d)) (braces_same e f (λ us w j. one_props i j) p.start)) p.through
+  passes (sealed l s) le p c = settle (sealed_start s p.start) p.through
   passes (paren l e f a g h) le p c = settle (parens_same e f (λ us q j. whole_items a g h j) p.start) p.through
   passes (target {y = y} {t = t} l e f r k g h) le p c =
       settle (parens_same e f (λ us q j. as_unseq (flat t) (unseq_one r) (one_against r g h (λ u v s d. ends (passes r (omega arith) (split s (omega arith)) d) (calm_one y k)) j)) p.start) p.through
@@ -211,6 +213,27 @@ mutual
   one_prop (short {t = t2} {x = x} c2 a2 e2 f2) n h (computed c a e f r cm g i j l s dm) n' h' = absurd (key_dots refl (took IdentifierName t2 x e2 f2) (bracket_seen {x = x} e f))
   one_prop (preset {t = t2} {x = x} c2 a2 e2 f2 g2 o2 r2 d2) n h (computed c a e f r cm g i j l s dm) n' h' = absurd (key_dots refl (took IdentifierName t2 x e2 f2) (bracket_seen {x = x} e f))
   one_prop (rest {x = x} c2 a2 e2 f2 r2 d2) n h (computed c a e f r cm g i j l s dm) n' h' = absurd (two_tokens (bracket_seen {x = x} e f) (dots_seen {x = x} e2 f2) refl)
+  one_prop (member c o) n h (member d p) n' h' = let q = closed_same c d in record { tree = ap flat q.0; place = q.1 }
+  one_prop (long {s = s} {t = t} c a m e f g o r d) n h (member u p) n' h' = absurd (named_open s t m e f (colon_seen g o) refl refl p)
+  one_prop (member u p) n h (long {s = s} {t = t} c a m e f g o r d) n' h' = absurd (named_open s t m e f (colon_seen g o) refl refl p)
+  one_prop (preset {t = t} c a e f g o r d) n h (member u p) n' h' = absurd (named_open IdentifierName t refl e f (equals_seen g o) refl refl p)
+  one_prop (member u p) n h (preset {t = t} c a e f g o r d) n' h' = absurd (named_open IdentifierName t refl e f (equals_seen g o) refl refl p)
+  one_prop (short {t = t} c a e f) n h (member u p) n' h' = absurd (short_open t e f n h p)
+  one_prop (member u p) n h (short {t = t} c a e f) n' h' = absurd (short_open t e f n' h' p)
+  one_prop (rest {x = x} c a e f r d) n h (member u p) n' h' = absurd (open_mark (dots_seen {x = x} e f) refl p)
+  one_prop (member u p) n h (rest {x = x} c a e f r d) n' h' = absurd (open_mark (dots_seen {x = x} e f) refl p)
+  one_prop (computed {x = x} c a e f r cm g i j l s dm) n h (member u (o_named s2 t2 p' m e' f' g')) n' h' = absurd (key_dots m (took s2 t2 x e' f') (bracket_seen {x = x} e f))
+  one_prop (member u (o_named s2 t2 p' m e' f' g')) n h (computed {x = x} c a e f r cm g i j l s dm) n' h' = absurd (key_dots m (took s2 t2 x e' f') (bracket_seen {x = x} e f))
+  one_prop (computed {x = x} c a e f r cm g i j l s dm) n h (member u (o_worded t2 p' e' f' g')) n' h' = absurd (key_dots refl (took IdentifierName t2 x e' f') (bracket_seen {x = x} e f))
+  one_prop (member u (o_worded t2 p' e' f' g')) n h (computed {x = x} c a e f r cm g i j l s dm) n' h' = absurd (key_dots refl (took IdentifierName t2 x e' f') (bracket_seen {x = x} e f))
+  one_prop (computed {x = x} c a e f r cm g i j l s dm) n h (member u (o_computed x' b' p' o' e' f' r' cm' g' i' q')) n' h' =
+      let q0 = ends (passes r (omega arith) (split (subst (λ z. Reads 1 z o' b') (sym (sym e ∙ e')) r') (omega arith)) cm') cm in
+      let p1 = move_tok (Tok Operator Punctuator (codes "]")) g q0.place g' in
+      absurd (two_tokens (seen Punctuator (codes "(") p' q') (seen_at (sym p1) (colon_seen j l)) refl)
+  one_prop (member u (o_computed x' b' p' o' e' f' r' cm' g' i' q')) n h (computed {x = x} {b = b} {o = o} c a e f r cm g i j l s dm) n' h' =
+      let q0 = ends (passes r' (omega arith) (split (subst (λ z. Reads 1 z o b) (sym (sym e' ∙ e)) r) (omega arith)) cm) cm' in
+      let p1 = move_tok (Tok Operator Punctuator (codes "]")) g' q0.place g in
+      absurd (two_tokens (seen Punctuator (codes "(") p' q') (seen_at p1 (colon_seen j l)) refl)
 
   one_props : {x y z : Place} {ts us : Forest} → Props x ts y → Props x us z → Same (flats ts) (flats us) y z
   one_props {x = x} (p_shut e f) (p_shut e' f') = record { trees = refl; places = sym e ∙ e' }

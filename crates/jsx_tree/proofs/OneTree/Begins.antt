@@ -20,9 +20,11 @@ use Rattle.jsx_tree.proofs.OneTree.Checks.{every, starts}
 use Rattle.jsx_tree.proofs.OneTree.Facts.{never, or_else, not_is, Test, yes', no', test, eq_nat, Seen, took}
 use Rattle.jsx_tree.proofs.OneTree.Fine.{at_sign, at_part}
 use Rattle.jsx_tree.proofs.OneTree.Next.{unless_kept}
-use Rattle.jsx_tree.proofs.OneTree.Kinds.Keys.{key_at, key_first, key_view}
+use Rattle.jsx_tree.proofs.OneTree.Readings.{key_start}
+use Rattle.jsx_tree.proofs.OneTree.Kinds.Keys.{key_first, key_view}
 use Rattle.jsx_tree.proofs.OneTree.Afters.{after_tree}
-use Rattle.jsx_tree.proofs.OneTree.Parts.{kept, kepts, tame_of, whole_starts, word_read}
+use Rattle.jsx_tree.proofs.OneTree.Evidence.{Kept, Kepts, kept_left, kept_right}
+use Rattle.jsx_tree.proofs.OneTree.Parts.{tame_of, whole_starts, word_read}
 use Rattle.jsx_tree.proofs.OneTree.Wants.{Want, parted, anything, ended, still, idle, shutting, declared, other, meets, met, still_at, shutting_at, idle_at, is_look, look_met, is_at, is_seen, follow, follow_meets}
 
 -- the places whose trees are read as rows, and what stands behind each of them
@@ -86,7 +88,7 @@ abbrev pub fits : Front → Place → Bool
 fits (token' k t) x = is_at x k t
 fits (expr' ts) x = starts (kind_at x) (text_at x) && not (among (text_at x) ts)
 fits name' x = nat_eq (kind_at x) 0 && is_ident (text_at x)
-fits key' x = key_at (kind_at x) (text_at x)
+fits key' x = key_start (kind_at x) (text_at x)
 fits unknown x = true
 
 pub at_seen : {x : Place} {k : TokenKind} {t : Text} → Seen x k t → is_at x k t ≡ true
@@ -96,7 +98,7 @@ ident_leaf : (s : TokenKind) (t : Text) (x : Place) → leaf_in Ident s t ≡ tr
 ident_leaf IdentifierName t x h s = and_both (nat_eq (kind_at x) 0) (is_ident (text_at x)) (eq-eqb (kind_at x) 0 s.kind) (subst (λ u. is_ident u ≡ true) (sym s.text) h)
 ident_leaf _ t x h s = cc
 
-pub ident_fits : {v : Surroundings} {x y : Place} (t : Tree) → kept t ≡ true → IsRead v false Ident x t y → fits name' x ≡ true
+pub ident_fits : {v : Surroundings} {x y : Place} (t : Tree) → Kept t → IsRead v false Ident x t y → fits name' x ≡ true
 ident_fits {v} {x} {y} t h r =
     let w = word_read Ident t refl h r in
     ident_leaf w.kind w.text x (and_left (leaf_in Ident w.kind w.text) _ (subst (λ t. is Ident t ≡ true) w.is_leaf r.is)) (took w.kind w.text x w.moves w.found)
@@ -105,16 +107,16 @@ bound_leaf : (s : TokenKind) (t : Text) (x : Place) → leaf_in BindingIdent s t
 bound_leaf IdentifierName t x h s = and_both (nat_eq (kind_at x) 0) (is_ident (text_at x)) (eq-eqb (kind_at x) 0 s.kind) (subst (λ u. is_ident u ≡ true) (sym s.text) (and_left (is_ident t) _ h))
 bound_leaf _ t x h s = cc
 
-pub bound_fits : {v : Surroundings} {x y : Place} (t : Tree) → kept t ≡ true → IsRead v false BindingIdent x t y → fits name' x ≡ true
+pub bound_fits : {v : Surroundings} {x y : Place} (t : Tree) → Kept t → IsRead v false BindingIdent x t y → fits name' x ≡ true
 bound_fits {v} {x} {y} t h r =
     let w = word_read BindingIdent t refl h r in
     bound_leaf w.kind w.text x (and_left (leaf_in BindingIdent w.kind w.text) _ (subst (λ t. is BindingIdent t ≡ true) w.is_leaf r.is)) (took w.kind w.text x w.moves w.found)
 
-pub front_fits : {V : List Context → Surroundings} (e : Want) (ps : Production) (a : List Context) {x z : Place} {ts : Forest} → W.Walk IsRead V (pieces a ps) x ts z → kepts ts ≡ true → meets e z ≡ true → fits (front e ps) x ≡ true
+pub front_fits : {V : List Context → Surroundings} (e : Want) (ps : Production) (a : List Context) {x z : Place} {ts : Forest} → W.Walk IsRead V (pieces a ps) x ts z → Kepts ts → meets e z ≡ true → fits (front e ps) x ≡ true
 front_fits e (Fixed (Tok Operator k t) ∷ ps) a {x} w h m = let s = at_sign w in at_seen (took k t x s.moves s.found)
 front_fits e (Fixed Count ∷ ps) a w h m = front_fits e ps a w h m
 front_fits e (Fixed One ∷ ps) a w h m = front_fits e ps a w h m
-front_fits e (Part Key ∷ ps) a w h m = let p = at_part w in key_first (key_view p.tree (and_left (kept p.tree) _ (subst (λ ts. kepts ts ≡ true) p.is h)) p.read)
+front_fits e (Part Key ∷ ps) a w h m = let p = at_part w in key_first (key_view p.tree (kept_left (subst Kepts p.is h)) p.read)
 front_fits {V} e (Fixed (Unless us) ∷ Part (Expr zero) ∷ ps) a {x} {z} {ts} w h m = by_follow (test (not (among [] us) && follow e ps (ended 0)))
   where
     by_follow : Test (not (among [] us) && follow e ps (ended 0)) → fits (cond (not (among [] us) && follow e ps (ended 0)) (expr' us) unknown) x ≡ true
@@ -123,12 +125,12 @@ front_fits {V} e (Fixed (Unless us) ∷ Part (Expr zero) ∷ ps) a {x} {z} {ts} 
         let s = at_sign w in
         let k = unless_kept us x s.next (not_is (among [] us) (and_left (not (among [] us)) _ g)) s.moves s.found in
         let p = at_part s.walk in
-        let i = tame_of p.tree (Expr 0) refl (and_left (kept p.tree) _ (subst (λ ts. kepts ts ≡ true) p.is h)) p.read.is in
-        let c = follow_meets e ps (ended 0) a (and_right (not (among [] us)) _ g) (λ _. after_tree p.tree (Expr 0) i refl p.read) p.walk (and_right (kept p.tree) _ (subst (λ ts. kepts ts ≡ true) p.is h)) m in
+        let i = tame_of p.tree (Expr 0) refl (kept_left (subst Kepts p.is h)) p.read.is in
+        let c = follow_meets e ps (ended 0) a (and_right (not (among [] us)) _ g) (λ _. after_tree p.tree (Expr 0) i refl p.read) p.walk (kept_right (subst Kepts p.is h)) m in
         let b : starts (kind_at x) (text_at x) ≡ true = subst (λ z. starts (kind_at z) (text_at z) ≡ true) (sym k.place) (whole_starts p.tree i p.read c) in
         (λ j. fits (cond (g j) (expr' us) unknown) x) ∙ and_both (starts (kind_at x) (text_at x)) (not (among (text_at x) us)) b k.held
-front_fits e (Part Ident ∷ ps) a w h m = let p = at_part w in ident_fits p.tree (and_left (kept p.tree) _ (subst (λ ts. kepts ts ≡ true) p.is h)) p.read
-front_fits e (Part BindingIdent ∷ ps) a w h m = let p = at_part w in bound_fits p.tree (and_left (kept p.tree) _ (subst (λ ts. kepts ts ≡ true) p.is h)) p.read
+front_fits e (Part Ident ∷ ps) a w h m = let p = at_part w in ident_fits p.tree (kept_left (subst Kepts p.is h)) p.read
+front_fits e (Part BindingIdent ∷ ps) a w h m = let p = at_part w in bound_fits p.tree (kept_left (subst Kepts p.is h)) p.read
 front_fits e _ a w h m = refl
 
 -- ---- what a front says
@@ -190,7 +192,7 @@ pub front_stops : (w : Want) (f : Front) (x : Place) → is_stop w ≡ true → 
 front_stops w (token' k t) x l h f m = never (met w k t) (met_back w k t x l (is_seen x k t f) m) (not_is (met w k t) h)
 front_stops w (expr' ts) x l h f m = no_case starts refl (λ t. refl) refl refl (kind_at x) (text_at x) (stop_idle w x l m) (and_left (starts (kind_at x) (text_at x)) _ f)
 front_stops w name' x l h f m = no_case (λ k t. nat_eq k 0 && is_ident t) refl (λ t. refl) refl refl (kind_at x) (text_at x) (stop_idle w x l m) f
-front_stops shutting key' x l h f m = never (key_at (kind_at x) (text_at x)) f (λ i. key_at (eq_nat {a = kind_at x} {b = 1} (and_left (nat_eq (kind_at x) 1) _ m) i) (same_is (text_at x) (codes "}") (and_right (nat_eq (kind_at x) 1) _ m) i))
+front_stops shutting key' x l h f m = never (key_start (kind_at x) (text_at x)) f (λ i. key_start (eq_nat {a = kind_at x} {b = 1} (and_left (nat_eq (kind_at x) 1) _ m) i) (same_is (text_at x) (codes "}") (and_right (nat_eq (kind_at x) 1) _ m) i))
 front_stops _ key' x l h f m = cc
 front_stops w unknown x l h f m = cc
 

@@ -1,9 +1,10 @@
 -- What the definitions read, with what may stand behind each part: properties in braces.
+use Rattle.jsx_tree.proofs.OneTree.Known.{taken, plain_leaf}
 use Rattle.std.proofs.Common.{◌≡◌, ℕ, ◌≤◌, Bool, true, false, not, List, [], ◌∷◌, refl, sym, ◌∙◌, ap, subst}
 use Rattle.std.specs.Prelude.{IsTrue, ◌&&◌, ◌||◌, nat_le, codes}
-use Rattle.jsx_base.specs.Token.{Text, Operator, TokenKind, IdentifierName, Punctuator, NumericLiteral, BigIntLiteral, StringLiteral, RegExpLiteral, Elision}
+use Rattle.jsx_base.specs.Token.{Text, Operator, TokenKind, IdentifierName, Punctuator, NumericLiteral, BigIntLiteral, StringLiteral, RegExpLiteral, Elision, kind_number}
 use Rattle.jsx_tree.specs.Signs.{Sign, Tok, Unless}
-use Rattle.jsx_tree.specs.Kinds.{Role, Binds, Assigns, SubstitutedTemplate, TemplateSpan, Spread, ObjectPat, PropertyPat, ShorthandPat, ShorthandInit, RestProperty, ComputedKey, Object, Property, Shorthand, PlainTemplate, Kind, function, expression, Tree, leaf, node, list, Forest, none, part}
+use Rattle.jsx_tree.specs.Kinds.{InObject, Method, Getter, Setter, Role, Binds, Assigns, SubstitutedTemplate, TemplateSpan, Spread, ObjectPat, PropertyPat, ShorthandPat, ShorthandInit, RestProperty, ComputedKey, Object, Property, Shorthand, PlainTemplate, Kind, function, expression, Tree, leaf, node, list, Forest, none, part}
 use Rattle.jsx_tree.specs.Nonterminals.{Nonterminal, Expr, Ident, BindingIdent, Key, ObjectMember, PatProp, PatElement, ArrayItem, homes, in_homes, leaf_in}
 use Rattle.jsx_tree.specs.Grammar.{Commas, Context, Fixed, Part, Many}
 use Rattle.jsx_tree.specs.Form.{admits, is, fits_below}
@@ -13,15 +14,16 @@ use Rattle.jsx_tree.specs.Walk as W
 use Rattle.jsx_tree.specs.Walk.{is_found, IsRead}
 use Rattle.jsx_tree.proofs.Tokens.{and_left, and_right, and_both}
 use Rattle.jsx_tree.proofs.OneTree.Table.{code, kinds}
-use Rattle.jsx_tree.proofs.OneTree.Readings.{calm, is_arrow, Reads, head, grow, done, take, under, Prop, long, computed, short, preset, rest, Props, p_shut, p_last, p_more, may_key}
-use Rattle.jsx_tree.proofs.OneTree.Readings.{braces}
+use Rattle.jsx_tree.proofs.OneTree.Readings.{calm, is_arrow, Reads, head, grow, done, take, under, Prop, long, computed, short, preset, rest, member, Opening, o_named, o_computed, o_worded, Props, key_start, kind_at, text_at, p_shut, p_last, p_more, may_key}
+use Rattle.jsx_tree.proofs.OneTree.Readings.{sealed, braces}
 use Rattle.jsx_tree.proofs.OneTree.Checks.{every}
-use Rattle.jsx_tree.proofs.OneTree.Facts.{never, or_else, not_is, Test, yes', no', test, le_nat, for_kind}
-use Rattle.jsx_tree.proofs.OneTree.Places.{is_prop, is_key, is_brace, at_home, no_seq, no_hole, is_inner, free, is_seq, taken}
+use Rattle.jsx_tree.proofs.OneTree.Facts.{never, or_else, not_is, Test, yes', no', test, le_nat, for_kind, Seen, took}
+use Rattle.jsx_tree.proofs.OneTree.Sealed.{is_member}
+use Rattle.jsx_tree.proofs.OneTree.Places.{is_prop, is_key, is_brace, at_home, no_seq, no_hole, is_inner, free}
 use Rattle.jsx_tree.proofs.Rows.Bridge.{node_walk}
 use Rattle.jsx_tree.proofs.OneTree.Fine.{at_sign, at_part, at_many, at_end}
-use Rattle.jsx_tree.proofs.OneTree.Fine.{plain_leaf, tame, tames, Good, Fine, fine_leaf, fine_regexp, fine_piece, fine_node, fine_prop, fine_seq, fine_list, Fines, fine_part, one_sign, in_is, no_piece, leaf_reads}
-use Rattle.jsx_tree.proofs.OneTree.Spines.{home_of, at_kind, taken_scope, no_seq_here}
+use Rattle.jsx_tree.proofs.OneTree.Fine.{tame, tames, tames_of, Good, Fine, fine_leaf, fine_regexp, fine_piece, fine_node, fine_prop, fine_seq, fine_sealed, fine_member, fine_list, Fines, fine_part, one_sign, in_is, no_piece, leaf_reads}
+use Rattle.jsx_tree.proofs.OneTree.Spines.{sealless, absent, no_sealed, no_member, home_of, at_kind, taken_scope, no_seq_here}
 use Rattle.jsx_tree.proofs.OneTree.Next.{unless_kept, calm_at}
 use Rattle.jsx_tree.proofs.OneTree.Placed.{Placed, no_elision, hole_free, regexp_reads, tree_reads, comma_calm, Trail, with_comma, without, trail, close_reach, comma_space, found_start, one_placed, list_fines}
 use Rattle.jsx_tree.proofs.OneTree.Templates.{template_walk}
@@ -57,6 +59,8 @@ key_leaf nk (fine_leaf {s = Elision} p) r = let bad = in_is r in cc
 key_leaf nk (fine_leaf {s = s} p) r = cc
 key_leaf nk (fine_piece {s = s} {t = t} p) r = absurd (no_piece Key s t refl p (in_is r))
 key_leaf nk (fine_regexp) r = let bad = in_is r in cc
+key_leaf nk (fine_sealed {k = k} {cs = cs} s f) r = absurd (no_sealed Key k cs s refl r.is)
+key_leaf nk (fine_member {k = k} {t = u} {ts = us} s f m g) r = absurd (no_member Key k (part u us) s refl r.is)
 key_leaf nk (fine_list f) r = let bad = r.is in cc
 key_leaf nk (fine_seq {k = k} {cs = cs} s f) r = absurd (no_seq_here Key k cs s refl r.is)
 key_leaf nk (fine_node {k = k} {cs = cs} t np g) r =
@@ -94,7 +98,7 @@ key_at {v} {x} {y} (fine_prop {k = k} {cs = cs} t p g) m r = by_case (test (is_k
   where
     by_case : Test (is_key k) → KeyAt x (node k cs) y
     by_case (no' n) = by_leaf (key_leaf n (fine_prop t p g) r)
-    by_case (yes' b) = subst (λ k. KeyAt x (node k cs) y) (sym (key_is k b)) (computed_key cs g (and_right (taken k || is_seq k) (tames cs) m) (subst (λ k. IsRead v false Key x (node k cs) y) (key_is k b) r))
+    by_case (yes' b) = subst (λ k. KeyAt x (node k cs) y) (sym (key_is k b)) (computed_key cs g (tames_of k cs t m) (subst (λ k. IsRead v false Key x (node k cs) y) (key_is k b) r))
 key_at {v} {x} {y} (fine_node {k = k} {cs = cs} t p g) m r = by_leaf (key_leaf (no_key k p) (fine_node t p g) r)
   where
     no_key : (k : Kind) → is_prop k ≡ false → is_key k ≡ false
@@ -106,6 +110,8 @@ key_at {v} {x} {y} (fine_node {k = k} {cs = cs} t p g) m r = by_leaf (key_leaf (
 key_at (fine_piece p) m r = by_leaf (key_leaf refl (fine_piece p) r)
 key_at (fine_regexp) m r = by_leaf (key_leaf refl fine_regexp r)
 key_at (fine_leaf p) m r = by_leaf (key_leaf refl (fine_leaf p) r)
+key_at (fine_sealed {k = k} {cs = cs} s f) m r = absurd (no_sealed Key k cs s refl r.is)
+key_at (fine_member {k = k} {t = u} {ts = us} s f n g) m r = absurd (no_member Key k (part u us) s refl r.is)
 key_at (fine_list f) m r = by_leaf (key_leaf refl (fine_list f) r)
 key_at (fine_seq {k = k} {cs = cs} s f) m r = absurd (no_seq_here Key k cs s refl r.is)
 
@@ -118,6 +124,11 @@ name_home : (c : Nonterminal) (k : Kind) → is_name_place c ≡ true → taken 
 name_home Ident k n t = not_is _ (and_left (not (in_homes Ident (homes k))) _ (and_right (is_key k || not (in_homes Key (homes k))) _ (for_kind (λ l. (is_key l || not (in_homes Key (homes l))) && (not (in_homes Ident (homes l)) && not (in_homes BindingIdent (homes l)))) no_keys k (taken_scope k t))))
 name_home BindingIdent k n t = not_is _ (and_right (not (in_homes Ident (homes k))) _ (and_right (is_key k || not (in_homes Key (homes k))) _ (for_kind (λ l. (is_key l || not (in_homes Key (homes l))) && (not (in_homes Ident (homes l)) && not (in_homes BindingIdent (homes l)))) no_keys k (taken_scope k t))))
 name_home _ k n t = cc
+
+name_absent : (c : Nonterminal) → is_name_place c ≡ true → absent c ≡ true
+name_absent Ident n = refl
+name_absent BindingIdent n = refl
+name_absent _ n = cc
 
 name_seq : (c : Nonterminal) → is_name_place c ≡ true → no_seq c ≡ true
 name_seq Ident n = refl
@@ -156,6 +167,8 @@ name_leaf c n (fine_leaf {s = Elision} {t = t} p) r = absurd (other_leaf c Elisi
 name_leaf c n (fine_leaf {s = s} p) r = cc
 name_leaf c n (fine_piece {s = s} {t = t} p) r = absurd (no_piece c s t (name_free c n) p (in_is r))
 name_leaf c n (fine_regexp {t = t}) r = absurd (name_regexp c t n (in_is r))
+name_leaf c n (fine_sealed {k = k} {cs = cs} s f) r = absurd (no_sealed c k cs s (and_left (sealless c) _ (name_absent c n)) r.is)
+name_leaf c n (fine_member {k = k} {t = u} {ts = us} s f m g) r = absurd (no_member c k (part u us) s (and_right (sealless c) _ (name_absent c n)) r.is)
 name_leaf c n (fine_list f) r = let bad = r.is in cc
 name_leaf c n (fine_seq {k = k} {cs = cs} s f) r = absurd (no_seq_here c k cs s (name_seq c n) r.is)
 name_leaf c n (fine_node {k = k} {cs = cs} t np g) r = absurd (never _ (home_of c k cs (and_left (admits c (node k cs)) (fits_below c (node k cs)) r.is)) (name_home c k n t))
@@ -247,6 +260,8 @@ rest_reads k {x = x} {y} cs d o f w q =
     name_reads (fine_leaf {s = s} {t = t} p) r = leaf_reads 1 s t r refl p (no_elision BindingIdent s t refl (in_is r))
     name_reads (fine_piece {s = s} {t = t} p) r = absurd (no_piece BindingIdent s t refl p (in_is r))
     name_reads (fine_regexp {t = t}) r = regexp_reads 1 t r
+    name_reads (fine_sealed {k = k} {cs = cs} s f) r = absurd (no_sealed BindingIdent k cs s refl r.is)
+    name_reads (fine_member {k = k} {t = u} {ts = us} s f m g) r = absurd (no_member BindingIdent k (part u us) s refl r.is)
     name_reads (fine_list f) r = let bad = r.is in cc
     name_reads (fine_seq {k = k} {cs = cs} s f) r = absurd (no_seq_here BindingIdent k cs s refl r.is)
     name_reads (fine_node {k = k} {cs = cs} t np g) r = absurd (never _ (home_of BindingIdent k cs (and_left (admits BindingIdent (node k cs)) (fits_below BindingIdent (node k cs)) r.is)) (name_home BindingIdent k refl t))
@@ -256,6 +271,7 @@ rest_reads k {x = x} {y} cs d o f w q =
 spread_prop : {n : ℕ} {x y : Place} {cs : Forest} → Reads n x (node (expression Spread) cs) y → Prop x (node (expression Spread) cs) y
 spread_prop (head s a i l d (take e f (under r c done))) = rest refl refl e f r c
 spread_prop (grow s d l r w) = cc
+spread_prop (sealed l s) = let bad = s.closed.kind' in cc
 spread_prop (braces l c a e f p) = cc
 
 element_placed : (r : Role) → Placed 1 1 (PatElement r)
@@ -319,6 +335,12 @@ prop_homes (PatProp Binds) p = refl
 prop_homes (PatProp Assigns) p = refl
 prop_homes _ p = cc
 
+prop_absent : (c : Nonterminal) → prop_place c ≡ true → sealless c ≡ true
+prop_absent ObjectMember p = refl
+prop_absent (PatProp Binds) p = refl
+prop_absent (PatProp Assigns) p = refl
+prop_absent _ p = cc
+
 prop_seq : (c : Nonterminal) → prop_place c ≡ true → no_seq c ≡ true
 prop_seq ObjectMember p = refl
 prop_seq (PatProp Binds) p = refl
@@ -368,16 +390,64 @@ spread_reads : {v : Surroundings} {c : Nonterminal} {x y : Place} (cs : Forest) 
 spread_reads {v} {c} {x} {y} cs g r q =
     spread_prop (g.reads 1 v ArrayItem x y (record { is = and_both true (fits_below c (node (expression Spread) cs)) refl (and_right (admits c (node (expression Spread) cs)) (fits_below c (node (expression Spread) cs)) r.is); is_legal = r.is_legal; scans = r.scans; found = r.found }) refl refl q)
 
+-- ---- methods
+
+abbrev first_part : Forest → Tree
+first_part (part t ts) = t
+first_part none = list none
+
+key_begun : {x y : Place} {t : Tree} → KeyAt x t y → IsTrue (is_found y) → key_start (kind_at x) (text_at x) ≡ true
+key_begun {x = x} (by_leaf l) f = let r : Seen x l.kind l.text = took l.kind l.text x l.moves f in (λ i. key_start (r.kind i) (r.text i)) ∙ by_kind l.kind l.text l.keyed
+  where
+    by_kind : (s : TokenKind) (t : Text) → may_key s ≡ true → key_start (kind_number s) t ≡ true
+    by_kind IdentifierName t h = refl
+    by_kind NumericLiteral t h = refl
+    by_kind BigIntLiteral t h = refl
+    by_kind StringLiteral t h = refl
+    by_kind _ t h = cc
+key_begun {x = x} (by_brackets q e f' r c g) f = let r : Seen x Punctuator (codes "[") = took Punctuator (codes "[") x e f' in (λ i. key_start (r.kind i) (r.text i))
+
+key_opens : {x y : Place} {t : Tree} → KeyAt x t y → IsTrue (is_found y) → IsTrue (is_found (forth (Tok Operator Punctuator (codes "(")) y)) → Opening x
+key_opens {y = y} (by_leaf l) f o = o_named l.kind l.text y l.keyed l.moves f o
+key_opens {y = y} (by_brackets {a = a} {b = b} {o = u} q e f' r c g) f o = o_computed a b y u e f' r c g f o
+
+opening : (k : Kind) (t : Tree) (ts : Forest) {v : Surroundings} {x y : Place} → is_member k ≡ true → Fine t → tame t ≡ true → IsRead v false ObjectMember x (node k (part t ts)) y → Opening x
+opening (function (Method InObject)) t ts s f m r =
+    let p = at_part (node_walk false (function (Method InObject)) refl r).walk in
+    let o = at_sign p.walk in
+    let e : t ≡ p.tree = ap first_part p.is in
+    key_opens (key_at (subst Fine e f) (subst (λ t. tame t ≡ true) e m) p.read) p.read.found (subst (λ z. IsTrue (is_found z)) (sym o.moves) o.found)
+opening (function (Getter InObject)) t ts s f m r =
+    let w = at_sign (node_walk false (function (Getter InObject)) refl r).walk in
+    let p = at_part w.walk in
+    let e : t ≡ p.tree = ap first_part p.is in
+    o_worded (codes "get") w.next w.moves w.found (key_begun (key_at (subst Fine e f) (subst (λ t. tame t ≡ true) e m) p.read) p.read.found)
+opening (function (Setter InObject)) t ts s f m r =
+    let w = at_sign (node_walk false (function (Setter InObject)) refl r).walk in
+    let p = at_part w.walk in
+    let e : t ≡ p.tree = ap first_part p.is in
+    o_worded (codes "set") w.next w.moves w.found (key_begun (key_at (subst Fine e f) (subst (λ t. tame t ≡ true) e m) p.read) p.read.found)
+opening (function (Method _)) t ts s f m r = cc
+opening (function (Getter _)) t ts s f m r = cc
+opening (function (Setter _)) t ts s f m r = cc
+opening (function _) t ts s f m r = cc
+opening _ t ts s f m r = cc
+
 prop_reads : (c : Nonterminal) {v : Surroundings} {x y : Place} {t : Tree} → prop_place c ≡ true → Fine t → tame t ≡ true → IsRead v false c x t y → calm 1 y ≡ true → Prop x t y
 prop_reads c p (fine_leaf {s = s} {t = t} l) m r q = absurd (prop_leaf c s t p (in_is r) l)
 prop_reads c p (fine_piece {s = s} {t = t} l) m r q = absurd (no_piece c s t (prop_free c p) l (in_is r))
 prop_reads c p (fine_regexp {t = t}) m r q = absurd (prop_regexp c t p (in_is r))
+prop_reads c p (fine_sealed {k = k} {cs = cs} s f) m r q = absurd (no_sealed c k cs s (prop_absent c p) r.is)
+prop_reads ObjectMember p (fine_member {t = u} {ts = us} s f n g) m r q = member (g.closes' r) (opening _ u us s f n r)
+prop_reads (PatProp Binds) p (fine_member {k = k} {t = u} {ts = us} s f n g) m r q = absurd (no_member (PatProp Binds) k (part u us) s refl r.is)
+prop_reads (PatProp Assigns) p (fine_member {k = k} {t = u} {ts = us} s f n g) m r q = absurd (no_member (PatProp Assigns) k (part u us) s refl r.is)
+prop_reads _ p (fine_member s f n g) m r q = cc
 prop_reads c p (fine_list f) m r q = let bad = r.is in cc
 prop_reads c p (fine_seq {k = k} {cs = cs} s f) m r q = absurd (no_seq_here c k cs s (prop_seq c p) r.is)
 prop_reads c {x = x} {y} p (fine_prop {k = k} {cs = cs} t g f) m r q = by_case (test (is_inner k))
   where
     by_case : Test (is_inner k) → Prop x (node k cs) y
-    by_case (no' n) = own_prop k cs n g f (and_right (taken k || is_seq k) (tames cs) m) r q
+    by_case (no' n) = own_prop k cs n g f (tames_of k cs t m) r q
     by_case (yes' b) =
         let i = home_of c k cs (and_left (admits c (node k cs)) (fits_below c (node k cs)) r.is) in
         absurd (never (is_inner k) b (not_is _ (at_kind c (λ l. not (is_inner l)) k (inner_home c p) (taken_scope k t) i)))

@@ -1,11 +1,12 @@
 -- What the definitions read, with what may stand behind each part: chains, and at last every tree.
+use Rattle.jsx_tree.proofs.OneTree.Known.{is_seq, taken, plain_leaf, is_piece, is_regexp}
 use Rattle.std.proofs.Common.{◌≡◌, ℕ, suc, Bool, true, false, not, List, [], ◌∷◌, refl, sym, ◌∙◌, ap, subst, arith}
 use Rattle.std.specs.Prelude.{IsTrue, ◌&&◌, ◌||◌, nat_le, codes}
 use Rattle.std.proofs.lemmas.Bool.{le-leb}
 use Rattle.jsx_base.specs.Token.{Text, Operator, TokenKind, IdentifierName, Punctuator, NumericLiteral, BigIntLiteral, StringLiteral, RegExpLiteral, Elision}
 use Rattle.jsx_tree.specs.Signs.{Tok}
-use Rattle.jsx_tree.specs.Kinds.{TemplateSpan, Chain, NameLink, IndexLink, CallLink, Kind, expression, Tree, leaf, node, list, Forest, none, part}
-use Rattle.jsx_tree.specs.Nonterminals.{Expr, ChainLink}
+use Rattle.jsx_tree.specs.Kinds.{FunctionExpr, ClassExpr, TemplateSpan, Chain, NameLink, IndexLink, CallLink, Kind, function, expression, Tree, leaf, node, list, Forest, none, part}
+use Rattle.jsx_tree.specs.Nonterminals.{Nonterminal, Expr, ObjectMember, ChainLink}
 use Rattle.jsx_tree.specs.Grammar.{OneOrMore, Context, Many, production}
 use Rattle.jsx_tree.specs.Form.{leads, admits, fits_below}
 use Rattle.jsx_tree.specs.StaticRules.{Surroundings, rule, first_of_list, is_optional}
@@ -19,11 +20,13 @@ use Rattle.jsx_tree.proofs.OneTree.Readings.{linked}
 use Rattle.jsx_tree.proofs.OneTree.Facts.{never, or_else, Test, yes', no', test, le_nat, for_kind, found_at}
 use Rattle.jsx_tree.proofs.OneTree.Starting.{goes_on, of_grow}
 use Rattle.jsx_tree.proofs.OneTree.Pairs.{link_reach}
-use Rattle.jsx_tree.proofs.OneTree.Places.{ending, first_of, kin, is_prop, is_brace, place_at, ends_by, is_chain, link_rows, link_home, link_props, row_ok, is_seq, taken}
+use Rattle.jsx_tree.proofs.OneTree.Places.{ending, first_of, kin, is_prop, is_brace, place_at, ends_by, is_chain, link_rows, link_home, link_props, row_ok}
 use Rattle.jsx_tree.proofs.Rows.Bridge.{node_walk}
-use Rattle.jsx_tree.proofs.OneTree.Fine.{at_many, at_end}
-use Rattle.jsx_tree.proofs.OneTree.Fine.{plain_leaf, is_piece, is_regexp, tame, tames, spine_ok, first_ok, Good, Fine, fine_leaf, fine_regexp, fine_piece, fine_node, fine_prop, fine_seq, fine_list, Fines, fine_none, fine_part, calm_more, in_is, no_piece}
-use Rattle.jsx_tree.proofs.OneTree.Spines.{home_of, at_kind, taken_scope, lead_facts, head_row, no_seq_here}
+use Rattle.jsx_tree.proofs.OneTree.Fine.{at_sign, at_many, at_end}
+use Rattle.jsx_tree.proofs.OneTree.Sealed.{is_sealed, is_member, Closed, Opener, of_function, of_class, Sealed}
+use Rattle.jsx_tree.proofs.OneTree.Evidence.{Kept, Kepts, kept_left, kept_right, kept_listed, kept_parts, Tame}
+use Rattle.jsx_tree.proofs.OneTree.Fine.{tame, tames, tames_of, first_tame, Tamed, of_sealed, of_member, of_open, tamed, spine_ok, first_ok, Good, Fine, fine_leaf, fine_regexp, fine_piece, fine_node, fine_prop, fine_seq, Seals, fine_sealed, Closes, fine_member, fine_list, Fines, fine_none, fine_part, calm_more, in_is, no_piece, re_home}
+use Rattle.jsx_tree.proofs.OneTree.Spines.{no_sealed, no_member, home_of, at_kind, taken_scope, lead_facts, head_row, no_seq_here}
 use Rattle.jsx_tree.proofs.OneTree.Next.{calm_at}
 use Rattle.jsx_tree.proofs.OneTree.Placed.{hole_free, tree_reads, one_placed, list_fines, spined_reads}
 use Rattle.jsx_tree.proofs.OneTree.RowWalks.{row_walk, of_row, lead_parts, first_spine}
@@ -45,7 +48,7 @@ link_reads {x = x} {y} (fine_prop {k = k} {cs = cs} t p f) m r q =
     let s = taken_scope k t in
     let l : is_link k ≡ true = at_kind ChainLink is_link k link_home s i in
     let o = or_else (not (is_link k)) (row_ok 99 (production k)) (for_kind (λ l. not (is_link l) || row_ok 99 (production l)) link_rows k s) (ap not l) in
-    record { kind = k; parts = cs; is_node = refl; scoped = s; linked' = l; walk = row_walk 99 (production k) [] cs o (node_walk false k refl r).walk f (and_right (taken k || is_seq k) (tames cs) m) q }
+    record { kind = k; parts = cs; is_node = refl; scoped = s; linked' = l; walk = row_walk 99 (production k) [] cs o (node_walk false k refl r).walk f (tames_of k cs t m) q }
 link_reads (fine_node {k = k} {cs = cs} t p g) m r q =
     let i = home_of ChainLink k cs (and_left (admits ChainLink (node k cs)) (fits_below ChainLink (node k cs)) r.is) in
     let s = taken_scope k t in
@@ -54,6 +57,8 @@ link_reads (fine_node {k = k} {cs = cs} t p g) m r q =
 link_reads (fine_seq {k = k} {cs = cs} s f) m r q = absurd (no_seq_here ChainLink k cs s refl r.is)
 link_reads (fine_piece {s = s} {t = t} p) m r q = absurd (no_piece ChainLink s t refl p (in_is r))
 link_reads (fine_regexp) m r q = let bad = in_is r in cc
+link_reads (fine_sealed {k = k} {cs = cs} s f) m r q = absurd (no_sealed ChainLink k cs s refl r.is)
+link_reads (fine_member {k = k} {t = u} {ts = us} s f n g) m r q = absurd (no_member ChainLink k (part u us) s refl r.is)
 link_reads (fine_list f) m r q = let bad = r.is in cc
 link_reads (fine_leaf {s = IdentifierName} p) m r q = let bad = in_is r in cc
 link_reads (fine_leaf {s = NumericLiteral} p) m r q = let bad = in_is r in cc
@@ -172,17 +177,72 @@ leaf_fine s t h (no' p) (no' q) = subst (λ s. Fine (leaf s t)) (sym (regexp_is 
     regexp_is RegExpLiteral h = refl
     regexp_is _ h = cc
 
-mutual
-  pub fine : (t : Tree) → tame t ≡ true → Fine t
-  fine (leaf s t) h = leaf_fine s t h (test (plain_leaf s)) (test (is_piece s))
-  fine (node k cs) h = node_fine k cs (and_left (taken k || is_seq k) (tames cs) h) (and_right (taken k || is_seq k) (tames cs) h) (fines cs (and_right (taken k || is_seq k) (tames cs) h)) (test (taken k))
-  fine (list ts) h = fine_list (fines ts h)
+-- ---- what is sealed
 
-  pub fines : (ts : Forest) → tames ts ≡ true → Fines ts
-  fines none h = fine_none
-  fines (part t ts) h = fine_part (fine t (and_left (tame t) (tames ts) h)) (fines ts (and_right (tame t) (tames ts) h))
+record Word (x : Place) : Type 0 where
+  text : Text
+  opener : Opener text
+  begins' : IsTrue (is_found (forth (Tok Operator IdentifierName text) x))
+
+first_word : (k : Kind) (cs : Forest) {v : Surroundings} {c : Nonterminal} {x y : Place} → is_sealed k ≡ true → IsRead v false c x (node k cs) y → Word x
+first_word (function FunctionExpr) cs s r = let p = at_sign (node_walk false (function FunctionExpr) refl r).walk in record { text = codes "function"; opener = of_function; begins' = subst (λ z. IsTrue (is_found z)) (sym p.moves) p.found }
+first_word (function ClassExpr) cs s r = let p = at_sign (node_walk false (function ClassExpr) refl r).walk in record { text = codes "class"; opener = of_class; begins' = subst (λ z. IsTrue (is_found z)) (sym p.moves) p.found }
+first_word (function _) cs s r = cc
+first_word _ cs s r = cc
+
+at_primary : (k : Kind) (cs : Forest) → is_sealed k ≡ true → admits (Expr 18) (node k cs) ≡ true
+at_primary (function FunctionExpr) cs s = refl
+at_primary (function ClassExpr) cs s = refl
+at_primary (function _) cs s = cc
+at_primary _ cs s = cc
+
+pub seals : (k : Kind) (cs : Forest) → is_sealed k ≡ true → Kept (node k cs) → Seals k cs
+seals k cs s e = record { seals = λ {v} {c} {x} {y} r. sealed_at v c x y r }
+  where
+    sealed_at : (v : Surroundings) (c : Nonterminal) (x y : Place) → IsRead v false c x (node k cs) y → Sealed x k cs y
+    sealed_at v c x y r =
+        let w = first_word k cs s r in
+        let r' = re_home c (Expr 18) (node k cs) (at_primary k cs s) r in
+        record { closed = record { kind' = s; bound = e.bound; small = e.small; good = e.good; surroundings = v; read = r'; law = λ l ds t m g q. e.law.of_sealed.one k l cs ds s t e.small m e.good g r' q }; word = w.text; opener = w.opener; begins = w.begins' }
+
+closes : (k : Kind) (cs : Forest) → is_member k ≡ true → Kept (node k cs) → Closes k cs
+closes k cs s e = record { closes' = λ {v} {x} {y} r. closed_at v x y r }
+  where
+    closed_at : (v : Surroundings) (x y : Place) → IsRead v false ObjectMember x (node k cs) y → Closed is_member ObjectMember x k cs y
+    closed_at v x y r = record { kind' = s; bound = e.bound; small = e.small; good = e.good; surroundings = v; read = r; law = λ l ds t m g q. e.law.of_members.one k l cs ds s t e.small m e.good g r q }
+
+-- the first part, where there is one
+data FirstFine : Forest → Type 0 where
+  first_none : FirstFine none
+  first_fine : {t : Tree} {ts : Forest} → Fine t → FirstFine (part t ts)
+
+member_fine : (k : Kind) (cs : Forest) → is_member k ≡ true → first_tame cs ≡ true → Kept (node k cs) → FirstFine cs → Fine (node k cs)
+member_fine k none s m e f = cc
+member_fine k (part t ts) s m e (first_fine f) = fine_member s f m (closes k (part t ts) s e)
+
+node_of : (k : Kind) (cs : Forest) → Tamed k cs → Kept (node k cs) → (tames cs ≡ true → Fines cs) → (first_tame cs ≡ true → FirstFine cs) → Fine (node k cs)
+node_of k cs (of_member s f m) e rest first = member_fine k cs s m e (first m)
+node_of k cs (of_sealed s f) e rest first = fine_sealed s (seals k cs s e)
+node_of k cs (of_open h m) e rest first = node_fine k cs h m (rest m) (test (taken k))
+
+mutual
+  fine_of : (t : Tree) → tame t ≡ true → Kept t → Fine t
+  fine_of (leaf s t) h e = leaf_fine s t h (test (plain_leaf s)) (test (is_piece s))
+  fine_of (node k cs) h e = node_of k cs (tamed k cs h) e (λ m. fines_of cs m (kept_parts e)) (λ m. first_of' cs m (kept_parts e))
+  fine_of (list ts) h e = fine_list (fines_of ts h (kept_listed e))
+
+  first_of' : (ts : Forest) → first_tame ts ≡ true → Kepts ts → FirstFine ts
+  first_of' none h e = first_none
+  first_of' (part t ts) h e = first_fine (fine_of t h (kept_left e))
+
+  fines_of : (ts : Forest) → tames ts ≡ true → Kepts ts → Fines ts
+  fines_of none h e = fine_none
+  fines_of (part t ts) h e = fine_part (fine_of t (and_left (tame t) (tames ts) h) (kept_left e)) (fines_of ts (and_right (tame t) (tames ts) h) (kept_right e))
+
+pub fine : (t : Tree) → Tame t → Fine t
+fine t i = fine_of t i.tame' i.kept'
 
 -- ---- what the definitions read as an expression of level 1, with what stands behind
 
-pub expression_reads : {v : Surroundings} {x y : Place} (t : Tree) → tame t ≡ true → IsRead v false (Expr 1) x t y → calm 1 y ≡ true → Reads 1 x t y
-expression_reads t h r q = tree_reads 1 1 (Expr 1) (fine t h) h (hole_free t (Expr 1) refl r) r one_placed q
+pub expression_reads : {v : Surroundings} {x y : Place} (t : Tree) → Tame t → IsRead v false (Expr 1) x t y → calm 1 y ≡ true → Reads 1 x t y
+expression_reads t h r q = tree_reads 1 1 (Expr 1) (fine t h) h.tame' (hole_free t (Expr 1) refl r) r one_placed q

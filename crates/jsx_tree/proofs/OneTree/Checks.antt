@@ -1,6 +1,6 @@
 -- What is computed of the tables, once for all rows.
 use Rattle.std.specs.Prelude.{◌≡◌, ℕ, suc, List, [], ◌∷◌, codes, Bool, true, false, cond, nat_eq, nat_le, not, ◌&&◌, ◌||◌, refl}
-use Rattle.jsx_base.specs.Token.{Text, Mode, Operator, TokenKind, Punctuator, kind_number, same, among}
+use Rattle.jsx_base.specs.Token.{Text, Mode, Operator, TokenKind, IdentifierName, Punctuator, kind_number, same, among}
 use Rattle.jsx_tree.specs.Signs.{Sign, Unless, SameLine}
 use Rattle.jsx_tree.specs.Kinds.{Kind}
 use Rattle.jsx_tree.specs.Nonterminals.{is_value_word}
@@ -13,7 +13,7 @@ is_op Operator = true
 is_op m = false
 
 abbrev pub opening_words : List Text
-opening_words = codes "new" ∷ codes "super" ∷ codes "import" ∷ codes "delete" ∷ codes "void" ∷ codes "typeof" ∷ []
+opening_words = codes "new" ∷ codes "super" ∷ codes "import" ∷ codes "delete" ∷ codes "void" ∷ codes "typeof" ∷ codes "function" ∷ codes "class" ∷ []
 
 abbrev pub opening_marks : List Text
 opening_marks = codes "/" ∷ codes "/=" ∷ codes "{" ∷ codes "(" ∷ codes "[" ∷ codes "..." ∷ codes "+" ∷ codes "-" ∷ codes "~" ∷ codes "!" ∷ codes "++" ∷ codes "--" ∷ []
@@ -177,6 +177,18 @@ links = refl
 
 pub link_ones : every link_ok kinds ≡ true
 link_ones = refl
+
+-- nor with the word of a function or a class
+abbrev pub no_opener : List Step → Bool
+no_opener (tok Operator k t ∷ ps) = not (same_token k t IdentifierName (codes "function")) && not (same_token k t IdentifierName (codes "class"))
+no_opener (lit s ∷ ps) = is_op (mode_of s) && is_quote s
+no_opener ps = false
+
+abbrev pub opener_ok : Kind → Bool
+opener_ok k = grows k || (is_arrow k || (is_paren k || no_opener (row k)))
+
+pub opener_ones : every opener_ok kinds ≡ true
+opener_ones = refl
 
 abbrev pub slash_ok : Kind → Bool
 slash_ok k = grows k || (is_arrow k || (is_paren k || no_slash (row k)))

@@ -1,239 +1,270 @@
 -- The trees that are decided are of the kinds that the law is proved over.
-use Rattle.std.proofs.Common.{◌≡◌, true, false, refl}
-use Rattle.jsx_base.specs.Token.{TokenKind, IdentifierName, NumericLiteral, BigIntLiteral, StringLiteral, RegExpLiteral, NoSubstitution, TemplateHead, TemplateMiddle, TemplateTail, Elision}
+use Rattle.std.proofs.Common.{◌≡◌, true, false, List, [], ◌∷◌, refl}
+use Rattle.jsx_base.specs.Token.{TokenKind, Punctuator, NoToken, IdentifierName, NumericLiteral, BigIntLiteral, StringLiteral, RegExpLiteral, NoSubstitution, TemplateHead, TemplateMiddle, TemplateTail, Elision}
 use Rattle.jsx_tree.specs.declared.text.Goal.{Goal}
 use Rattle.jsx_base.specs.Token.{Text}
 use Rattle.jsx_tree.specs.Kinds.{InObject, InClass, Static, Imported, Exported, From, ProgramKind, StatementKind, FunctionKind, ExpressionKind, Kind, program, statement, function, expression, jsx, Tree, leaf, node, list, Forest, none, part, Add, And, Array, ArrayPat, Arrow, ArrowBlock, Assign, Assigns, AtLeast, AtMost, BareArrow, BareArrowBlock, Binary, Binds, BitAnd, BitOr, BitXor, Block, Break, Call, CallLink, Case, Catch, Chain, ClassDecl, ClassExpr, Complement, ComputedKey, Cond, ConstWord, Continue, Debugger, Declarator, Decrement, Default, Delete, Directive, Divide, Do, Empty, Equal, Exponentiate, ExportAll, ExportAllAs, ExportDecl, ExportDefaultClass, ExportDefaultExpr, ExportDefaultFn, ExportFrom, ExportNames, ExprStmt, Field, For, ForBinding, ForDeclaration, ForIn, ForOf, FunctionBody, FunctionDecl, FunctionExpr, Getter, Greater, If, Import, ImportAll, ImportBare, ImportBoth, ImportCall, ImportList, ImportMeta, InOp, Increment, Index, IndexLink, InstanceOf, Label, Less, LetWord, Member, Method, Module, Multiply, NameLink, Negative, New, NewTarget, NewWithoutArguments, Not, Nullish, Object, ObjectPat, OpAssign, Or, ParenTarget, Parenthesized, PlainTemplate, Positive, PostfixUpdate, PrefixUpdate, Property, PropertyPat, Remainder, RestPat, RestProperty, Return, Script, Seq, Setter, ShiftLeft, ShiftOut, ShiftRight, Shorthand, ShorthandInit, ShorthandPat, Specifier, SpecifierAs, Spread, StrictEqual, StrictUnequal, SubstitutedTemplate, Subtract, SuperCall, SuperIndex, SuperMember, Switch, Tagged, TemplateSpan, Throw, Try, TypeOf, Unary, Unequal, Var, VarWord, Void, While, WithInit}
+use Rattle.jsx_tree.specs.Nonterminals.{Nonterminal, NullishLeft, NewCallee, DotObject, ForOfHead, WholeProgram, homes, in_homes}
+use Rattle.jsx_tree.specs.Form.{Form, Single, Position, position, positions, shaped, admits, is, fits_below, fit_slots, fit_each}
 use Rattle.jsx_tree.specs.Program.{Reads}
-use Rattle.jsx_tree.specs.Decided.{decides_program, decides_statement, decides_function, decides_expression, decides, decides_leaf, is_decided, are_decided}
+use Rattle.jsx_tree.specs.Decided.{decides_expression, decides, decides_leaf, is_decided, are_decided}
 use Rattle.jsx_tree.proofs.Tokens.{and_left, and_right, and_both}
-use Rattle.jsx_tree.proofs.OneTree.Parts.{known, kept, kepts}
+use Rattle.jsx_tree.proofs.OneTree.Known.{known, kept, kepts}
+use Rattle.jsx_tree.proofs.OneTree.Parts.{node_admits}
+use Rattle.jsx_tree.proofs.OneTree.Facts.{never}
+use Rattle.jsx_tree.proofs.OneTree.Spines.{home_of}
 use Rattle.jsx_tree.proofs.OneTree.Trees.{one_reading}
 
-known_program : (k : ProgramKind) → decides_program k ≡ true → known (program k) ≡ true
-known_program Module h = refl
-known_program Script h = refl
-known_program FunctionBody h = refl
-known_program Directive h = refl
-known_program ImportBare h = refl
-known_program Import h = refl
-known_program ImportAll h = refl
-known_program ImportList h = refl
-known_program ImportBoth h = refl
-known_program (Specifier Imported) h = refl
-known_program (Specifier Exported) h = refl
-known_program (Specifier From) h = refl
-known_program (SpecifierAs Imported) h = refl
-known_program (SpecifierAs Exported) h = refl
-known_program (SpecifierAs From) h = refl
-known_program ExportNames h = refl
-known_program ExportFrom h = refl
-known_program ExportAll h = refl
-known_program ExportAllAs h = refl
-known_program ExportDecl h = refl
-known_program ExportDefaultFn h = refl
-known_program ExportDefaultClass h = cc
-known_program ExportDefaultExpr h = refl
+-- a kind with no home stands nowhere
+no_home : (c : Nonterminal) → in_homes c [] ≡ false
+no_home NullishLeft = refl
+no_home NewCallee = refl
+no_home DotObject = refl
+no_home ForOfHead = refl
+no_home _ = refl
 
-known_statement : (k : StatementKind) → decides_statement k ≡ true → known (statement k) ≡ true
-known_statement Block h = refl
-known_statement (Var VarWord) h = refl
-known_statement (Var LetWord) h = refl
-known_statement (Var ConstWord) h = refl
-known_statement Declarator h = refl
-known_statement Empty h = refl
-known_statement ExprStmt h = refl
-known_statement If h = refl
-known_statement Do h = refl
-known_statement While h = refl
-known_statement For h = refl
-known_statement (ForDeclaration VarWord) h = refl
-known_statement (ForDeclaration LetWord) h = refl
-known_statement (ForDeclaration ConstWord) h = refl
-known_statement ForIn h = refl
-known_statement ForOf h = refl
-known_statement (ForBinding VarWord) h = refl
-known_statement (ForBinding LetWord) h = refl
-known_statement (ForBinding ConstWord) h = refl
-known_statement Continue h = refl
-known_statement Break h = refl
-known_statement Return h = refl
-known_statement Throw h = refl
-known_statement Debugger h = refl
-known_statement Label h = refl
-known_statement Switch h = refl
-known_statement Case h = refl
-known_statement Default h = refl
-known_statement Try h = refl
-known_statement Catch h = refl
-known_statement FunctionDecl h = refl
-known_statement ClassDecl h = refl
+known_program : (k : ProgramKind) → known (program k) ≡ true
+known_program Module = refl
+known_program Script = refl
+known_program FunctionBody = refl
+known_program Directive = refl
+known_program ImportBare = refl
+known_program Import = refl
+known_program ImportAll = refl
+known_program ImportList = refl
+known_program ImportBoth = refl
+known_program (Specifier Imported) = refl
+known_program (Specifier Exported) = refl
+known_program (Specifier From) = refl
+known_program (SpecifierAs Imported) = refl
+known_program (SpecifierAs Exported) = refl
+known_program (SpecifierAs From) = refl
+known_program ExportNames = refl
+known_program ExportFrom = refl
+known_program ExportAll = refl
+known_program ExportAllAs = refl
+known_program ExportDecl = refl
+known_program ExportDefaultFn = refl
+known_program ExportDefaultClass = refl
+known_program ExportDefaultExpr = refl
 
-known_function : (k : FunctionKind) → decides_function k ≡ true → known (function k) ≡ true
-known_function FunctionExpr h = cc
-known_function ClassExpr h = cc
-known_function (Method InObject) h = cc
-known_function (Method InClass) h = refl
-known_function (Method Static) h = refl
-known_function (Getter InObject) h = cc
-known_function (Getter InClass) h = refl
-known_function (Getter Static) h = refl
-known_function (Setter InObject) h = cc
-known_function (Setter InClass) h = refl
-known_function (Setter Static) h = refl
-known_function (Field InObject) h = cc
-known_function (Field InClass) h = refl
-known_function (Field Static) h = refl
-known_function ComputedKey h = refl
-known_function (ArrayPat Binds) h = refl
-known_function (ArrayPat Assigns) h = refl
-known_function (ObjectPat Binds) h = refl
-known_function (ObjectPat Assigns) h = refl
-known_function (PropertyPat Binds) h = refl
-known_function (PropertyPat Assigns) h = refl
-known_function (ShorthandPat Binds) h = refl
-known_function (ShorthandPat Assigns) h = refl
-known_function (ShorthandInit Binds) h = refl
-known_function (ShorthandInit Assigns) h = refl
-known_function (WithInit Binds) h = refl
-known_function (WithInit Assigns) h = refl
-known_function (RestPat Binds) h = refl
-known_function (RestPat Assigns) h = refl
-known_function (RestProperty Binds) h = refl
-known_function (RestProperty Assigns) h = refl
-known_function ParenTarget h = refl
+known_statement : (k : StatementKind) → known (statement k) ≡ true
+known_statement Block = refl
+known_statement (Var VarWord) = refl
+known_statement (Var LetWord) = refl
+known_statement (Var ConstWord) = refl
+known_statement Declarator = refl
+known_statement Empty = refl
+known_statement ExprStmt = refl
+known_statement If = refl
+known_statement Do = refl
+known_statement While = refl
+known_statement For = refl
+known_statement (ForDeclaration VarWord) = refl
+known_statement (ForDeclaration LetWord) = refl
+known_statement (ForDeclaration ConstWord) = refl
+known_statement ForIn = refl
+known_statement ForOf = refl
+known_statement (ForBinding VarWord) = refl
+known_statement (ForBinding LetWord) = refl
+known_statement (ForBinding ConstWord) = refl
+known_statement Continue = refl
+known_statement Break = refl
+known_statement Return = refl
+known_statement Throw = refl
+known_statement Debugger = refl
+known_statement Label = refl
+known_statement Switch = refl
+known_statement Case = refl
+known_statement Default = refl
+known_statement Try = refl
+known_statement Catch = refl
+known_statement FunctionDecl = refl
+known_statement ClassDecl = refl
 
-known_expression : (k : ExpressionKind) → decides_expression k ≡ true → known (expression k) ≡ true
-known_expression Seq h = refl
-known_expression Assign h = refl
-known_expression (OpAssign Nullish) h = refl
-known_expression (OpAssign Or) h = refl
-known_expression (OpAssign And) h = refl
-known_expression (OpAssign BitOr) h = refl
-known_expression (OpAssign BitXor) h = refl
-known_expression (OpAssign BitAnd) h = refl
-known_expression (OpAssign Equal) h = cc
-known_expression (OpAssign Unequal) h = cc
-known_expression (OpAssign StrictEqual) h = cc
-known_expression (OpAssign StrictUnequal) h = cc
-known_expression (OpAssign Less) h = cc
-known_expression (OpAssign Greater) h = cc
-known_expression (OpAssign AtMost) h = cc
-known_expression (OpAssign AtLeast) h = cc
-known_expression (OpAssign InOp) h = cc
-known_expression (OpAssign InstanceOf) h = cc
-known_expression (OpAssign ShiftLeft) h = refl
-known_expression (OpAssign ShiftRight) h = refl
-known_expression (OpAssign ShiftOut) h = refl
-known_expression (OpAssign Add) h = refl
-known_expression (OpAssign Subtract) h = refl
-known_expression (OpAssign Multiply) h = refl
-known_expression (OpAssign Divide) h = refl
-known_expression (OpAssign Remainder) h = refl
-known_expression (OpAssign Exponentiate) h = refl
-known_expression Arrow h = refl
-known_expression ArrowBlock h = cc
-known_expression BareArrow h = refl
-known_expression BareArrowBlock h = cc
-known_expression Cond h = refl
-known_expression (Binary Nullish) h = refl
-known_expression (Binary Or) h = refl
-known_expression (Binary And) h = refl
-known_expression (Binary BitOr) h = refl
-known_expression (Binary BitXor) h = refl
-known_expression (Binary BitAnd) h = refl
-known_expression (Binary Equal) h = refl
-known_expression (Binary Unequal) h = refl
-known_expression (Binary StrictEqual) h = refl
-known_expression (Binary StrictUnequal) h = refl
-known_expression (Binary Less) h = refl
-known_expression (Binary Greater) h = refl
-known_expression (Binary AtMost) h = refl
-known_expression (Binary AtLeast) h = refl
-known_expression (Binary InOp) h = refl
-known_expression (Binary InstanceOf) h = refl
-known_expression (Binary ShiftLeft) h = refl
-known_expression (Binary ShiftRight) h = refl
-known_expression (Binary ShiftOut) h = refl
-known_expression (Binary Add) h = refl
-known_expression (Binary Subtract) h = refl
-known_expression (Binary Multiply) h = refl
-known_expression (Binary Divide) h = refl
-known_expression (Binary Remainder) h = refl
-known_expression (Binary Exponentiate) h = refl
-known_expression (Unary Delete) h = refl
-known_expression (Unary Void) h = refl
-known_expression (Unary TypeOf) h = refl
-known_expression (Unary Positive) h = refl
-known_expression (Unary Negative) h = refl
-known_expression (Unary Complement) h = refl
-known_expression (Unary Not) h = refl
-known_expression (PrefixUpdate Increment) h = refl
-known_expression (PrefixUpdate Decrement) h = refl
-known_expression (PostfixUpdate Increment) h = refl
-known_expression (PostfixUpdate Decrement) h = refl
-known_expression Call h = refl
-known_expression Member h = refl
-known_expression Index h = refl
-known_expression Tagged h = refl
-known_expression New h = refl
-known_expression NewWithoutArguments h = refl
-known_expression SuperCall h = refl
-known_expression SuperMember h = refl
-known_expression SuperIndex h = refl
-known_expression ImportCall h = refl
-known_expression ImportMeta h = refl
-known_expression NewTarget h = refl
-known_expression Chain h = refl
-known_expression (NameLink true) h = refl
-known_expression (NameLink false) h = refl
-known_expression (IndexLink true) h = refl
-known_expression (IndexLink false) h = refl
-known_expression (CallLink true) h = refl
-known_expression (CallLink false) h = refl
-known_expression Array h = refl
-known_expression Object h = refl
-known_expression Property h = refl
-known_expression Shorthand h = refl
-known_expression Spread h = refl
-known_expression Parenthesized h = refl
-known_expression (PlainTemplate true) h = refl
-known_expression (PlainTemplate false) h = refl
-known_expression (SubstitutedTemplate true) h = refl
-known_expression (SubstitutedTemplate false) h = refl
-known_expression (TemplateSpan true) h = refl
-known_expression (TemplateSpan false) h = refl
+known_function : (k : FunctionKind) (c : Nonterminal) → in_homes c (homes (function k)) ≡ true → known (function k) ≡ true
+known_function FunctionExpr c i = refl
+known_function ClassExpr c i = refl
+known_function (Method InObject) c i = refl
+known_function (Method InClass) c i = refl
+known_function (Method Static) c i = refl
+known_function (Getter InObject) c i = refl
+known_function (Getter InClass) c i = refl
+known_function (Getter Static) c i = refl
+known_function (Setter InObject) c i = refl
+known_function (Setter InClass) c i = refl
+known_function (Setter Static) c i = refl
+known_function (Field InObject) c i = absurd (never (in_homes c []) i (no_home c))
+known_function (Field InClass) c i = refl
+known_function (Field Static) c i = refl
+known_function ComputedKey c i = refl
+known_function (ArrayPat Binds) c i = refl
+known_function (ArrayPat Assigns) c i = refl
+known_function (ObjectPat Binds) c i = refl
+known_function (ObjectPat Assigns) c i = refl
+known_function (PropertyPat Binds) c i = refl
+known_function (PropertyPat Assigns) c i = refl
+known_function (ShorthandPat Binds) c i = refl
+known_function (ShorthandPat Assigns) c i = refl
+known_function (ShorthandInit Binds) c i = refl
+known_function (ShorthandInit Assigns) c i = refl
+known_function (WithInit Binds) c i = refl
+known_function (WithInit Assigns) c i = refl
+known_function (RestPat Binds) c i = refl
+known_function (RestPat Assigns) c i = refl
+known_function (RestProperty Binds) c i = refl
+known_function (RestProperty Assigns) c i = refl
+known_function ParenTarget c i = refl
 
-known_kind : (k : Kind) → decides k ≡ true → known k ≡ true
-known_kind (program k) h = known_program k h
-known_kind (statement k) h = known_statement k h
-known_kind (function k) h = known_function k h
-known_kind (expression k) h = known_expression k h
-known_kind (jsx k) h = cc
+known_expression : (k : ExpressionKind) (c : Nonterminal) → decides_expression k ≡ true → in_homes c (homes (expression k)) ≡ true → known (expression k) ≡ true
+known_expression Seq c h i = refl
+known_expression Assign c h i = refl
+known_expression (OpAssign Nullish) c h i = refl
+known_expression (OpAssign Or) c h i = refl
+known_expression (OpAssign And) c h i = refl
+known_expression (OpAssign BitOr) c h i = refl
+known_expression (OpAssign BitXor) c h i = refl
+known_expression (OpAssign BitAnd) c h i = refl
+known_expression (OpAssign Equal) c h i = absurd (never (in_homes c []) i (no_home c))
+known_expression (OpAssign Unequal) c h i = absurd (never (in_homes c []) i (no_home c))
+known_expression (OpAssign StrictEqual) c h i = absurd (never (in_homes c []) i (no_home c))
+known_expression (OpAssign StrictUnequal) c h i = absurd (never (in_homes c []) i (no_home c))
+known_expression (OpAssign Less) c h i = absurd (never (in_homes c []) i (no_home c))
+known_expression (OpAssign Greater) c h i = absurd (never (in_homes c []) i (no_home c))
+known_expression (OpAssign AtMost) c h i = absurd (never (in_homes c []) i (no_home c))
+known_expression (OpAssign AtLeast) c h i = absurd (never (in_homes c []) i (no_home c))
+known_expression (OpAssign InOp) c h i = absurd (never (in_homes c []) i (no_home c))
+known_expression (OpAssign InstanceOf) c h i = absurd (never (in_homes c []) i (no_home c))
+known_expression (OpAssign ShiftLeft) c h i = refl
+known_expression (OpAssign ShiftRight) c h i = refl
+known_expression (OpAssign ShiftOut) c h i = refl
+known_expression (OpAssign Add) c h i = refl
+known_expression (OpAssign Subtract) c h i = refl
+known_expression (OpAssign Multiply) c h i = refl
+known_expression (OpAssign Divide) c h i = refl
+known_expression (OpAssign Remainder) c h i = refl
+known_expression (OpAssign Exponentiate) c h i = refl
+known_expression Arrow c h i = refl
+known_expression ArrowBlock c h i = cc
+known_expression BareArrow c h i = refl
+known_expression BareArrowBlock c h i = cc
+known_expression Cond c h i = refl
+known_expression (Binary Nullish) c h i = refl
+known_expression (Binary Or) c h i = refl
+known_expression (Binary And) c h i = refl
+known_expression (Binary BitOr) c h i = refl
+known_expression (Binary BitXor) c h i = refl
+known_expression (Binary BitAnd) c h i = refl
+known_expression (Binary Equal) c h i = refl
+known_expression (Binary Unequal) c h i = refl
+known_expression (Binary StrictEqual) c h i = refl
+known_expression (Binary StrictUnequal) c h i = refl
+known_expression (Binary Less) c h i = refl
+known_expression (Binary Greater) c h i = refl
+known_expression (Binary AtMost) c h i = refl
+known_expression (Binary AtLeast) c h i = refl
+known_expression (Binary InOp) c h i = refl
+known_expression (Binary InstanceOf) c h i = refl
+known_expression (Binary ShiftLeft) c h i = refl
+known_expression (Binary ShiftRight) c h i = refl
+known_expression (Binary ShiftOut) c h i = refl
+known_expression (Binary Add) c h i = refl
+known_expression (Binary Subtract) c h i = refl
+known_expression (Binary Multiply) c h i = refl
+known_expression (Binary Divide) c h i = refl
+known_expression (Binary Remainder) c h i = refl
+known_expression (Binary Exponentiate) c h i = refl
+known_expression (Unary Delete) c h i = refl
+known_expression (Unary Void) c h i = refl
+known_expression (Unary TypeOf) c h i = refl
+known_expression (Unary Positive) c h i = refl
+known_expression (Unary Negative) c h i = refl
+known_expression (Unary Complement) c h i = refl
+known_expression (Unary Not) c h i = refl
+known_expression (PrefixUpdate Increment) c h i = refl
+known_expression (PrefixUpdate Decrement) c h i = refl
+known_expression (PostfixUpdate Increment) c h i = refl
+known_expression (PostfixUpdate Decrement) c h i = refl
+known_expression Call c h i = refl
+known_expression Member c h i = refl
+known_expression Index c h i = refl
+known_expression Tagged c h i = refl
+known_expression New c h i = refl
+known_expression NewWithoutArguments c h i = refl
+known_expression SuperCall c h i = refl
+known_expression SuperMember c h i = refl
+known_expression SuperIndex c h i = refl
+known_expression ImportCall c h i = refl
+known_expression ImportMeta c h i = refl
+known_expression NewTarget c h i = refl
+known_expression Chain c h i = refl
+known_expression (NameLink true) c h i = refl
+known_expression (NameLink false) c h i = refl
+known_expression (IndexLink true) c h i = refl
+known_expression (IndexLink false) c h i = refl
+known_expression (CallLink true) c h i = refl
+known_expression (CallLink false) c h i = refl
+known_expression Array c h i = refl
+known_expression Object c h i = refl
+known_expression Property c h i = refl
+known_expression Shorthand c h i = refl
+known_expression Spread c h i = refl
+known_expression Parenthesized c h i = refl
+known_expression (PlainTemplate true) c h i = refl
+known_expression (PlainTemplate false) c h i = refl
+known_expression (SubstitutedTemplate true) c h i = refl
+known_expression (SubstitutedTemplate false) c h i = refl
+known_expression (TemplateSpan true) c h i = refl
+known_expression (TemplateSpan false) c h i = refl
 
-kept_leaf : (s : TokenKind) (t : Text) → decides_leaf s ≡ true → kept (leaf s t) ≡ true
-kept_leaf IdentifierName t h = refl
-kept_leaf NumericLiteral t h = refl
-kept_leaf BigIntLiteral t h = refl
-kept_leaf StringLiteral t h = refl
-kept_leaf RegExpLiteral t h = refl
-kept_leaf NoSubstitution t h = refl
-kept_leaf TemplateHead t h = refl
-kept_leaf TemplateMiddle t h = refl
-kept_leaf TemplateTail t h = refl
-kept_leaf Elision t h = refl
-kept_leaf _ t h = cc
+known_kind : (k : Kind) (c : Nonterminal) → decides k ≡ true → in_homes c (homes k) ≡ true → known k ≡ true
+known_kind (program k) c h i = known_program k
+known_kind (statement k) c h i = known_statement k
+known_kind (function k) c h i = known_function k c i
+known_kind (expression k) c h i = known_expression k c h i
+known_kind (jsx k) c h i = cc
 
+kept_leaf : (s : TokenKind) (t : Text) (o : Form) (c : Nonterminal) → decides_leaf s ≡ true → shaped o c (leaf s t) ≡ true → kept (leaf s t) ≡ true
+kept_leaf IdentifierName t o c h i = refl
+kept_leaf NumericLiteral t o c h i = refl
+kept_leaf BigIntLiteral t o c h i = refl
+kept_leaf StringLiteral t o c h i = refl
+kept_leaf RegExpLiteral t o c h i = refl
+kept_leaf NoSubstitution t o c h i = refl
+kept_leaf TemplateHead t o c h i = refl
+kept_leaf TemplateMiddle t o c h i = refl
+kept_leaf TemplateTail t o c h i = refl
+kept_leaf Elision t o c h i = refl
+kept_leaf Punctuator t Single c h i = absurd (never (in_homes c []) i (no_home c))
+kept_leaf NoToken t Single c h i = absurd (never (in_homes c []) i (no_home c))
+kept_leaf _ t _ c h i = cc
+
+-- a tree that is decided, at its place
 mutual
-  kept_tree : (t : Tree) → is_decided t ≡ true → kept t ≡ true
-  kept_tree (leaf s t) h = kept_leaf s t h
-  kept_tree (node k cs) h = and_both (known k) (kepts cs) (known_kind k (and_left (decides k) (are_decided cs) h)) (kept_trees cs (and_right (decides k) (are_decided cs) h))
-  kept_tree (list ts) h = kept_trees ts h
+  kept_tree : (t : Tree) (o : Form) (c : Nonterminal) → is_decided t ≡ true → shaped o c t ≡ true → fits_below c t ≡ true → kept t ≡ true
+  kept_tree (leaf s t) o c h a f = kept_leaf s t o c h a
+  kept_tree (list ts) o c h a f = kept_each ts c h f
+  kept_tree (node k cs) o c h a f =
+      and_both (known k) (kepts cs) (known_kind k c (and_left (decides k) (are_decided cs) h) (home_of c k cs (node_admits o c k cs a))) (kept_slots cs (positions k) (and_right (decides k) (are_decided cs) h) f)
 
-  kept_trees : (ts : Forest) → are_decided ts ≡ true → kepts ts ≡ true
-  kept_trees none h = refl
-  kept_trees (part t ts) h = and_both (kept t) (kepts ts) (kept_tree t (and_left (is_decided t) (are_decided ts) h)) (kept_trees ts (and_right (is_decided t) (are_decided ts) h))
+  kept_slots : (ts : Forest) (ss : List Position) → are_decided ts ≡ true → fit_slots ss ts ≡ true → kepts ts ≡ true
+  kept_slots none ss h f = refl
+  kept_slots (part t ts) [] h f = cc
+  kept_slots (part t ts) (position o c g b a ∷ ss) h f =
+      let r = and_right (shaped o c t) _ f in
+      and_both (kept t) (kepts ts) (kept_tree t o c (and_left (is_decided t) (are_decided ts) h) (and_left (shaped o c t) _ f) (and_left (fits_below c t) _ r)) (kept_slots ts ss (and_right (is_decided t) (are_decided ts) h) (and_right (fits_below c t) (fit_slots ss ts) r))
+
+  kept_each : (ts : Forest) (c : Nonterminal) → are_decided ts ≡ true → fit_each c ts ≡ true → kepts ts ≡ true
+  kept_each none c h f = refl
+  kept_each (part t ts) c h f =
+      let r = and_right (admits c t) _ f in
+      and_both (kept t) (kepts ts) (kept_tree t Single c (and_left (is_decided t) (are_decided ts) h) (and_left (admits c t) _ f) (and_left (fits_below c t) _ r)) (kept_each ts c (and_right (is_decided t) (are_decided ts) h) (and_right (fits_below c t) (fit_each c ts) r))
+
+kept_whole : {goal : Goal} {text : Text} (t : Tree) → is_decided t ≡ true → Reads goal text t → kept t ≡ true
+kept_whole t h r =
+    let i = and_left (is WholeProgram t) _ r.read in
+    kept_tree t Single WholeProgram h (and_left (admits WholeProgram t) (fits_below WholeProgram t) i) (and_right (admits WholeProgram t) (fits_below WholeProgram t) i)
 
 -- a text has one tree at most that is decided
 pub one_decided : (goal : Goal) (text : Text) (t u : Tree) → is_decided t ≡ true → is_decided u ≡ true → Reads goal text t → Reads goal text u → t ≡ u
-one_decided goal text t u h k r s = one_reading goal text t u (kept_tree t h) (kept_tree u k) r s
+one_decided goal text t u h k r s = one_reading goal text t u (kept_whole t h r) (kept_whole u k s) r s

@@ -1,11 +1,12 @@
 -- Where expressions end: an expression keeps what a missing semicolon would stand after, and where a semicolon stands or is missing nothing goes on with it.
-use Rattle.std.proofs.Common.{◌≡◌, Bool, true, false, cond, List, [], ◌∷◌, ◌++◌, refl, ap, subst}
+use Rattle.std.proofs.Common.{◌≡◌, Bool, true, false, cond, List, [], ◌∷◌, ◌++◌, refl, ◌∙◌, ap, subst}
 use Rattle.std.specs.Prelude.{IsTrue, ◌&&◌, ◌||◌}
 use Rattle.jsx_base.specs.Token.{Text, Operator, TokenKind, Elision, Punctuator, is_token, same, token, at_front, kind_number, skip, breaks}
 use Rattle.jsx_tree.specs.Signs.{Sign, AfterExpr, Tok, Semicolon, TrailingComma, Unless, SameLine, Ends}
-use Rattle.jsx_tree.specs.Kinds.{Kind, Tree, leaf, node, list, Forest, none, part}
-use Rattle.jsx_tree.specs.Grammar.{ListShape, Commas, Elisions, TwoOrMore, OneOrMore, Adjacent, Fixed, Part, Optional, Many, Within, Production, production}
-use Rattle.jsx_tree.specs.Spelling.{leaf_signs, before, between, behind, gathered, joined, walk, said, saids, each_said, spelled}
+use Rattle.jsx_tree.specs.Kinds.{FunctionExpr, ClassExpr, InObject, Method, Getter, Setter, Kind, function, Tree, leaf, node, list, Forest, none, part}
+use Rattle.jsx_tree.specs.Grammar.{ListShape, Commas, Elisions, TwoOrMore, OneOrMore, Adjacent, Context, Fixed, Part, Optional, Many, Within, Production, production}
+use Rattle.jsx_tree.specs.Spelling.{leaf_signs, maybe, before, between, behind, gathered, joined, walk, said, saids, each_said}
+use Rattle.jsx_tree.specs.Form.{Single, Maybe, Several, inside, is_piece, shaped, fits_below, fit_slots, slots, positions}
 use Rattle.jsx_tree.specs.Reading.{Place, Lost, At, forth, scan, go_if, may_lack, ended_at}
 use Rattle.jsx_tree.proofs.Laws.{scan_lost}
 use Rattle.jsx_tree.proofs.Tokens.{and_left, and_right, and_both, same_is}
@@ -15,8 +16,9 @@ use Rattle.jsx_tree.proofs.OneTree.Readings.{calm, Whole, single, several, kind_
 use Rattle.jsx_tree.proofs.OneTree.Checks.{every, starts}
 use Rattle.jsx_tree.proofs.OneTree.Facts.{or_else, Test, yes', no', test, for_kind}
 use Rattle.jsx_tree.proofs.OneTree.Semis.{semi_calm}
-use Rattle.jsx_tree.proofs.OneTree.Places.{taken, is_seq}
-use Rattle.jsx_tree.proofs.OneTree.Fine.{tame, tames}
+use Rattle.jsx_tree.proofs.OneTree.Known.{taken, is_seq}
+use Rattle.jsx_tree.proofs.OneTree.Sealed.{is_sealed, is_member}
+use Rattle.jsx_tree.proofs.OneTree.Fine.{tame, tames, Tamed, of_sealed, of_member, of_open, tamed}
 use Rattle.jsx_tree.proofs.OneTree.Spines.{seq_is, taken_scope}
 use Rattle.jsx_tree.proofs.OneTree.Starting.{begins}
 
@@ -37,10 +39,27 @@ abbrev pub after : Place → Bool
 after (At q AfterExpr text) = true
 after x = false
 
-abbrev pub no_ends : List Sign → Bool
-no_ends [] = true
-no_ends (Ends e ∷ ms) = false
-no_ends (m ∷ ms) = no_ends ms
+-- whether a missing semicolon would stand after an expression, from whether it would before these signs: a token stands behind all else that is said of it
+abbrev pub settle : Bool → List Sign → Bool
+settle b [] = b
+settle b (Ends e ∷ ms) = settle false ms
+settle b (Tok m k t ∷ ms) = settle true ms
+settle b (m ∷ ms) = settle b ms
+
+abbrev pub keeps : List Sign → Bool
+keeps ms = settle true ms
+
+pub settle_append : (a c : List Sign) (b : Bool) → settle b (a ++ c) ≡ settle (settle b a) c
+settle_append [] c b = refl
+settle_append (Ends e ∷ a) c b = settle_append a c false
+settle_append (Tok m k t ∷ a) c b = settle_append a c true
+settle_append (_ ∷ a) c b = settle_append a c b
+
+pub settle_any : (ms : List Sign) (b : Bool) → settle false ms ≡ true → settle b ms ≡ true
+settle_any [] b h = cc
+settle_any (Ends e ∷ ms) b h = h
+settle_any (Tok m k t ∷ ms) b h = h
+settle_any (_ ∷ ms) b h = settle_any ms b h
 
 pub go_after : (b : Bool) (x : Place) → after x ≡ true → IsTrue (is_found (go_if b x)) → after (go_if b x) ≡ true
 go_after true x a f = a
@@ -50,7 +69,7 @@ cond_after : (b : Bool) (x y : Place) → after x ≡ true → (IsTrue (is_found
 cond_after true x y a g f = a
 cond_after false x y a g f = g f
 
-pub after_sign : (m : Sign) (x : Place) → no_ends (m ∷ []) ≡ true → after x ≡ true → IsTrue (is_found (forth m x)) → after (forth m x) ≡ true
+pub after_sign : (m : Sign) (x : Place) → keeps (m ∷ []) ≡ true → after x ≡ true → IsTrue (is_found (forth m x)) → after (forth m x) ≡ true
 after_sign m Lost h a f = cc
 after_sign (Tok m s t) (At q e text) h a f = go_after (is_token (token m (same q []) text) s t) _ refl f
 after_sign Semicolon (At q e text) h a f = cond_after (is_token (token Operator false text) Punctuator _) _ _ refl (go_after (may_lack e q text) (At q e text) a) f
@@ -60,40 +79,24 @@ after_sign SameLine (At q e text) h a f = go_after _ (At q e text) a f
 after_sign (Ends g) (At q e text) h a f = cc
 after_sign _ (At q e text) h a f = a
 
-pub first_sign : (m : Sign) (ms : List Sign) → no_ends (m ∷ ms) ≡ true → (no_ends (m ∷ []) ≡ true) × (no_ends ms ≡ true)
-first_sign (Ends e) ms h = cc
-first_sign _ ms h = (refl, h)
-
 pub found_first : (ms : List Sign) (x : Place) → IsTrue (is_found (scan x ms)) → IsTrue (is_found x)
 found_first ms (At q e text) f = refl
 found_first ms Lost f = subst (λ x. IsTrue (is_found x)) (scan_lost ms) f
 
-pub keep_after : (ms : List Sign) (x : Place) → no_ends ms ≡ true → after x ≡ true → IsTrue (is_found (scan x ms)) → after (scan x ms) ≡ true
-keep_after [] x h a f = a
-keep_after (m ∷ ms) x h a f =
-    let p = first_sign m ms h in
-    keep_after ms (forth m x) p.1 (after_sign m x p.0 a (found_first ms (forth m x) f)) f
+-- ---- behind an expression all is kept
 
--- ---- no expression says what a semicolon would stand after
+keeps_both : (a b : List Sign) → keeps a ≡ true → keeps b ≡ true → keeps (a ++ b) ≡ true
+keeps_both a b h g = settle_append a b true ∙ (ap (λ c. settle c b) h ∙ g)
 
-no_ends_both : (a b : List Sign) → no_ends a ≡ true → no_ends b ≡ true → no_ends (a ++ b) ≡ true
-no_ends_both [] b h g = g
-no_ends_both (Ends e ∷ a) b h g = cc
-no_ends_both (m ∷ a) b h g = add_sign m (a ++ b) (first_sign m a h).0 (no_ends_both a b (first_sign m a h).1 g)
-  where
-    add_sign : (m : Sign) (ms : List Sign) → no_ends (m ∷ []) ≡ true → no_ends ms ≡ true → no_ends (m ∷ ms) ≡ true
-    add_sign (Ends e) ms h g = cc
-    add_sign _ ms h g = g
-
-abbrev each_ok : List (List Sign) → Bool
+abbrev pub each_ok : List (List Sign) → Bool
 each_ok [] = true
-each_ok (x ∷ xs) = no_ends x && each_ok xs
+each_ok (x ∷ xs) = keeps x && each_ok xs
 
-abbrev all_ok : List (List (List Sign)) → Bool
+abbrev pub all_ok : List (List (List Sign)) → Bool
 all_ok [] = true
 all_ok (x ∷ xs) = each_ok x && all_ok xs
 
-abbrev plain_shape : ListShape → Bool
+abbrev pub plain_shape : ListShape → Bool
 plain_shape Commas = true
 plain_shape Elisions = true
 plain_shape TwoOrMore = true
@@ -101,7 +104,7 @@ plain_shape OneOrMore = true
 plain_shape Adjacent = true
 plain_shape s = false
 
-abbrev row_ends : Production → Bool
+abbrev pub row_ends : Production → Bool
 row_ends [] = true
 row_ends (Fixed (Ends e) ∷ ps) = false
 row_ends (Optional a c b r ∷ ps) = false
@@ -111,12 +114,12 @@ row_ends (q ∷ ps) = row_ends ps
 all_rows : every (λ k. row_ends (production k)) kinds ≡ true
 all_rows = refl
 
-joined_ok : (xs : List (List Sign)) → each_ok xs ≡ true → no_ends (joined xs) ≡ true
+joined_ok : (xs : List (List Sign)) → each_ok xs ≡ true → keeps (joined xs) ≡ true
 joined_ok [] h = refl
-joined_ok (x ∷ []) h = and_left (no_ends x) true h
-joined_ok (x ∷ y ∷ ys) h = no_ends_both x (joined (y ∷ ys)) (and_left (no_ends x) _ h) (joined_ok (y ∷ ys) (and_right (no_ends x) _ h))
+joined_ok (x ∷ []) h = and_left (keeps x) true h
+joined_ok (x ∷ y ∷ ys) h = keeps_both x (joined (y ∷ ys)) (and_left (keeps x) _ h) (joined_ok (y ∷ ys) (and_right (keeps x) _ h))
 
-behind_ok : (s : ListShape) (x : List Sign) → plain_shape s ≡ true → no_ends (behind s x) ≡ true
+behind_ok : (s : ListShape) (x : List Sign) → plain_shape s ≡ true → keeps (behind s x) ≡ true
 behind_ok Commas x p = refl
 behind_ok Elisions [] p = refl
 behind_ok Elisions (m ∷ ms) p = refl
@@ -125,7 +128,7 @@ behind_ok OneOrMore x p = refl
 behind_ok Adjacent x p = refl
 behind_ok _ x p = cc
 
-between_ok : (s : ListShape) → plain_shape s ≡ true → no_ends (between s) ≡ true
+between_ok : (s : ListShape) → plain_shape s ≡ true → keeps (between s) ≡ true
 between_ok Commas p = refl
 between_ok Elisions p = refl
 between_ok TwoOrMore p = refl
@@ -133,7 +136,7 @@ between_ok OneOrMore p = refl
 between_ok Adjacent p = refl
 between_ok _ p = cc
 
-before_ok : (s : ListShape) (x : List Sign) → plain_shape s ≡ true → no_ends x ≡ true → no_ends (before s x) ≡ true
+before_ok : (s : ListShape) (x : List Sign) → plain_shape s ≡ true → keeps x ≡ true → keeps (before s x) ≡ true
 before_ok Commas x p h = h
 before_ok Elisions x p h = h
 before_ok TwoOrMore x p h = h
@@ -141,58 +144,120 @@ before_ok OneOrMore x p h = h
 before_ok Adjacent x p h = h
 before_ok _ x p h = cc
 
-gathered_ok : (s : ListShape) (xs : List (List Sign)) → plain_shape s ≡ true → each_ok xs ≡ true → no_ends (gathered s xs) ≡ true
+pub gathered_ok : (s : ListShape) (xs : List (List Sign)) → plain_shape s ≡ true → each_ok xs ≡ true → keeps (gathered s xs) ≡ true
 gathered_ok s [] p h = refl
-gathered_ok s (x ∷ []) p h = no_ends_both (before s x) (behind s x) (before_ok s x p (and_left (no_ends x) true h)) (behind_ok s x p)
+gathered_ok s (x ∷ []) p h = keeps_both (before s x) (behind s x) (before_ok s x p (and_left (keeps x) true h)) (behind_ok s x p)
 gathered_ok s (x ∷ y ∷ ys) p h =
-    no_ends_both (before s x) (between s ++ gathered s (y ∷ ys)) (before_ok s x p (and_left (no_ends x) _ h))
-    (no_ends_both (between s) (gathered s (y ∷ ys)) (between_ok s p) (gathered_ok s (y ∷ ys) p (and_right (no_ends x) _ h)))
+    keeps_both (before s x) (between s ++ gathered s (y ∷ ys)) (before_ok s x p (and_left (keeps x) _ h))
+    (keeps_both (between s) (gathered s (y ∷ ys)) (between_ok s p) (gathered_ok s (y ∷ ys) p (and_right (keeps x) _ h)))
 
-fixed_ok : (m : Sign) (ps : Production) → row_ends (Fixed m ∷ ps) ≡ true → (no_ends (m ∷ []) ≡ true) × (row_ends ps ≡ true)
+pub fixed_ok : (m : Sign) (ps : Production) → row_ends (Fixed m ∷ ps) ≡ true → (keeps (m ∷ []) ≡ true) × (row_ends ps ≡ true)
 fixed_ok (Ends e) ps h = cc
 fixed_ok _ ps h = (refl, h)
 
-add_first : (m : Sign) (ms : List Sign) → no_ends (m ∷ []) ≡ true → no_ends ms ≡ true → no_ends (m ∷ ms) ≡ true
+add_first : (m : Sign) (ms : List Sign) → keeps (m ∷ []) ≡ true → keeps ms ≡ true → keeps (m ∷ ms) ≡ true
 add_first (Ends e) ms h g = cc
 add_first _ ms h g = g
 
-walk_ok : (ps : Production) (xs : List (List (List Sign))) → row_ends ps ≡ true → all_ok xs ≡ true → no_ends (walk ps xs) ≡ true
+pub walk_ok : (ps : Production) (xs : List (List (List Sign))) → row_ends ps ≡ true → all_ok xs ≡ true → keeps (walk ps xs) ≡ true
 walk_ok [] xs h g = refl
 walk_ok (Fixed m ∷ ps) xs h g = let p = fixed_ok m ps h in add_first m (walk ps xs) p.0 (walk_ok ps xs p.1 g)
 walk_ok (Within a ∷ ps) xs h g = walk_ok ps xs h g
 walk_ok (Part c ∷ ps) [] h g = refl
-walk_ok (Part c ∷ ps) (x ∷ xs) h g = no_ends_both (joined x) (walk ps xs) (joined_ok x (and_left (each_ok x) (all_ok xs) g)) (walk_ok ps xs h (and_right (each_ok x) (all_ok xs) g))
+walk_ok (Part c ∷ ps) (x ∷ xs) h g = keeps_both (joined x) (walk ps xs) (joined_ok x (and_left (each_ok x) (all_ok xs) g)) (walk_ok ps xs h (and_right (each_ok x) (all_ok xs) g))
 walk_ok (Many s c ∷ ps) [] h g = refl
-walk_ok (Many s c ∷ ps) (x ∷ xs) h g = no_ends_both (gathered s x) (walk ps xs) (gathered_ok s x (and_left (plain_shape s) (row_ends ps) h) (and_left (each_ok x) (all_ok xs) g)) (walk_ok ps xs (and_right (plain_shape s) (row_ends ps) h) (and_right (each_ok x) (all_ok xs) g))
+walk_ok (Many s c ∷ ps) (x ∷ xs) h g = keeps_both (gathered s x) (walk ps xs) (gathered_ok s x (and_left (plain_shape s) (row_ends ps) h) (and_left (each_ok x) (all_ok xs) g)) (walk_ok ps xs (and_right (plain_shape s) (row_ends ps) h) (and_right (each_ok x) (all_ok xs) g))
 walk_ok (Optional a c b r ∷ ps) xs h g = cc
 
-leaf_ok : (s : TokenKind) (t : Text) → no_ends (leaf_signs s t) ≡ true
+-- a function or a class ends with a token
+abbrev shuts_row : Bool → Production → Bool
+shuts_row b [] = b
+shuts_row b (Fixed (Tok m k t) ∷ ps) = shuts_row true ps
+shuts_row b (Fixed (Ends e) ∷ ps) = shuts_row false ps
+shuts_row b (Fixed m ∷ ps) = shuts_row b ps
+shuts_row b (Within a ∷ ps) = shuts_row b ps
+shuts_row b (q ∷ ps) = shuts_row false ps
+
+data Skipped (ps : Production) (a : List Context) (cs : Forest) : Type 0 where
+  skipped : (g : List Text) (b : Bool) → fit_slots (slots g b a ps) cs ≡ true → Skipped ps a cs
+
+skip_sign : (m : Sign) (ps : Production) (g : List Text) (b : Bool) (a : List Context) (cs : Forest) → fit_slots (slots g b a (Fixed m ∷ ps)) cs ≡ true → Skipped ps a cs
+skip_sign (Tok m Punctuator t) ps g b a cs f = skipped [] (inside t b) f
+skip_sign (Tok m _ t) ps g b a cs f = skipped g b f
+skip_sign (Unless ts) ps g b a cs f = skipped ts b f
+skip_sign _ ps g b a cs f = skipped g b f
+
+no_flag : {P : Type 0} → false ≡ true → P
+no_flag h = cc
+
+row_settled : (ps : Production) (cs : Forest) (g : List Text) (i : Bool) (a : List Context) (b c : Bool) → shuts_row b ps ≡ true → (b ≡ true → c ≡ true) → fit_slots (slots g i a ps) cs ≡ true → settle c (walk ps (saids cs)) ≡ true
+row_settled [] cs g i a b c s h f = h s
+row_settled (Fixed m ∷ ps) cs g i a b c s h f = by_skipped (skip_sign m ps g i a cs f) (λ g' i' b' c' s' h' f'. row_settled ps cs g' i' a b' c' s' h' f')
+  where
+    by_sign : (m : Sign) → shuts_row b (Fixed m ∷ ps) ≡ true → ((b' c' : Bool) → shuts_row b' ps ≡ true → (b' ≡ true → c' ≡ true) → settle c' (walk ps (saids cs)) ≡ true) → settle c (m ∷ walk ps (saids cs)) ≡ true
+    by_sign (Tok n k t) s rest = rest true true s (λ q. refl)
+    by_sign (Ends e) s rest = rest false false s (λ q. q)
+    by_sign _ s rest = rest b c s h
+
+    by_skipped : Skipped ps a cs → ((g' : List Text) (i' b' c' : Bool) → shuts_row b' ps ≡ true → (b' ≡ true → c' ≡ true) → fit_slots (slots g' i' a ps) cs ≡ true → settle c' (walk ps (saids cs)) ≡ true) → settle c (m ∷ walk ps (saids cs)) ≡ true
+    by_skipped (skipped g' i' f') rest = by_sign m s (λ b' c' s' h'. rest g' i' b' c' s' h' f')
+row_settled (Within d ∷ ps) cs g i a b c s h f = row_settled ps cs g i (d ∷ a) b c s h f
+row_settled (q ∷ ps) none g i a b c s h f = cc
+row_settled (Part d ∷ ps) (part t ts) g i a b c s h f =
+    let r = and_right (fits_below d t) _ (and_right (shaped Single d t) _ f) in
+    settle_append (joined (said t)) (walk ps (saids ts)) c ∙ row_settled ps ts [] (i || is_piece d) a false (settle c (joined (said t))) s no_flag r
+row_settled (Optional x d y u ∷ ps) (part t ts) g i a b c s h f =
+    let r = and_right (fits_below d t) _ (and_right (shaped Maybe d t) _ f) in
+    settle_append (maybe x y u (said t)) (walk ps (saids ts)) c ∙ row_settled ps ts [] i a false (settle c (maybe x y u (said t))) s no_flag r
+row_settled (Many e d ∷ ps) (part t ts) g i a b c s h f =
+    let r = and_right (fits_below d t) _ (and_right (shaped (Several e) d t) _ f) in
+    settle_append (gathered e (said t)) (walk ps (saids ts)) c ∙ row_settled ps ts [] i a false (settle c (gathered e (said t))) s no_flag r
+
+pub member_settled : (b : Bool) (k : Kind) (cs : Forest) → is_member k ≡ true → fit_slots (positions k) cs ≡ true → settle b (walk (production k) (saids cs)) ≡ true
+member_settled b (function (Method InObject)) cs s f = row_settled (production (function (Method InObject))) cs [] false [] false b refl no_flag f
+member_settled b (function (Getter InObject)) cs s f = row_settled (production (function (Getter InObject))) cs [] false [] false b refl no_flag f
+member_settled b (function (Setter InObject)) cs s f = row_settled (production (function (Setter InObject))) cs [] false [] false b refl no_flag f
+member_settled b (function (Method _)) cs s f = cc
+member_settled b (function (Getter _)) cs s f = cc
+member_settled b (function (Setter _)) cs s f = cc
+member_settled b (function _) cs s f = cc
+member_settled b _ cs s f = cc
+
+pub sealed_settled : (b : Bool) (k : Kind) (cs : Forest) → is_sealed k ≡ true → fit_slots (positions k) cs ≡ true → settle b (walk (production k) (saids cs)) ≡ true
+sealed_settled b (function FunctionExpr) cs s f = row_settled (production (function FunctionExpr)) cs [] false [] false b refl no_flag f
+sealed_settled b (function ClassExpr) cs s f = row_settled (production (function ClassExpr)) cs [] false [] false b refl no_flag f
+sealed_settled b (function _) cs s f = cc
+sealed_settled b _ cs s f = cc
+
+leaf_ok : (s : TokenKind) (t : Text) → keeps (leaf_signs s t) ≡ true
 leaf_ok Elision t = refl
 leaf_ok _ t = refl
 
-row_of_kind : (k : Kind) → (taken k || is_seq k) ≡ true → row_ends (production k) ≡ true
+pub row_of_kind : (k : Kind) → (taken k || is_seq k) ≡ true → row_ends (production k) ≡ true
 row_of_kind k h = by_taken (test (taken k))
   where
     by_taken : Test (taken k) → row_ends (production k) ≡ true
     by_taken (yes' t) = for_kind (λ k. row_ends (production k)) all_rows k (taken_scope k t)
     by_taken (no' n) = ap (λ k. row_ends (production k)) (seq_is k (or_else (taken k) (is_seq k) h n))
 
+node_ok : (k : Kind) (cs : Forest) → Tamed k cs → (tames cs ≡ true → all_ok (saids cs) ≡ true) → each_ok (said (node k cs)) ≡ true
+node_ok k cs (of_sealed s f) rest = and_both (keeps (walk (production k) (saids cs))) true (sealed_settled true k cs s f) refl
+node_ok k cs (of_member s f g) rest = and_both (keeps (walk (production k) (saids cs))) true (member_settled true k cs s f) refl
+node_ok k cs (of_open t m) rest = and_both (keeps (walk (production k) (saids cs))) true (walk_ok (production k) (saids cs) (row_of_kind k t) (rest m)) refl
+
 mutual
-  said_ok : (t : Tree) → tame t ≡ true → each_ok (said t) ≡ true
-  said_ok (leaf s t) h = and_both (no_ends (leaf_signs s t)) true (leaf_ok s t) refl
-  said_ok (node k cs) h = and_both (no_ends (walk (production k) (saids cs))) true (walk_ok (production k) (saids cs) (row_of_kind k (and_left (taken k || is_seq k) (tames cs) h)) (saids_ok cs (and_right (taken k || is_seq k) (tames cs) h))) refl
+  pub said_ok : (t : Tree) → tame t ≡ true → each_ok (said t) ≡ true
+  said_ok (leaf s t) h = and_both (keeps (leaf_signs s t)) true (leaf_ok s t) refl
+  said_ok (node k cs) h = node_ok k cs (tamed k cs h) (λ m. saids_ok cs m)
   said_ok (list ts) h = each_said_ok ts h
 
-  saids_ok : (ts : Forest) → tames ts ≡ true → all_ok (saids ts) ≡ true
+  pub saids_ok : (ts : Forest) → tames ts ≡ true → all_ok (saids ts) ≡ true
   saids_ok none h = refl
   saids_ok (part t ts) h = and_both (each_ok (said t)) (all_ok (saids ts)) (said_ok t (and_left (tame t) (tames ts) h)) (saids_ok ts (and_right (tame t) (tames ts) h))
 
-  each_said_ok : (ts : Forest) → tames ts ≡ true → each_ok (each_said ts) ≡ true
+  pub each_said_ok : (ts : Forest) → tames ts ≡ true → each_ok (each_said ts) ≡ true
   each_said_ok none h = refl
-  each_said_ok (part t ts) h = and_both (no_ends (joined (said t))) (each_ok (each_said ts)) (joined_ok (said t) (said_ok t (and_left (tame t) (tames ts) h))) (each_said_ok ts (and_right (tame t) (tames ts) h))
-
-pub spelled_ok : (t : Tree) → tame t ≡ true → no_ends (spelled t) ≡ true
-spelled_ok t h = joined_ok (said t) (said_ok t h)
+  each_said_ok (part t ts) h = and_both (keeps (joined (said t))) (each_ok (each_said ts)) (joined_ok (said t) (said_ok t (and_left (tame t) (tames ts) h))) (each_said_ok ts (and_right (tame t) (tames ts) h))
 
 -- ---- one expression statement
 

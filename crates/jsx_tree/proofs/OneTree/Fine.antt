@@ -1,21 +1,25 @@
 -- A walk along a row taken apart; trees that can be read at their places, and leaves.
+use Rattle.jsx_tree.proofs.OneTree.Known.{is_seq, taken, plain_leaf, is_piece, is_regexp}
 use Rattle.jsx_tree.specs.Walk as W
 use Rattle.std.proofs.Common.{◌≡◌, ℕ, ◌≤◌, Bool, true, false, not, refl, sym, ◌∙◌, ap, arith, List, [], ◌∷◌}
 use Rattle.std.specs.Prelude.{◌&&◌, ◌||◌, nat_eq, nat_le, IsTrue}
 use Rattle.std.proofs.lemmas.Bool.{le-leb}
 use Rattle.jsx_base.specs.Token.{Text, Operator, TokenKind, IdentifierName, NumericLiteral, BigIntLiteral, StringLiteral, RegExpLiteral, NoSubstitution, TemplateHead, TemplateMiddle, TemplateTail, Elision, kind_number}
 use Rattle.jsx_tree.specs.Signs.{Tok, One, Sign}
-use Rattle.jsx_tree.specs.Kinds.{Binds, Assigns, Kind, Tree, leaf, node, list, Forest, none, part}
-use Rattle.jsx_tree.specs.Nonterminals.{Nonterminal, Expr, MemberObject, SimpleTarget, Ident, BindingIdent, Pat, Slot, PatElement, Param, Argument, ArrayItem, NullishLeft, NewCallee, DotObject, in_homes, leaf_in, literal_homes, is_ident, is_value_word}
+use Rattle.jsx_tree.specs.Kinds.{Seq, Binds, Assigns, Kind, expression, Tree, leaf, node, list, Forest, none, part}
+use Rattle.jsx_tree.specs.Nonterminals.{Nonterminal, Expr, MemberObject, ObjectMember, SimpleTarget, Ident, BindingIdent, Pat, Slot, PatElement, Param, Argument, ArrayItem, NullishLeft, NewCallee, DotObject, in_homes, leaf_in, literal_homes, is_ident, is_value_word}
 use Rattle.jsx_tree.specs.Grammar.{production, ListShape, Context, Fixed, Part, Many}
-use Rattle.jsx_tree.specs.Form.{leads, enough}
+use Rattle.jsx_tree.specs.Form.{leads, enough, admits, is_leaf, fit_slots, positions}
 use Rattle.jsx_tree.specs.StaticRules.{Surroundings}
 use Rattle.jsx_tree.specs.Reading.{Place, Lost, At, forth}
 use Rattle.jsx_tree.specs.Walk.{IsRead, is_found}
 use Rattle.jsx_tree.proofs.Tokens.{and_left, and_right, and_both}
 use Rattle.jsx_tree.proofs.OneTree.Readings.{level, reach, calm, Reads, word}
-use Rattle.jsx_tree.proofs.OneTree.Facts.{never, not_is, le_nat}
-use Rattle.jsx_tree.proofs.OneTree.Places.{needs, kin, is_prop, free, is_seq, taken}
+use Rattle.jsx_tree.proofs.OneTree.Facts.{never, or_else, not_is, Test, yes', no', test, le_nat, for_kind}
+use Rattle.jsx_tree.proofs.OneTree.Table.{kinds}
+use Rattle.jsx_tree.proofs.OneTree.Checks.{every}
+use Rattle.jsx_tree.proofs.OneTree.Sealed.{is_sealed, is_member, Closed, Sealed}
+use Rattle.jsx_tree.proofs.OneTree.Places.{needs, kin, is_prop, free}
 
 -- ---- walks of the other relation, taken apart
 
@@ -56,29 +60,64 @@ at_end (W.done f) = (refl, refl)
 
 -- ---- trees that can be read at their places
 
-abbrev pub plain_leaf : TokenKind → Bool
-plain_leaf s = nat_eq (kind_number s) 0 || (nat_eq (kind_number s) 2 || (nat_eq (kind_number s) 3 || (nat_eq (kind_number s) 4 || nat_eq (kind_number s) 13)))
-
-abbrev pub is_piece : TokenKind → Bool
-is_piece NoSubstitution = true
-is_piece TemplateHead = true
-is_piece TemplateMiddle = true
-is_piece TemplateTail = true
-is_piece s = false
-
-abbrev pub is_regexp : TokenKind → Bool
-is_regexp RegExpLiteral = true
-is_regexp s = false
-
 abbrev mutual
   pub tame : Tree → Bool
   tame (leaf s t) = plain_leaf s || (is_piece s || is_regexp s)
-  tame (node k cs) = (taken k || is_seq k) && tames cs
+  -- what is sealed brings its own evidence, and so does what stands behind a method's key
+  tame (node k cs) = (is_sealed k && fit_slots (positions k) cs) || ((is_member k && (fit_slots (positions k) cs && first_tame cs)) || ((taken k || is_seq k) && tames cs))
   tame (list ts) = tames ts
+
+  pub first_tame : Forest → Bool
+  first_tame none = false
+  first_tame (part t ts) = tame t
 
   pub tames : Forest → Bool
   tames none = true
   tames (part t ts) = tame t && tames ts
+
+-- a node, by what is known of its parts
+pub data Tamed (k : Kind) (cs : Forest) : Type 0 where
+  of_sealed : is_sealed k ≡ true → fit_slots (positions k) cs ≡ true → Tamed k cs
+  of_member : is_member k ≡ true → fit_slots (positions k) cs ≡ true → first_tame cs ≡ true → Tamed k cs
+  of_open : (taken k || is_seq k) ≡ true → tames cs ≡ true → Tamed k cs
+
+pub tamed : (k : Kind) (cs : Forest) → tame (node k cs) ≡ true → Tamed k cs
+tamed k cs h = by_sealed (test (is_sealed k && fit_slots (positions k) cs))
+  where
+    by_sealed : Test (is_sealed k && fit_slots (positions k) cs) → Tamed k cs
+    by_sealed (yes' s) = of_sealed (and_left (is_sealed k) _ s) (and_right (is_sealed k) _ s)
+    by_sealed (no' n) = by_member (test (is_member k && (fit_slots (positions k) cs && first_tame cs))) (or_else (is_sealed k && fit_slots (positions k) cs) _ h n)
+      where
+        by_member : Test (is_member k && (fit_slots (positions k) cs && first_tame cs)) → ((is_member k && (fit_slots (positions k) cs && first_tame cs)) || ((taken k || is_seq k) && tames cs)) ≡ true → Tamed k cs
+        by_member (yes' s) g =
+            let r = and_right (is_member k) _ s in
+            of_member (and_left (is_member k) _ s) (and_left (fit_slots (positions k) cs) _ r) (and_right (fit_slots (positions k) cs) _ r)
+        by_member (no' m) g =
+            let o = or_else (is_member k && (fit_slots (positions k) cs && first_tame cs)) ((taken k || is_seq k) && tames cs) g m in
+            of_open (and_left (taken k || is_seq k) (tames cs) o) (and_right (taken k || is_seq k) (tames cs) o)
+
+none_sealed : every (λ k. not (is_sealed k) && not (is_member k)) kinds ≡ true
+none_sealed = refl
+
+pub tames_of : (k : Kind) (cs : Forest) → taken k ≡ true → tame (node k cs) ≡ true → tames cs ≡ true
+tames_of k cs t h = by_tamed (tamed k cs h)
+  where
+    by_tamed : Tamed k cs → tames cs ≡ true
+    by_tamed (of_open o m) = m
+    by_tamed (of_sealed s f) = absurd (never (is_sealed k) s (not_is _ (and_left (not (is_sealed k)) _ (for_kind (λ k. not (is_sealed k) && not (is_member k)) none_sealed k t))))
+    by_tamed (of_member s f g) = absurd (never (is_member k) s (not_is _ (and_right (not (is_sealed k)) _ (for_kind (λ k. not (is_sealed k) && not (is_member k)) none_sealed k t))))
+
+pub seq_tames : (k : Kind) (cs : Forest) → is_seq k ≡ true → tame (node k cs) ≡ true → tames cs ≡ true
+seq_tames k cs q h = by_tamed (tamed k cs h)
+  where
+    not_sealed : (k : Kind) → is_seq k ≡ true → (is_sealed k ≡ false) × (is_member k ≡ false)
+    not_sealed (expression Seq) q = (refl, refl)
+    not_sealed _ q = cc
+
+    by_tamed : Tamed k cs → tames cs ≡ true
+    by_tamed (of_open o m) = m
+    by_tamed (of_sealed s f) = absurd (never (is_sealed k) s (not_sealed k q).0)
+    by_tamed (of_member s f g) = absurd (never (is_member k) s (not_sealed k q).1)
 
 abbrev mutual
   pub spine_ok : ℕ → Tree → Bool
@@ -93,6 +132,13 @@ abbrev mutual
 pub record Good (t : Tree) : Type 0 where
   pub reads : (n : ℕ) (v : Surroundings) (c : Nonterminal) (x y : Place) → IsRead v false c x t y → kin c ≡ true → spine_ok n t ≡ true → calm (needs t) y ≡ true → Reads n x t y
 
+-- what is sealed, wherever it is read
+pub record Seals (k : Kind) (cs : Forest) : Type 0 where
+  pub seals : {v : Surroundings} {c : Nonterminal} {x y : Place} → IsRead v false c x (node k cs) y → Sealed x k cs y
+
+pub record Closes (k : Kind) (cs : Forest) : Type 0 where
+  pub closes' : {v : Surroundings} {x y : Place} → IsRead v false ObjectMember x (node k cs) y → Closed is_member ObjectMember x k cs y
+
 mutual
   pub data Fine : Tree → Type 0 where
     fine_leaf : {s : TokenKind} {t : Text} → plain_leaf s ≡ true → Fine (leaf s t)
@@ -101,6 +147,8 @@ mutual
     fine_node : {k : Kind} {cs : Forest} → taken k ≡ true → is_prop k ≡ false → Good (node k cs) → Fine (node k cs)
     fine_prop : {k : Kind} {cs : Forest} → taken k ≡ true → is_prop k ≡ true → Fines cs → Fine (node k cs)
     fine_seq : {k : Kind} {cs : Forest} → is_seq k ≡ true → Fines cs → Fine (node k cs)
+    fine_sealed : {k : Kind} {cs : Forest} → is_sealed k ≡ true → Seals k cs → Fine (node k cs)
+    fine_member : {k : Kind} {t : Tree} {ts : Forest} → is_member k ≡ true → Fine t → tame t ≡ true → Closes k (part t ts) → Fine (node k (part t ts))
     fine_list : {ts : Forest} → Fines ts → Fine (list ts)
 
   pub data Fines : Forest → Type 0 where
@@ -177,3 +225,10 @@ leaf_reads n BigIntLiteral t {x = x} r k p e = word refl (ap (forth (Tok Operato
 leaf_reads n StringLiteral t {x = x} r k p e = word refl (ap (forth (Tok Operator StringLiteral t)) (sym (one_sign x)) ∙ r.scans) r.found
 leaf_reads n Elision t r k p e = cc
 leaf_reads n _ t r k p e = cc
+
+-- ---- a tree at another place
+
+pub re_home : {v : Surroundings} {x y : Place} (c d : Nonterminal) (t : Tree) → admits d t ≡ true → IsRead v false c x t y → IsRead v false d x t y
+re_home c d (leaf s u) h r = record { is = and_both (leaf_in d s u) (is_leaf s u) h (and_right (leaf_in c s u) _ r.is); is_legal = r.is_legal; scans = r.scans; found = r.found }
+re_home c d (node k cs) h r = record { is = and_both (admits d (node k cs)) (fit_slots (positions k) cs) h (and_right (admits c (node k cs)) _ r.is); is_legal = r.is_legal; scans = r.scans; found = r.found }
+re_home c d (list ts) h r = cc

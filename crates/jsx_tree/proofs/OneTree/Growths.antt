@@ -4,12 +4,13 @@ use Rattle.std.specs.Prelude.{IsTrue, nat_eq, codes}
 use Rattle.std.proofs.lemmas.Bool.{le-leb}
 use Rattle.jsx_base.specs.Token.{Text, Operand, Operator, TokenKind, Punctuator, RegExpLiteral}
 use Rattle.jsx_tree.specs.Signs.{Tok}
-use Rattle.jsx_tree.specs.Kinds.{BareArrow, Kind, expression, Tree, Forest, none, part}
+use Rattle.jsx_tree.specs.Kinds.{FunctionExpr, ClassExpr, BareArrow, Kind, function, expression, Tree, node, Forest, none, part}
 use Rattle.jsx_tree.specs.Reading.{Place, forth}
 use Rattle.jsx_tree.specs.Walk.{is_found}
 use Rattle.jsx_tree.proofs.OneTree.Table.{code, scope}
+use Rattle.jsx_tree.proofs.OneTree.Sealed.{is_sealed, Sealed}
 use Rattle.jsx_tree.proofs.OneTree.Readings.{row, tail, level, grows, reach, calm, Flat, Flats, one, some, row_of, nil, cons, unseq, paren_of, in_parens, is_arrow, is_paren, made, flat, flats, may_be, Reads, word, head, Props, paren, target, grow, arrow, Walk, done, take, each, regexp, Whole, single, several, Rest, final, also, Items, last, more}
-use Rattle.jsx_tree.proofs.OneTree.Readings.{braces}
+use Rattle.jsx_tree.proofs.OneTree.Readings.{sealed, braces}
 use Rattle.jsx_tree.proofs.OneTree.Facts.{not_is, Test, yes', no', test, le_nat}
 use Rattle.jsx_tree.proofs.OneTree.Starting.{or_other, weaken, arrow_leads, cond_no, of_head, of_grow}
 
@@ -28,6 +29,7 @@ pub data Start : Place → Flat → Place → Type 0 where
   s_regexp : {t : Text} {x y : Place} → forth (Tok Operand RegExpLiteral t) x ≡ y → IsTrue (is_found y) → Start x (one RegExpLiteral t) y
   s_head : (k : Kind) {x y : Place} {ts : Forest} → scope k ≡ true → is_arrow k ≡ false → grows k ≡ false → is_paren k ≡ false → Walk (row k) x ts y → Start x (some (code k) (flats ts)) y
   s_paren : {x p y : Place} {ts : Forest} → forth (Tok Operator Punctuator (codes "(")) x ≡ p → IsTrue (is_found p) → Items false (codes ")") p ts y → Start x (paren_of (flats ts)) y
+  s_sealed : {k : Kind} {x y : Place} {cs : Forest} → Sealed x k cs y → Start x (flat (node k cs)) y
   s_braces : {x p y : Place} {ts : Forest} → forth (Tok Operator Punctuator (codes "{")) x ≡ p → IsTrue (is_found p) → Props p ts y → Start x (some 54 (cons (row_of (flats ts)) nil)) y
 
 pub record Split (n : ℕ) (x : Place) (g : Flat) (z : Place) : Type 0 where
@@ -60,10 +62,17 @@ unseq_made k ts a e = by_case (test (nat_eq (code k) 3))
     by_case (yes' c) = subst (λ f. unseq f ≡ cons f nil) (sym (made_paren k ts a c)) (unseq_parens ts)
     by_case (no' c) = subst (λ f. unseq f ≡ cons f nil) (sym (made_plain k ts a c)) (unseq_some (code k) ts e)
 
+sealed_plain : (k : Kind) → is_sealed k ≡ true → (is_arrow k ≡ false) × (nat_eq (code k) 19 ≡ false)
+sealed_plain (function FunctionExpr) h = (refl, refl)
+sealed_plain (function ClassExpr) h = (refl, refl)
+sealed_plain (function _) h = cc
+sealed_plain _ h = cc
+
 pub unseq_one : {n : ℕ} {x y : Place} {t : Tree} → Reads n x t y → unseq (flat t) ≡ cons (flat t) nil
 unseq_one (word a e f) = refl
 unseq_one (regexp e f) = refl
 unseq_one (braces {k = k} {ts = ts} l c a e f p) = unseq_made k (cons (row_of (flats ts)) nil) a (ap (λ n. nat_eq n 19) c)
+unseq_one (sealed {k = k} {cs = cs} l s) = let p = sealed_plain k s.closed.kind' in unseq_made k (flats cs) p.0 p.1
 unseq_one (paren l e f a g h) = refl
 unseq_one (target l e f r c g h) = refl
 unseq_one (head {k = k} {ts = ts} s a i l d w) = unseq_made k (flats ts) a (of_head k s a d i).not_seq
@@ -99,6 +108,7 @@ split {n} {x = x} (head {k = k} {y = y} {ts = ts} s a i l d w) le =
     subst (λ f. Split n x f y) (sym (made_plain k (flats ts) a (head_code k s a i d))) (record { first = some (code k) (flats ts); rest = y; start = s_head k s a d i w; through = here })
 split {n} {x = x} (braces {k = k} {y = y} {ts = ts} l c a e f p) le =
     subst (λ f. Split n x f y) (sym (made_coded k 54 (cons (row_of (flats ts)) nil) a refl c)) (record { first = some 54 (cons (row_of (flats ts)) nil); rest = y; start = s_braces e f p; through = here })
+split (sealed {k = k} {y = y} {cs = cs} l s) le = record { first = flat (node k cs); rest = y; start = s_sealed s; through = here }
 split {n} {x = x} (paren {z = z} {t = t} l e f a g h) le = record { first = paren_of (unseq (flat t)); rest = z; start = start_of e f (whole_listed a g h); through = here }
 split (target {y = y} {z = z} {t = t} l e f r c g h) le =
     record { first = paren_of (unseq (flat t)); rest = z; start = start_of e f (record { parts = part t none; is = sym (unseq_one r); items = last (weaken r (omega arith)) (calm_one y c) g h }); through = here }

@@ -3,6 +3,7 @@ pub mod Keys
 pub mod Specifiers
 pub mod Members
 pub mod Inits
+pub mod Alone
 pub mod Declarators
 pub mod Imports
 pub mod Exports

@@ -4,18 +4,19 @@ use Rattle.std.specs.Prelude.{IsTrue, ◌&&◌, ◌||◌, nat_eq, codes}
 use Rattle.std.proofs.lemmas.Bool.{eq-eqb}
 use Rattle.jsx_base.specs.Token.{Text, Mode, Operand, Operator, TokenKind, IdentifierName, Punctuator, NumericLiteral, BigIntLiteral, StringLiteral, RegExpLiteral, kind_number, same, among, is_token, token}
 use Rattle.jsx_tree.specs.Signs.{Sign, Tok, Unless}
-use Rattle.jsx_tree.specs.Kinds.{Kind, Tree, Forest}
+use Rattle.jsx_tree.specs.Kinds.{Kind, Tree, node, Forest}
 use Rattle.jsx_tree.specs.Spelling.{mode_of}
 use Rattle.jsx_tree.specs.Reading.{Place, Lost, At, forth, go_if}
 use Rattle.jsx_tree.specs.Walk.{is_found}
 use Rattle.jsx_tree.proofs.Tokens.{and_left, and_right, same_is}
 use Rattle.jsx_tree.proofs.OneTree.Table.{code, scope, kinds}
-use Rattle.jsx_tree.proofs.OneTree.Readings.{Step, row, tail, level, grows, reach_of, reach, calm, text_at, broken, Flat, Flats, one, some, row_of, nil, cons, unseq, paren_of, is_arrow, is_paren, made, flat, flats, may_be, holds, comma, Reads, Prop, long, computed, short, preset, rest, Props, may_key, Walk, take, literal, is_link, is_tagged, is_quote, is_slash, Rest, Items, shut, gap, last, more}
-use Rattle.jsx_tree.proofs.OneTree.Checks.{is_op, starts, blocks, same_token, apart, twin, bare, no_line, no_open, goes_by, every, heads_pair, tails_pair, no_slash, slash_ok, slash_ones, tagged_pair, all_tagged, links_pair, link_ok, links, link_ones, heads, tails}
+use Rattle.jsx_tree.proofs.OneTree.Sealed.{Opener, of_function, of_class, Sealed, sealed_same}
+use Rattle.jsx_tree.proofs.OneTree.Readings.{Step, row, tail, level, grows, reach_of, reach, calm, text_at, broken, Flat, Flats, one, some, row_of, nil, cons, unseq, paren_of, is_arrow, is_paren, made, flat, flats, may_be, holds, comma, Reads, Prop, long, computed, short, preset, rest, member, Opening, o_named, o_computed, o_worded, Props, key_start, kind_at, may_key, Walk, take, literal, is_link, is_tagged, is_quote, is_slash, Rest, Items, shut, gap, last, more}
+use Rattle.jsx_tree.proofs.OneTree.Checks.{is_op, starts, blocks, same_token, apart, twin, bare, no_line, no_open, goes_by, every, heads_pair, tails_pair, no_opener, opener_ok, opener_ones, no_slash, slash_ok, slash_ones, tagged_pair, all_tagged, links_pair, link_ok, links, link_ones, heads, tails}
 use Rattle.jsx_tree.proofs.OneTree.Slashes.{Slash, regexp_slash}
 use Rattle.jsx_tree.proofs.OneTree.Facts.{never, or_else, not_is, Test, yes', no', test, eq_nat, le_nat, op_is, kind_is, Seen, seen, found_at, took, took_in, same_seen, for_kind}
-use Rattle.jsx_tree.proofs.OneTree.Starting.{strip, strip_line, or_other, not_mark, of_head, no_start, word_mark, word_apart, Quoted, tagged_facts, goes_on, no_growth}
-use Rattle.jsx_tree.proofs.OneTree.Growths.{s_braces, Through, here, step, Start, s_word, s_regexp, s_head, s_paren, made_plain, head_code}
+use Rattle.jsx_tree.proofs.OneTree.Starting.{opener_seen, opener_value, strip, strip_line, or_other, not_mark, of_head, no_start, word_mark, word_apart, Quoted, tagged_facts, goes_on, no_growth}
+use Rattle.jsx_tree.proofs.OneTree.Growths.{s_sealed, s_braces, Through, here, step, Start, s_word, s_regexp, s_head, s_paren, made_plain, head_code}
 
 -- ---- the one reading
 
@@ -171,6 +172,34 @@ one_token m k l t u (At q e text) f g =
     let b = place_found (is_token (token m (same q []) text) l u) _ g in
     (sym (eq_nat {a = kind_number (token m (same q []) text).kind} (and_left _ _ a)) ∙ eq_nat {a = kind_number (token m (same q []) text).kind} (and_left _ _ b), sym (same_is (token m (same q []) text).raw t (and_right _ _ a)) ∙ same_is (token m (same q []) text).raw u (and_right _ _ b))
 
+sealed_slash : {x y : Place} {k : Kind} {cs : Forest} → Sealed x k cs y → Slash x → ⊥
+sealed_slash {x} s h = never (nat_eq 0 1) (ap (λ n. nat_eq n 1) (sym (opener_seen x s).kind ∙ h.kind)) refl
+
+sealed_word : {s : TokenKind} {t : Text} {x y : Place} {k : Kind} {cs : Forest} → may_be s t ≡ true → Seen x s t → Sealed x k cs y → ⊥
+sealed_word {x = x} a r q = word_mark a r (opener_seen x q) (ap not (opener_value q.opener))
+
+sealed_mark : {t : Text} {x y : Place} {k : Kind} {cs : Forest} → Sealed x k cs y → Seen x Punctuator t → ⊥
+sealed_mark {x = x} q s = two_tokens (opener_seen x q) s refl
+
+opener_row : {w : Text} {ps : List Step} {x y : Place} {ts : Forest} → Opener w → Seen x IdentifierName w → Walk ps x ts y → no_opener ps ≡ true → ⊥
+opener_row of_function s (take {m = Operator} {k = k} {t = t} {x = x} e f w) h = two_tokens (took k t x e f) s (not_is _ (and_left (not (same_token k t IdentifierName (codes "function"))) _ h))
+opener_row of_class s (take {m = Operator} {k = k} {t = t} {x = x} e f w) h = two_tokens (took k t x e f) s (not_is _ (and_right (not (same_token k t IdentifierName (codes "function"))) _ h))
+opener_row o s (literal {s = k} {t = t} {x = x} e f w) h =
+    let v = took_in (mode_of k) k t x (and_left (is_op (mode_of k)) (is_quote k) h) e f in
+    never (is_quote IdentifierName) (subst (λ n. is_quote n ≡ true) (kind_is k IdentifierName (sym v.kind ∙ s.kind)) (and_right (is_op (mode_of k)) (is_quote k) h)) refl
+opener_row o s _ h = cc
+
+sealed_head : (l : Kind) {x y z : Place} {k : Kind} {cs ts : Forest} → scope l ≡ true → is_arrow l ≡ false → grows l ≡ false → is_paren l ≡ false → Walk (row l) x ts z → Sealed x k cs y → ⊥
+sealed_head l {x = x} s a d p w q = opener_row q.opener (opener_seen x q) w (or_else (is_paren l) _ (or_else (is_arrow l) _ (or_else (grows l) _ (for_kind opener_ok opener_ones l s) d) a) p)
+
+pub sealed_start : {x y q : Place} {k : Kind} {cs : Forest} {f : Flat} → Sealed x k cs y → Start x f q → SameOne (flat (node k cs)) f y q
+sealed_start a (s_word {s = r} {t = u} {x = x} b e f) = absurd (sealed_word b (took r u x e f) a)
+sealed_start a (s_regexp {t = u} {x = x} e f) = absurd (sealed_slash a (slash_here u x e f))
+sealed_start a (s_head l s b d p w) = absurd (sealed_head l s b d p w a)
+sealed_start a (s_paren {x = x} e f i) = absurd (sealed_mark a (open_seen {x = x} e f))
+sealed_start a (s_braces {x = x} e f i) = absurd (sealed_mark a (brace_seen {x = x} e f))
+sealed_start a (s_sealed b) = let r = sealed_same a b in record { tree = ap flat r.0; place = r.1 }
+
 pub start_regexp : {t : Text} {x y q : Place} {f : Flat} → forth (Tok Operand RegExpLiteral t) x ≡ y → IsTrue (is_found y) → Start x f q → SameOne (one RegExpLiteral t) f y q
 start_regexp {t} {x} e f (s_word {s = s} {t = u} a e' f') = absurd (word_slash a (took s u x e' f') (slash_here t x e f))
 start_regexp {t} {x} e f (s_regexp {t = u} e' f') =
@@ -178,6 +207,7 @@ start_regexp {t} {x} e f (s_regexp {t = u} e' f') =
     record { tree = λ i. one RegExpLiteral (q.1 i); place = sym e ∙ ((λ i. forth (Tok Operand RegExpLiteral (q.1 i)) x) ∙ e') }
 start_regexp {t} {x} e f (s_head k s' a' d' p' w) = absurd (head_slash k s' a' d' p' w (slash_here t x e f))
 start_regexp {t} {x} e f (s_paren e' f' i) = absurd (mark_slash refl (open_seen {x = x} e' f') (slash_here t x e f))
+start_regexp {t} {x} e f (s_sealed s) = absurd (sealed_slash s (slash_here t x e f))
 start_regexp {t} {x} e f (s_braces e' f' i) = absurd (mark_slash refl (brace_seen {x = x} e' f') (slash_here t x e f))
 
 pub start_word : {s : TokenKind} {t : Text} {x y q : Place} {f : Flat} → may_be s t ≡ true → forth (Tok Operator s t) x ≡ y → IsTrue (is_found y) → Start x f q → SameOne (one s t) f y q
@@ -190,6 +220,7 @@ start_word {s} {t} {x} a e f (s_word {s = r} {t = u} a' e' f') =
 start_word {s} {t} {x} a e f (s_head k s' a' d' p' w) = absurd (word_apart a (took s t x e f) w (of_head k s' a' d' p').no_word')
 start_word {s} {t} {x} a e f (s_paren e' f' i) = absurd (word_mark a (took s t x e f) (open_seen e' f') refl)
 start_word {s} {t} {x} a e f (s_regexp {t = u} e' f') = absurd (word_slash a (took s t x e f) (slash_here u x e' f'))
+start_word {s} {t} {x} a e f (s_sealed q) = absurd (sealed_word a (took s t x e f) q)
 start_word {s} {t} {x} a e f (s_braces e' f' i) = absurd (word_mark a (took s t x e f) (brace_seen e' f') refl)
 
 -- a head that is no parenthesis
@@ -198,6 +229,7 @@ head_same : (k : Kind) {x y q : Place} (ts : Forest) {f : Flat} → scope k ≡ 
     → ((qs : List Step) (us : Forest) (w : Place) → apart (row k) qs ≡ true → Walk qs x us w → ⊥) → Start x f q → SameOne (some (code k) (flats ts)) f y q
 head_same k ts s a d p w twins apart' (s_word {s = r} {t = u} {x = x} a' e' f') = absurd (word_apart a' (took r u x e' f') w (of_head k s a d p).no_word')
 head_same k ts s a d p w twins apart' (s_regexp {t = u} {x = x} e' f') = absurd (head_slash k s a d p w (slash_here u x e' f'))
+head_same k ts s a d p w twins apart' (s_sealed q) = absurd (sealed_head k s a d p w q)
 head_same k ts s a d p w twins apart' (s_paren e' f' i) = absurd (not_open w (or_else (is_paren k) (no_open (row k)) (of_head k s a d p).open' p) (open_seen e' f'))
 head_same k ts s a d p w twins apart' (s_braces e' f' i) = absurd (not_brace w (or_else (is_paren k) (no_open (row k)) (of_head k s a d p).open' p) (brace_seen e' f'))
 head_same k {x} {y} {q} ts s a d p w twins apart' (s_head l {ts = us} s' a' d' p' v) = by_pair (test (nat_eq (code k) (code l) && twin (row k) (bare (row l))))
@@ -223,6 +255,7 @@ pub parens_same : {x p y q : Place} {es : Flats} {f : Flat} → forth (Tok Opera
 parens_same e f only (s_word {s = r} {t = u} {x = x} a' e' f') = absurd (word_mark a' (took r u x e' f') (open_seen e f) refl)
 parens_same {x = x} e f only (s_regexp {t = u} e' f') = absurd (mark_slash refl (open_seen {x = x} e f) (slash_here u x e' f'))
 parens_same e f only (s_head l s' a' d' p' v) = absurd (not_open v (or_else (is_paren l) (no_open (row l)) (of_head l s' a' d' p').open' p') (open_seen e f))
+parens_same {x = x} e f only (s_sealed q) = absurd (sealed_mark q (open_seen {x = x} e f))
 parens_same {x = x} e f only (s_braces e' f' i) = absurd (two_tokens (open_seen {x = x} e f) (brace_seen {x = x} e' f') refl)
 parens_same e f only (s_paren {y = q} {ts = us} e' f' i) =
     let o = only us q (move_items (sym e ∙ e') i) in
@@ -234,6 +267,7 @@ pub braces_same : {x p y q : Place} {es : Flats} {f : Flat} → forth (Tok Opera
 braces_same e f only (s_word {s = r} {t = u} {x = x} a' e' f') = absurd (word_mark a' (took r u x e' f') (brace_seen e f) refl)
 braces_same {x = x} e f only (s_regexp {t = u} e' f') = absurd (mark_slash refl (brace_seen {x = x} e f) (slash_here u x e' f'))
 braces_same e f only (s_head l s' a' d' p' v) = absurd (not_brace v (or_else (is_paren l) (no_open (row l)) (of_head l s' a' d' p').open' p') (brace_seen e f))
+braces_same {x = x} e f only (s_sealed q) = absurd (sealed_mark q (brace_seen {x = x} e f))
 braces_same {x = x} e f only (s_paren e' f' i) = absurd (two_tokens (open_seen {x = x} e' f') (brace_seen {x = x} e f) refl)
 braces_same e f only (s_braces {y = q} {ts = us} e' f' i) =
     let o = only us q (subst (λ p. Props p us q) (sym (sym e ∙ e')) i) in
@@ -300,7 +334,7 @@ as_unseq f {gs = gs} {y} {z} e s = subst (λ h. Same h gs y z) (sym e) s
 
 -- properties
 abbrev pub ends_prop : Text → Bool
-ends_prop d = not (same d (codes ":")) && not (same d (codes "="))
+ends_prop d = (not (same d (codes ":")) && not (same d (codes "="))) && (not (same (codes "(") d) && not (key_start 1 d))
 
 abbrev pub colon : Sign
 colon = Tok Operator Punctuator (codes ":")
@@ -342,14 +376,40 @@ no_end {d = d} {u} a h b g =
     by_case (subst (λ v. (same v (codes ":") || same v (codes "=")) ≡ true) (sym e) g) (test (same d (codes ":")))
   where
     by_case : (same d (codes ":") || same d (codes "=")) ≡ true → Test (same d (codes ":")) → ⊥
-    by_case g (yes' c) = never _ c (not_is _ (and_left (not (same d (codes ":"))) (not (same d (codes "="))) h))
-    by_case g (no' c) = never _ (or_else (same d (codes ":")) (same d (codes "=")) g c) (not_is _ (and_right (not (same d (codes ":"))) (not (same d (codes "="))) h))
+    by_case g (yes' c) = never _ c (not_is _ (and_left (not (same d (codes ":"))) (not (same d (codes "="))) (and_left (not (same d (codes ":")) && not (same d (codes "="))) _ h)))
+    by_case g (no' c) = never _ (or_else (same d (codes ":")) (same d (codes "=")) g c) (not_is _ (and_right (not (same d (codes ":"))) (not (same d (codes "="))) (and_left (not (same d (codes ":")) && not (same d (codes "="))) _ h)))
+
+-- what a method begins with isn't this punctuator
+pub open_mark : {x : Place} {u : Text} → Seen x Punctuator u → same (codes "[") u ≡ false → Opening x → ⊥
+open_mark b n (o_named s t {x = x} p m e f g) = key_dots m (took s t x e f) b
+open_mark b n (o_computed {x = x} a d p o e f r c g h i) = two_tokens (took Punctuator (codes "[") x e f) b n
+open_mark b n (o_worded t {x = x} p e f g) = key_dots refl (took IdentifierName t x e f) b
+
+-- nor does this punctuator stand behind the token that it begins with
+pub named_open : {x p : Place} {u : Text} (s : TokenKind) (t : Text) → may_key s ≡ true → forth (Tok Operator s t) x ≡ p → IsTrue (is_found p) → Seen p Punctuator u → same (codes "(") u ≡ false → key_start 1 u ≡ false → Opening x → ⊥
+named_open {x} {p} s t m e f b n k (o_named s' t' p' m' e' f' g) =
+    let w = same_name (took s t x e f) (took s' t' x e' f') in
+    let q : p ≡ p' = sym e ∙ ((λ i. forth (Tok Operator (w.0 i) (w.1 i)) x) ∙ e') in
+    two_tokens (seen Punctuator (codes "(") p' g) (seen_at (sym q) b) n
+named_open {x} {p} s t m e f b n k (o_computed a d q o e' f' r c g h i) = key_dots m (took s t x e f) (took Punctuator (codes "[") x e' f')
+named_open {x} {p} {u} s t m e f b n k (o_worded t' p' e' f' g) =
+    let w = same_name (took s t x e f) (took IdentifierName t' x e' f') in
+    let q : p ≡ p' = sym e ∙ ((λ i. forth (Tok Operator (w.0 i) (w.1 i)) x) ∙ e') in
+    let d : Seen p' Punctuator u = seen_at (sym q) b in
+    never (key_start (kind_at p') (text_at p')) g ((λ i. key_start (d.kind i) (d.text i)) ∙ k)
+
+-- behind a name alone
+pub short_open : {x p : Place} {d : Text} (t : Text) → forth (Tok Operator IdentifierName t) x ≡ p → IsTrue (is_found p) → Seen p Punctuator d → ends_prop d ≡ true → Opening x → ⊥
+short_open {d = d} t e f n h o =
+    let r = and_right (not (same d (codes ":")) && not (same d (codes "="))) _ h in
+    named_open IdentifierName t refl e f n (not_is _ (and_left (not (same (codes "(") d)) _ r)) (not_is _ (and_right (not (same (codes "(") d)) _ r)) o
 
 pub no_prop : {x y : Place} {t : Tree} → Seen x Punctuator (codes "}") → Prop x t y → ⊥
 no_prop b (long {s = s} {t = t} {x = x} c a m e f g o r d) = key_dots m (took s t x e f) b
 no_prop b (computed {x = x} c a e f r d g o e' f' r' d') = two_tokens (took Punctuator (codes "[") x e f) b refl
 no_prop b (short {t = t} {x = x} c a e f) = key_dots refl (took IdentifierName t x e f) b
 no_prop b (preset {t = t} {x = x} c a e f g o r d) = key_dots refl (took IdentifierName t x e f) b
+no_prop b (member c o) = open_mark b refl o
 no_prop b (rest {x = x} c a e f r d) = two_tokens (took Punctuator (codes "...") x e f) b refl
 
 -- links

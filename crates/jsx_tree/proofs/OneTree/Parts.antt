@@ -1,53 +1,45 @@
 -- One part of a row: where two trees of one place end as the row asks, they are one.
+use Rattle.jsx_tree.proofs.OneTree.Known.{stated, taken, is_seq, known, kept, kepts}
 use Rattle.std.proofs.Common.{subst}
 use Rattle.std.proofs.Common.{◌≡◌, ℕ, ◌≤◌, Bool, true, false, not, cond, List, [], ◌∷◌, refl, sym, ◌∙◌, ap}
 use Rattle.std.specs.Prelude.{IsTrue, ◌&&◌, ◌||◌, nat_eq, nat_le}
 use Rattle.jsx_base.specs.Token.{Text, Operator, TokenKind, IdentifierName, StringLiteral, Punctuator, kind_number, same}
 use Rattle.jsx_tree.specs.Signs.{Tok, One}
-use Rattle.jsx_tree.specs.Kinds.{Seq, Kind, expression, Tree, leaf, node, list, Forest, none, part}
+use Rattle.jsx_tree.specs.Kinds.{InObject, Method, Getter, Setter, Kind, function, Tree, leaf, node, list, Forest, none, part}
 use Rattle.jsx_tree.specs.Nonterminals.{Nonterminal, Expr, Ident, BindingIdent, Name, StringOnly, ImportClause, homes, in_homes, leaf_in}
-use Rattle.jsx_tree.specs.Form.{Form, Single, Maybe, Several, Position, position, positions, shaped, admits, is, is_leaf, fits_below, fit_slots, fit_each}
+use Rattle.jsx_tree.specs.Form.{Form, Single, Maybe, Several, Position, position, positions, shaped, admits, is, fits_below, fit_slots, fit_each}
 use Rattle.jsx_tree.specs.StaticRules.{Surroundings}
 use Rattle.jsx_tree.specs.Spelling.{spelled}
 use Rattle.jsx_tree.specs.Reading.{Place, Lost, At, forth, scan, is_backquote}
 use Rattle.jsx_tree.proofs.Tokens.{and_left, and_right, and_both}
 use Rattle.jsx_tree.specs.Walk.{is_found, IsRead}
-use Rattle.jsx_tree.proofs.OneTree.Table.{kinds, scope}
-use Rattle.jsx_tree.proofs.OneTree.Statements.{stated, stated_kinds}
+use Rattle.jsx_tree.proofs.OneTree.Table.{kinds}
+use Rattle.jsx_tree.proofs.OneTree.Statements.{stated_kinds}
 use Rattle.jsx_tree.proofs.OneTree.Readings.{calm, Entry, entry, entries, lookup, is_step, kind_at, text_at, broken}
 use Rattle.jsx_tree.proofs.OneTree.Checks.{every, starts}
 use Rattle.jsx_tree.proofs.OneTree.Facts.{never, or_else, not_is, Test, yes', no', test, kind_is, Seen, took, for_kind}
-use Rattle.jsx_tree.proofs.OneTree.Places.{taken, is_seq, no_hole}
+use Rattle.jsx_tree.proofs.OneTree.Places.{no_hole}
 use Rattle.jsx_tree.proofs.OneTree.Starting.{begins}
 use Rattle.jsx_tree.proofs.OneTree.Growths.{split}
 use Rattle.jsx_tree.proofs.OneTree.Pairs.{ends}
 use Rattle.jsx_tree.proofs.OneTree.Agreeing.{passes, one_whole}
-use Rattle.jsx_tree.proofs.OneTree.Fine.{plain_leaf, is_piece, is_regexp, tame, tames}
+use Rattle.jsx_tree.proofs.OneTree.Fine.{tame, first_tame, tames}
 use Rattle.jsx_tree.proofs.OneTree.Spines.{home_of, seq_is, taken_scope}
 use Rattle.jsx_tree.proofs.OneTree.Placed.{Placed, tree_reads, hole_free, whole_reads}
 use Rattle.jsx_tree.proofs.OneTree.Chains.{fine}
+use Rattle.jsx_tree.proofs.OneTree.Sealed.{is_sealed, is_member}
+use Rattle.jsx_tree.proofs.OneTree.Evidence.{Kept, kept_kind, Tame}
 use Rattle.jsx_tree.proofs.OneTree.Turn.{tree_same}
 use Rattle.jsx_tree.proofs.OneTree.Statements.{for_stated}
 use Rattle.jsx_tree.proofs.OneTree.Endings.{whole_begins}
 
--- the kinds that are taken
-abbrev pub known : Kind → Bool
-known k = (taken k || is_seq k) || stated k
+-- ---- no statement stands in an expression but in what is sealed
 
-abbrev mutual
-  pub kept : Tree → Bool
-  kept (leaf s t) = plain_leaf s || (is_piece s || is_regexp s)
-  kept (node k cs) = known k && kepts cs
-  kept (list ts) = kepts ts
-
-  pub kepts : Forest → Bool
-  kepts none = true
-  kepts (part t ts) = kept t && kepts ts
-
--- ---- no statement stands in an expression
+abbrev pub bare : Nonterminal → Bool
+bare c = every (λ l. not (in_homes c (homes l))) stated_kinds
 
 abbrev pub clean : Nonterminal → Bool
-clean c = every (λ l. not (in_homes c (homes l))) stated_kinds
+clean c = every (λ l. (is_sealed l || is_member l) || not (in_homes c (homes l))) stated_kinds
 
 abbrev pub clean_slots : List Position → Bool
 clean_slots [] = true
@@ -63,17 +55,68 @@ clean_kind k h = by_taken (test (taken k))
     by_taken (yes' t) = for_kind (λ k. clean_slots (positions k)) all_clean k (taken_scope k t)
     by_taken (no' n) = ap (λ k. clean_slots (positions k)) (seq_is k (or_else (taken k) (is_seq k) h n))
 
-pub stated_home : (c : Nonterminal) (k : Kind) → clean c ≡ true → stated k ≡ true → in_homes c (homes k) ≡ true → ⊥
+pub stated_home : (c : Nonterminal) (k : Kind) → bare c ≡ true → stated k ≡ true → in_homes c (homes k) ≡ true → ⊥
 stated_home c k h s i = never (in_homes c (homes k)) i (not_is _ (for_stated (λ l. not (in_homes c (homes l))) h k s))
 
-pub clean_known : (c : Nonterminal) (k : Kind) (cs : Forest) → clean c ≡ true → known k ≡ true → admits c (node k cs) ≡ true → (taken k || is_seq k) ≡ true
-clean_known c k cs h s i = by_taken (test (taken k || is_seq k))
+bare_known : (c : Nonterminal) (k : Kind) (cs : Forest) → bare c ≡ true → known k ≡ true → admits c (node k cs) ≡ true → (taken k || is_seq k) ≡ true
+bare_known c k cs h s i = by_taken (test (taken k || is_seq k))
   where
     by_taken : Test (taken k || is_seq k) → (taken k || is_seq k) ≡ true
     by_taken (yes' t) = t
     by_taken (no' n) = absurd (stated_home c k h (or_else (taken k || is_seq k) (stated k) s n) (home_of c k cs i))
 
-node_admits : (o : Form) (c : Nonterminal) (k : Kind) (cs : Forest) → shaped o c (node k cs) ≡ true → admits c (node k cs) ≡ true
+-- what a kind is at such a place
+data Fair (k : Kind) : Type 0 where
+  is_open : (taken k || is_seq k) ≡ true → Fair k
+  is_shut : is_sealed k ≡ true → Fair k
+  is_keyed : is_member k ≡ true → Fair k
+
+fair : (c : Nonterminal) (k : Kind) (cs : Forest) → clean c ≡ true → known k ≡ true → admits c (node k cs) ≡ true → Fair k
+fair c k cs h s i = by_taken (test (taken k || is_seq k)) (test (is_sealed k)) (test (is_member k))
+  where
+    or_false : (a b : Bool) → a ≡ false → b ≡ false → (a || b) ≡ false
+    or_false true b p q = absurd (never true refl p)
+    or_false false b p q = q
+
+    by_taken : Test (taken k || is_seq k) → Test (is_sealed k) → Test (is_member k) → Fair k
+    by_taken (yes' t) q m = is_open t
+    by_taken (no' n) (yes' q) m = is_shut q
+    by_taken (no' n) (no' q) (yes' m) = is_keyed m
+    by_taken (no' n) (no' q) (no' m) =
+        let g = for_stated (λ l. (is_sealed l || is_member l) || not (in_homes c (homes l))) h k (or_else (taken k || is_seq k) (stated k) s n) in
+        absurd (never (in_homes c (homes k)) (home_of c k cs i) (not_is _ (or_else (is_sealed k || is_member k) (not (in_homes c (homes k))) g (or_false (is_sealed k) (is_member k) q m))))
+
+or_left : (a b : Bool) → a ≡ true → (a || b) ≡ true
+or_left true b h = refl
+or_left false b h = cc
+
+or_right : (a b : Bool) → b ≡ true → (a || b) ≡ true
+or_right true b h = refl
+or_right false b h = h
+
+abbrev clean_first : List Position → Bool
+clean_first [] = false
+clean_first (position f c g b a ∷ ss) = clean c
+
+-- a method begins with its key
+keyed_clean : (k : Kind) → is_member k ≡ true → clean_first (positions k) ≡ true
+keyed_clean (function (Method InObject)) h = refl
+keyed_clean (function (Getter InObject)) h = refl
+keyed_clean (function (Setter InObject)) h = refl
+keyed_clean (function (Method _)) h = cc
+keyed_clean (function (Getter _)) h = cc
+keyed_clean (function (Setter _)) h = cc
+keyed_clean (function _) h = cc
+keyed_clean _ h = cc
+
+node_tame : (k : Kind) (cs : Forest) → Fair k → fit_slots (positions k) cs ≡ true → ((taken k || is_seq k) ≡ true → tames cs ≡ true) → (clean_first (positions k) ≡ true → first_tame cs ≡ true) → tame (node k cs) ≡ true
+node_tame k cs (is_shut s) f rest first = or_left (is_sealed k && fit_slots (positions k) cs) _ (and_both (is_sealed k) (fit_slots (positions k) cs) s f)
+node_tame k cs (is_keyed s) f rest first =
+    or_right (is_sealed k && fit_slots (positions k) cs) _ (or_left (is_member k && (fit_slots (positions k) cs && first_tame cs)) _ (and_both (is_member k) _ s (and_both (fit_slots (positions k) cs) (first_tame cs) f (first (keyed_clean k s)))))
+node_tame k cs (is_open t) f rest first =
+    or_right (is_sealed k && fit_slots (positions k) cs) _ (or_right (is_member k && (fit_slots (positions k) cs && first_tame cs)) ((taken k || is_seq k) && tames cs) (and_both (taken k || is_seq k) (tames cs) t (rest t)))
+
+pub node_admits : (o : Form) (c : Nonterminal) (k : Kind) (cs : Forest) → shaped o c (node k cs) ≡ true → admits c (node k cs) ≡ true
 node_admits Single c k cs h = h
 node_admits Maybe c k cs h = cc
 node_admits (Several s) c k cs h = cc
@@ -83,8 +126,14 @@ mutual
   tame_at (leaf s t) o c h k a f = k
   tame_at (list ts) o c h k a f = tame_each ts c h k f
   tame_at (node k cs) o c h g a f =
-      let q = clean_known c k cs h (and_left (known k) (kepts cs) g) (node_admits o c k cs a) in
-      and_both (taken k || is_seq k) (tames cs) q (tame_slots cs (positions k) (clean_kind k q) (and_right (known k) (kepts cs) g) f)
+      node_tame k cs (fair c k cs h (and_left (known k) (kepts cs) g) (node_admits o c k cs a)) f (λ q. tame_slots cs (positions k) (clean_kind k q) (and_right (known k) (kepts cs) g) f) (λ q. tame_first cs (positions k) q (and_right (known k) (kepts cs) g) f)
+
+  tame_first : (ts : Forest) (ss : List Position) → clean_first ss ≡ true → kepts ts ≡ true → fit_slots ss ts ≡ true → first_tame ts ≡ true
+  tame_first none [] h k f = cc
+  tame_first none (s ∷ ss) h k f = cc
+  tame_first (part t ts) [] h k f = cc
+  tame_first (part t ts) (position o c g b a ∷ ss) h k f =
+      tame_at t o c h (and_left (kept t) (kepts ts) k) (and_left (shaped o c t) _ f) (and_left (fits_below c t) _ (and_right (shaped o c t) _ f))
 
   tame_slots : (ts : Forest) (ss : List Position) → clean_slots ss ≡ true → kepts ts ≡ true → fit_slots ss ts ≡ true → tames ts ≡ true
   tame_slots none ss h k f = refl
@@ -100,8 +149,8 @@ mutual
       let r = and_right (admits c t) _ f in
       and_both (tame t) (tames ts) (tame_at t Single c h (and_left (kept t) (kepts ts) k) (and_left (admits c t) _ f) (and_left (fits_below c t) _ r)) (tame_each ts c h (and_right (kept t) (kepts ts) k) (and_right (fits_below c t) (fit_each c ts) r))
 
-pub tame_of : (t : Tree) (c : Nonterminal) → clean c ≡ true → kept t ≡ true → is c t ≡ true → tame t ≡ true
-tame_of t c h k i = tame_at t Single c h k (and_left (admits c t) (fits_below c t) i) (and_right (admits c t) (fits_below c t) i)
+pub tame_of : (t : Tree) (c : Nonterminal) → clean c ≡ true → Kept t → is c t ≡ true → Tame t
+tame_of t c h k i = record { tame' = tame_at t Single c h k.good (and_left (admits c t) (fits_below c t) i) (and_right (admits c t) (fits_below c t) i); kept' = k }
 
 -- ---- every token goes on with level 18 at most
 
@@ -134,24 +183,24 @@ pub record SameAt (t u : Tree) (y z : Place) : Type 0 where
   pub tree : t ≡ u
   pub place : y ≡ z
 
-pub expr_same : (n m : ℕ) (c : Nonterminal) {v w : Surroundings} {x y z : Place} (t u : Tree) → m ≤ n → Placed n m c → no_hole c ≡ true → tame t ≡ true → tame u ≡ true
+pub expr_same : (n m : ℕ) (c : Nonterminal) {v w : Surroundings} {x y z : Place} (t u : Tree) → m ≤ n → Placed n m c → no_hole c ≡ true → Tame t → Tame u
     → IsRead v false c x t y → IsRead w false c x u z → calm m y ≡ true → calm m z ≡ true → SameAt t u y z
 expr_same n m c t u le p h i j r s cy cz =
-    let a = tree_reads n m c (fine t i) i (hole_free t c h r) r p cy in
-    let b = tree_reads n m c (fine u j) j (hole_free u c h s) s p cz in
+    let a = tree_reads n m c (fine t i) i.tame' (hole_free t c h r) r p cy in
+    let b = tree_reads n m c (fine u j) j.tame' (hole_free u c h s) s p cz in
     let o = ends (passes a le (split b le) cz) cy in
-    record { tree = tree_same t u c i j r.is s.is o.tree; place = o.place }
+    record { tree = tree_same t u c i.kept'.good j.kept'.good r.is s.is o.tree; place = o.place }
 
-pub whole_same : {v w : Surroundings} {x y z : Place} (t u : Tree) → tame t ≡ true → tame u ≡ true → IsRead v false (Expr 0) x t y → IsRead w false (Expr 0) x u z → calm 0 y ≡ true → calm 0 z ≡ true → SameAt t u y z
+pub whole_same : {v w : Surroundings} {x y z : Place} (t u : Tree) → Tame t → Tame u → IsRead v false (Expr 0) x t y → IsRead w false (Expr 0) x u z → calm 0 y ≡ true → calm 0 z ≡ true → SameAt t u y z
 whole_same t u i j r s cy cz =
-    let o = one_whole (whole_reads t (fine t i) i r cy) (whole_reads u (fine u j) j s cz) in
-    record { tree = tree_same t u (Expr 0) i j r.is s.is o.tree; place = o.place }
+    let o = one_whole (whole_reads t (fine t i) i.tame' r cy) (whole_reads u (fine u j) j.tame' s cz) in
+    record { tree = tree_same t u (Expr 0) i.kept'.good j.kept'.good r.is s.is o.tree; place = o.place }
 
-pub whole_starts : {v : Surroundings} {x y : Place} (t : Tree) → tame t ≡ true → IsRead v false (Expr 0) x t y → calm 0 y ≡ true → starts (kind_at x) (text_at x) ≡ true
-whole_starts t i r c = whole_begins (whole_reads t (fine t i) i r c)
+pub whole_starts : {v : Surroundings} {x y : Place} (t : Tree) → Tame t → IsRead v false (Expr 0) x t y → calm 0 y ≡ true → starts (kind_at x) (text_at x) ≡ true
+whole_starts t i r c = whole_begins (whole_reads t (fine t i) i.tame' r c)
 
-pub expr_starts : (n m : ℕ) (c : Nonterminal) {v : Surroundings} {x y : Place} (t : Tree) → Placed n m c → no_hole c ≡ true → tame t ≡ true → IsRead v false c x t y → calm m y ≡ true → starts (kind_at x) (text_at x) ≡ true
-expr_starts n m c t p h i r cy = begins (tree_reads n m c (fine t i) i (hole_free t c h r) r p cy)
+pub expr_starts : (n m : ℕ) (c : Nonterminal) {v : Surroundings} {x y : Place} (t : Tree) → Placed n m c → no_hole c ≡ true → Tame t → IsRead v false c x t y → calm m y ≡ true → starts (kind_at x) (text_at x) ≡ true
+expr_starts n m c t p h i r cy = begins (tree_reads n m c (fine t i) i.tame' (hole_free t c h r) r p cy)
 
 -- ---- words
 
@@ -200,20 +249,20 @@ word_node c k w s i = by_taken (test (taken k))
     by_taken (yes' t) = by_place c w i (for_kind (λ k. not (in_homes Ident (homes k)) && (not (in_homes BindingIdent (homes k)) && (not (in_homes Name (homes k)) && not (in_homes StringOnly (homes k))))) no_word_kinds k (taken_scope k t))
     by_taken (no' n) = by_place c w i (ap (λ k. not (in_homes Ident (homes k)) && (not (in_homes BindingIdent (homes k)) && (not (in_homes Name (homes k)) && not (in_homes StringOnly (homes k))))) (seq_is k (or_else (taken k) (is_seq k) s n)))
 
-word_clean : (c : Nonterminal) → wordy c ≡ true → clean c ≡ true
-word_clean Ident w = refl
-word_clean BindingIdent w = refl
-word_clean Name w = refl
-word_clean StringOnly w = refl
-word_clean _ w = cc
+word_bare : (c : Nonterminal) → wordy c ≡ true → bare c ≡ true
+word_bare Ident w = refl
+word_bare BindingIdent w = refl
+word_bare Name w = refl
+word_bare StringOnly w = refl
+word_bare _ w = cc
 
-pub word_read : (c : Nonterminal) {v : Surroundings} {x y : Place} (t : Tree) → wordy c ≡ true → kept t ≡ true → IsRead v false c x t y → Word x t y
+pub word_read : (c : Nonterminal) {v : Surroundings} {x y : Place} (t : Tree) → wordy c ≡ true → Kept t → IsRead v false c x t y → Word x t y
 word_read c {x = x} (leaf s t) w k r =
     record { kind = s; text = t; is_leaf = refl; moves = ap (forth (Tok Operator s t)) (sym (one_sign x)) ∙ (ap (scan x) (sym (word_leaf c s t w (and_left (leaf_in c s t) _ r.is))) ∙ r.scans); found = r.found }
 word_read c (list ts) w k r = let bad = r.is in cc
 word_read c (node k cs) w h r =
     let i = and_left (admits c (node k cs)) (fits_below c (node k cs)) r.is in
-    absurd (word_node c k w (clean_known c k cs (word_clean c w) (and_left (known k) (kepts cs) h) i) (home_of c k cs i))
+    absurd (word_node c k w (bare_known c k cs (word_bare c w) (kept_kind h) i) (home_of c k cs i))
 
 pub word_same : {x y z : Place} {t u : Tree} → Word x t y → Word x u z → SameAt t u y z
 word_same {x} a b =
@@ -237,28 +286,3 @@ clause_read {v} {x} {y} s t r =
     let e = clause_leaf s t (and_left (leaf_in ImportClause s t) _ r.is) in
     let q : IsRead v false ImportClause x (leaf IdentifierName t) y = subst (λ s. IsRead v false ImportClause x (leaf s t) y) e r in
     record { word = record { kind = IdentifierName; text = t; is_leaf = (λ i. leaf (e i) t); moves = ap (forth (Tok Operator IdentifierName t)) (sym (one_sign x)) ∙ q.scans; found = r.found }; is_name = refl }
-
--- ---- a tree at another place
-
-pub re_home : {v : Surroundings} {x y : Place} (c d : Nonterminal) (t : Tree) → admits d t ≡ true → IsRead v false c x t y → IsRead v false d x t y
-re_home c d (leaf s u) h r = record { is = and_both (leaf_in d s u) (is_leaf s u) h (and_right (leaf_in c s u) _ r.is); is_legal = r.is_legal; scans = r.scans; found = r.found }
-re_home c d (node k cs) h r = record { is = and_both (admits d (node k cs)) (fit_slots (positions k) cs) h (and_right (admits c (node k cs)) _ r.is); is_legal = r.is_legal; scans = r.scans; found = r.found }
-re_home c d (list ts) h r = cc
-
--- ---- which kind it is
-
-pub data Which (k : Kind) : Type 0 where
-  a_statement : stated k ≡ true → Which k
-  a_taken : scope k ≡ true → Which k
-  a_seq : k ≡ expression Seq → Which k
-
-pub which : (k : Kind) → known k ≡ true → Which k
-which k h = by_stated (test (taken k || is_seq k))
-  where
-    by_taken : Test (taken k) → (taken k || is_seq k) ≡ true → Which k
-    by_taken (yes' t) g = a_taken (taken_scope k t)
-    by_taken (no' t) g = a_seq (seq_is k (or_else (taken k) (is_seq k) g t))
-
-    by_stated : Test (taken k || is_seq k) → Which k
-    by_stated (yes' g) = by_taken (test (taken k)) g
-    by_stated (no' g) = a_statement (or_else (taken k || is_seq k) (stated k) h g)

@@ -1,4 +1,5 @@
 -- What the definitions read, with what may stand behind each part: parts, lists and whole expressions.
+use Rattle.jsx_tree.proofs.OneTree.Known.{taken, plain_leaf}
 use Rattle.std.proofs.Common.{◌≡◌, ℕ, ◌≤◌, Bool, true, false, not, cond, [], ◌∷◌, refl, sym, ◌∙◌, ap, subst, arith}
 use Rattle.std.specs.Prelude.{IsTrue, ◌&&◌, ◌||◌, nat_eq, nat_le, codes}
 use Rattle.jsx_base.specs.Token.{Text, Operand, Operator, TokenKind, IdentifierName, Punctuator, NumericLiteral, BigIntLiteral, StringLiteral, RegExpLiteral, NoSubstitution, TemplateHead, TemplateMiddle, TemplateTail, Elision, Lexeme, kind_number, same, begins, state, lexed, no_token, at_front, token, skip, breaks, is_token}
@@ -14,14 +15,14 @@ use Rattle.jsx_tree.specs.Walk as W
 use Rattle.jsx_tree.specs.Walk.{is_found, IsRead}
 use Rattle.jsx_tree.proofs.Tokens.{and_left, and_right, and_both, same_is}
 use Rattle.jsx_tree.proofs.OneTree.Table.{scope}
-use Rattle.jsx_tree.proofs.OneTree.Readings.{level, reach_of, calm, broken, comma, Reads, regexp, Whole, single, several, Rest, final, also, Items, shut, gap, last, more}
+use Rattle.jsx_tree.proofs.OneTree.Readings.{sealed, level, reach_of, calm, broken, comma, Reads, regexp, Whole, single, several, Rest, final, also, Items, shut, gap, last, more}
 use Rattle.jsx_tree.proofs.OneTree.Facts.{never, not_is, Test, yes', no', test, eq_nat, le_nat, kind_is, Seen, took}
-use Rattle.jsx_tree.proofs.OneTree.Places.{ending, kin, is_prop, place_at, no_seq, no_hole, ended_at, ends_by, closes, is_seq, taken}
+use Rattle.jsx_tree.proofs.OneTree.Places.{ending, kin, is_prop, place_at, no_seq, no_hole, ended_at, ends_by, closes}
 use Rattle.jsx_tree.proofs.Rows.Bridge.{node_walk}
 use Rattle.jsx_tree.proofs.Laws.{scan_lost}
 use Rattle.jsx_tree.proofs.OneTree.Fine.{at_many, at_end}
-use Rattle.jsx_tree.proofs.OneTree.Fine.{plain_leaf, tame, tames, spine_ok, Good, Fine, fine_leaf, fine_regexp, fine_piece, fine_node, fine_prop, fine_seq, fine_list, Fines, fine_part, calm_more, one_sign, in_is, no_piece, kin_free, leaf_reads}
-use Rattle.jsx_tree.proofs.OneTree.Spines.{home_of, at_kind, taken_scope, seq_is, node_spine, no_seq_here, home_spine, home_first}
+use Rattle.jsx_tree.proofs.OneTree.Fine.{tame, tames, tames_of, seq_tames, spine_ok, Good, Fine, fine_leaf, fine_regexp, fine_piece, fine_node, fine_prop, fine_seq, fine_sealed, fine_member, fine_list, Fines, fine_part, calm_more, one_sign, in_is, no_piece, kin_free, leaf_reads}
+use Rattle.jsx_tree.proofs.OneTree.Spines.{kin_memberless, no_member, sealed_level, spine_level, home_of, at_kind, taken_scope, seq_is, node_spine, no_seq_here, home_spine, home_first}
 use Rattle.jsx_tree.proofs.OneTree.Next.{reach_seen, calm_at}
 
 -- ---- parts
@@ -65,6 +66,8 @@ tree_reads n m c (fine_leaf {s = s} {t = t} p) h o r l k = leaf_reads n s t r l.
 tree_reads n m c (fine_piece {s = s} {t = t} p) h o r l k = absurd (no_piece c s t (kin_free c l.kin') p (in_is r))
 tree_reads n m c (fine_regexp {t = t}) h o r l k = regexp_reads n t r
 tree_reads n m c (fine_prop {k = q} {cs = cs} t p f) h o r l k = absurd (no_prop_here c m q cs l.ended' t p r)
+tree_reads n m c (fine_sealed {k = q} {cs = cs} s f) h o r l k = sealed (sealed_level n c q cs s l.home' r.is) (f.seals r)
+tree_reads n m c (fine_member {k = q} {t = u} {ts = us} s f e g) h o r l k = absurd (no_member c q (part u us) s (kin_memberless c l.kin') r.is)
 tree_reads n m c (fine_list f) h o r l k = let bad = r.is in cc
 tree_reads n m c (fine_seq {k = q} {cs = cs} s f) h o r l k = absurd (no_seq_here c q cs s l.seq' r.is)
 tree_reads n m c {v} {x} {y} (fine_node {k = q} {cs = cs} t np g) h o r l k =
@@ -193,6 +196,8 @@ slot_of c (fine_piece p) r = cc
 slot_of c (fine_node t np g) r = a_tree refl refl
 slot_of c (fine_seq t g) r = a_tree refl refl
 slot_of c (fine_prop t p g) r = a_tree refl refl
+slot_of c (fine_sealed s g) r = a_tree refl refl
+slot_of c (fine_member s f m g) r = a_tree refl refl
 slot_of c (fine_list f) r = let bad = r.is in cc
 
 hole_place : {v : Surroundings} {c : Nonterminal} {x y : Place} {t : Tree} → t ≡ leaf Elision [] → IsRead v false c x t y → x ≡ y
@@ -264,10 +269,12 @@ whole_reads t (fine_leaf {s = s} {t = u} p) h r q = single (leaf_reads 1 s u r r
 whole_reads t (fine_piece {s = s} {t = u} p) h r q = absurd (no_piece (Expr 0) s u refl p (in_is r))
 whole_reads t (fine_regexp {t = u}) h r q = single (regexp_reads 1 u r) q
 whole_reads t (fine_prop {k = k} {cs = cs} tk p f) h r q = absurd (no_prop_here (Expr 0) 0 k cs refl tk p r)
+whole_reads t (fine_sealed {k = k} {cs = cs} s f) h r q = single (sealed (omega arith) (f.seals r)) q
+whole_reads t (fine_member {k = k} {t = u} {ts = us} s f m g) h r q = absurd (no_member (Expr 0) k (part u us) s refl r.is)
 whole_reads t (fine_list f) h r q = let bad = r.is in cc
-whole_reads t (fine_node {k = k} {cs = cs} tk np g) h r q = single (taken_reads 1 0 (Expr 0) k cs tk g (and_right (taken k || is_seq k) (tames cs) h) r refl refl q) q
+whole_reads t (fine_node {k = k} {cs = cs} tk np g) h r q = single (taken_reads 1 0 (Expr 0) k cs tk g (tames_of k cs tk h) r refl refl q) q
 whole_reads {v} {x} {y} t (fine_seq {k = k} {cs = cs} s f) h r q =
-    subst (λ k. Whole x (node k cs) y) (sym (seq_is k s)) (seq_reads cs f (and_right (taken k || is_seq k) (tames cs) h) (subst (λ k. IsRead v false (Expr 0) x (node k cs) y) (seq_is k s) r) q)
+    subst (λ k. Whole x (node k cs) y) (sym (seq_is k s)) (seq_reads cs f (seq_tames k cs s h) (subst (λ k. IsRead v false (Expr 0) x (node k cs) y) (seq_is k s) r) q)
 
 -- a tree whose spine is known
 pub spined_reads : (n m : ℕ) (c : Nonterminal) {v : Surroundings} {x y : Place} {t : Tree} → Fine t → is_hole t ≡ false → IsRead v false c x t y → kin c ≡ true
@@ -278,6 +285,8 @@ spined_reads n m c (fine_regexp {t = t}) o r l d z h k = regexp_reads n t r
 spined_reads n m c (fine_prop {k = q} {cs = cs} t p f) o r l d z h k =
     let i = home_of c q cs (and_left (admits c (node q cs)) (fits_below c (node q cs)) r.is) in
     absurd (never (is_prop q) p (not_is _ (and_left (not (is_prop q)) _ (d q (taken_scope q t) i (and_left (nat_le n (level q)) _ h)))))
+spined_reads n m c (fine_sealed {k = q} {cs = cs} s f) o r l d z h k = sealed (spine_level q cs n s h) (f.seals r)
+spined_reads n m c (fine_member {k = q} {t = u} {ts = us} s f e g) o r l d z h k = absurd (no_member c q (part u us) s (kin_memberless c l) r.is)
 spined_reads n m c (fine_list f) o r l d z h k = cc
 spined_reads n m c (fine_seq {k = q} {cs = cs} s f) o r l d z h k = absurd (no_seq_here c q cs s z r.is)
 spined_reads n m c {v} {x} {y} (fine_node {k = q} {cs = cs} t np g) o r l d z h k =

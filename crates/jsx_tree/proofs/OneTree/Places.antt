@@ -1,4 +1,5 @@
 -- What is computed of the rows for the step from the definitions' reading to the one that says what stands behind each part.
+use Rattle.jsx_tree.proofs.OneTree.Known.{taken}
 use Rattle.std.specs.Prelude.{◌≡◌, ℕ, zero, suc, [], ◌∷◌, codes, Bool, true, false, cond, nat_le, not, ◌&&◌, ◌||◌, refl}
 use Rattle.jsx_base.specs.Token.{Operator, Punctuator, NoSubstitution, TemplateHead, TemplateMiddle, TemplateTail, Elision, kind_number, among}
 use Rattle.jsx_tree.specs.Signs.{Tok, Unless, SameLine, Space, Count, Apart}
@@ -6,7 +7,7 @@ use Rattle.jsx_tree.specs.Kinds.{SubstitutedTemplate, TemplateSpan, Seq, Chain, 
 use Rattle.jsx_tree.specs.Nonterminals.{Nonterminal, Expr, MemberObject, SimpleTarget, Ident, BindingIdent, Name, Pat, Slot, PatElement, Param, Argument, ArrayItem, ChainLink, TemplateOf, TemplatePart, TemplateSpans, NullishLeft, NewCallee, DotObject, homes, in_homes, literal_homes}
 use Rattle.jsx_tree.specs.Grammar.{ListShape, Commas, Elisions, OneOrMore, Fixed, Part, Many, Within, Production, production}
 use Rattle.jsx_tree.specs.Form.{leads, calls}
-use Rattle.jsx_tree.proofs.OneTree.Table.{scope, kinds}
+use Rattle.jsx_tree.proofs.OneTree.Table.{kinds}
 use Rattle.jsx_tree.proofs.OneTree.Readings.{level, base, low_of, low, tail_of, reach_of, is_link, is_tagged, is_span}
 use Rattle.jsx_tree.proofs.OneTree.Checks.{every}
 
@@ -168,10 +169,6 @@ row_ok e (Part c ∷ ps) = part_ok e c ps && row_ok e ps
 row_ok e (Many s c ∷ ps) = closes ps && (good_shape s && (place_at 1 c && (no_seq c && (ended_at c 1 && ((holed s || no_hole c) && row_ok e ps)))))
 row_ok e ps = false
 
-abbrev pub is_seq : Kind → Bool
-is_seq (expression Seq) = true
-is_seq k = false
-
 abbrev pub is_chain : Kind → Bool
 is_chain (expression Chain) = true
 is_chain k = false
@@ -179,10 +176,6 @@ is_chain k = false
 -- what is read with the kind that it stands in
 abbrev pub is_inner : Kind → Bool
 is_inner k = (is_key k || is_link k) || (is_tagged k || is_span k)
-
--- the kinds whose rows are read here
-abbrev pub taken : Kind → Bool
-taken k = scope k
 
 abbrev pub kind_ok : Kind → Bool
 kind_ok k =

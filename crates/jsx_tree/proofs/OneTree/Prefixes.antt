@@ -1,10 +1,11 @@
 -- Two rows of which the first tokens differ don't stand at one place.
 use Rattle.jsx_tree.proofs.OneTree.Kinds.Imports.{string_first}
 use Rattle.jsx_tree.proofs.OneTree.Rows.{clause_first}
-use Rattle.jsx_tree.specs.Nonterminals.{ImportClause}
+use Rattle.jsx_tree.specs.Nonterminals.{ImportClause, ClassOnly}
+use Rattle.jsx_tree.proofs.OneTree.Kinds.Alone.{class_first}
 use Rattle.std.proofs.Common.{◌≡◌, Bool, true, false, not, List, [], ◌∷◌, refl, sym, ◌∙◌, ap, subst}
-use Rattle.std.specs.Prelude.{◌&&◌, ◌||◌, nat_eq}
-use Rattle.jsx_base.specs.Token.{Text, Operator, TokenKind, StringLiteral, kind_number, among}
+use Rattle.std.specs.Prelude.{◌&&◌, ◌||◌, nat_eq, codes}
+use Rattle.jsx_base.specs.Token.{Text, Operator, TokenKind, IdentifierName, StringLiteral, kind_number, among}
 use Rattle.jsx_tree.specs.Signs.{Tok, Unless}
 use Rattle.jsx_tree.specs.Kinds.{Tree, leaf, node, list, Forest}
 use Rattle.jsx_tree.specs.Nonterminals.{Nonterminal, StringOnly, Declaration, homes, in_homes, leaf_in, is_ident}
@@ -25,7 +26,8 @@ use Rattle.jsx_tree.proofs.OneTree.Fine.{at_sign, at_part, at_end}
 use Rattle.jsx_tree.proofs.OneTree.Next.{unless_kept}
 use Rattle.jsx_tree.proofs.OneTree.Spines.{home_of}
 use Rattle.jsx_tree.proofs.OneTree.Statements.{for_stated}
-use Rattle.jsx_tree.proofs.OneTree.Parts.{known, kept, kepts, wordy, word_read, word_same}
+use Rattle.jsx_tree.proofs.OneTree.Evidence.{Kept, Kepts, kept_left, kept_kind, kept_parts}
+use Rattle.jsx_tree.proofs.OneTree.Parts.{wordy, word_read, word_same}
 use Rattle.jsx_tree.proofs.OneTree.Wants.{Want, still, other, is_calm, implies, implied, meets, is_at, is_seen}
 use Rattle.jsx_tree.proofs.OneTree.Begins.{Front, token', expr', name', front, fits, front_fits, at_seen}
 use Rattle.jsx_tree.proofs.OneTree.Rows.{own_leaf, own_kind}
@@ -69,6 +71,7 @@ fronts_apart _ _ x h f g = cc
 abbrev pub part_apart : TokenKind → Text → Nonterminal → Bool
 part_apart k t StringOnly = not (nat_eq (kind_number k) 4)
 part_apart k t Declaration = every (λ l. not (in_homes Declaration (homes l)) || front_apart (token' k t) (front still (production l))) stated_kinds
+part_apart k t ClassOnly = not (same_token k t IdentifierName (codes "class"))
 part_apart k t c = false
 
 abbrev pub rows_apart : List W.Piece → List W.Piece → Bool
@@ -76,13 +79,14 @@ rows_apart (W.piece a (Fixed (Tok Operator k t)) ∷ ps) (W.piece b (Fixed (Tok 
 rows_apart (W.piece a (Fixed (Tok Operator k t)) ∷ ps) (W.piece b (Fixed (Unless ts)) ∷ qs) = among t ts && not (among [] ts)
 rows_apart (W.piece a (Fixed (Tok Operator k t)) ∷ ps) (W.piece b (Part c) ∷ []) = part_apart k t c
 rows_apart (W.piece a (Part StringOnly) ∷ ps) (W.piece b (Part ImportClause) ∷ qs) = true
+rows_apart (W.piece a (Fixed (Unless ts)) ∷ ps) (W.piece b (Part ClassOnly) ∷ qs) = among (codes "class") ts && not (among [] ts)
 rows_apart ps qs = false
 
 string_leaf : (s : TokenKind) (t : Text) → leaf_in StringOnly s t ≡ true → kind_number s ≡ 4
 string_leaf StringLiteral t h = refl
 string_leaf _ t h = cc
 
-part_clash : {v : Surroundings} {x y : Place} (k : TokenKind) (t : Text) (c : Nonterminal) (u : Tree) → part_apart k t c ≡ true → Seen x k t → kept u ≡ true → IsRead v false c x u y → meets still y ≡ true → ⊥
+part_clash : {v : Surroundings} {x y : Place} (k : TokenKind) (t : Text) (c : Nonterminal) (u : Tree) → part_apart k t c ≡ true → Seen x k t → Kept u → IsRead v false c x u y → meets still y ≡ true → ⊥
 part_clash {x = x} k t StringOnly u h s g r m =
     let w = word_read StringOnly u refl g r in
     let o : Seen x w.kind w.text = took w.kind w.text x w.moves w.found in
@@ -92,9 +96,10 @@ part_clash k t Declaration (leaf s u) h o g r m = own_leaf Declaration s u refl 
 part_clash k t Declaration (list us) h o g r m = let bad = r.is in cc
 part_clash {x = x} k t Declaration (node l cs) h o g r m =
     let i = home_of Declaration l cs (and_left (admits Declaration (node l cs)) (fits_below Declaration (node l cs)) r.is) in
-    let s = own_kind Declaration l refl (and_left (known l) (kepts cs) g) i in
+    let s = own_kind Declaration l refl (kept_kind g) i in
     let a = or_else (not (in_homes Declaration (homes l))) _ (for_stated (λ l. not (in_homes Declaration (homes l)) || front_apart (token' k t) (front still (production l))) h l s) (ap not i) in
-    fronts_apart (token' k t) (front still (production l)) x a (at_seen o) (front_fits still (production l) [] (node_walk false l refl r).walk (and_right (known l) (kepts cs) g) m)
+    fronts_apart (token' k t) (front still (production l)) x a (at_seen o) (front_fits still (production l) [] (node_walk false l refl r).walk (kept_parts g) m)
+part_clash k t ClassOnly u h s g r m = two_tokens s (class_first u g r) (not_is _ h)
 part_clash k t _ u h s g r m = cc
 
 pub same_next : (x : Place) (k l : TokenKind) (t u : Text) {y z : Place} → same_token k t l u ≡ true → forth (Tok Operator k t) x ≡ y → forth (Tok Operator l u) x ≡ z → y ≡ z
@@ -110,7 +115,7 @@ token_clash k l t u x {b} p q h rest = rest (same_seen p q) (by_not (same_token 
     by_not true e h = h
     by_not false e h = cc
 
-pub rows_clash : {V V' : List Context → Surroundings} (ps qs : List W.Piece) {x y z : Place} {ts us : Forest} → rows_apart ps qs ≡ true → kepts ts ≡ true → kepts us ≡ true → W.Walk IsRead V ps x ts y → W.Walk IsRead V' qs x us z → meets still z ≡ true → ⊥
+pub rows_clash : {V V' : List Context → Surroundings} (ps qs : List W.Piece) {x y z : Place} {ts us : Forest} → rows_apart ps qs ≡ true → Kepts ts → Kepts us → W.Walk IsRead V ps x ts y → W.Walk IsRead V' qs x us z → meets still z ≡ true → ⊥
 rows_clash (W.piece a (Fixed (Tok Operator k t)) ∷ ps) (W.piece b (Fixed (Tok Operator l u)) ∷ qs) {x} h f g i j m =
     let p = at_sign i in
     let q = at_sign j in
@@ -124,11 +129,17 @@ rows_clash (W.piece a (Fixed (Tok Operator k t)) ∷ ps) (W.piece b (Fixed (Unle
 rows_clash (W.piece a (Fixed (Tok Operator k t)) ∷ ps) (W.piece b (Part c) ∷ []) {x} h f g i j m =
     let p = at_sign i in
     let q = at_part j in
-    part_clash k t c q.tree h (took k t x p.moves p.found) (and_left (kept q.tree) _ (subst (λ us. kepts us ≡ true) q.is g)) q.read (subst (λ z. meets still z ≡ true) (sym (at_end q.walk).1) m)
+    part_clash k t c q.tree h (took k t x p.moves p.found) (kept_left (subst Kepts q.is g)) q.read (subst (λ z. meets still z ≡ true) (sym (at_end q.walk).1) m)
 rows_clash (W.piece a (Part StringOnly) ∷ ps) (W.piece b (Part ImportClause) ∷ qs) {x} h f g i j m =
     let p = at_part i in
     let q = at_part j in
-    never (nat_eq (kind_at x) 4) (ap (λ n. nat_eq n 4) (string_first p.tree (and_left (kept p.tree) _ (subst (λ ts. kepts ts ≡ true) p.is f)) p.read)) (clause_first q.tree (and_left (kept q.tree) _ (subst (λ us. kepts us ≡ true) q.is g)) q.read).1
+    never (nat_eq (kind_at x) 4) (ap (λ n. nat_eq n 4) (string_first p.tree (kept_left (subst Kepts p.is f)) p.read)) (clause_first q.tree (kept_left (subst Kepts q.is g)) q.read).1
+rows_clash (W.piece a (Fixed (Unless ts)) ∷ ps) (W.piece b (Part ClassOnly) ∷ qs) {x} h f g i j m =
+    let p = at_sign i in
+    let q = at_part j in
+    let s = class_first q.tree (kept_left (subst Kepts q.is g)) q.read in
+    let r = unless_kept ts x p.next (not_is _ (and_right (among (codes "class") ts) _ h)) p.moves p.found in
+    never (among (codes "class") ts) (and_left (among (codes "class") ts) _ h) (subst (λ u. among u ts ≡ false) s.text (not_is (among (text_at x) ts) r.held))
 rows_clash _ _ h f g i j m = cc
 
 -- ---- a word that ends its row, and one that goes on
@@ -137,14 +148,14 @@ abbrev pub words_apart : Want → List W.Piece → List W.Piece → Bool
 words_apart e (W.piece a (Part c) ∷ []) (W.piece b (Part d) ∷ W.piece g (Fixed (Tok Operator k t)) ∷ qs) = wordy c && (wordy d && (implies e (other k t) && not (is_calm (other k t))))
 words_apart e ps qs = false
 
-pub words_clash : {V V' : List Context → Surroundings} (e : Want) (ps qs : List W.Piece) {x y z : Place} {ts us : Forest} → words_apart e ps qs ≡ true → kepts ts ≡ true → kepts us ≡ true → W.Walk IsRead V ps x ts y → W.Walk IsRead V' qs x us z → meets e y ≡ true → ⊥
+pub words_clash : {V V' : List Context → Surroundings} (e : Want) (ps qs : List W.Piece) {x y z : Place} {ts us : Forest} → words_apart e ps qs ≡ true → Kepts ts → Kepts us → W.Walk IsRead V ps x ts y → W.Walk IsRead V' qs x us z → meets e y ≡ true → ⊥
 words_clash e (W.piece a (Part c) ∷ []) (W.piece b (Part d) ∷ W.piece g (Fixed (Tok Operator k t)) ∷ qs) h f f' i j m =
     let p = at_part i in
     let n = at_end p.walk in
     let q = at_part j in
     let s = at_sign q.walk in
     let o = and_right (wordy c) _ h in
-    let w = word_same (word_read c p.tree (and_left (wordy c) _ h) (and_left (kept p.tree) _ (subst (λ ts. kepts ts ≡ true) p.is f)) p.read) (word_read d q.tree (and_left (wordy d) _ o) (and_left (kept q.tree) _ (subst (λ ts. kepts ts ≡ true) q.is f')) q.read) in
+    let w = word_same (word_read c p.tree (and_left (wordy c) _ h) (kept_left (subst Kepts p.is f)) p.read) (word_read d q.tree (and_left (wordy d) _ o) (kept_left (subst Kepts q.is f')) q.read) in
     let r = implied e (other k t) p.next (and_left (implies e (other k t)) _ (and_right (wordy d) _ o)) no_calm (subst (λ z. meets e z ≡ true) (sym n.1) m) in
     never (is_at p.next k t) (at_seen (subst (λ z. Seen z k t) (sym w.place) (took k t q.next s.moves s.found))) (not_is _ r)
   where

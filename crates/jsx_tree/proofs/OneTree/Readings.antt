@@ -3,13 +3,14 @@ use Rattle.std.specs.Prelude.{◌≡◌, ℕ, zero, suc, ◌≤◌, List, [], �
 use Rattle.jsx_base.specs.Token.{Text, Mode, Operand, Operator, TokenKind, IdentifierName, Punctuator, NumericLiteral, BigIntLiteral, StringLiteral, RegExpLiteral, NoSubstitution, TemplateHead, TemplateMiddle, TemplateTail, Elision, Lexeme, kind_number, token, no_token, same, among, breaks}
 use Rattle.jsx_tree.specs.Signs.{Sign, Tok, Unless, SameLine}
 use Rattle.jsx_tree.specs.Kinds.{WithInit, RestPat, ObjectPat, PropertyPat, ShorthandPat, ShorthandInit, RestProperty, ParenTarget, ComputedKey, BinaryOp, Nullish, Or, And, BitOr, BitXor, BitAnd, Equal, Unequal, StrictEqual, StrictUnequal, Less, Greater, AtMost, AtLeast, InOp, InstanceOf, ShiftLeft, ShiftRight, ShiftOut, Add, Subtract, Multiply, Divide, Remainder, Exponentiate, Seq, Arrow, BareArrow, Call, Chain, NameLink, IndexLink, CallLink, Object, Property, Shorthand, Spread, Parenthesized, PlainTemplate, SubstitutedTemplate, TemplateSpan, Kind, function, expression, Tree, leaf, node, list, Forest, none, part}
-use Rattle.jsx_tree.specs.Nonterminals.{Nonterminal, Expr, MemberObject, SimpleTarget, Ident, BindingIdent, Name, TemplateOf, TemplatePart, NullishLeft, NewCallee, DotObject, level_of, binary, homes, is_value_word}
+use Rattle.jsx_tree.specs.Nonterminals.{Nonterminal, Expr, MemberObject, ObjectMember, SimpleTarget, Ident, BindingIdent, Name, TemplateOf, TemplatePart, NullishLeft, NewCallee, DotObject, level_of, binary, homes, is_value_word}
 use Rattle.jsx_tree.specs.Grammar.{ListShape, Elisions, Fixed, Part, Many, Production, production}
 use Rattle.jsx_tree.specs.Spelling.{mode_of}
 use Rattle.jsx_tree.specs.Reading.{Place, Lost, At, forth, is_backquote}
 use Rattle.jsx_tree.specs.Form.{leads, is_close}
 use Rattle.jsx_tree.specs.Walk.{is_found}
 use Rattle.jsx_tree.proofs.OneTree.Table.{code, scope}
+use Rattle.jsx_tree.proofs.OneTree.Sealed.{is_member, Closed, Sealed}
 
 -- ---- a row as reading goes along it
 
@@ -294,6 +295,10 @@ may_key BigIntLiteral = true
 may_key StringLiteral = true
 may_key k = false
 
+-- what a key begins with: a token's kind, by its number, and text
+abbrev pub key_start : ℕ → Text → Bool
+key_start k t = nat_eq k 0 || (nat_eq k 2 || (nat_eq k 3 || (nat_eq k 4 || (nat_eq k 1 && same t (codes "[")))))
+
 abbrev pub comma : Sign
 comma = Tok Operator Punctuator (codes ",")
 
@@ -307,6 +312,7 @@ mutual
     target : {n : ℕ} {x p y z : Place} {t : Tree} → n ≤ 19 → forth (Tok Operator Punctuator (codes "(")) x ≡ p → IsTrue (is_found p) → Reads 17 p t y → IsTrue (calm 0 y) → forth (Tok Operator Punctuator (codes ")")) y ≡ z → IsTrue (is_found z) → Reads n x (node (function ParenTarget) (part t none)) z
     grow : {n : ℕ} {k : Kind} {x y z : Place} {t : Tree} {ts : Forest} → IsTrue (scope k) → IsTrue (grows k) → n ≤ level k → Reads n x t y → Walk (tail k) y ts z → Reads n x (node k (part t ts)) z
     arrow : {n : ℕ} {x y z : Place} {p : Tree} {ts : Forest} → n ≤ 1 → Walk parens x (part p none) y → Walk (tail (expression BareArrow)) y ts z → Reads n x (node (expression Arrow) (part p ts)) z
+    sealed : {n : ℕ} {k : Kind} {x y : Place} {cs : Forest} → n ≤ 19 → Sealed x k cs y → Reads n x (node k cs) y
     braces : {n : ℕ} {k : Kind} {x p y : Place} {ts : Forest} → n ≤ 19 → code k ≡ 54 → is_arrow k ≡ false → forth (Tok Operator Punctuator (codes "{")) x ≡ p → IsTrue (is_found p) → Props p ts y → Reads n x (node k (part (list ts) none)) y
 
   -- a property of a literal or a pattern
@@ -316,6 +322,13 @@ mutual
     short : {k : Kind} {t : Text} {x y : Place} → code k ≡ 51 → is_arrow k ≡ false → forth (Tok Operator IdentifierName t) x ≡ y → IsTrue (is_found y) → Prop x (node k (part (leaf IdentifierName t) none)) y
     preset : {k : Kind} {t : Text} {x p q y : Place} {v : Tree} → code k ≡ 52 → is_arrow k ≡ false → forth (Tok Operator IdentifierName t) x ≡ p → IsTrue (is_found p) → forth (Tok Operator Punctuator (codes "=")) p ≡ q → IsTrue (is_found q) → Reads 1 q v y → IsTrue (calm 1 y) → Prop x (node k (part (leaf IdentifierName t) (part v none))) y
     rest : {k : Kind} {x p y : Place} {v : Tree} → code k ≡ 2 → is_arrow k ≡ false → forth (Tok Operator Punctuator (codes "...")) x ≡ p → IsTrue (is_found p) → Reads 1 p v y → IsTrue (calm 1 y) → Prop x (node k (part v none)) y
+    member : {k : Kind} {x y : Place} {cs : Forest} → Closed is_member ObjectMember x k cs y → Opening x → Prop x (node k cs) y
+
+  -- what a method begins with: a key before its parentheses, or a word before a key
+  pub data Opening : Place → Type 0 where
+    o_named : (s : TokenKind) (t : Text) {x : Place} (p : Place) → IsTrue (may_key s) → forth (Tok Operator s t) x ≡ p → IsTrue (is_found p) → IsTrue (is_found (forth (Tok Operator Punctuator (codes "(")) p)) → Opening x
+    o_computed : {x : Place} (a b p : Place) (o : Tree) → forth (Tok Operator Punctuator (codes "[")) x ≡ a → IsTrue (is_found a) → Reads 1 a o b → IsTrue (calm 1 b) → forth (Tok Operator Punctuator (codes "]")) b ≡ p → IsTrue (is_found p) → IsTrue (is_found (forth (Tok Operator Punctuator (codes "(")) p)) → Opening x
+    o_worded : (t : Text) {x : Place} (p : Place) → forth (Tok Operator IdentifierName t) x ≡ p → IsTrue (is_found p) → IsTrue (key_start (kind_at p) (text_at p)) → Opening x
 
   pub data Props : Place → Forest → Place → Type 0 where
     p_shut : {x y : Place} → forth (Tok Operator Punctuator (codes "}")) x ≡ y → IsTrue (is_found y) → Props x none y

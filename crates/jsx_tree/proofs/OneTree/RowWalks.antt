@@ -1,4 +1,5 @@
 -- What the definitions read, with what may stand behind each part: rows and nodes.
+use Rattle.jsx_tree.proofs.OneTree.Known.{taken}
 use Rattle.std.proofs.Common.{◌≡◌, ℕ, ◌≤◌, zero, Bool, true, false, not, List, [], ◌∷◌, refl, sym, ◌∙◌, ap, subst, arith}
 use Rattle.std.specs.Prelude.{IsTrue, ◌&&◌, ◌||◌, nat_le}
 use Rattle.jsx_base.specs.Token.{Text, Operator, IdentifierName, Punctuator, NumericLiteral, BigIntLiteral, StringLiteral, NoSubstitution, Elision, among}
@@ -14,10 +15,10 @@ use Rattle.jsx_tree.specs.Walk.{is_found, IsRead, pieces}
 use Rattle.jsx_tree.proofs.Tokens.{and_left, and_right}
 use Rattle.jsx_tree.proofs.OneTree.Readings.{Step, lit, sub, many, row, tail_of, step_of, steps, holes, base, low, level, calm, Reads, head, paren, target, arrow, Walk, done, take, pass, literal, under, all, each, Items}
 use Rattle.jsx_tree.proofs.OneTree.Facts.{never, or_else, not_is, for_kind}
-use Rattle.jsx_tree.proofs.OneTree.Places.{first_of, kin, is_prop, is_brace, place_at, no_seq, no_hole, no_names, quiet, ended_at, ended_on, ends_over, ends_by, part_ok, closes, good_shape, holed, row_ok, taken}
+use Rattle.jsx_tree.proofs.OneTree.Places.{first_of, kin, is_prop, is_brace, place_at, no_seq, no_hole, no_names, quiet, ended_at, ended_on, ends_over, ends_by, part_ok, closes, good_shape, holed, row_ok}
 use Rattle.jsx_tree.proofs.OneTree.Fine.{at_sign, AtPart, at_part, at_many, at_end}
-use Rattle.jsx_tree.proofs.OneTree.Fine.{tame, tames, spine_ok, first_ok, Fine, fine_leaf, fine_regexp, fine_piece, fine_node, fine_prop, fine_seq, fine_list, Fines, fine_part, one_sign, in_is, no_piece}
-use Rattle.jsx_tree.proofs.OneTree.Spines.{home_of, at_kind, taken_scope, no_seq_here, home_spine, callee_spine, callee_calls}
+use Rattle.jsx_tree.proofs.OneTree.Fine.{tame, tames, spine_ok, first_ok, Fine, fine_leaf, fine_regexp, fine_piece, fine_node, fine_prop, fine_seq, fine_sealed, fine_member, fine_list, Fines, fine_part, one_sign, in_is, no_piece}
+use Rattle.jsx_tree.proofs.OneTree.Spines.{no_sealed, no_member, home_of, at_kind, taken_scope, no_seq_here, home_spine, callee_spine, callee_calls}
 use Rattle.jsx_tree.proofs.OneTree.Next.{unless_kept, line_kept, quiet_calm}
 use Rattle.jsx_tree.proofs.OneTree.Placed.{Placed, hole_free, tree_reads, commas_listed, holes_listed, whole_reads, spined_reads}
 use Rattle.jsx_tree.proofs.OneTree.Templates.{piece_walk, tag_walk}
@@ -36,6 +37,8 @@ name_walk (fine_regexp) r w = let bad = in_is r in cc
 name_walk (fine_prop {k = k} {cs = cs} t p f) r w =
     let i = home_of Name k cs (and_left (admits Name (node k cs)) (fits_below Name (node k cs)) r.is) in
     absurd (never (in_homes Name (homes k)) i (not_is _ (for_kind (λ l. not (in_homes Name (homes l))) no_names k (taken_scope k t))))
+name_walk (fine_sealed {k = k} {cs = cs} s f) r w = absurd (no_sealed Name k cs s refl r.is)
+name_walk (fine_member {k = k} {t = u} {ts = us} s f m g) r w = absurd (no_member Name k (part u us) s refl r.is)
 name_walk (fine_list f) r w = let bad = r.is in cc
 name_walk (fine_node {k = k} {cs = cs} t np g) r w =
     let i = home_of Name k cs (and_left (admits Name (node k cs)) (fits_below Name (node k cs)) r.is) in

@@ -17,7 +17,8 @@ use Rattle.jsx_tree.proofs.Tokens.{and_left, and_right}
 use Rattle.std.specs.Prelude.{codes}
 use Rattle.jsx_base.specs.Token.{Text, Operator, Punctuator, kind_number, same}
 use Rattle.jsx_tree.specs.Signs.{Tok}
-use Rattle.jsx_tree.specs.Nonterminals.{BindingIdent, ImportClause}
+use Rattle.jsx_tree.specs.Nonterminals.{BindingIdent, ImportClause, ClassOnly}
+use Rattle.jsx_tree.proofs.OneTree.Kinds.Alone.{class_part}
 use Rattle.jsx_tree.specs.Grammar.{Fixed, Part}
 use Rattle.jsx_tree.proofs.Tokens.{same_is}
 use Rattle.jsx_tree.proofs.Rows.Bridge.{node_walk}
@@ -33,21 +34,21 @@ use Rattle.jsx_tree.proofs.OneTree.Begins.{at_seen}
 use Rattle.jsx_tree.specs.Walk as W
 use Rattle.jsx_tree.specs.Walk.{pieces, IsRead}
 use Rattle.jsx_tree.proofs.OneTree.Table.{kinds}
-use Rattle.jsx_tree.proofs.OneTree.Statements.{stated}
+use Rattle.jsx_tree.proofs.OneTree.Known.{stated, taken, is_seq, known}
+use Rattle.jsx_tree.proofs.OneTree.Evidence.{Kept, Kepts, kept_left, kept_kind, kept_parts}
 use Rattle.jsx_tree.proofs.OneTree.Checks.{every}
 use Rattle.jsx_tree.proofs.OneTree.Facts.{never, or_else, not_is, Test, yes', no', test, for_kind}
-use Rattle.jsx_tree.proofs.OneTree.Places.{taken, is_seq}
 use Rattle.jsx_tree.proofs.OneTree.Spines.{seq_is, taken_scope}
 use Rattle.jsx_tree.proofs.OneTree.Endings.{after}
 use Rattle.jsx_tree.proofs.OneTree.Afters.{after_tree}
-use Rattle.jsx_tree.proofs.OneTree.Parts.{known, kept, kepts, tame_of, calm_most, SameAt, expr_same, whole_same, wordy, word_read, word_same}
+use Rattle.jsx_tree.proofs.OneTree.Parts.{tame_of, calm_most, SameAt, expr_same, whole_same, wordy, word_read, word_same}
 use Rattle.jsx_tree.proofs.OneTree.Wants.{Want, ended, meets, is_calm, follow, follow_meets}
 use Rattle.jsx_tree.proofs.OneTree.Begins.{is_own, want_of}
 
 -- ---- trees for which the law is known
 
 pub record One (t : Tree) : Type 0 where
-  pub one : (c : Nonterminal) (u : Tree) {v w : Surroundings} {x y z : Place} → is_own c ≡ true → kept t ≡ true → kept u ≡ true → IsRead v false c x t y → IsRead w false c x u z
+  pub one : (c : Nonterminal) (u : Tree) {v w : Surroundings} {x y z : Place} → is_own c ≡ true → Kept t → Kept u → IsRead v false c x t y → IsRead w false c x u z
       → meets (want_of c) y ≡ true → meets (want_of c) z ≡ true → SameAt t u y z
 
 pub data Each : Tree → Type 0 where
@@ -169,7 +170,7 @@ clause_row ps = false
 clause_rows : every (λ k. not (in_homes ImportClause (homes k)) || clause_row (W.row false k)) stated_kinds ≡ true
 clause_rows = refl
 
-clause_walk : {V : List Context → Surroundings} (ps : List W.Piece) {x y z : Place} {t : Tree} {us : Forest} → clause_row ps ≡ true → Named x t y → kepts us ≡ true → W.Walk IsRead V ps x us z → meets (other Punctuator (codes ",")) y ≡ true → ⊥
+clause_walk : {V : List Context → Surroundings} (ps : List W.Piece) {x y z : Place} {t : Tree} {us : Forest} → clause_row ps ≡ true → Named x t y → Kepts us → W.Walk IsRead V ps x us z → meets (other Punctuator (codes ",")) y ≡ true → ⊥
 clause_walk (W.piece a (Fixed (Tok Operator Punctuator u)) ∷ ps) {x} h n k w m =
     let s = at_sign w in
     let b : Seen x Punctuator u = took Punctuator u x s.moves s.found in
@@ -178,17 +179,17 @@ clause_walk (W.piece a (Fixed (Tok Operator Punctuator u)) ∷ ps) {x} h n k w m
 clause_walk (W.piece a (Part BindingIdent) ∷ W.piece b (Fixed (Tok Operator Punctuator u)) ∷ ps) {x} {y} h n k w m =
     let p = at_part w in
     let s = at_sign p.walk in
-    let e = word_same n.word (word_read BindingIdent p.tree refl (and_left (kept p.tree) _ (subst (λ ts. kepts ts ≡ true) p.is k)) p.read) in
+    let e = word_same n.word (word_read BindingIdent p.tree refl (kept_left (subst Kepts p.is k)) p.read) in
     let b : Seen p.next Punctuator u = took Punctuator u p.next s.moves s.found in
     let c : Seen y Punctuator u = subst (λ z. Seen z Punctuator u) (sym e.place) b in
     never (is_at y Punctuator (codes ",")) (at_seen {x = y} {k = Punctuator} {t = codes ","} (record { kind = c.kind; text = c.text ∙ same_is u (codes ",") h })) (not_is _ m)
 clause_walk _ h n k w m = cc
 
-pub clause_clash : {v w : Surroundings} {x y z : Place} (s : TokenKind) (t : Text) (k : Kind) (cs : Forest) → kept (node k cs) ≡ true → IsRead v false ImportClause x (leaf s t) y → IsRead w false ImportClause x (node k cs) z → meets (other Punctuator (codes ",")) y ≡ true → ⊥
+pub clause_clash : {v w : Surroundings} {x y z : Place} (s : TokenKind) (t : Text) (k : Kind) (cs : Forest) → Kept (node k cs) → IsRead v false ImportClause x (leaf s t) y → IsRead w false ImportClause x (node k cs) z → meets (other Punctuator (codes ",")) y ≡ true → ⊥
 clause_clash s t k cs h r p m =
     let i = home_of ImportClause k cs (and_left (admits ImportClause (node k cs)) (fits_below ImportClause (node k cs)) p.is) in
-    let o = own_kind ImportClause k refl (and_left (known k) (kepts cs) h) i in
-    clause_walk (W.row false k) (or_else (not (in_homes ImportClause (homes k))) _ (for_stated (λ k. not (in_homes ImportClause (homes k)) || clause_row (W.row false k)) clause_rows k o) (ap not i)) (clause_read s t r) (and_right (known k) (kepts cs) h) (node_walk false k refl p).walk m
+    let o = own_kind ImportClause k refl (kept_kind h) i in
+    clause_walk (W.row false k) (or_else (not (in_homes ImportClause (homes k))) _ (for_stated (λ k. not (in_homes ImportClause (homes k)) || clause_row (W.row false k)) clause_rows k o) (ap not i)) (clause_read s t r) (kept_parts h) (node_walk false k refl p).walk m
 
 pub clause_is : (c : Nonterminal) → is_own c ≡ true → leafless c ≡ false → c ≡ ImportClause
 clause_is ImportClause o n = refl
@@ -211,14 +212,14 @@ clause_is _ o n = cc
 abbrev pub calls_on : Place → Bool
 calls_on x = nat_eq (kind_at x) 1 && (same (text_at x) (codes "(") || same (text_at x) (codes "."))
 
-clause_begins : {V : List Context → Surroundings} (ps : List W.Piece) {x z : Place} {us : Forest} → clause_row ps ≡ true → kepts us ≡ true → W.Walk IsRead V ps x us z → (calls_on x ≡ false) × (nat_eq (kind_at x) 4 ≡ false)
+clause_begins : {V : List Context → Surroundings} (ps : List W.Piece) {x z : Place} {us : Forest} → clause_row ps ≡ true → Kepts us → W.Walk IsRead V ps x us z → (calls_on x ≡ false) × (nat_eq (kind_at x) 4 ≡ false)
 clause_begins (W.piece a (Fixed (Tok Operator Punctuator u)) ∷ ps) {x} h k w =
     let s = at_sign w in
     let b : Seen x Punctuator u = took Punctuator u x s.moves s.found in
     ((λ i. nat_eq (b.kind i) 1 && (same (b.text i) (codes "(") || same (b.text i) (codes "."))) ∙ not_is _ h, ap (λ n. nat_eq n 4) b.kind)
 clause_begins (W.piece a (Part BindingIdent) ∷ W.piece b (Fixed (Tok Operator Punctuator u)) ∷ ps) {x} h k w =
     let p = at_part w in
-    let e = zero_kind x (bound_fits p.tree (and_left (kept p.tree) _ (subst (λ ts. kepts ts ≡ true) p.is k)) p.read) in
+    let e = zero_kind x (bound_fits p.tree (kept_left (subst Kepts p.is k)) p.read) in
     ((λ i. nat_eq (e i) 1 && (same (text_at x) (codes "(") || same (text_at x) (codes "."))), ap (λ n. nat_eq n 4) e)
   where
     zero_kind : (x : Place) → fits name' x ≡ true → kind_at x ≡ 0
@@ -226,7 +227,7 @@ clause_begins (W.piece a (Part BindingIdent) ∷ W.piece b (Fixed (Tok Operator 
 clause_begins _ h k w = cc
 
 -- what is imported begins neither as a string nor as what goes on with the word
-pub clause_first : {v : Surroundings} {x y : Place} (t : Tree) → kept t ≡ true → IsRead v false ImportClause x t y → (calls_on x ≡ false) × (nat_eq (kind_at x) 4 ≡ false)
+pub clause_first : {v : Surroundings} {x y : Place} (t : Tree) → Kept t → IsRead v false ImportClause x t y → (calls_on x ≡ false) × (nat_eq (kind_at x) 4 ≡ false)
 clause_first {x = x} (leaf s t) h r =
     let n = clause_read s t r in
     let b : Seen x n.word.kind n.word.text = took n.word.kind n.word.text x n.word.moves n.word.found in
@@ -235,15 +236,15 @@ clause_first {x = x} (leaf s t) h r =
 clause_first (list ts) h r = let bad = r.is in cc
 clause_first (node k cs) h r =
     let i = home_of ImportClause k cs (and_left (admits ImportClause (node k cs)) (fits_below ImportClause (node k cs)) r.is) in
-    let o = own_kind ImportClause k refl (and_left (known k) (kepts cs) h) i in
-    clause_begins (W.row false k) (or_else (not (in_homes ImportClause (homes k))) _ (for_stated (λ k. not (in_homes ImportClause (homes k)) || clause_row (W.row false k)) clause_rows k o) (ap not i)) (and_right (known k) (kepts cs) h) (node_walk false k refl r).walk
+    let o = own_kind ImportClause k refl (kept_kind h) i in
+    clause_begins (W.row false k) (or_else (not (in_homes ImportClause (homes k))) _ (for_stated (λ k. not (in_homes ImportClause (homes k)) || clause_row (W.row false k)) clause_rows k o) (ap not i)) (kept_parts h) (node_walk false k refl r).walk
 
-clause_same : {v w : Surroundings} {x y z : Place} (s : TokenKind) (t : Text) (u : Tree) → kept u ≡ true → IsRead v false ImportClause x (leaf s t) y → IsRead w false ImportClause x u z → meets (other Punctuator (codes ",")) y ≡ true → SameAt (leaf s t) u y z
+clause_same : {v w : Surroundings} {x y z : Place} (s : TokenKind) (t : Text) (u : Tree) → Kept u → IsRead v false ImportClause x (leaf s t) y → IsRead w false ImportClause x u z → meets (other Punctuator (codes ",")) y ≡ true → SameAt (leaf s t) u y z
 clause_same s t (leaf r u) h p q m = word_same (clause_read s t p).word (clause_read r u q).word
 clause_same s t (list us) h p q m = let bad = q.is in cc
 clause_same s t (node k cs) h p q m = absurd (clause_clash s t k cs h p q m)
 
-pub own_same : (c : Nonterminal) {v w : Surroundings} {x y z : Place} (t u : Tree) → is_own c ≡ true → Each t → kept t ≡ true → kept u ≡ true → IsRead v false c x t y → IsRead w false c x u z → meets (want_of c) y ≡ true → meets (want_of c) z ≡ true → SameAt t u y z
+pub own_same : (c : Nonterminal) {v w : Surroundings} {x y z : Place} (t u : Tree) → is_own c ≡ true → Each t → Kept t → Kept u → IsRead v false c x t y → IsRead w false c x u z → meets (want_of c) y ≡ true → meets (want_of c) z ≡ true → SameAt t u y z
 own_same c {v} {w} {x} {y} {z} (leaf s t) u o each_leaf h g r p m n = by_leafless (test (leafless c))
   where
     by_leafless : Test (leafless c) → SameAt (leaf s t) u y z
@@ -284,44 +285,52 @@ pattern_is (Pat Binds) h = refl
 pattern_is (Pat _) h = cc
 pattern_is _ h = cc
 
+abbrev pub is_alone : Nonterminal → Bool
+is_alone ClassOnly = true
+is_alone c = false
+
+alone_is : (c : Nonterminal) → is_alone c ≡ true → c ≡ ClassOnly
+alone_is ClassOnly h = refl
+alone_is _ h = cc
+
 abbrev pub part_good : Want → Production → Nonterminal → Bool
-part_good e ps c = (is_whole c && follow e ps (ended 0)) || ((is_single c && follow e ps (ended 1)) || (is_pattern c || (wordy c || (is_own c && follow e ps (want_of c)))))
+part_good e ps c = is_alone c || ((is_whole c && follow e ps (ended 0)) || ((is_single c && follow e ps (ended 1)) || (is_pattern c || (wordy c || (is_own c && follow e ps (want_of c))))))
 
 -- two readings of what stands behind a part
 pub record Rest (V : List Context → Surroundings) (a : List Context) (e : Want) (ps : Production) (y : Place) : Type 0 where
   pub trees : Forest
   pub end : Place
   pub walk : W.Walk IsRead V (pieces a ps) y trees end
-  pub good : kepts trees ≡ true
+  pub good : Kepts trees
   pub ends : meets e end ≡ true
 
 pub rest_meets : {V : List Context → Surroundings} {a : List Context} {e : Want} {ps : Production} {y : Place} (w : Want) → Rest V a e ps y → follow e ps w ≡ true → (is_calm w ≡ true → after y ≡ true) → meets w y ≡ true
 rest_meets {a = a} {e} {ps} w r h c = follow_meets e ps w a h c r.walk r.good r.ends
 
-whole_part : {V V' : List Context → Surroundings} {v v' : Surroundings} {a : List Context} {e : Want} {ps : Production} {x y z : Place} (t u : Tree) → follow e ps (ended 0) ≡ true → kept t ≡ true → kept u ≡ true
+whole_part : {V V' : List Context → Surroundings} {v v' : Surroundings} {a : List Context} {e : Want} {ps : Production} {x y z : Place} (t u : Tree) → follow e ps (ended 0) ≡ true → Kept t → Kept u
     → IsRead v false (Expr 0) x t y → IsRead v' false (Expr 0) x u z → Rest V a e ps y → Rest V' a e ps z → SameAt t u y z
 whole_part t u h k l r s p q =
     let i = tame_of t (Expr 0) refl k r.is in
     let j = tame_of u (Expr 0) refl l s.is in
     whole_same t u i j r s (rest_meets (ended 0) p h (λ _. after_tree t (Expr 0) i refl r)) (rest_meets (ended 0) q h (λ _. after_tree u (Expr 0) j refl s))
 
-single_part : {V V' : List Context → Surroundings} {v v' : Surroundings} {a : List Context} {e : Want} {ps : Production} {x y z : Place} (t u : Tree) → follow e ps (ended 1) ≡ true → kept t ≡ true → kept u ≡ true
+single_part : {V V' : List Context → Surroundings} {v v' : Surroundings} {a : List Context} {e : Want} {ps : Production} {x y z : Place} (t u : Tree) → follow e ps (ended 1) ≡ true → Kept t → Kept u
     → IsRead v false (Expr 1) x t y → IsRead v' false (Expr 1) x u z → Rest V a e ps y → Rest V' a e ps z → SameAt t u y z
 single_part t u h k l r s p q =
     let i = tame_of t (Expr 1) refl k r.is in
     let j = tame_of u (Expr 1) refl l s.is in
     expr_same 1 1 (Expr 1) t u (omega arith) (record { kin' = refl; home' = refl; ended' = refl; seq' = refl }) refl i j r s (rest_meets (ended 1) p h (λ _. after_tree t (Expr 1) i refl r)) (rest_meets (ended 1) q h (λ _. after_tree u (Expr 1) j refl s))
 
-pub pattern_part : {v v' : Surroundings} {x y z : Place} (t u : Tree) → kept t ≡ true → kept u ≡ true → IsRead v false (Pat Binds) x t y → IsRead v' false (Pat Binds) x u z → SameAt t u y z
+pub pattern_part : {v v' : Surroundings} {x y z : Place} (t u : Tree) → Kept t → Kept u → IsRead v false (Pat Binds) x t y → IsRead v' false (Pat Binds) x u z → SameAt t u y z
 pattern_part {y = y} {z} t u k l r s =
     expr_same 19 19 (Pat Binds) t u (omega arith) (record { kin' = refl; home' = refl; ended' = refl; seq' = refl }) refl (tame_of t (Pat Binds) refl k r.is) (tame_of u (Pat Binds) refl l s.is) r s (calm_most y) (calm_most z)
 
 move_place : {v : Surroundings} {c d : Nonterminal} {x y : Place} {t : Tree} → c ≡ d → IsRead v false c x t y → IsRead v false d x t y
 move_place {v} {x = x} {y} {t} e r = subst (λ c. IsRead v false c x t y) e r
 
-pub part_same : {V V' : List Context → Surroundings} {v v' : Surroundings} {a : List Context} {e : Want} {ps : Production} (c : Nonterminal) {x y z : Place} (t u : Tree) → part_good e ps c ≡ true → Each t → kept t ≡ true → kept u ≡ true
+pub part_same : {V V' : List Context → Surroundings} {v v' : Surroundings} {a : List Context} {e : Want} {ps : Production} (c : Nonterminal) {x y z : Place} (t u : Tree) → part_good e ps c ≡ true → Each t → Kept t → Kept u
     → IsRead v false c x t y → IsRead v' false c x u z → Rest V a e ps y → Rest V' a e ps z → SameAt t u y z
-part_same {e = e} {ps} c {x} {y} {z} t u h f k l r s p q = by_whole (test (is_whole c && follow e ps (ended 0)))
+part_same {e = e} {ps} c {x} {y} {z} t u h f k l r s p q = by_alone (test (is_alone c))
   where
     by_own : (is_own c && follow e ps (want_of c)) ≡ true → SameAt t u y z
     by_own g =
@@ -358,6 +367,10 @@ part_same {e = e} {ps} c {x} {y} {z} t u h f k l r s p q = by_whole (test (is_wh
     by_single (yes' w) g = let i = single_is c (and_left (is_single c) _ w) in single_part t u (and_right (is_single c) _ w) k l (move_place i r) (move_place i s) p q
     by_single (no' w) g = by_pattern (test (is_pattern c)) (or_else (is_single c && follow e ps (ended 1)) _ g w)
 
-    by_whole : Test (is_whole c && follow e ps (ended 0)) → SameAt t u y z
-    by_whole (yes' w) = let i = whole_is c (and_left (is_whole c) _ w) in whole_part t u (and_right (is_whole c) _ w) k l (move_place i r) (move_place i s) p q
-    by_whole (no' w) = by_single (test (is_single c && follow e ps (ended 1))) (or_else (is_whole c && follow e ps (ended 0)) _ h w)
+    by_whole : Test (is_whole c && follow e ps (ended 0)) → ((is_whole c && follow e ps (ended 0)) || ((is_single c && follow e ps (ended 1)) || (is_pattern c || (wordy c || (is_own c && follow e ps (want_of c)))))) ≡ true → SameAt t u y z
+    by_whole (yes' w) g = let i = whole_is c (and_left (is_whole c) _ w) in whole_part t u (and_right (is_whole c) _ w) k l (move_place i r) (move_place i s) p q
+    by_whole (no' w) g = by_single (test (is_single c && follow e ps (ended 1))) (or_else (is_whole c && follow e ps (ended 0)) _ g w)
+
+    by_alone : Test (is_alone c) → SameAt t u y z
+    by_alone (yes' w) = let i = alone_is c w in class_part t u k l (move_place i r) (move_place i s)
+    by_alone (no' w) = by_whole (test (is_whole c && follow e ps (ended 0))) (or_else (is_alone c) _ h w)

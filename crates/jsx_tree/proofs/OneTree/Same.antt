@@ -6,7 +6,7 @@ use Rattle.jsx_base.specs.Token.{kind_number, IdentifierName}
 use Rattle.jsx_tree.specs.Form.{is}
 use Rattle.jsx_tree.specs.Nonterminals.{leaf_in}
 use Rattle.jsx_tree.proofs.OneTree.Parts.{word_read}
-use Rattle.jsx_tree.specs.Signs.{Sign, Tok, Semicolon, TrailingComma, Unless, SameLine, Ends, AfterWord, AfterKey}
+use Rattle.jsx_tree.specs.Signs.{Sign, Tok, Semicolon, Space, TrailingComma, Unless, SameLine, Ends, AfterWord, AfterKey}
 use Rattle.jsx_tree.specs.Kinds.{Tree, list, Forest, none, part}
 use Rattle.jsx_tree.specs.Nonterminals.{Nonterminal, Expr, Ident, BindingIdent, Declarators, Param, CaseClause, ClassMember, is_ident}
 use Rattle.jsx_tree.specs.Grammar.{ListShape, Commas, NoTrailing, Context, Fixed, Part, Optional, Many, Within, Production, fixed}
@@ -28,7 +28,8 @@ use Rattle.jsx_tree.proofs.OneTree.Next.{unless_kept}
 use Rattle.jsx_tree.proofs.OneTree.Missing.{Behind, a_mark, a_brace, a_line, behind}
 use Rattle.jsx_tree.proofs.OneTree.Endings.{found_first}
 use Rattle.jsx_tree.proofs.OneTree.Afters.{after_tree}
-use Rattle.jsx_tree.proofs.OneTree.Parts.{kept, kepts, tame_of, whole_starts}
+use Rattle.jsx_tree.proofs.OneTree.Evidence.{Kept, Kepts, kept_left, kept_right, kept_list}
+use Rattle.jsx_tree.proofs.OneTree.Parts.{tame_of, whole_starts}
 use Rattle.jsx_tree.proofs.OneTree.Wants.{Want, ended, other, is_calm, meets, is_at, looks, look_same, signed, follow, at_optional, read_start, mark}
 use Rattle.jsx_tree.proofs.OneTree.Begins.{fits, name', at_seen, ident_fits, is_listed, stop_of}
 use Rattle.jsx_tree.proofs.OneTree.Rows.{All, all_parts, Rest, rest_meets, is_whole, whole_is}
@@ -120,10 +121,16 @@ is_ident_place c = false
 abbrev pub starty : Want → Production → Nonterminal → Bool
 starty e ps c = (is_whole c && follow e ps (ended 0)) || is_ident_place c
 
--- a name that may be absent before a punctuator
+-- a name that may be absent before what is none
+abbrev pub off_first : List Sign → Bool
+off_first (Tok Operator k t ∷ ms) = not (nat_eq (kind_number k) 0 && is_ident t)
+off_first ms = false
+
 abbrev pub mark_first : Production → Bool
-mark_first (Fixed (Tok Operator k t) ∷ ps) = not (nat_eq (kind_number k) 0)
+mark_first (Fixed (Tok Operator k t) ∷ ps) = not (nat_eq (kind_number k) 0 && is_ident t)
+mark_first (Fixed Space ∷ ps) = mark_first ps
 mark_first (Within a ∷ ps) = mark_first ps
+mark_first (Optional m c b r ∷ ps) = off_first (heard m) && mark_first ps
 mark_first ps = false
 
 abbrev pub is_name_place : Nonterminal → Bool
@@ -227,7 +234,7 @@ equals_seen (Tok _ k t ∷ ms) x y h e f = cc
 equals_seen (_ ∷ ms) x y h e f = cc
 equals_seen [] x y h e f = cc
 
-starty_starts : {V : List Context → Surroundings} {v : Surroundings} {a : List Context} {e : Want} {ps : Production} (c : Nonterminal) {x y : Place} (t : Tree) → starty e ps c ≡ true → kept t ≡ true → IsRead v false c x t y → Rest V a e ps y → starts (kind_at x) (text_at x) ≡ true
+starty_starts : {V : List Context → Surroundings} {v : Surroundings} {a : List Context} {e : Want} {ps : Production} (c : Nonterminal) {x y : Place} (t : Tree) → starty e ps c ≡ true → Kept t → IsRead v false c x t y → Rest V a e ps y → starts (kind_at x) (text_at x) ≡ true
 starty_starts {v = v} {e = e} {ps} c {x} {y} t h k r p = by_whole (test (is_whole c && follow e ps (ended 0)))
   where
     by_whole : Test (is_whole c && follow e ps (ended 0)) → starts (kind_at x) (text_at x) ≡ true
@@ -254,23 +261,39 @@ name_is : (c : Nonterminal) → is_name_place c ≡ true → c ≡ BindingIdent
 name_is BindingIdent h = refl
 name_is _ h = cc
 
-name_leaf : (s : TokenKind) (t : Text) → leaf_in BindingIdent s t ≡ true → kind_number s ≡ 0
-name_leaf IdentifierName t h = refl
+name_leaf : (s : TokenKind) (t : Text) → leaf_in BindingIdent s t ≡ true → (nat_eq (kind_number s) 0 && is_ident t) ≡ true
+name_leaf IdentifierName t h = and_left (is_ident t) _ h
 name_leaf _ t h = cc
 
--- no name stands where this punctuator does
-mark_kind : {V : List Context → Surroundings} (a : List Context) (ps : Production) {x z : Place} {ts : Forest} → mark_first ps ≡ true → W.Walk IsRead V (pieces a ps) x ts z → nat_eq (kind_at x) 0 ≡ false
+seen_off : (k : TokenKind) (t : Text) (x : Place) → not (nat_eq (kind_number k) 0 && is_ident t) ≡ true → Seen x k t → fits name' x ≡ false
+seen_off k t x h r = (λ i. nat_eq (r.kind i) 0 && is_ident (r.text i)) ∙ not_is _ h
+
+scan_off : (ms : List Sign) (x : Place) {y : Place} → off_first ms ≡ true → scan x ms ≡ y → IsTrue (is_found y) → fits name' x ≡ false
+scan_off (Tok Operator k t ∷ ms) x {y} h e f = seen_off k t x h (head_seen {x = x} {y = y} k t ms e f)
+scan_off (Tok _ k t ∷ ms) x h e f = cc
+scan_off (_ ∷ ms) x h e f = cc
+scan_off [] x h e f = cc
+
+past_off : {v : Surroundings} (ms : List Sign) (c : Nonterminal) (b : List Sign) (r : List Text) (x : Place) {n : Place} (ts : Forest) → off_first ms ≡ true → W.Past IsRead v (Optional ms c b r) x (W.one (list ts)) n → fits name' n ≡ false → fits name' x ≡ false
+past_off ms c b r x {n} _ h (W.absent i f) g = subst (λ z. fits name' z ≡ false) (sym (look_same (Unless r) x n refl i f)) g
+past_off ms c b r x _ h (W.present i q s f) g = scan_off ms x h i (read_start q)
+
+-- no name stands where this does
+mark_kind : {V : List Context → Surroundings} (a : List Context) (ps : Production) {x z : Place} {ts : Forest} → mark_first ps ≡ true → W.Walk IsRead V (pieces a ps) x ts z → fits name' x ≡ false
 mark_kind a (Fixed (Tok Operator k t) ∷ ps) {x} h w =
     let s = signed (Tok Operator k t) ps a w in
-    let r : Seen x k t = took k t x s.moves (s.found refl) in
-    ap (λ n. nat_eq n 0) r.kind ∙ not_is _ h
+    seen_off k t x h (took k t x s.moves (s.found refl))
+mark_kind a (Fixed Space ∷ ps) h w = mark_kind a ps h w
 mark_kind a (Within b ∷ ps) h w = mark_kind (b ∷ a) ps h w
+mark_kind a (Optional m c b r ∷ ps) {x} h w =
+    let p = at_optional w in
+    past_off (heard m) c (heard b) r x p.trees (and_left (off_first (heard m)) _ h) p.past (mark_kind a ps (and_right (off_first (heard m)) _ h) p.walk)
 mark_kind a (Fixed (Tok _ k t) ∷ ps) h w = cc
 mark_kind a (Fixed _ ∷ ps) h w = cc
 mark_kind a (_ ∷ ps) h w = cc
 mark_kind a [] h w = cc
 
-name_apart : {V : List Context → Surroundings} {v : Surroundings} (a : List Context) (ms : List Sign) (c : Nonterminal) (ps : Production) (x : Place) {y z w : Place} {ts : Forest} (t : Tree) → head_name ms c ps ≡ true → W.Walk IsRead V (pieces a ps) x ts w → scan x ms ≡ y → kept t ≡ true → IsRead v false c y t z → ⊥
+name_apart : {V : List Context → Surroundings} {v : Surroundings} (a : List Context) (ms : List Sign) (c : Nonterminal) (ps : Production) (x : Place) {y z w : Place} {ts : Forest} (t : Tree) → head_name ms c ps ≡ true → W.Walk IsRead V (pieces a ps) x ts w → scan x ms ≡ y → Kept t → IsRead v false c y t z → ⊥
 name_apart {v = v} a ms c ps x {y} {z} t h w e k r =
     let o = and_right (no_signs ms) _ h in
     let back : x ≡ y = ap (scan x) (sym (none_is ms (and_left (no_signs ms) _ h))) ∙ e in
@@ -278,10 +301,10 @@ name_apart {v = v} a ms c ps x {y} {z} t h w e k r =
     let n = word_read BindingIdent t refl k r' in
     let s : Seen y n.kind n.text = took n.kind n.text y n.moves n.found in
     let d = name_leaf n.kind n.text (and_left (leaf_in BindingIdent n.kind n.text) _ (subst (λ t. is BindingIdent t ≡ true) n.is_leaf r'.is)) in
-    never (nat_eq (kind_at x) 0) (ap (λ x. nat_eq (kind_at x) 0) back ∙ ap (λ n. nat_eq n 0) (s.kind ∙ d)) (mark_kind a ps (and_right (is_name_place c) _ o) w)
+    never (fits name' x) (ap (fits name') back ∙ ((λ i. nat_eq (s.kind i) 0 && is_ident (s.text i)) ∙ d)) (mark_kind a ps (and_right (is_name_place c) _ o) w)
 
 absent_present : {V V' : List Context → Surroundings} {v : Surroundings} {a : List Context} (d : Said) (e : Want) (m : List Sign) (c : Nonterminal) (b : List Sign) (r : List Text) (ps : Production) (x : Place) {n y z : Place} (t : Tree) → tells d e m c b r ps ≡ true
-    → said_at d x ≡ true → forth (Unless r) x ≡ n → IsTrue (is_found n) → Rest V a e ps n → scan x (heard m) ≡ y → kept t ≡ true → IsRead v false c y t z → Rest V' a e (fixed b ++ ps) z → ⊥
+    → said_at d x ≡ true → forth (Unless r) x ≡ n → IsTrue (is_found n) → Rest V a e ps n → scan x (heard m) ≡ y → Kept t → IsRead v false c y t z → Rest V' a e (fixed b ++ ps) z → ⊥
 absent_present {V = V} {a = a} d e m c b r ps x {n} {y} {z} t h w f g p i k j q = by_starts (test (head_starts (heard m) c (fixed b ++ ps) ps))
   where
     same' : x ≡ n
@@ -326,15 +349,15 @@ unscanned : {V : List Context → Surroundings} {a : List Context} {e : Want} (b
 unscanned {a = a} b ps x g f r = record { trees = r.trees; end = r.end; walk = unscan a b ps {x = x} g f r.walk; good = r.good; ends = r.ends }
 
 optional_same : {V V' : List Context → Surroundings} {v v' : Surroundings} {a : List Context} (d : Said) (e : Want) (m : List Sign) (c : Nonterminal) (b : List Sign) (r : List Text) (ps : Production) (x : Place) {n n' : Place} (ts us : Forest) → any_good e (fixed b ++ ps) c ≡ true → tells d e m c b r ps ≡ true → said_at d x ≡ true
-    → W.Past IsRead v (Optional (heard m) c (heard b) r) x (W.one (list ts)) n → W.Past IsRead v' (Optional (heard m) c (heard b) r) x (W.one (list us)) n' → All ts → kepts ts ≡ true → kepts us ≡ true → Rest V a e ps n → Rest V' a e ps n' → SameRow ts us n n'
+    → W.Past IsRead v (Optional (heard m) c (heard b) r) x (W.one (list ts)) n → W.Past IsRead v' (Optional (heard m) c (heard b) r) x (W.one (list us)) n' → All ts → Kepts ts → Kepts us → Rest V a e ps n → Rest V' a e ps n' → SameRow ts us n n'
 optional_same d e m c b r ps x _ _ g h w (W.absent i f) (W.absent i' f') o k l p q = record { trees = refl; place = sym i ∙ i' }
 optional_same d e m c b r ps x _ _ g h w (W.absent i f) (W.present {z = z} {t = u} i' r' s' f') o k l p q =
-    absurd (absent_present d e m c b r ps x u h w i f p i' (and_left (kept u) true l) r' (unscanned b ps z s' f' q))
+    absurd (absent_present d e m c b r ps x u h w i f p i' (kept_left l) r' (unscanned b ps z s' f' q))
 optional_same d e m c b r ps x _ _ g h w (W.present {z = z} {t = t} i r' s f) (W.absent i' f') o k l p q =
-    absurd (absent_present d e m c b r ps x t h w i' f' q i (and_left (kept t) true k) r' (unscanned b ps z s f p))
+    absurd (absent_present d e m c b r ps x t h w i' f' q i (kept_left k) r' (unscanned b ps z s f p))
 optional_same {v' = v'} d e m c b r ps x _ _ g h w (W.present {y = y} {z = z} {t = t} i r1 s f) (W.present {y = y'} {z = z'} {t = u} i' r2 s' f') o k l p q =
     let back : y ≡ y' = sym i ∙ i' in
-    let s1 = any_same c t u g (all_parts o).0 (and_left (kept t) true k) (and_left (kept u) true l) r1 (subst (λ y. IsRead v' false c y u z') (sym back) r2) (unscanned b ps z s f p) (unscanned b ps z' s' f' q) in
+    let s1 = any_same c t u g (all_parts o).0 (kept_left k) (kept_left l) r1 (subst (λ y. IsRead v' false c y u z') (sym back) r2) (unscanned b ps z s f p) (unscanned b ps z' s' f' q) in
     record { trees = ap (λ t. part t none) s1.tree; place = sym s ∙ (ap (λ z. scan z (heard b)) s1.place ∙ s') }
 
 -- ---- lists
@@ -450,7 +473,7 @@ list_end a [] h w = cc
 move_shape : {v : Surroundings} {s s' : ListShape} {c c' : Nonterminal} {x y : Place} {ts : Forest} → s ≡ s' → c ≡ c' → W.Items IsRead v s c x ts y → W.Items IsRead v s' c' x ts y
 move_shape {v} {s} {s'} {c} {c'} {x} {y} {ts} p q i = subst (λ s. W.Items IsRead v s c' x ts y) p (subst (λ c. W.Items IsRead v s c x ts y) q i)
 
-many_same : {V V' : List Context → Surroundings} {v v' : Surroundings} {a : List Context} (e : Want) (s : ListShape) (c : Nonterminal) (ps : Production) {x y z : Place} (ts us : Forest) → many_good e s c ps ≡ true → All ts → kepts ts ≡ true → kepts us ≡ true → enough s ts ≡ true → enough s us ≡ true
+many_same : {V V' : List Context → Surroundings} {v v' : Surroundings} {a : List Context} (e : Want) (s : ListShape) (c : Nonterminal) (ps : Production) {x y z : Place} (ts us : Forest) → many_good e s c ps ≡ true → All ts → Kepts ts → Kepts us → enough s ts ≡ true → enough s us ≡ true
     → W.Items IsRead v s c x ts y → W.Items IsRead v' s c x us z → Rest V a e ps y → Rest V' a e ps z → SameRow ts us y z
 many_same {a = a} e s c ps {x} {y} {z} ts us h o k l g g' i j p q = by_lines (test (liney s && (is_listed c && follow e ps (stop_of c))))
   where
@@ -503,7 +526,7 @@ move_walk : {V : List Context → Surroundings} {ps : List W.Piece} {x y z : Pla
 move_walk {V} {ps} {z = z} {ts} e w = subst (λ x. W.Walk IsRead V ps x ts z) (sym e) w
 
 pub row_same : {V V' : List Context → Surroundings} (d : Said) (e : Want) (ps : Production) (a : List Context) {x y z : Place} (ts us : Forest) → row_good d e ps ≡ true → said_at d x ≡ true
-    → W.Walk IsRead V (pieces a ps) x ts y → W.Walk IsRead V' (pieces a ps) x us z → All ts → kepts ts ≡ true → kepts us ≡ true → meets e y ≡ true → meets e z ≡ true → SameRow ts us y z
+    → W.Walk IsRead V (pieces a ps) x ts y → W.Walk IsRead V' (pieces a ps) x us z → All ts → Kepts ts → Kepts us → meets e y ≡ true → meets e z ≡ true → SameRow ts us y z
 row_same d e [] a ts us g w i j o k l m n = record { trees = (at_end i).0 ∙ sym (at_end j).0; place = sym (at_end i).1 ∙ (at_end j).1 }
 row_same d e (Fixed s ∷ ps) a ts us g w i j o k l m n =
     let p = signed s ps a i in
@@ -514,30 +537,30 @@ row_same {V} {V'} d e (Part c ∷ ps) a {x} {y} {z} ts us g w i j o k l m n =
     let p = at_part i in
     let q = at_part j in
     let o' = all_parts (subst All p.is o) in
-    let k' = subst (λ ts. kepts ts ≡ true) p.is k in
-    let l' = subst (λ ts. kepts ts ≡ true) q.is l in
-    let s = any_same {e = e} {ps = ps} c p.tree q.tree (and_left (any_good e ps c) _ g) o'.0 (and_left (kept p.tree) _ k') (and_left (kept q.tree) _ l') p.read q.read
-    (record { trees = p.others; end = y; walk = p.walk; good = and_right (kept p.tree) _ k'; ends = m }) (record { trees = q.others; end = z; walk = q.walk; good = and_right (kept q.tree) _ l'; ends = n }) in
-    let r = row_same no_ending e ps a p.others q.others (and_right (any_good e ps c) _ g) refl p.walk (move_walk s.place q.walk) o'.1 (and_right (kept p.tree) _ k') (and_right (kept q.tree) _ l') m n in
+    let k' = subst Kepts p.is k in
+    let l' = subst Kepts q.is l in
+    let s = any_same {e = e} {ps = ps} c p.tree q.tree (and_left (any_good e ps c) _ g) o'.0 (kept_left k') (kept_left l') p.read q.read
+    (record { trees = p.others; end = y; walk = p.walk; good = kept_right k'; ends = m }) (record { trees = q.others; end = z; walk = q.walk; good = kept_right l'; ends = n }) in
+    let r = row_same no_ending e ps a p.others q.others (and_right (any_good e ps c) _ g) refl p.walk (move_walk s.place q.walk) o'.1 (kept_right k') (kept_right l') m n in
     record { trees = p.is ∙ ((λ i. part (s.tree i) (r.trees i)) ∙ sym q.is); place = r.place }
 row_same {V} {V'} d e (Optional x' c b t ∷ ps) a {x} {y} {z} ts us g w i j o k l m n =
     let p = at_optional i in
     let q = at_optional j in
     let o' = all_parts (subst All p.is o) in
-    let k' = subst (λ ts. kepts ts ≡ true) p.is k in
-    let l' = subst (λ ts. kepts ts ≡ true) q.is l in
+    let k' = subst Kepts p.is k in
+    let l' = subst Kepts q.is l in
     let h = and_left (any_good e (fixed b ++ ps) c && tells d e x' c b t ps) _ g in
-    let s = optional_same d e x' c b t ps x p.trees q.trees (and_left (any_good e (fixed b ++ ps) c) _ h) (and_right (any_good e (fixed b ++ ps) c) _ h) w p.past q.past o'.0 (and_left (kepts p.trees) _ k') (and_left (kepts q.trees) _ l')
-    (record { trees = p.others; end = y; walk = p.walk; good = and_right (kepts p.trees) _ k'; ends = m }) (record { trees = q.others; end = z; walk = q.walk; good = and_right (kepts q.trees) _ l'; ends = n }) in
-    let r = row_same no_ending e ps a p.others q.others (and_right (any_good e (fixed b ++ ps) c && tells d e x' c b t ps) _ g) refl p.walk (move_walk s.place q.walk) o'.1 (and_right (kepts p.trees) _ k') (and_right (kepts q.trees) _ l') m n in
+    let s = optional_same d e x' c b t ps x p.trees q.trees (and_left (any_good e (fixed b ++ ps) c) _ h) (and_right (any_good e (fixed b ++ ps) c) _ h) w p.past q.past o'.0 (kept_list k') (kept_list l')
+    (record { trees = p.others; end = y; walk = p.walk; good = kept_right k'; ends = m }) (record { trees = q.others; end = z; walk = q.walk; good = kept_right l'; ends = n }) in
+    let r = row_same no_ending e ps a p.others q.others (and_right (any_good e (fixed b ++ ps) c && tells d e x' c b t ps) _ g) refl p.walk (move_walk s.place q.walk) o'.1 (kept_right k') (kept_right l') m n in
     record { trees = p.is ∙ ((λ i. part (list (s.trees i)) (r.trees i)) ∙ sym q.is); place = r.place }
 row_same {V} {V'} d e (Many s c ∷ ps) a {x} {y} {z} ts us g w i j o k l m n =
     let p = at_many i in
     let q = at_many j in
     let o' = all_parts (subst All p.is o) in
-    let k' = subst (λ ts. kepts ts ≡ true) p.is k in
-    let l' = subst (λ ts. kepts ts ≡ true) q.is l in
-    let s' = many_same e s c ps p.trees q.trees (and_left (many_good e s c ps) _ g) o'.0 (and_left (kepts p.trees) _ k') (and_left (kepts q.trees) _ l') p.enough' q.enough' p.read q.read
-    (record { trees = p.others; end = y; walk = p.walk; good = and_right (kepts p.trees) _ k'; ends = m }) (record { trees = q.others; end = z; walk = q.walk; good = and_right (kepts q.trees) _ l'; ends = n }) in
-    let r = row_same no_ending e ps a p.others q.others (and_right (many_good e s c ps) _ g) refl p.walk (move_walk s'.place q.walk) o'.1 (and_right (kepts p.trees) _ k') (and_right (kepts q.trees) _ l') m n in
+    let k' = subst Kepts p.is k in
+    let l' = subst Kepts q.is l in
+    let s' = many_same e s c ps p.trees q.trees (and_left (many_good e s c ps) _ g) o'.0 (kept_list k') (kept_list l') p.enough' q.enough' p.read q.read
+    (record { trees = p.others; end = y; walk = p.walk; good = kept_right k'; ends = m }) (record { trees = q.others; end = z; walk = q.walk; good = kept_right l'; ends = n }) in
+    let r = row_same no_ending e ps a p.others q.others (and_right (many_good e s c ps) _ g) refl p.walk (move_walk s'.place q.walk) o'.1 (kept_right k') (kept_right l') m n in
     record { trees = p.is ∙ ((λ i. part (list (s'.trees i)) (r.trees i)) ∙ sym q.is); place = r.place }

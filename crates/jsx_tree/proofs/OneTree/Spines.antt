@@ -1,17 +1,19 @@
 -- Down the left side of a tree the levels are those that its place asks.
+use Rattle.jsx_tree.proofs.OneTree.Known.{is_seq, taken}
 use Rattle.std.proofs.Common.{◌≡◌, ℕ, ◌≤◌, suc, Bool, true, false, not, cond, [], ◌∷◌, refl, sym, ◌∙◌, ap, subst, arith}
 use Rattle.std.specs.Prelude.{◌&&◌, ◌||◌, nat_le}
 use Rattle.std.proofs.lemmas.Bool.{le-leb}
-use Rattle.jsx_tree.specs.Kinds.{SubstitutedTemplate, Seq, ObjectPat, Object, Kind, function, expression, Tree, leaf, node, list, Forest, none, part}
-use Rattle.jsx_tree.specs.Nonterminals.{Nonterminal, NewCallee, homes, in_homes}
+use Rattle.jsx_tree.specs.Kinds.{SubstitutedTemplate, Seq, Array, ObjectPat, Object, Binds, Assigns, FunctionExpr, ClassExpr, InObject, Method, Getter, Setter, Kind, program, statement, function, expression, jsx, Tree, leaf, node, list, Forest, none, part}
+use Rattle.jsx_tree.specs.Nonterminals.{Nonterminal, Expr, MemberObject, SimpleTarget, Ident, BindingIdent, Pat, Slot, PatElement, Param, Argument, ArrayItem, NullishLeft, NewCallee, DotObject, homes, in_homes}
 use Rattle.jsx_tree.specs.Grammar.{Part, Production, production}
 use Rattle.jsx_tree.specs.Form.{leads, admits, is, fits_below, fit_slots, slots, calls, spine_calls, first_calls}
 use Rattle.jsx_tree.proofs.Tokens.{and_left, and_right, and_both}
 use Rattle.jsx_tree.proofs.OneTree.Table.{scope}
 use Rattle.jsx_tree.proofs.OneTree.Readings.{tail_of, base, level}
 use Rattle.jsx_tree.proofs.OneTree.Facts.{never, or_else, not_is, Test, yes', no', test, le_nat, for_kind}
-use Rattle.jsx_tree.proofs.OneTree.Places.{ending, first_of, kin, is_prop, is_brace, at_home, spine_check, place_at, place_ok, no_seq, no_hole, only_calls, ended_at, is_chain, row_ok, is_seq, taken, kind_ok, rows}
-use Rattle.jsx_tree.proofs.OneTree.Fine.{tame, tames, spine_ok, first_ok}
+use Rattle.jsx_tree.proofs.OneTree.Places.{ending, first_of, kin, is_prop, is_brace, at_home, spine_check, place_at, place_ok, no_seq, no_hole, only_calls, ended_at, is_chain, row_ok, kind_ok, rows}
+use Rattle.jsx_tree.proofs.OneTree.Sealed.{is_sealed, is_member}
+use Rattle.jsx_tree.proofs.OneTree.Fine.{tame, tames, Tamed, of_sealed, of_member, of_open, tamed, spine_ok, first_ok}
 
 -- ---- spines
 
@@ -102,12 +104,143 @@ by_taken : (k : Kind) (cs : Forest) (c : Nonterminal) (m n : ℕ) → m ≤ n �
 by_taken k cs c m n le p q h i (yes' t) rec = node_spine k cs c m n le p t i rec
 by_taken k cs c m n le p q h i (no' t) rec = absurd (no_seq_here c k cs (or_else (taken k) (is_seq k) h t) q i)
 
+-- what is sealed stands where a literal of an array does
+sealed_home : (c : Nonterminal) (k : Kind) → kin c ≡ true → is_sealed k ≡ true → in_homes c (homes k) ≡ true → in_homes c (homes (expression Array)) ≡ true
+sealed_home (Expr n) (function FunctionExpr) l s i = i
+sealed_home (Expr n) (function ClassExpr) l s i = i
+sealed_home MemberObject (function FunctionExpr) l s i = i
+sealed_home MemberObject (function ClassExpr) l s i = i
+sealed_home DotObject (function FunctionExpr) l s i = i
+sealed_home DotObject (function ClassExpr) l s i = i
+sealed_home NullishLeft (function FunctionExpr) l s i = i
+sealed_home NullishLeft (function ClassExpr) l s i = i
+sealed_home SimpleTarget (function FunctionExpr) l s i = i
+sealed_home SimpleTarget (function ClassExpr) l s i = i
+sealed_home NewCallee (function FunctionExpr) l s i = i
+sealed_home NewCallee (function ClassExpr) l s i = i
+sealed_home Ident (function FunctionExpr) l s i = i
+sealed_home Ident (function ClassExpr) l s i = i
+sealed_home BindingIdent (function FunctionExpr) l s i = i
+sealed_home BindingIdent (function ClassExpr) l s i = i
+sealed_home (Pat Binds) (function FunctionExpr) l s i = i
+sealed_home (Pat Binds) (function ClassExpr) l s i = i
+sealed_home (Pat Assigns) (function FunctionExpr) l s i = i
+sealed_home (Pat Assigns) (function ClassExpr) l s i = i
+sealed_home (PatElement Binds) (function FunctionExpr) l s i = i
+sealed_home (PatElement Binds) (function ClassExpr) l s i = i
+sealed_home (PatElement Assigns) (function FunctionExpr) l s i = i
+sealed_home (PatElement Assigns) (function ClassExpr) l s i = i
+sealed_home (Slot Binds) (function FunctionExpr) l s i = i
+sealed_home (Slot Binds) (function ClassExpr) l s i = i
+sealed_home (Slot Assigns) (function FunctionExpr) l s i = i
+sealed_home (Slot Assigns) (function ClassExpr) l s i = i
+sealed_home Param (function FunctionExpr) l s i = i
+sealed_home Param (function ClassExpr) l s i = i
+sealed_home Argument (function FunctionExpr) l s i = i
+sealed_home Argument (function ClassExpr) l s i = i
+sealed_home ArrayItem (function FunctionExpr) l s i = i
+sealed_home ArrayItem (function ClassExpr) l s i = i
+sealed_home _ (function FunctionExpr) l s i = cc
+sealed_home _ (function ClassExpr) l s i = cc
+sealed_home c (function _) l s i = cc
+sealed_home c (program _) l s i = cc
+sealed_home c (statement _) l s i = cc
+sealed_home c (expression _) l s i = cc
+sealed_home c (jsx _) l s i = cc
+
+-- places where none stands
+abbrev pub sealless : Nonterminal → Bool
+sealless c = not (in_homes c (homes (function FunctionExpr))) && not (in_homes c (homes (function ClassExpr)))
+
+abbrev pub memberless : Nonterminal → Bool
+memberless c = not (in_homes c (homes (function (Method InObject))))
+
+pub kin_memberless : (c : Nonterminal) → kin c ≡ true → memberless c ≡ true
+kin_memberless (Expr n) l = refl
+kin_memberless MemberObject l = refl
+kin_memberless DotObject l = refl
+kin_memberless NullishLeft l = refl
+kin_memberless SimpleTarget l = refl
+kin_memberless NewCallee l = refl
+kin_memberless Ident l = refl
+kin_memberless BindingIdent l = refl
+kin_memberless (Pat Binds) l = refl
+kin_memberless (Pat Assigns) l = refl
+kin_memberless (PatElement Binds) l = refl
+kin_memberless (PatElement Assigns) l = refl
+kin_memberless (Slot Binds) l = refl
+kin_memberless (Slot Assigns) l = refl
+kin_memberless Param l = refl
+kin_memberless Argument l = refl
+kin_memberless ArrayItem l = refl
+kin_memberless _ l = cc
+
+pub no_member : (c : Nonterminal) (k : Kind) (cs : Forest) → is_member k ≡ true → memberless c ≡ true → is c (node k cs) ≡ true → ⊥
+no_member c k cs s a i = by_kind k s (home_of c k cs (and_left (admits c (node k cs)) (fits_below c (node k cs)) i))
+  where
+    by_kind : (k : Kind) → is_member k ≡ true → in_homes c (homes k) ≡ true → ⊥
+    by_kind (function (Method InObject)) s h = never _ h (not_is _ a)
+    by_kind (function (Getter InObject)) s h = never _ h (not_is _ a)
+    by_kind (function (Setter InObject)) s h = never _ h (not_is _ a)
+    by_kind (function (Method _)) s h = cc
+    by_kind (function (Getter _)) s h = cc
+    by_kind (function (Setter _)) s h = cc
+    by_kind (function _) s h = cc
+    by_kind _ s h = cc
+
+abbrev pub absent : Nonterminal → Bool
+absent c = sealless c && memberless c
+
+pub no_sealed : (c : Nonterminal) (k : Kind) (cs : Forest) → is_sealed k ≡ true → sealless c ≡ true → is c (node k cs) ≡ true → ⊥
+no_sealed c k cs s a i = by_kind k s (home_of c k cs (and_left (admits c (node k cs)) (fits_below c (node k cs)) i))
+  where
+    by_kind : (k : Kind) → is_sealed k ≡ true → in_homes c (homes k) ≡ true → ⊥
+    by_kind (function FunctionExpr) s h = never _ h (not_is _ (and_left (not (in_homes c (homes (function FunctionExpr)))) _ a))
+    by_kind (function ClassExpr) s h = never _ h (not_is _ (and_right (not (in_homes c (homes (function FunctionExpr)))) _ a))
+    by_kind (function _) s h = cc
+    by_kind _ s h = cc
+
+pub sealed_level : (n : ℕ) (c : Nonterminal) (k : Kind) (cs : Forest) → is_sealed k ≡ true → place_at n c ≡ true → is c (node k cs) ≡ true → n ≤ 19
+sealed_level n c k cs s p i =
+    let h = sealed_home c k (and_left (kin c) _ p) s (home_of c k cs (and_left (admits c (node k cs)) (fits_below c (node k cs)) i)) in
+    let q = at_kind c (spine_check n) (expression Array) (and_right (kin c) _ p) refl h in
+    le_nat (and_left (nat_le n 19) _ (and_right true _ q))
+
+-- it is at the highest level, and begins with a word
+level_spine : (k : Kind) (cs : Forest) (m : ℕ) → is_sealed k ≡ true → nat_le m 19 ≡ true → spine_ok m (node k cs) ≡ true
+level_spine (function FunctionExpr) cs m s h = and_both (nat_le m 19) true h refl
+level_spine (function ClassExpr) cs m s h = and_both (nat_le m 19) true h refl
+level_spine (function _) cs m s h = cc
+level_spine _ cs m s h = cc
+
+member_spine : (k : Kind) (cs : Forest) → is_member k ≡ true → spine_ok 18 (node k cs) ≡ true
+member_spine (function (Method InObject)) cs s = refl
+member_spine (function (Getter InObject)) cs s = refl
+member_spine (function (Setter InObject)) cs s = refl
+member_spine (function (Method _)) cs s = cc
+member_spine (function (Getter _)) cs s = cc
+member_spine (function (Setter _)) cs s = cc
+member_spine (function _) cs s = cc
+member_spine _ cs s = cc
+
+pub spine_level : (k : Kind) (cs : Forest) (m : ℕ) → is_sealed k ≡ true → spine_ok m (node k cs) ≡ true → m ≤ 19
+spine_level (function FunctionExpr) cs m s h = le_nat (and_left (nat_le m 19) _ h)
+spine_level (function ClassExpr) cs m s h = le_nat (and_left (nat_le m 19) _ h)
+spine_level (function _) cs m s h = cc
+spine_level _ cs m s h = cc
+
+by_tamed : (k : Kind) (cs : Forest) (c : Nonterminal) (m n : ℕ) → m ≤ n → place_at n c ≡ true → no_seq c ≡ true → Tamed k cs → is c (node k cs) ≡ true
+    → (tames cs ≡ true → m ≤ base (first_of (production k)) → place_at (base (first_of (production k))) (first_of (production k)) ≡ true → no_seq (first_of (production k)) ≡ true → leads (production k) ≡ true → fit_slots (slots [] false [] (production k)) cs ≡ true → first_ok m cs ≡ true) → spine_ok m (node k cs) ≡ true
+by_tamed k cs c m n le p q (of_open h t) i rec = by_taken k cs c m n le p q h i (test (taken k)) (rec t)
+by_tamed k cs c m n le p q (of_member s f g) i rec = absurd (no_member c k cs s (kin_memberless c (and_left (kin c) _ p)) i)
+by_tamed k cs c m n le p q (of_sealed s f) i rec = let l = sealed_level n c k cs s p i in level_spine k cs m s (le-leb m 19 (omega (arith, le, l)))
+
 mutual
   pub home_spine : (t : Tree) (c : Nonterminal) (m n : ℕ) → m ≤ n → place_at n c ≡ true → no_seq c ≡ true → tame t ≡ true → is c t ≡ true → spine_ok m t ≡ true
   home_spine (leaf s t) c m n le p q h i = refl
   home_spine (list ts) c m n le p q h i = cc
   home_spine (node k cs) c m n le p q h i =
-      by_taken k cs c m n le p q (and_left (taken k || is_seq k) (tames cs) h) i (test (taken k)) (λ a b d l f. home_first cs (production k) m a b d (and_right (taken k || is_seq k) (tames cs) h) l f)
+      by_tamed k cs c m n le p q (tamed k cs h) i (λ t a b d l f. home_first cs (production k) m a b d t l f)
 
   pub home_first : (cs : Forest) (ps : Production) (m : ℕ) → m ≤ base (first_of ps) → place_at (base (first_of ps)) (first_of ps) ≡ true → no_seq (first_of ps) ≡ true → tames cs ≡ true → leads ps ≡ true → fit_slots (slots [] false [] ps) cs ≡ true → first_ok m cs ≡ true
   home_first none ps m le p q h l f = absurd (first_here ps l f)
@@ -137,11 +270,16 @@ callee_node k cs s h c rec =
         let a = rec (or_else (not (leads (production k))) (first_ok 17 cs) h (ap not l)) (sym (ap (λ b. b && first_calls cs) l) ∙ c) in
         subst (λ b. (not b || first_ok 18 cs) ≡ true) (sym l) a
 
+callee_tamed : (k : Kind) (cs : Forest) → Tamed k cs → spine_ok 17 (node k cs) ≡ true → spine_calls (node k cs) ≡ false → (tames cs ≡ true → first_ok 17 cs ≡ true → first_calls cs ≡ false → first_ok 18 cs ≡ true) → spine_ok 18 (node k cs) ≡ true
+callee_tamed k cs (of_open t m) h c rec = callee_node k cs t h c (rec m)
+callee_tamed k cs (of_member s f g) h c rec = member_spine k cs s
+callee_tamed k cs (of_sealed s f) h c rec = level_spine k cs 18 s refl
+
 mutual
   pub callee_spine : (t : Tree) → tame t ≡ true → spine_ok 17 t ≡ true → spine_calls t ≡ false → spine_ok 18 t ≡ true
   callee_spine (leaf s t) m h c = refl
   callee_spine (list ts) m h c = h
-  callee_spine (node k cs) m h c = callee_node k cs (and_left (taken k || is_seq k) (tames cs) m) h c (λ a b. callee_first cs (and_right (taken k || is_seq k) (tames cs) m) a b)
+  callee_spine (node k cs) m h c = callee_tamed k cs (tamed k cs m) h c (λ t a b. callee_first cs t a b)
 
   callee_first : (cs : Forest) → tames cs ≡ true → first_ok 17 cs ≡ true → first_calls cs ≡ false → first_ok 18 cs ≡ true
   callee_first none m h c = h

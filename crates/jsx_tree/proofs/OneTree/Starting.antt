@@ -11,7 +11,8 @@ use Rattle.jsx_tree.specs.Walk.{is_found}
 use Rattle.jsx_tree.proofs.Tokens.{and_left, and_right}
 use Rattle.jsx_tree.proofs.OneTree.Table.{code, scope}
 use Rattle.jsx_tree.proofs.OneTree.Readings.{Step, row, tail, level, grows, lookup, entries, is_step, reach_of, reach, calm, kind_at, text_at, broken, is_arrow, is_paren, may_be, Reads, word, head, paren, target, grow, arrow, Walk, done, take, pass, literal, under, all, each, is_tagged, is_quote, is_slash, regexp}
-use Rattle.jsx_tree.proofs.OneTree.Readings.{braces, linked, filled, tagged}
+use Rattle.jsx_tree.proofs.OneTree.Sealed.{Opener, of_function, of_class, Sealed}
+use Rattle.jsx_tree.proofs.OneTree.Readings.{sealed, braces, linked, filled, tagged}
 use Rattle.jsx_tree.proofs.OneTree.Checks.{is_op, starts, bare, no_line, opens, no_word, no_open, reaches, on_line, goes_by, one_ok, tagged_ok, tagged_ones, opens_quote, ones}
 use Rattle.jsx_tree.proofs.OneTree.Slashes.{regexp_slash}
 use Rattle.jsx_tree.proofs.OneTree.Quotes.{quote_begins}
@@ -79,6 +80,7 @@ pub weaken : {n m : ℕ} {x y : Place} {t : Tree} → Reads n x t y → m ≤ n 
 weaken (word a e f) le = word a e f
 weaken (regexp e f) le = regexp e f
 weaken (head s a i l d w) le = head s a i (omega (arith, le, l)) d w
+weaken (sealed l s) le = sealed (omega (arith, le, l)) s
 weaken (braces l c a e f p) le = braces (omega (arith, le, l)) c a e f p
 weaken (paren l e f a g h) le = paren (omega (arith, le, l)) e f a g h
 weaken (target l e f r c g h) le = target (omega (arith, le, l)) e f r c g h
@@ -149,6 +151,18 @@ of_grow k s d =
     let r = and_right (goes_by (tail k) (suc (level k))) _ g in
     record { goes = and_left (goes_by (tail k) (suc (level k))) _ g; not_paren = not_is _ (and_left (not (nat_eq (code k) 3)) _ r); not_seq = not_is _ (and_right (not (nat_eq (code k) 3)) _ r) }
 
+-- the word that a function or a class begins with
+pub opener_seen : {k : Kind} {cs : Forest} {y : Place} (x : Place) (s : Sealed x k cs y) → Seen x IdentifierName s.word
+opener_seen x s = seen IdentifierName s.word x s.begins
+
+pub opener_value : {w : Text} → Opener w → is_value_word w ≡ false
+opener_value of_function = refl
+opener_value of_class = refl
+
+opener_starts : {w : Text} → Opener w → starts 0 w ≡ true
+opener_starts of_function = refl
+opener_starts of_class = refl
+
 two_first : (a b c : Bool) → (a || b) ≡ true → (a || (b || c)) ≡ true
 two_first true b c h = refl
 two_first false b c h = (λ i. h i || c)
@@ -160,6 +174,7 @@ pub begins : {n : ℕ} {x y : Place} {t : Tree} → Reads n x t y → starts (ki
 begins (word {s = s} {t = t} {x = x} a e f) = at_kind starts (took s t x e f) (may_start s t a)
 begins (regexp {t = t} {x = x} e f) = let s = regexp_slash t x (found_at e f) in (λ i. starts (s.kind i) (text_at x)) ∙ slash_mark (text_at x) s.text
 begins (head {k = k} s a i l d w) = begins_row w (of_head k s a d i).opens'
+begins (sealed {x = x} l s) = at_kind starts (opener_seen x s) (opener_starts s.opener)
 begins (braces {x = x} l c a e f p) = at_kind starts (took Punctuator (codes "{") x e f) refl
 begins (paren {x = x} l e f a g h) = at_kind starts (took Punctuator (codes "(") x e f) refl
 begins (target {x = x} l e f r c g h) = at_kind starts (took Punctuator (codes "(") x e f) refl

@@ -1,74 +1,10 @@
 -- The kinds of statements, and of what stands in them, in a list.
-use Rattle.std.specs.Prelude.{ℕ, zero, suc, List, [], ◌∷◌, Bool, true, false}
-use Rattle.jsx_tree.specs.Kinds.{Script, Module, FunctionBody, Directive, ImportBare, Import, ImportAll, ImportList, ImportBoth, ExportAll, ExportAllAs, ExportDecl, ExportDefaultFn, ExportDefaultExpr, ExportNames, ExportFrom, Specifier, SpecifierAs, Imported, Exported, From, Var, VarWord, LetWord, ConstWord, Block, Declarator, Empty, ExprStmt, If, Do, While, For, ForDeclaration, ForIn, ForOf, ForBinding, Continue, Break, Return, Throw, Debugger, Label, Switch, Case, Default, Try, Catch, FunctionDecl, ClassDecl, InClass, Static, Method, Getter, Setter, Field, Kind, program, statement, function}
+use Rattle.jsx_tree.proofs.OneTree.Known.{stated}
+use Rattle.std.specs.Prelude.{ℕ, zero, suc, List, [], ◌∷◌, Bool, true}
+use Rattle.jsx_tree.specs.Kinds.{Script, Module, FunctionBody, Directive, ImportBare, Import, ImportAll, ImportList, ImportBoth, ExportAll, ExportAllAs, ExportDecl, ExportDefaultFn, ExportDefaultClass, ExportDefaultExpr, ExportNames, ExportFrom, Specifier, SpecifierAs, Imported, Exported, From, Var, VarWord, LetWord, ConstWord, Block, Declarator, Empty, ExprStmt, If, Do, While, For, ForDeclaration, ForIn, ForOf, ForBinding, Continue, Break, Return, Throw, Debugger, Label, Switch, Case, Default, Try, Catch, FunctionDecl, ClassDecl, FunctionExpr, ClassExpr, InObject, InClass, Static, Method, Getter, Setter, Field, Kind, program, statement, function}
 use Rattle.std.proofs.Common.{◌≡◌, refl, subst}
 use Rattle.jsx_tree.proofs.OneTree.Checks.{every}
 use Rattle.jsx_tree.proofs.Tokens.{and_left, and_right}
-
-abbrev pub stated : Kind → Bool
-stated (program Script) = true
-stated (program Module) = true
-stated (program FunctionBody) = true
-stated (program Directive) = true
-stated (program ImportBare) = true
-stated (program Import) = true
-stated (program ImportAll) = true
-stated (program ImportList) = true
-stated (program ImportBoth) = true
-stated (program ExportAll) = true
-stated (program ExportAllAs) = true
-stated (program ExportDecl) = true
-stated (program ExportDefaultFn) = true
-stated (program ExportDefaultExpr) = true
-stated (program ExportNames) = true
-stated (program ExportFrom) = true
-stated (program (Specifier Imported)) = true
-stated (program (Specifier Exported)) = true
-stated (program (Specifier From)) = true
-stated (program (SpecifierAs Imported)) = true
-stated (program (SpecifierAs Exported)) = true
-stated (program (SpecifierAs From)) = true
-stated (statement Block) = true
-stated (statement (Var VarWord)) = true
-stated (statement (Var LetWord)) = true
-stated (statement (Var ConstWord)) = true
-stated (statement Declarator) = true
-stated (statement Empty) = true
-stated (statement ExprStmt) = true
-stated (statement If) = true
-stated (statement Do) = true
-stated (statement While) = true
-stated (statement Continue) = true
-stated (statement Break) = true
-stated (statement Return) = true
-stated (statement Throw) = true
-stated (statement Debugger) = true
-stated (statement Label) = true
-stated (statement Switch) = true
-stated (statement Case) = true
-stated (statement Default) = true
-stated (statement Try) = true
-stated (statement Catch) = true
-stated (statement FunctionDecl) = true
-stated (statement For) = true
-stated (statement (ForDeclaration VarWord)) = true
-stated (statement (ForDeclaration LetWord)) = true
-stated (statement (ForDeclaration ConstWord)) = true
-stated (statement ForIn) = true
-stated (statement ForOf) = true
-stated (statement (ForBinding VarWord)) = true
-stated (statement (ForBinding LetWord)) = true
-stated (statement (ForBinding ConstWord)) = true
-stated (statement ClassDecl) = true
-stated (function (Method InClass)) = true
-stated (function (Method Static)) = true
-stated (function (Getter InClass)) = true
-stated (function (Getter Static)) = true
-stated (function (Setter InClass)) = true
-stated (function (Setter Static)) = true
-stated (function (Field InClass)) = true
-stated (function (Field Static)) = true
-stated k = false
 
 abbrev pub place : Kind → ℕ
 place (program Script) = 0
@@ -133,11 +69,17 @@ place (function (Setter InClass)) = 58
 place (function (Setter Static)) = 59
 place (function (Field InClass)) = 60
 place (function (Field Static)) = 61
+place (function FunctionExpr) = 62
+place (function ClassExpr) = 63
+place (program ExportDefaultClass) = 64
+place (function (Method InObject)) = 65
+place (function (Getter InObject)) = 66
+place (function (Setter InObject)) = 67
 place k = 0
 
 abbrev pub stated_kinds : List Kind
 stated_kinds =
-    program Script ∷ program Module ∷ program FunctionBody ∷ program Directive ∷ program ImportBare ∷ program Import ∷ program ImportAll ∷ program ImportList ∷ program ImportBoth ∷ program ExportAll ∷ program ExportAllAs ∷ program ExportDecl ∷ program ExportDefaultFn ∷ program ExportDefaultExpr ∷ program ExportNames ∷ program (Specifier Imported) ∷ program (Specifier Exported) ∷ program (Specifier From) ∷ program (SpecifierAs Imported) ∷ program (SpecifierAs Exported) ∷ program (SpecifierAs From) ∷ statement Block ∷ statement (Var VarWord) ∷ statement (Var LetWord) ∷ statement (Var ConstWord) ∷ statement Declarator ∷ statement Empty ∷ statement ExprStmt ∷ statement If ∷ statement Do ∷ statement While ∷ statement Continue ∷ statement Break ∷ statement Return ∷ statement Throw ∷ statement Debugger ∷ statement Label ∷ statement Switch ∷ statement Case ∷ statement Default ∷ statement Try ∷ statement Catch ∷ statement FunctionDecl ∷ program ExportFrom ∷ statement For ∷ statement (ForDeclaration VarWord) ∷ statement (ForDeclaration LetWord) ∷ statement (ForDeclaration ConstWord) ∷ statement ForIn ∷ statement ForOf ∷ statement (ForBinding VarWord) ∷ statement (ForBinding LetWord) ∷ statement (ForBinding ConstWord) ∷ statement ClassDecl ∷ function (Method InClass) ∷ function (Method Static) ∷ function (Getter InClass) ∷ function (Getter Static) ∷ function (Setter InClass) ∷ function (Setter Static) ∷ function (Field InClass) ∷ function (Field Static) ∷ []
+    program Script ∷ program Module ∷ program FunctionBody ∷ program Directive ∷ program ImportBare ∷ program Import ∷ program ImportAll ∷ program ImportList ∷ program ImportBoth ∷ program ExportAll ∷ program ExportAllAs ∷ program ExportDecl ∷ program ExportDefaultFn ∷ program ExportDefaultExpr ∷ program ExportNames ∷ program (Specifier Imported) ∷ program (Specifier Exported) ∷ program (Specifier From) ∷ program (SpecifierAs Imported) ∷ program (SpecifierAs Exported) ∷ program (SpecifierAs From) ∷ statement Block ∷ statement (Var VarWord) ∷ statement (Var LetWord) ∷ statement (Var ConstWord) ∷ statement Declarator ∷ statement Empty ∷ statement ExprStmt ∷ statement If ∷ statement Do ∷ statement While ∷ statement Continue ∷ statement Break ∷ statement Return ∷ statement Throw ∷ statement Debugger ∷ statement Label ∷ statement Switch ∷ statement Case ∷ statement Default ∷ statement Try ∷ statement Catch ∷ statement FunctionDecl ∷ program ExportFrom ∷ statement For ∷ statement (ForDeclaration VarWord) ∷ statement (ForDeclaration LetWord) ∷ statement (ForDeclaration ConstWord) ∷ statement ForIn ∷ statement ForOf ∷ statement (ForBinding VarWord) ∷ statement (ForBinding LetWord) ∷ statement (ForBinding ConstWord) ∷ statement ClassDecl ∷ function (Method InClass) ∷ function (Method Static) ∷ function (Getter InClass) ∷ function (Getter Static) ∷ function (Setter InClass) ∷ function (Setter Static) ∷ function (Field InClass) ∷ function (Field Static) ∷ function FunctionExpr ∷ function ClassExpr ∷ program ExportDefaultClass ∷ function (Method InObject) ∷ function (Getter InObject) ∷ function (Setter InObject) ∷ []
 
 abbrev pub nth : List Kind → ℕ → Kind
 nth [] n = program Script
@@ -207,6 +149,12 @@ stated_nth (function (Setter InClass)) h = refl
 stated_nth (function (Setter Static)) h = refl
 stated_nth (function (Field InClass)) h = refl
 stated_nth (function (Field Static)) h = refl
+stated_nth (function FunctionExpr) h = refl
+stated_nth (function ClassExpr) h = refl
+stated_nth (program ExportDefaultClass) h = refl
+stated_nth (function (Method InObject)) h = refl
+stated_nth (function (Getter InObject)) h = refl
+stated_nth (function (Setter InObject)) h = refl
 stated_nth _ h = cc
 
 every_nth : (p : Kind → Bool) (ks : List Kind) (n : ℕ) → p (nth [] 0) ≡ true → every p ks ≡ true → p (nth ks n) ≡ true

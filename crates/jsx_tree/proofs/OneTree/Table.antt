@@ -1,6 +1,6 @@
--- The kinds of expressions and patterns that are read alike have one number, and each has its position in their list.
+-- The kinds that are read alike have one number. Each kind of expression or pattern has its position in their list.
 use Rattle.std.specs.Prelude.{ℕ, zero, suc, List, [], ◌∷◌, Bool, true, false, IsTrue}
-use Rattle.jsx_tree.specs.Kinds.{Binds, Assigns, ArrayPat, WithInit, RestPat, ObjectPat, PropertyPat, ShorthandPat, ShorthandInit, RestProperty, ParenTarget, ComputedKey, Nullish, Or, And, BitOr, BitXor, BitAnd, Equal, Unequal, StrictEqual, StrictUnequal, Less, Greater, AtMost, AtLeast, InOp, InstanceOf, ShiftLeft, ShiftRight, ShiftOut, Add, Subtract, Multiply, Divide, Remainder, Exponentiate, Delete, Void, TypeOf, Positive, Negative, Complement, Not, Increment, Decrement, Seq, Assign, OpAssign, Arrow, BareArrow, Cond, Binary, Unary, PrefixUpdate, PostfixUpdate, Call, Member, Index, New, NewWithoutArguments, SuperCall, SuperMember, SuperIndex, ImportCall, ImportMeta, NewTarget, Chain, NameLink, IndexLink, CallLink, Array, Object, Property, Shorthand, Spread, Parenthesized, Tagged, PlainTemplate, SubstitutedTemplate, TemplateSpan, Kind, function, expression}
+use Rattle.jsx_tree.specs.Kinds.{Script, Module, FunctionBody, Directive, ImportBare, Import, ImportAll, ImportList, ImportBoth, ExportAll, ExportAllAs, ExportDecl, ExportDefaultFn, ExportDefaultClass, ExportDefaultExpr, ExportNames, ExportFrom, Specifier, SpecifierAs, Imported, Exported, From, Var, VarWord, LetWord, ConstWord, Block, Declarator, Empty, ExprStmt, If, Do, While, For, ForDeclaration, ForIn, ForOf, ForBinding, Continue, Break, Return, Throw, Debugger, Label, Switch, Case, Default, Try, Catch, FunctionDecl, ClassDecl, FunctionExpr, ClassExpr, InObject, InClass, Static, Method, Getter, Setter, Field, program, statement, Binds, Assigns, ArrayPat, WithInit, RestPat, ObjectPat, PropertyPat, ShorthandPat, ShorthandInit, RestProperty, ParenTarget, ComputedKey, Nullish, Or, And, BitOr, BitXor, BitAnd, Equal, Unequal, StrictEqual, StrictUnequal, Less, Greater, AtMost, AtLeast, InOp, InstanceOf, ShiftLeft, ShiftRight, ShiftOut, Add, Subtract, Multiply, Divide, Remainder, Exponentiate, Delete, Void, TypeOf, Positive, Negative, Complement, Not, Increment, Decrement, Seq, Assign, OpAssign, Arrow, BareArrow, Cond, Binary, Unary, PrefixUpdate, PostfixUpdate, Call, Member, Index, New, NewWithoutArguments, SuperCall, SuperMember, SuperIndex, ImportCall, ImportMeta, NewTarget, Chain, NameLink, IndexLink, CallLink, Array, Object, Property, Shorthand, Spread, Parenthesized, Tagged, PlainTemplate, SubstitutedTemplate, TemplateSpan, Kind, function, expression}
 use Rattle.std.proofs.Common.{◌≡◌, refl}
 
 abbrev pub code : Kind → ℕ
@@ -109,6 +109,74 @@ code (expression (OpAssign Divide)) = 222
 code (expression (OpAssign Remainder)) = 223
 code (expression (OpAssign Exponentiate)) = 224
 code (expression Seq) = 19
+code (program Script) = 300
+code (program Module) = 301
+code (program FunctionBody) = 302
+code (program Directive) = 303
+code (program ImportBare) = 304
+code (program Import) = 305
+code (program ImportAll) = 306
+code (program ImportList) = 307
+code (program ImportBoth) = 308
+code (program ExportAll) = 309
+code (program ExportAllAs) = 310
+code (program ExportDecl) = 311
+code (program ExportDefaultFn) = 312
+code (program ExportDefaultExpr) = 313
+code (program ExportNames) = 314
+code (program (Specifier Imported)) = 315
+code (program (Specifier Exported)) = 316
+code (program (Specifier From)) = 317
+code (program (SpecifierAs Imported)) = 318
+code (program (SpecifierAs Exported)) = 319
+code (program (SpecifierAs From)) = 320
+code (statement Block) = 321
+code (statement (Var VarWord)) = 322
+code (statement (Var LetWord)) = 323
+code (statement (Var ConstWord)) = 324
+code (statement Declarator) = 325
+code (statement Empty) = 326
+code (statement ExprStmt) = 327
+code (statement If) = 328
+code (statement Do) = 329
+code (statement While) = 330
+code (statement Continue) = 331
+code (statement Break) = 332
+code (statement Return) = 333
+code (statement Throw) = 334
+code (statement Debugger) = 335
+code (statement Label) = 336
+code (statement Switch) = 337
+code (statement Case) = 338
+code (statement Default) = 339
+code (statement Try) = 340
+code (statement Catch) = 341
+code (statement FunctionDecl) = 342
+code (program ExportFrom) = 343
+code (statement For) = 344
+code (statement (ForDeclaration VarWord)) = 345
+code (statement (ForDeclaration LetWord)) = 346
+code (statement (ForDeclaration ConstWord)) = 347
+code (statement ForIn) = 348
+code (statement ForOf) = 349
+code (statement (ForBinding VarWord)) = 350
+code (statement (ForBinding LetWord)) = 351
+code (statement (ForBinding ConstWord)) = 352
+code (statement ClassDecl) = 353
+code (function (Method InClass)) = 354
+code (function (Method Static)) = 355
+code (function (Getter InClass)) = 356
+code (function (Getter Static)) = 357
+code (function (Setter InClass)) = 358
+code (function (Setter Static)) = 359
+code (function (Field InClass)) = 360
+code (function (Field Static)) = 361
+code (function FunctionExpr) = 362
+code (function ClassExpr) = 363
+code (program ExportDefaultClass) = 364
+code (function (Method InObject)) = 365
+code (function (Getter InObject)) = 366
+code (function (Setter InObject)) = 367
 code k = 0
 
 abbrev pub position : Kind → ℕ

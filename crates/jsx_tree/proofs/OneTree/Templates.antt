@@ -1,6 +1,7 @@
 -- What the definitions read, with what may stand behind each part: templates.
+use Rattle.jsx_tree.proofs.OneTree.Known.{plain_leaf, is_piece}
 use Rattle.std.proofs.Common.{◌≡◌, Bool, true, false, List, [], ◌∷◌, refl, sym, ◌∙◌, ap, subst}
-use Rattle.std.specs.Prelude.{IsTrue, ◌&&◌, ◌||◌, nat_le, codes}
+use Rattle.std.specs.Prelude.{IsTrue, ◌&&◌, nat_le, codes}
 use Rattle.jsx_base.specs.Token.{Text, TokenKind, IdentifierName, Punctuator, NumericLiteral, BigIntLiteral, StringLiteral, NoSubstitution, TemplateHead, TemplateMiddle, TemplateTail, Elision}
 use Rattle.jsx_tree.specs.Signs.{Tok}
 use Rattle.jsx_tree.specs.Kinds.{SubstitutedTemplate, TemplateSpan, PlainTemplate, Kind, expression, Tree, leaf, node, list, Forest, none, part}
@@ -17,11 +18,11 @@ use Rattle.jsx_tree.proofs.OneTree.Table.{code}
 use Rattle.jsx_tree.proofs.OneTree.Readings.{Step, lit, spans, quoted, row, reach_of, calm, broken, Walk, done, literal, Spans, t_tail, t_more, is_tagged, is_span, brace}
 use Rattle.jsx_tree.proofs.OneTree.Readings.{filled, tagged}
 use Rattle.jsx_tree.proofs.OneTree.Facts.{never, Seen, took}
-use Rattle.jsx_tree.proofs.OneTree.Places.{is_prop, at_home, no_seq, tagged_home, span_home, free, is_seq, taken}
+use Rattle.jsx_tree.proofs.OneTree.Places.{is_prop, at_home, no_seq, tagged_home, span_home, free}
 use Rattle.jsx_tree.proofs.Rows.Bridge.{node_walk}
 use Rattle.jsx_tree.proofs.OneTree.Fine.{at_sign, at_part, at_many, at_end}
-use Rattle.jsx_tree.proofs.OneTree.Fine.{plain_leaf, is_piece, tame, tames, Fine, fine_leaf, fine_regexp, fine_piece, fine_node, fine_prop, fine_seq, fine_list, Fines, fine_part, one_sign, in_is, no_piece}
-use Rattle.jsx_tree.proofs.OneTree.Spines.{home_of, at_kind, taken_scope, no_seq_here}
+use Rattle.jsx_tree.proofs.OneTree.Fine.{tame, tames, tames_of, Fine, fine_leaf, fine_regexp, fine_piece, fine_node, fine_prop, fine_seq, fine_sealed, fine_member, fine_list, Fines, fine_part, one_sign, in_is, no_piece}
+use Rattle.jsx_tree.proofs.OneTree.Spines.{sealless, absent, no_sealed, no_member, home_of, at_kind, taken_scope, no_seq_here}
 use Rattle.jsx_tree.proofs.OneTree.Placed.{whole_reads}
 
 -- ---- templates
@@ -37,6 +38,13 @@ piece_home TemplateHead p = refl
 piece_home TemplateMiddle p = refl
 piece_home TemplateTail p = refl
 piece_home _ p = cc
+
+piece_absent : (s : TokenKind) → is_piece s ≡ true → absent (TemplatePart s) ≡ true
+piece_absent NoSubstitution p = refl
+piece_absent TemplateHead p = refl
+piece_absent TemplateMiddle p = refl
+piece_absent TemplateTail p = refl
+piece_absent _ p = cc
 
 piece_seq : (s : TokenKind) → is_piece s ≡ true → no_seq (TemplatePart s) ≡ true
 piece_seq NoSubstitution p = refl
@@ -94,6 +102,8 @@ piece_at TemplateTail p (fine_leaf {s = BigIntLiteral} q) r = let bad = in_is r 
 piece_at TemplateTail p (fine_leaf {s = StringLiteral} q) r = let bad = in_is r in cc
 piece_at TemplateTail p (fine_leaf {s = Elision} q) r = let bad = in_is r in cc
 piece_at TemplateTail p (fine_leaf q) r = cc
+piece_at s p (fine_sealed {k = k} {cs = cs} q f) r = absurd (no_sealed (TemplatePart s) k cs q (and_left (sealless (TemplatePart s)) _ (piece_absent s p)) r.is)
+piece_at s p (fine_member {k = k} {t = u} {ts = us} q f m g) r = absurd (no_member (TemplatePart s) k (part u us) q (and_right (sealless (TemplatePart s)) _ (piece_absent s p)) r.is)
 piece_at s p (fine_list f) r = let bad = r.is in cc
 piece_at s p (fine_seq {k = k} {cs = cs} q f) r = absurd (no_seq_here (TemplatePart s) k cs q (piece_seq s p) r.is)
 piece_at s p (fine_node {k = k} {cs = cs} t np g) r = absurd (never false (at_kind (TemplatePart s) (λ l. false) k (piece_home s p) (taken_scope k t) (home_of (TemplatePart s) k cs (and_left (admits (TemplatePart s) (node k cs)) (fits_below (TemplatePart s) (node k cs)) r.is))) refl)
@@ -130,6 +140,10 @@ span_is true (expression (TemplateSpan false)) h i = cc
 span_is false (expression (TemplateSpan true)) h i = cc
 span_is b _ h i = cc
 
+spans_absent : (b : Bool) → absent (TemplateSpans b) ≡ true
+spans_absent true = refl
+spans_absent false = refl
+
 spans_free : (b : Bool) → (free (TemplateSpans b) ≡ true) × (no_seq (TemplateSpans b) ≡ true)
 spans_free true = (refl, refl)
 spans_free false = (refl, refl)
@@ -152,13 +166,15 @@ more_spans : (b : Bool) {v : Surroundings} {x y z : Place} {t : Tree} {ts : Fore
 more_spans b {v} {x} {y} {z} {ts = ts} {o} {u} (fine_prop {k = k} {cs = cs} t p f) m r i =
     let h = home_of (TemplateSpans b) k cs (and_left (admits (TemplateSpans b) (node k cs)) (fits_below (TemplateSpans b) (node k cs)) r.is) in
     let s = span_is b k (and_left (is_span k) (is_prop k) (at_kind (TemplateSpans b) (λ l. is_span l && is_prop l) k (span_home b) (taken_scope k t) h)) h in
-    subst (λ k. Spans x (part (node k cs) ts) o u z) (sym s.0) (span_more b f (and_right (taken k || is_seq k) (tames cs) m) (subst (λ k. IsRead v false (TemplateSpans b) x (node k cs) y) s.0 r) s.1 i)
+    subst (λ k. Spans x (part (node k cs) ts) o u z) (sym s.0) (span_more b f (tames_of k cs t m) (subst (λ k. IsRead v false (TemplateSpans b) x (node k cs) y) s.0 r) s.1 i)
 more_spans b (fine_node {k = k} {cs = cs} t np g) m r i =
     let h = home_of (TemplateSpans b) k cs (and_left (admits (TemplateSpans b) (node k cs)) (fits_below (TemplateSpans b) (node k cs)) r.is) in
     absurd (never (is_prop k) (and_right (is_span k) (is_prop k) (at_kind (TemplateSpans b) (λ l. is_span l && is_prop l) k (span_home b) (taken_scope k t) h)) np)
 more_spans b (fine_seq {k = k} {cs = cs} s f) m r i = absurd (no_seq_here (TemplateSpans b) k cs s (spans_free b).1 r.is)
 more_spans true (fine_regexp) m r i = let bad = in_is r in cc
 more_spans false (fine_regexp) m r i = let bad = in_is r in cc
+more_spans b (fine_sealed {k = k} {cs = cs} s f) m r i = absurd (no_sealed (TemplateSpans b) k cs s (and_left (sealless (TemplateSpans b)) _ (spans_absent b)) r.is)
+more_spans b (fine_member {k = k} {t = u} {ts = us} s f n g) m r i = absurd (no_member (TemplateSpans b) k (part u us) s (and_right (sealless (TemplateSpans b)) _ (spans_absent b)) r.is)
 more_spans b (fine_list f) m r i = let bad = r.is in cc
 more_spans b (fine_leaf {s = s} {t = t} p) m r i = absurd (spans_leaf b s t p (in_is r))
 more_spans b (fine_piece {s = s} {t = t} p) m r i = absurd (no_piece (TemplateSpans b) s t (spans_free b).0 p (in_is r))
@@ -212,12 +228,14 @@ pub tag_walk : {v : Surroundings} {x y z : Place} {t : Tree} {ts : Forest} {qs :
 tag_walk (fine_prop {k = k} {cs = cs} t p f) m r w =
     let h = home_of TemplateOf k cs (and_left (admits TemplateOf (node k cs)) (fits_below TemplateOf (node k cs)) r.is) in
     let s = and_left (is_tagged k) (is_prop k) (at_kind TemplateOf (λ l. is_tagged l && is_prop l) k tagged_home (taken_scope k t) h) in
-    tagged (taken_scope k t) s (tagged_row k cs s f (and_right (taken k || is_seq k) (tames cs) m) r) w
+    tagged (taken_scope k t) s (tagged_row k cs s f (tames_of k cs t m) r) w
 tag_walk (fine_node {k = k} {cs = cs} t np g) m r w =
     let h = home_of TemplateOf k cs (and_left (admits TemplateOf (node k cs)) (fits_below TemplateOf (node k cs)) r.is) in
     absurd (never (is_prop k) (and_right (is_tagged k) (is_prop k) (at_kind TemplateOf (λ l. is_tagged l && is_prop l) k tagged_home (taken_scope k t) h)) np)
 tag_walk (fine_seq {k = k} {cs = cs} s f) m r w = absurd (no_seq_here TemplateOf k cs s refl r.is)
 tag_walk (fine_regexp) m r w = let bad = in_is r in cc
+tag_walk (fine_sealed {k = k} {cs = cs} s f) m r w = absurd (no_sealed TemplateOf k cs s refl r.is)
+tag_walk (fine_member {k = k} {t = u} {ts = us} s f n g) m r w = absurd (no_member TemplateOf k (part u us) s refl r.is)
 tag_walk (fine_list f) m r w = let bad = r.is in cc
 tag_walk (fine_leaf {s = IdentifierName} p) m r w = let bad = in_is r in cc
 tag_walk (fine_leaf {s = NumericLiteral} p) m r w = let bad = in_is r in cc

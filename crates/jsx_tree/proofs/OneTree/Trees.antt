@@ -3,14 +3,14 @@ use Rattle.std.specs.Prelude.{◌&&◌}
 use Rattle.jsx_tree.proofs.OneTree.Wants.{still}
 use Rattle.jsx_tree.proofs.OneTree.Kinds.Directives.{is_expr_stmt, expr_stmt_is}
 use Rattle.jsx_tree.proofs.OneTree.Kinds.Imports.{import_row, import_clash}
-use Rattle.std.proofs.Common.{◌≡◌, Bool, true, false, not, List, [], ◌∷◌, refl, sym, ◌∙◌, ap, subst, arith}
-use Rattle.std.specs.Prelude.{IsTrue, ◌||◌, nat_eq, nat_le, codes}
+use Rattle.std.proofs.Common.{◌≡◌, ℕ, ◌≤◌, zero, suc, Bool, true, false, not, List, [], ◌∷◌, refl, sym, ◌∙◌, ap, subst, arith}
+use Rattle.std.specs.Prelude.{IsTrue, ◌+◌, ◌||◌, nat_eq, nat_le, codes}
 use Rattle.jsx_base.specs.Token.{Text, Operator, TokenKind, IdentifierName, Punctuator, same, breaks}
 use Rattle.jsx_tree.specs.declared.text.Goal.{Goal}
 use Rattle.jsx_tree.specs.declared.text.Goal.TheVariants as goals
 use Rattle.jsx_tree.specs.Signs.{Tok, Semicolon, Unless, AfterExpr}
-use Rattle.jsx_tree.specs.Kinds.{Imported, Exported, From, ProgramKind, Module, Script, FunctionBody, ExprStmt, Label, For, ForIn, ForOf, Kind, ExportNames, ExportFrom, program, statement, Tree, leaf, node, list, Forest, none, part}
-use Rattle.jsx_tree.specs.Nonterminals.{Nonterminal, Expr, Ident, Stmt, SubStmt, Item, Declaration, BlockOnly, CatchClause, CaseClause, ClassMember, Declarators, Body, DirectiveOnly, Specifiers, ImportBindings, ImportClause, WholeProgram, homes, in_homes, leaf_in, is_ident}
+use Rattle.jsx_tree.specs.Kinds.{FunctionExpr, ClassExpr, InObject, Method, Getter, Setter, Imported, Exported, From, ProgramKind, Module, Script, FunctionBody, ExprStmt, Label, For, ForIn, ForOf, Kind, ExportNames, ExportFrom, program, statement, function, Tree, leaf, node, list, Forest, none, part}
+use Rattle.jsx_tree.specs.Nonterminals.{Nonterminal, Expr, ObjectMember, Ident, Stmt, SubStmt, Item, Declaration, BlockOnly, CatchClause, CaseClause, ClassMember, Declarators, Body, DirectiveOnly, Specifiers, ImportBindings, ImportClause, WholeProgram, homes, in_homes, leaf_in, is_ident}
 use Rattle.jsx_tree.specs.Grammar.{heads, Lines, TopLines, InCode, InModuleCode, production}
 use Rattle.jsx_tree.specs.Form.{admits, is, fits_below}
 use Rattle.jsx_tree.specs.StaticRules.{Surroundings, outside, rule}
@@ -20,7 +20,7 @@ use Rattle.jsx_tree.specs.Program.{is_goal, Reads}
 use Rattle.jsx_tree.proofs.Tokens.{and_left, and_right}
 use Rattle.jsx_tree.specs.Walk as W
 use Rattle.jsx_tree.specs.Walk.{is_found, IsRead, IsNode}
-use Rattle.jsx_tree.proofs.OneTree.Statements.{stated, place, stated_kinds, nth}
+use Rattle.jsx_tree.proofs.OneTree.Statements.{place, stated_kinds, nth}
 use Rattle.jsx_tree.proofs.OneTree.Readings as R
 use Rattle.jsx_tree.proofs.OneTree.Readings.{Whole, single, several, calm, reach_of, kind_at, text_at, broken}
 use Rattle.jsx_tree.proofs.OneTree.Checks.{every}
@@ -39,8 +39,11 @@ use Rattle.jsx_tree.proofs.OneTree.Endings.{after, at_semi}
 use Rattle.jsx_tree.proofs.OneTree.Endings.{end_kind}
 use Rattle.jsx_tree.proofs.OneTree.Missing.{Behind, a_mark, a_brace, a_line, behind}
 use Rattle.jsx_tree.proofs.OneTree.Afters.{after_tok, after_tree}
-use Rattle.jsx_tree.proofs.OneTree.Parts.{known, kept, kepts, tame_of, SameAt, word_read}
-use Rattle.jsx_tree.proofs.OneTree.Wants.{parted, idle, shutting, idle_at, meets, implied, mark, look_same}
+use Rattle.jsx_tree.proofs.OneTree.Known.{stated, known, kept, kepts, size, sizes}
+use Rattle.jsx_tree.proofs.OneTree.Sealed.{is_sealed, is_member}
+use Rattle.jsx_tree.proofs.OneTree.Evidence.{Law, Kept, Kepts, kept_left, kept_kind, kept_parts}
+use Rattle.jsx_tree.proofs.OneTree.Parts.{tame_of, SameAt, word_read}
+use Rattle.jsx_tree.proofs.OneTree.Wants.{anything, parted, idle, shutting, idle_at, meets, implied, mark, look_same}
 use Rattle.jsx_tree.proofs.OneTree.Begins.{is_own, want_of, front, front_fits}
 use Rattle.jsx_tree.proofs.OneTree.Rows.{One, Each, each_leaf, each_node, each_none, each_part, All, leafless, own_leaf, own_kind, clause_is, clause_clash}
 use Rattle.jsx_tree.proofs.OneTree.Lists.{SameRow}
@@ -92,17 +95,17 @@ name_colon k t {x} {p} {q} {y} d i f g n w s = by_whole w s
         let o = ends (passes name (omega arith) (split r (omega arith)) c) (colon_calm p colon) in
         two_tokens colon (subst (λ z. Seen z Punctuator (codes ",")) (sym o.place) (took Punctuator (codes ",") z g' n')) refl
 
-label_apart : {v w : Surroundings} {x y z : Place} (cs ds : Forest) → kepts cs ≡ true → kepts ds ≡ true → IsNode IsRead v false (statement Label) x cs y → IsNode IsRead w false (statement ExprStmt) x ds z → ⊥
+label_apart : {v w : Surroundings} {x y z : Place} (cs ds : Forest) → Kepts cs → Kepts ds → IsNode IsRead v false (statement Label) x cs y → IsNode IsRead w false (statement ExprStmt) x ds z → ⊥
 label_apart {x = x} cs ds h k a b =
     let p = at_part a.walk in
     let c = at_sign p.walk in
-    let w = word_read Ident p.tree refl (and_left (kept p.tree) _ (subst (λ ts. kepts ts ≡ true) p.is h)) p.read in
+    let w = word_read Ident p.tree refl (kept_left (subst Kepts p.is h)) p.read in
     let s = at_sign b.walk in
     let e = at_part s.walk in
-    let i = tame_of e.tree (Expr 0) refl (and_left (kept e.tree) _ (subst (λ ts. kepts ts ≡ true) e.is k)) e.read.is in
+    let i = tame_of e.tree (Expr 0) refl (kept_left (subst Kepts e.is k)) e.read.is in
     let m = at_sign e.walk in
     let f = subst (λ z. IsTrue (is_found z)) (sym m.moves) m.found in
-    let whole = whole_reads e.tree (fine e.tree i) i e.read (at_semi e.next (after_tree e.tree (Expr 0) i refl e.read) f) in
+    let whole = whole_reads e.tree (fine e.tree i) i.tame' e.read (at_semi e.next (after_tree e.tree (Expr 0) i refl e.read) f) in
     let back = unless_place heads x s.next s.moves s.found in
     name_colon w.kind w.text (and_left (leaf_in Ident w.kind w.text) _ (subst (λ t. is Ident t ≡ true) w.is_leaf p.read.is)) w.moves w.found c.moves c.found (subst (λ z. Whole z e.tree e.next) (sym back) whole) f
   where
@@ -189,7 +192,7 @@ all_rows ImportBindings o = refl
 all_rows ImportClause o = refl
 all_rows _ o = cc
 
-pair_apart : {v w : Surroundings} {x y z : Place} (k l : Kind) (cs ds : Forest) → odd_pair k l ≡ true → kepts cs ≡ true → kepts ds ≡ true → IsNode IsRead v false k x cs y → IsNode IsRead w false l x ds z → ⊥
+pair_apart : {v w : Surroundings} {x y z : Place} (k l : Kind) (cs ds : Forest) → odd_pair k l ≡ true → Kepts cs → Kepts ds → IsNode IsRead v false k x cs y → IsNode IsRead w false l x ds z → ⊥
 pair_apart (statement Label) (statement ExprStmt) cs ds p h g a b = label_apart cs ds h g a b
 pair_apart (statement For) (statement ForIn) cs ds p h g a b = for_in_apart cs ds h g a b
 pair_apart (statement For) (statement ForOf) cs ds p h g a b = for_of_apart cs ds h g a b
@@ -209,7 +212,7 @@ pair_apart _ l cs ds p h g a b = cc
 
 -- ---- a node
 
-item_clash : {v w : Surroundings} {x y z : Place} {cs ds : Forest} (k l : Kind) → (rows_apart (W.row false k) (W.row false l) || (import_row (W.row false k) && is_expr_stmt l)) ≡ true → kepts cs ≡ true → kepts ds ≡ true → IsNode IsRead v false k x cs y → IsNode IsRead w false l x ds z → meets still z ≡ true → ⊥
+item_clash : {v w : Surroundings} {x y z : Place} {cs ds : Forest} (k l : Kind) → (rows_apart (W.row false k) (W.row false l) || (import_row (W.row false k) && is_expr_stmt l)) ≡ true → Kepts cs → Kepts ds → IsNode IsRead v false k x cs y → IsNode IsRead w false l x ds z → meets still z ≡ true → ⊥
 item_clash {w = w} {x} {y} {z} {cs} {ds} k l h f g a b m = by_rows (test (rows_apart (W.row false k) (W.row false l)))
   where
     by_rows : Test (rows_apart (W.row false k) (W.row false l)) → ⊥
@@ -218,14 +221,14 @@ item_clash {w = w} {x} {y} {z} {cs} {ds} k l h f g a b m = by_rows (test (rows_a
         let o = or_else (rows_apart (W.row false k) (W.row false l)) _ h r in
         import_clash (W.row false k) ds (and_left (import_row (W.row false k)) _ o) f g a.walk (subst (λ l. IsNode IsRead w false l x ds z) (expr_stmt_is l (and_right (import_row (W.row false k)) _ o)) b)
 
-prefix_clash : (c : Nonterminal) {v w : Surroundings} {x y z : Place} {cs ds : Forest} (k l : Kind) → prefix_apart c k l ≡ true → kepts cs ≡ true → kepts ds ≡ true → IsNode IsRead v false k x cs y → IsNode IsRead w false l x ds z → meets (want_of c) y ≡ true → meets (want_of c) z ≡ true → ⊥
+prefix_clash : (c : Nonterminal) {v w : Surroundings} {x y z : Place} {cs ds : Forest} (k l : Kind) → prefix_apart c k l ≡ true → Kepts cs → Kepts ds → IsNode IsRead v false k x cs y → IsNode IsRead w false l x ds z → meets (want_of c) y ≡ true → meets (want_of c) z ≡ true → ⊥
 prefix_clash Item k l h f g a b m m' = item_clash k l h f g a b m'
 prefix_clash (Specifiers s) k l h f g a b m m' = words_clash parted (W.row false k) (W.row false l) h f g a.walk b.walk m
 prefix_clash ClassMember k l h f g a b m m' = members_clash (W.row false k) (W.row false l) h f g a.walk b.walk
 prefix_clash _ k l h f g a b m m' = cc
 
 kind_apart : (c : Nonterminal) {v w : Surroundings} {x y z : Place} (k l : Kind) (cs ds : Forest) → is_own c ≡ true → stated k ≡ true → stated l ≡ true → in_homes c (homes k) ≡ true → in_homes c (homes l) ≡ true → nat_eq (place k) (place l) ≡ false
-    → kepts cs ≡ true → kepts ds ≡ true → IsNode IsRead v false k x cs y → IsNode IsRead w false l x ds z → meets (want_of c) y ≡ true → meets (want_of c) z ≡ true → ⊥
+    → Kepts cs → Kepts ds → IsNode IsRead v false k x cs y → IsNode IsRead w false l x ds z → meets (want_of c) y ≡ true → meets (want_of c) z ≡ true → ⊥
 kind_apart c {x = x} k l cs ds o s t i j n h g a b m m' = by_front (test (front_apart (front (want_of c) (production k)) (front (want_of c) (production l))))
   where
     told : pair_told c k l ≡ true
@@ -270,7 +273,7 @@ body_want ImportClause x o h m = cc
 body_want _ x o h m = cc
 
 kind_same : (c : Nonterminal) {v w : Surroundings} {x y z : Place} (k : Kind) (cs ds : Forest) → is_own c ≡ true → in_homes c (homes k) ≡ true → (is_body k || row_good no_ending (want_of c) (production k)) ≡ true → IsNode IsRead v false k x cs y → IsNode IsRead w false k x ds z
-    → All cs → kepts cs ≡ true → kepts ds ≡ true → meets (want_of c) y ≡ true → meets (want_of c) z ≡ true → SameRow cs ds y z
+    → All cs → Kepts cs → Kepts ds → meets (want_of c) y ≡ true → meets (want_of c) z ≡ true → SameRow cs ds y z
 kind_same c {v} {w} {x} {y} {z} k cs ds o i g a b e h h' m n = by_body (test (is_body k))
   where
     by_body : Test (is_body k) → SameRow cs ds y z
@@ -282,7 +285,7 @@ kind_same c {v} {w} {x} {y} {z} k cs ds o i g a b e h h' m n = by_body (test (is
         let i' = subst (λ k. in_homes c (homes k) ≡ true) q i in
         body_same Lines Stmt (InCode ∷ []) (rule (program FunctionBody)) cs ds refl refl refl refl (λ ds ts h. h) a'.keeps b'.keeps e h h' a'.walk b'.walk (body_want c y o i' m) (body_want c z o i' n)
 
-node_one : (c : Nonterminal) {v w : Surroundings} {x y z : Place} (k l : Kind) (cs ds : Forest) → is_own c ≡ true → All cs → kept (node k cs) ≡ true → kept (node l ds) ≡ true → IsRead v false c x (node k cs) y → IsRead w false c x (node l ds) z
+node_one : (c : Nonterminal) {v w : Surroundings} {x y z : Place} (k l : Kind) (cs ds : Forest) → is_own c ≡ true → All cs → Kept (node k cs) → Kept (node l ds) → IsRead v false c x (node k cs) y → IsRead w false c x (node l ds) z
     → meets (want_of c) y ≡ true → meets (want_of c) z ≡ true → SameAt (node k cs) (node l ds) y z
 node_one c {v} {w} {x} {y} {z} k l cs ds o a h g r s m n = by_place (test (nat_eq (place k) (place l)))
   where
@@ -293,16 +296,16 @@ node_one c {v} {w} {x} {y} {z} k l cs ds o a h g r s m n = by_place (test (nat_e
     j = home_of c l ds (and_left (admits c (node l ds)) (fits_below c (node l ds)) s.is)
 
     st : stated k ≡ true
-    st = own_kind c k o (and_left (known k) (kepts cs) h) i
+    st = own_kind c k o (kept_kind h) i
 
     sl : stated l ≡ true
-    sl = own_kind c l o (and_left (known l) (kepts ds) g) j
+    sl = own_kind c l o (kept_kind g) j
 
-    hs : kepts cs ≡ true
-    hs = and_right (known k) (kepts cs) h
+    hs : Kepts cs
+    hs = kept_parts h
 
-    gs : kepts ds ≡ true
-    gs = and_right (known l) (kepts ds) g
+    gs : Kepts ds
+    gs = kept_parts g
 
     by_place : Test (nat_eq (place k) (place l)) → SameAt (node k cs) (node l ds) y z
     by_place (no' p) = absurd (kind_apart c k l cs ds o st sl i j p hs gs (node_walk false k refl r) (node_walk false l refl s) m n)
@@ -316,7 +319,7 @@ node_one c {v} {w} {x} {y} {z} k l cs ds o a h g r s m n = by_place (test (nat_e
 one_node : (k : Kind) (cs : Forest) → All cs → One (node k cs)
 one_node k cs a = record { one = by_other }
   where
-    by_other : (c : Nonterminal) (u : Tree) {v w : Surroundings} {x y z : Place} → is_own c ≡ true → kept (node k cs) ≡ true → kept u ≡ true → IsRead v false c x (node k cs) y → IsRead w false c x u z → meets (want_of c) y ≡ true → meets (want_of c) z ≡ true → SameAt (node k cs) u y z
+    by_other : (c : Nonterminal) (u : Tree) {v w : Surroundings} {x y z : Place} → is_own c ≡ true → Kept (node k cs) → Kept u → IsRead v false c x (node k cs) y → IsRead w false c x u z → meets (want_of c) y ≡ true → meets (want_of c) z ≡ true → SameAt (node k cs) u y z
     by_other c (leaf s t) {v} {w} {x} {y} {z} o h g r p m n = absurd (by_leafless (test (leafless c)))
       where
         by_leafless : Test (leafless c) → ⊥
@@ -336,6 +339,83 @@ mutual
   alls : (ts : Forest) → All ts
   alls none = each_none
   alls (part t ts) = each_part (each t) (alls ts)
+
+-- ---- what is sealed
+
+-- where nothing is asked of what stands behind
+rows_one : (c : Nonterminal) (k : Kind) (cs ds : Forest) {v w : Surroundings} {x y z : Place} → row_good no_ending anything (production k) ≡ true → Kepts cs → Kepts ds → IsRead v false c x (node k cs) y → IsRead w false c x (node k ds) z → (node k cs ≡ node k ds) × (y ≡ z)
+rows_one c k cs ds g h h' r s =
+    let a = node_walk false k refl r in
+    let b = node_walk false k refl s in
+    let q = row_same no_ending anything (production k) [] cs ds g refl a.walk b.walk (alls cs) h h' refl refl in
+    (ap (node k) q.trees, q.place)
+
+function_word : {v : Surroundings} {x y : Place} {cs : Forest} → IsRead v false (Expr 18) x (node (function FunctionExpr) cs) y → Seen x IdentifierName (codes "function")
+function_word {x = x} r = let p = at_sign (node_walk false (function FunctionExpr) refl r).walk in took IdentifierName (codes "function") x p.moves p.found
+
+class_word : {v : Surroundings} {x y : Place} {cs : Forest} → IsRead v false (Expr 18) x (node (function ClassExpr) cs) y → Seen x IdentifierName (codes "class")
+class_word {x = x} r = let p = at_sign (node_walk false (function ClassExpr) refl r).walk in took IdentifierName (codes "class") x p.moves p.found
+
+sealed_one : (k l : Kind) (cs ds : Forest) {v w : Surroundings} {x y z : Place} → is_sealed k ≡ true → is_sealed l ≡ true → Kepts cs → Kepts ds → IsRead v false (Expr 18) x (node k cs) y → IsRead w false (Expr 18) x (node l ds) z → (node k cs ≡ node l ds) × (y ≡ z)
+sealed_one (function FunctionExpr) (function FunctionExpr) cs ds a b h h' r s = rows_one (Expr 18) (function FunctionExpr) cs ds refl h h' r s
+sealed_one (function ClassExpr) (function ClassExpr) cs ds a b h h' r s = rows_one (Expr 18) (function ClassExpr) cs ds refl h h' r s
+sealed_one (function FunctionExpr) (function ClassExpr) cs ds a b h h' r s = absurd (two_tokens (function_word r) (class_word s) refl)
+sealed_one (function ClassExpr) (function FunctionExpr) cs ds a b h h' r s = absurd (two_tokens (function_word s) (class_word r) refl)
+sealed_one (function FunctionExpr) (function _) cs ds a b h h' r s = cc
+sealed_one (function FunctionExpr) _ cs ds a b h h' r s = cc
+sealed_one (function ClassExpr) (function _) cs ds a b h h' r s = cc
+sealed_one (function ClassExpr) _ cs ds a b h h' r s = cc
+sealed_one (function _) l cs ds a b h h' r s = cc
+sealed_one _ l cs ds a b h h' r s = cc
+
+-- two methods of objects
+two_members : {v w : Surroundings} {x y z : Place} (k l : Kind) (cs ds : Forest) → members_apart (W.row false k) (W.row false l) ≡ true → Kepts cs → Kepts ds → IsRead v false ObjectMember x (node k cs) y → IsRead w false ObjectMember x (node l ds) z → ⊥
+two_members k l cs ds h f g r s = members_clash (W.row false k) (W.row false l) h f g (node_walk false k refl r).walk (node_walk false l refl s).walk
+
+member_one : (k l : Kind) (cs ds : Forest) {v w : Surroundings} {x y z : Place} → is_member k ≡ true → is_member l ≡ true → Kepts cs → Kepts ds → IsRead v false ObjectMember x (node k cs) y → IsRead w false ObjectMember x (node l ds) z → (node k cs ≡ node l ds) × (y ≡ z)
+member_one (function (Method InObject)) (function (Method InObject)) cs ds a b h h' r s = rows_one ObjectMember (function (Method InObject)) cs ds refl h h' r s
+member_one (function (Getter InObject)) (function (Getter InObject)) cs ds a b h h' r s = rows_one ObjectMember (function (Getter InObject)) cs ds refl h h' r s
+member_one (function (Setter InObject)) (function (Setter InObject)) cs ds a b h h' r s = rows_one ObjectMember (function (Setter InObject)) cs ds refl h h' r s
+member_one (function (Method InObject)) (function (Getter InObject)) cs ds a b h h' r s = absurd (two_members (function (Method InObject)) (function (Getter InObject)) cs ds refl h h' r s)
+member_one (function (Method InObject)) (function (Setter InObject)) cs ds a b h h' r s = absurd (two_members (function (Method InObject)) (function (Setter InObject)) cs ds refl h h' r s)
+member_one (function (Getter InObject)) (function (Method InObject)) cs ds a b h h' r s = absurd (two_members (function (Method InObject)) (function (Getter InObject)) ds cs refl h' h s r)
+member_one (function (Setter InObject)) (function (Method InObject)) cs ds a b h h' r s = absurd (two_members (function (Method InObject)) (function (Setter InObject)) ds cs refl h' h s r)
+member_one (function (Getter InObject)) (function (Setter InObject)) cs ds a b h h' r s = absurd (two_members (function (Getter InObject)) (function (Setter InObject)) cs ds refl h h' r s)
+member_one (function (Setter InObject)) (function (Getter InObject)) cs ds a b h h' r s = absurd (two_members (function (Getter InObject)) (function (Setter InObject)) ds cs refl h' h s r)
+member_one (function (Method InObject)) (function (Method _)) cs ds a b h h' r s = cc
+member_one (function (Method InObject)) (function (Getter _)) cs ds a b h h' r s = cc
+member_one (function (Method InObject)) (function (Setter _)) cs ds a b h h' r s = cc
+member_one (function (Method InObject)) (function _) cs ds a b h h' r s = cc
+member_one (function (Method InObject)) _ cs ds a b h h' r s = cc
+member_one (function (Getter InObject)) (function (Method _)) cs ds a b h h' r s = cc
+member_one (function (Getter InObject)) (function (Getter _)) cs ds a b h h' r s = cc
+member_one (function (Getter InObject)) (function (Setter _)) cs ds a b h h' r s = cc
+member_one (function (Getter InObject)) (function _) cs ds a b h h' r s = cc
+member_one (function (Getter InObject)) _ cs ds a b h h' r s = cc
+member_one (function (Setter InObject)) (function (Method _)) cs ds a b h h' r s = cc
+member_one (function (Setter InObject)) (function (Getter _)) cs ds a b h h' r s = cc
+member_one (function (Setter InObject)) (function (Setter _)) cs ds a b h h' r s = cc
+member_one (function (Setter InObject)) (function _) cs ds a b h h' r s = cc
+member_one (function (Setter InObject)) _ cs ds a b h h' r s = cc
+member_one (function (Method _)) l cs ds a b h h' r s = cc
+member_one (function (Getter _)) l cs ds a b h h' r s = cc
+member_one (function (Setter _)) l cs ds a b h h' r s = cc
+member_one (function _) l cs ds a b h h' r s = cc
+member_one _ l cs ds a b h h' r s = cc
+
+-- by size: the parts of what is sealed are smaller
+law : (n : ℕ) → Law n
+law zero = record { of_sealed = record { one = λ k l cs ds s t le lf h g r q. absurd (no_size (sizes cs) le) }; of_members = record { one = λ k l cs ds s t le lf h g r q. absurd (no_size (sizes cs) le) } }
+  where
+    no_size : (m : ℕ) → suc m ≤ 0 → ⊥
+    no_size m le = omega (arith, le)
+law (suc n) = record {
+  of_sealed = record { one = λ k l cs ds s t le lf h g r q. sealed_one k l cs ds s t (smaller k cs (law n) le h) (smaller l ds (law n) lf g) r q };
+  of_members = record { one = λ k l cs ds s t le lf h g r q. member_one k l cs ds s t (smaller k cs (law n) le h) (smaller l ds (law n) lf g) r q };
+}
+  where
+    smaller : (k : Kind) (cs : Forest) → Law n → size (node k cs) ≤ suc n → kept (node k cs) ≡ true → Kepts cs
+    smaller k cs w le h = let f : suc (sizes cs) ≤ suc n = le in record { good = and_right (known k) (kepts cs) h; bound = n; law = w; small = omega (arith, f) }
 
 -- ---- a whole text
 
@@ -361,7 +441,7 @@ abbrev program_of : Goal → ProgramKind
 program_of goals.Module = Module
 program_of goals.Script = Script
 
-roots_same : (goal : Goal) {v w : Surroundings} {x y z : Place} (cs ds : Forest) → All cs → kepts cs ≡ true → kepts ds ≡ true → IsRead v false WholeProgram x (node (program (program_of goal)) cs) y → IsRead w false WholeProgram x (node (program (program_of goal)) ds) z
+roots_same : (goal : Goal) {v w : Surroundings} {x y z : Place} (cs ds : Forest) → All cs → Kepts cs → Kepts ds → IsRead v false WholeProgram x (node (program (program_of goal)) cs) y → IsRead w false WholeProgram x (node (program (program_of goal)) ds) z
     → meets idle y ≡ true → meets idle z ≡ true → node (program (program_of goal)) cs ≡ node (program (program_of goal)) ds
 roots_same goals.Module cs ds a h k r s m n =
     let p = node_walk false (program Module) refl r in
@@ -383,13 +463,16 @@ root goals.Script (node (program Script) cs) h = record { parts = cs; is_root = 
 root _ t h = cc
 
 pub one_reading : (goal : Goal) (text : Text) (t u : Tree) → kept t ≡ true → kept u ≡ true → Reads goal text t → Reads goal text u → t ≡ u
-one_reading goal text t u h k r s =
+one_reading goal text t u h' k' r s =
+    let n = size t + size u in
+    let h : Kept t = record { good = h'; bound = n; law = law n; small = omega arith } in
+    let k : Kept u = record { good = k'; bound = n; law = law n; small = omega arith } in
     let a = root goal t r.of_goal in
     let b = root goal u s.of_goal in
     let x = At [] AfterExpr text in
     let y = scan x (spelled t) in
     let z = scan x (spelled u) in
-    let e = roots_same goal a.parts b.parts (alls a.parts) (and_right (known (program (program_of goal))) _ (subst (λ t. kept t ≡ true) a.is_root h)) (and_right (known (program (program_of goal))) _ (subst (λ u. kept u ≡ true) b.is_root k))
+    let e = roots_same goal a.parts b.parts (alls a.parts) (kept_parts (subst Kept a.is_root h)) (kept_parts (subst Kept b.is_root k))
     (subst (λ t. IsRead outside false WholeProgram x t y) a.is_root (whole_read t r)) (subst (λ u. IsRead outside false WholeProgram x u z) b.is_root (whole_read u s))
     (end_idle y (and_right (is WholeProgram t) _ r.read)) (end_idle z (and_right (is WholeProgram u) _ s.read)) in
     a.is_root ∙ (e ∙ sym b.is_root)

@@ -1,4 +1,5 @@
 -- Two trees at one place that are the same up to patterns and literals are one tree.
+use Rattle.jsx_tree.proofs.OneTree.Known.{stated, known, kept, kepts}
 use Rattle.std.proofs.Common.{◌≡◌, ℕ, Bool, true, false, not, List, [], ◌∷◌, refl, sym, ◌∙◌, ap, subst, arith}
 use Rattle.std.specs.Prelude.{◌&&◌, ◌||◌, nat_eq, nat_le}
 use Rattle.jsx_base.specs.Token.{Text, TokenKind}
@@ -14,9 +15,10 @@ use Rattle.jsx_tree.proofs.OneTree.Table.{listed}
 use Rattle.jsx_tree.proofs.OneTree.Checks.{every}
 use Rattle.jsx_tree.proofs.OneTree.Facts.{never, or_else, not_is, Test, yes', no', test, eq_nat, for_kind}
 use Rattle.jsx_tree.proofs.OneTree.Growths.{made_plain, made_paren, unseq_made}
-use Rattle.jsx_tree.proofs.OneTree.Places.{is_seq, taken}
-use Rattle.jsx_tree.proofs.OneTree.Fine.{tame, tames}
-use Rattle.jsx_tree.proofs.OneTree.Spines.{taken_scope, seq_is, home_of}
+use Rattle.jsx_tree.proofs.OneTree.Statements.{place, stated_kinds, stated_nth, for_stated}
+use Rattle.jsx_tree.proofs.OneTree.Statements as S
+use Rattle.jsx_tree.proofs.OneTree.Kept.{Which, a_statement, a_taken, a_seq, which}
+use Rattle.jsx_tree.proofs.OneTree.Spines.{home_of}
 
 -- ---- homes that no place takes both of
 
@@ -48,6 +50,55 @@ no_seq_code = refl
 
 no_names' : every (λ l. not (in_homes BindingIdent (homes l))) kinds ≡ true
 no_names' = refl
+
+-- ---- the kinds of statements have numbers of their own
+
+abbrev pub stated_code : Kind → Bool
+stated_code k = not (nat_eq (code k) 0) && (not (nat_eq (code k) 3) && (not (nat_eq (code k) 19) && (not (is_arrow k) && not (in_homes BindingIdent (homes k)))))
+
+stated_codes : every stated_code stated_kinds ≡ true
+stated_codes = refl
+
+abbrev pub stated_pair : Kind → Kind → Bool
+stated_pair k l = not (nat_eq (code k) (code l)) || nat_eq (place k) (place l)
+
+stated_pairs : every (λ k. every (stated_pair k) stated_kinds) stated_kinds ≡ true
+stated_pairs = refl
+
+mixed_pairs : every (λ k. every (λ l. not (nat_eq (code k) (code l))) kinds) stated_kinds ≡ true
+mixed_pairs = refl
+
+record StatedFacts (k : Kind) : Type 0 where
+  no_zero : nat_eq (code k) 0 ≡ false
+  no_paren : nat_eq (code k) 3 ≡ false
+  no_row : nat_eq (code k) 19 ≡ false
+  no_arrow : is_arrow k ≡ false
+  no_name : in_homes BindingIdent (homes k) ≡ false
+
+stated_facts : (k : Kind) → stated k ≡ true → StatedFacts k
+stated_facts k s =
+    let h = for_stated stated_code stated_codes k s in
+    let h1 = and_right (not (nat_eq (code k) 0)) _ h in
+    let h2 = and_right (not (nat_eq (code k) 3)) _ h1 in
+    let h3 = and_right (not (nat_eq (code k) 19)) _ h2 in
+    record {
+      no_zero = not_is _ (and_left (not (nat_eq (code k) 0)) _ h);
+      no_paren = not_is _ (and_left (not (nat_eq (code k) 3)) _ h1);
+      no_row = not_is _ (and_left (not (nat_eq (code k) 19)) _ h2);
+      no_arrow = not_is _ (and_left (not (is_arrow k)) _ h3);
+      no_name = not_is _ (and_right (not (is_arrow k)) _ h3);
+    }
+
+two_stated : (k l : Kind) → stated k ≡ true → stated l ≡ true → code k ≡ code l → k ≡ l
+two_stated k l s t e =
+    let p = or_else (not (nat_eq (code k) (code l))) _ (for_stated (stated_pair k) (for_stated (λ k. every (stated_pair k) stated_kinds) stated_pairs k s) l t) (ap not (eq-eqb (code k) (code l) e)) in
+    sym (stated_nth k s) ∙ (ap (S.nth stated_kinds) (eq_nat {a = place k} {b = place l} p) ∙ stated_nth l t)
+
+stated_taken : (k l : Kind) → stated k ≡ true → scope l ≡ true → code k ≡ code l → ⊥
+stated_taken k l s t e = never (nat_eq (code k) (code l)) (eq-eqb (code k) (code l) e) (not_is _ (for_kind (λ l. not (nat_eq (code k) (code l))) (for_stated (λ k. every (λ l. not (nat_eq (code k) (code l))) kinds) mixed_pairs k s) l t))
+
+stated_seq : (k : Kind) → stated k ≡ true → code k ≡ 19 → ⊥
+stated_seq k s e = never (nat_eq (code k) 19) (eq-eqb (code k) 19 e) ((stated_facts k s).no_row)
 
 -- ---- one kind at one place
 
@@ -238,24 +289,23 @@ seq_un (part (list (part a (part b ts))) (part u us)) h =
     let t = list (part a (part b ts)) in
     let bad = and_right (fits_below (Expr 1) t) false (and_right (shaped (Several TwoOrMore) (Expr 1) t) (fits_below (Expr 1) t && false) h) in cc
 
-un : (c : Nonterminal) (t : Tree) → tame t ≡ true → is c t ≡ true → Un (flat t)
+un : (c : Nonterminal) (t : Tree) → kept t ≡ true → is c t ≡ true → Un (flat t)
 un c (leaf s t) h i = alone refl
 un c (list ts) h i = cc
-un c (node k cs) h i = by_taken (test (taken k))
+un c (node k cs) h i = by_which (which k (and_left (known k) (kepts cs) h))
   where
-    by_taken : Test (taken k) → Un (made k (flats cs))
-    by_taken (no' n) =
-        let s = or_else (taken k) (is_seq k) (and_left (taken k || is_seq k) (tames cs) h) n in
-        subst (λ k. Un (made k (flats cs))) (sym (seq_is k s)) (seq_un cs (subst (λ k. fit_slots (positions k) cs ≡ true) (seq_is k s) (and_right (admits c (node k cs)) (fits_below c (node k cs)) i)))
-    by_taken (yes' t) = by_arrow (test (is_arrow k))
-      where
-        arrow_un : (fs : Flats) → Un (arrow_of fs)
-        arrow_un nil = alone refl
-        arrow_un (cons f fs) = alone refl
+    arrow_un : (fs : Flats) → Un (arrow_of fs)
+    arrow_un nil = alone refl
+    arrow_un (cons f fs) = alone refl
 
-        by_arrow : Test (is_arrow k) → Un (made k (flats cs))
-        by_arrow (yes' a) = subst (λ k. Un (made k (flats cs))) (sym (arrow_is k a)) (arrow_un (flats cs))
-        by_arrow (no' a) = alone (unseq_made k (flats cs) a (not_is _ (for_kind (λ k. not (nat_eq (code k) 19)) no_seq_code k (taken_scope k t))))
+    by_arrow : scope k ≡ true → Test (is_arrow k) → Un (made k (flats cs))
+    by_arrow s (yes' a) = subst (λ k. Un (made k (flats cs))) (sym (arrow_is k a)) (arrow_un (flats cs))
+    by_arrow s (no' a) = alone (unseq_made k (flats cs) a (not_is _ (for_kind (λ k. not (nat_eq (code k) 19)) no_seq_code k s)))
+
+    by_which : Which k → Un (made k (flats cs))
+    by_which (a_statement s) = let f = stated_facts k s in alone (unseq_made k (flats cs) f.no_arrow f.no_row)
+    by_which (a_taken s) = by_arrow s (test (is_arrow k))
+    by_which (a_seq e) = subst (λ k. Un (made k (flats cs))) (sym e) (seq_un cs (subst (λ k. fit_slots (positions k) cs ≡ true) e (and_right (admits c (node k cs)) (fits_below c (node k cs)) i)))
 
 abbrev pub parens_only : Kind → Bool
 parens_only k = not (nat_eq (code k) 3) || (nat_eq (index k) (index (expression Parenthesized)) || nat_eq (index k) (index (function ParenTarget)))
@@ -283,14 +333,14 @@ record Held (k : Kind) (cs : Forest) : Type 0 where
   is_part : cs ≡ part tree none
   un_tree : Un (flat tree)
 
-paren_held : (k : Kind) (cs : Forest) → scope k ≡ true → nat_eq (code k) 3 ≡ true → tames cs ≡ true → fit_slots (positions k) cs ≡ true → Held k cs
+paren_held : (k : Kind) (cs : Forest) → scope k ≡ true → nat_eq (code k) 3 ≡ true → kepts cs ≡ true → fit_slots (positions k) cs ≡ true → Held k cs
 paren_held k cs s c h f = by_index (test (nat_eq (index k) (index (expression Parenthesized))))
   where
-    one_of : (d : Nonterminal) (cs : Forest) → tames cs ≡ true → fit_slots (position Single d [] true [] ∷ []) cs ≡ true → Held k cs
+    one_of : (d : Nonterminal) (cs : Forest) → kepts cs ≡ true → fit_slots (position Single d [] true [] ∷ []) cs ≡ true → Held k cs
     one_of d none m g = cc
     one_of d (part t none) m g =
         let r = and_right (admits d t) (fits_below d t && true) g in
-        record { tree = t; is_part = refl; un_tree = un d t (and_left (tame t) true m) (and_both (admits d t) (fits_below d t) (and_left (admits d t) (fits_below d t && true) g) (and_left (fits_below d t) true r)) }
+        record { tree = t; is_part = refl; un_tree = un d t (and_left (kept t) true m) (and_both (admits d t) (fits_below d t) (and_left (admits d t) (fits_below d t && true) g) (and_left (fits_below d t) true r)) }
     one_of d (part t (part u us)) m g = let bad = and_right (fits_below d t) false (and_right (admits d t) (fits_below d t && false) g) in cc
 
     by_index : Test (nat_eq (index k) (index (expression Parenthesized))) → Held k cs
@@ -303,18 +353,19 @@ paren_held k cs s c h f = by_index (test (nat_eq (index k) (index (expression Pa
         one_of SimpleTarget cs h (subst (λ k. fit_slots (positions k) cs ≡ true) p f)
 
 -- the parts of two nodes of one kind
-parts_same : (k : Kind) (cs ds : Forest) → (taken k || is_seq k) ≡ true → tames cs ≡ true → tames ds ≡ true → fit_slots (positions k) cs ≡ true → fit_slots (positions k) ds ≡ true → made k (flats cs) ≡ made k (flats ds) → flats cs ≡ flats ds
+parts_same : (k : Kind) (cs ds : Forest) → known k ≡ true → kepts cs ≡ true → kepts ds ≡ true → fit_slots (positions k) cs ≡ true → fit_slots (positions k) ds ≡ true → made k (flats cs) ≡ made k (flats ds) → flats cs ≡ flats ds
 parts_same k cs ds s m n f g e = by_paren (test (nat_eq (code k) 3))
   where
     by_paren : Test (nat_eq (code k) 3) → flats cs ≡ flats ds
     by_paren (no' c) = made_inj k (flats cs) (flats ds) c e
-    by_paren (yes' c) = by_taken (test (taken k))
+    by_paren (yes' c) = by_which (which k s)
       where
-        by_taken : Test (taken k) → flats cs ≡ flats ds
-        by_taken (no' t) = absurd (never (nat_eq (code k) 3) c (ap (λ k. nat_eq (code k) 3) (seq_is k (or_else (taken k) (is_seq k) s t))))
-        by_taken (yes' t) =
-            let a = paren_held k cs (taken_scope k t) c m f in
-            let b = paren_held k ds (taken_scope k t) c n g in
+        by_which : Which k → flats cs ≡ flats ds
+        by_which (a_statement t) = absurd (never (nat_eq (code k) 3) c ((stated_facts k t).no_paren))
+        by_which (a_seq p) = absurd (never (nat_eq (code k) 3) c (ap (λ k. nat_eq (code k) 3) p))
+        by_which (a_taken t) =
+            let a = paren_held k cs t c m f in
+            let b = paren_held k ds t c n g in
             let q : in_parens (flats cs) ≡ in_parens (flats ds) = sym (made_paren k (flats cs) (paren_arrow k c) c) ∙ (e ∙ made_paren k (flats ds) (paren_arrow k c) c) in
             let r : paren_of (unseq (flat a.tree)) ≡ paren_of (unseq (flat b.tree)) = ap (λ cs. in_parens (flats cs)) (sym a.is_part) ∙ (q ∙ ap (λ cs. in_parens (flats cs)) b.is_part) in
             let u = un_inj (flat a.tree) (flat b.tree) a.un_tree b.un_tree (row_inj (cons_inj (some_inj r)).0) in
@@ -334,42 +385,44 @@ top_one : (s : TokenKind) (t : Text) → top (one s t) ≡ 0
 unfolding top
 top_one s t = refl
 
-code_some : (k : Kind) → (taken k || is_seq k) ≡ true → code k ≡ 0 → ⊥
-code_some k s e = by_taken (test (taken k))
+code_some : (k : Kind) → known k ≡ true → code k ≡ 0 → ⊥
+code_some k s e = by_which (which k s)
   where
-    by_taken : Test (taken k) → ⊥
-    by_taken (yes' t) = never (nat_eq (code k) 0) (eq-eqb (code k) 0 e) (not_is _ (for_kind (λ k. not (nat_eq (code k) 0)) no_zero k (taken_scope k t)))
-    by_taken (no' t) = let q : code k ≡ 19 = ap code (seq_is k (or_else (taken k) (is_seq k) s t)) in omega (arith, e, q)
+    by_which : Which k → ⊥
+    by_which (a_statement t) = never (nat_eq (code k) 0) (eq-eqb (code k) 0 e) ((stated_facts k t).no_zero)
+    by_which (a_taken t) = never (nat_eq (code k) 0) (eq-eqb (code k) 0 e) (not_is _ (for_kind (λ k. not (nat_eq (code k) 0)) no_zero k t))
+    by_which (a_seq p) = let q : code k ≡ 19 = ap code p in omega (arith, e, q)
 
-leaf_node : (s : TokenKind) (t : Text) (k : Kind) (cs : Forest) → (taken k || is_seq k) ≡ true → one s t ≡ made k (flats cs) → ⊥
+leaf_node : (s : TokenKind) (t : Text) (k : Kind) (cs : Forest) → known k ≡ true → one s t ≡ made k (flats cs) → ⊥
 leaf_node s t k cs h e = code_some k h (sym (top_made k (flats cs)) ∙ (ap top (sym e) ∙ top_one s t))
 
 -- a bare arrow's parameter is a name
-bare_leaf : (cs : Forest) → tames cs ≡ true → fit_slots (positions (expression BareArrow)) cs ≡ true → (fs : Flats) → flats cs ≡ others (cons (row_of nil) (flats cs)) → (f : Flats) → made (expression BareArrow) (flats cs) ≡ arrow_of f → ⊥
+bare_leaf : (cs : Forest) → kepts cs ≡ true → fit_slots (positions (expression BareArrow)) cs ≡ true → (fs : Flats) → flats cs ≡ others (cons (row_of nil) (flats cs)) → (f : Flats) → made (expression BareArrow) (flats cs) ≡ arrow_of f → ⊥
 bare_leaf none h g fs d f e = cc
 bare_leaf (part (list ts) cs) h g fs d f e = cc
 bare_leaf (part (leaf s t) cs) h g fs d nil e = let bad = some_inj e in cc
 bare_leaf (part (leaf s t) cs) h g fs d (cons p f) e = let bad = (cons_inj (some_inj e)).0 in cc
 bare_leaf (part (node k ks) cs) h g fs d f e =
     let i = home_of BindingIdent k ks (and_left (in_homes BindingIdent (homes k)) _ g) in
-    by_taken (and_left (taken k || is_seq k) (tames ks) (and_left (tame (node k ks)) (tames cs) h)) i (test (taken k))
+    by_which i (which k (and_left (known k) (kepts ks) (and_left (kept (node k ks)) (kepts cs) h)))
   where
-    by_taken : (taken k || is_seq k) ≡ true → in_homes BindingIdent (homes k) ≡ true → Test (taken k) → ⊥
-    by_taken s i (yes' t) = never (in_homes BindingIdent (homes k)) i (not_is _ (for_kind (λ l. not (in_homes BindingIdent (homes l))) no_names' k (taken_scope k t)))
-    by_taken s i (no' t) = never (in_homes BindingIdent (homes k)) i (ap (λ k. in_homes BindingIdent (homes k)) (seq_is k (or_else (taken k) (is_seq k) s t)))
+    by_which : in_homes BindingIdent (homes k) ≡ true → Which k → ⊥
+    by_which i (a_statement t) = never (in_homes BindingIdent (homes k)) i ((stated_facts k t).no_name)
+    by_which i (a_taken t) = never (in_homes BindingIdent (homes k)) i (not_is _ (for_kind (λ l. not (in_homes BindingIdent (homes l))) no_names' k t))
+    by_which i (a_seq p) = never (in_homes BindingIdent (homes k)) i (ap (λ k. in_homes BindingIdent (homes k)) p)
 
-no_bare : (cs ds : Forest) → tames cs ≡ true → fit_slots (positions (expression BareArrow)) cs ≡ true → made (expression BareArrow) (flats cs) ≡ made (expression Arrow) (flats ds) → ⊥
+no_bare : (cs ds : Forest) → kepts cs ≡ true → fit_slots (positions (expression BareArrow)) cs ≡ true → made (expression BareArrow) (flats cs) ≡ made (expression Arrow) (flats ds) → ⊥
 no_bare cs ds h g e = bare_leaf cs h g nil (sym (others_cons (row_of nil) (flats cs))) (flats ds) e
 
 -- two nodes at one place
-kind_same : (c : Nonterminal) (k l : Kind) (cs ds : Forest) → (taken k || is_seq k) ≡ true → (taken l || is_seq l) ≡ true → tames cs ≡ true → tames ds ≡ true → is c (node k cs) ≡ true → is c (node l ds) ≡ true → made k (flats cs) ≡ made l (flats ds) → k ≡ l
-kind_same c k l cs ds s t m n i j e = by_taken (test (taken k)) (test (taken l))
+kind_same : (c : Nonterminal) (k l : Kind) (cs ds : Forest) → known k ≡ true → known l ≡ true → kepts cs ≡ true → kepts ds ≡ true → is c (node k cs) ≡ true → is c (node l ds) ≡ true → made k (flats cs) ≡ made l (flats ds) → k ≡ l
+kind_same c k l cs ds s t m n i j e = by_which (which k s) (which l t)
   where
     codes' : code k ≡ code l
     codes' = sym (top_made k (flats cs)) ∙ (ap top e ∙ top_made l (flats ds))
 
-    not_19 : (k : Kind) → taken k ≡ true → code k ≡ 19 → ⊥
-    not_19 k t e = never (nat_eq (code k) 19) (eq-eqb (code k) 19 e) (not_is _ (for_kind (λ k. not (nat_eq (code k) 19)) no_seq_code k (taken_scope k t)))
+    not_19 : (k : Kind) → scope k ≡ true → code k ≡ 19 → ⊥
+    not_19 k t e = never (nat_eq (code k) 19) (eq-eqb (code k) 19 e) (not_is _ (for_kind (λ k. not (nat_eq (code k) 19)) no_seq_code k t))
 
     by_alike : Alike k l → k ≡ l
     by_alike (one_kind p) = p
@@ -380,15 +433,20 @@ kind_same c k l cs ds s t m n i j e = by_taken (test (taken k)) (test (taken l))
         absurd (no_bare cs ds m (subst (λ k. fit_slots (positions k) cs ≡ true) (bare_is k b) (and_right (admits c (node k cs)) (fits_below c (node k cs)) i))
         ((λ i. made (sym (bare_is k b) i) (flats cs)) ∙ (e ∙ (λ i. made (arrow_is l a i) (flats ds)))))
 
-    by_taken : Test (taken k) → Test (taken l) → k ≡ l
-    by_taken (no' p) (no' q) = seq_is k (or_else (taken k) (is_seq k) s p) ∙ sym (seq_is l (or_else (taken l) (is_seq l) t q))
-    by_taken (yes' p) (no' q) = absurd (not_19 k p (codes' ∙ ap code (seq_is l (or_else (taken l) (is_seq l) t q))))
-    by_taken (no' p) (yes' q) = absurd (not_19 l q (sym codes' ∙ ap code (seq_is k (or_else (taken k) (is_seq k) s p))))
-    by_taken (yes' p) (yes' q) =
-        by_alike (alike c k l (taken_scope k p) (taken_scope l q) (home_of c k cs (and_left (admits c (node k cs)) (fits_below c (node k cs)) i)) (home_of c l ds (and_left (admits c (node l ds)) (fits_below c (node l ds)) j)) codes')
+    by_which : Which k → Which l → k ≡ l
+    by_which (a_statement p) (a_statement q) = two_stated k l p q codes'
+    by_which (a_statement p) (a_taken q) = absurd (stated_taken k l p q codes')
+    by_which (a_taken p) (a_statement q) = absurd (stated_taken l k q p (sym codes'))
+    by_which (a_statement p) (a_seq q) = absurd (stated_seq k p (codes' ∙ ap code q))
+    by_which (a_seq p) (a_statement q) = absurd (stated_seq l q (sym codes' ∙ ap code p))
+    by_which (a_seq p) (a_seq q) = p ∙ sym q
+    by_which (a_taken p) (a_seq q) = absurd (not_19 k p (codes' ∙ ap code q))
+    by_which (a_seq p) (a_taken q) = absurd (not_19 l q (sym codes' ∙ ap code p))
+    by_which (a_taken p) (a_taken q) =
+        by_alike (alike c k l p q (home_of c k cs (and_left (admits c (node k cs)) (fits_below c (node k cs)) i)) (home_of c l ds (and_left (admits c (node l ds)) (fits_below c (node l ds)) j)) codes')
 
-node_same : (c : Nonterminal) (k l : Kind) (cs ds : Forest) → (taken k || is_seq k) ≡ true → (taken l || is_seq l) ≡ true → tames cs ≡ true → tames ds ≡ true → is c (node k cs) ≡ true → is c (node l ds) ≡ true → made k (flats cs) ≡ made l (flats ds)
-    → ((us : Forest) → tames us ≡ true → fit_slots (positions k) cs ≡ true → fit_slots (positions k) us ≡ true → flats cs ≡ flats us → cs ≡ us) → node k cs ≡ node l ds
+node_same : (c : Nonterminal) (k l : Kind) (cs ds : Forest) → known k ≡ true → known l ≡ true → kepts cs ≡ true → kepts ds ≡ true → is c (node k cs) ≡ true → is c (node l ds) ≡ true → made k (flats cs) ≡ made l (flats ds)
+    → ((us : Forest) → kepts us ≡ true → fit_slots (positions k) cs ≡ true → fit_slots (positions k) us ≡ true → flats cs ≡ flats us → cs ≡ us) → node k cs ≡ node l ds
 node_same c k l cs ds s t m n i j e slots' =
     let p = kind_same c k l cs ds s t m n i j e in
     let fk = and_right (admits c (node k cs)) (fits_below c (node k cs)) i in
@@ -405,24 +463,24 @@ top_row : (fs : Flats) → top (row_of fs) ≡ 0
 unfolding top
 top_row fs = refl
 
-row_node : (k : Kind) (cs us : Forest) → (taken k || is_seq k) ≡ true → made k (flats cs) ≡ row_of (flats us) → ⊥
+row_node : (k : Kind) (cs us : Forest) → known k ≡ true → made k (flats cs) ≡ row_of (flats us) → ⊥
 row_node k cs us h e = code_some k h (sym (top_made k (flats cs)) ∙ (ap top e ∙ top_row (flats us)))
 
 mutual
-  pub place_same : (t u : Tree) (o : Form) (c : Nonterminal) → tame t ≡ true → tame u ≡ true → shaped o c t ≡ true → shaped o c u ≡ true → fits_below c t ≡ true → fits_below c u ≡ true → flat t ≡ flat u → t ≡ u
+  pub place_same : (t u : Tree) (o : Form) (c : Nonterminal) → kept t ≡ true → kept u ≡ true → shaped o c t ≡ true → shaped o c u ≡ true → fits_below c t ≡ true → fits_below c u ≡ true → flat t ≡ flat u → t ≡ u
   place_same (leaf s t) (leaf r u) o c h g i j f k e = sym (leaf_one s t) ∙ (ap leaf_kind e ∙ leaf_one r u)
-  place_same (leaf s t) (node k cs) o c h g i j f q e = absurd (leaf_node s t k cs (and_left (taken k || is_seq k) (tames cs) g) e)
+  place_same (leaf s t) (node k cs) o c h g i j f q e = absurd (leaf_node s t k cs (and_left (known k) (kepts cs) g) e)
   place_same (leaf s t) (list us) o c h g i j f k e = cc
-  place_same (node k cs) (leaf s t) o c h g i j f q e = absurd (leaf_node s t k cs (and_left (taken k || is_seq k) (tames cs) h) (sym e))
-  place_same (node k cs) (list us) o c h g i j f q e = absurd (row_node k cs us (and_left (taken k || is_seq k) (tames cs) h) e)
+  place_same (node k cs) (leaf s t) o c h g i j f q e = absurd (leaf_node s t k cs (and_left (known k) (kepts cs) h) (sym e))
+  place_same (node k cs) (list us) o c h g i j f q e = absurd (row_node k cs us (and_left (known k) (kepts cs) h) e)
   place_same (list ts) (leaf s t) o c h g i j f k e = cc
-  place_same (list ts) (node k cs) o c h g i j f q e = absurd (row_node k cs ts (and_left (taken k || is_seq k) (tames cs) g) (sym e))
+  place_same (list ts) (node k cs) o c h g i j f q e = absurd (row_node k cs ts (and_left (known k) (kepts cs) g) (sym e))
   place_same (list ts) (list us) o c h g i j f k e = ap list (each_same ts us c h g f k (row_inj e))
   place_same (node k cs) (node l ds) o c h g i j f q e =
-      node_same c k l cs ds (and_left (taken k || is_seq k) (tames cs) h) (and_left (taken l || is_seq l) (tames ds) g) (and_right (taken k || is_seq k) (tames cs) h) (and_right (taken l || is_seq l) (tames ds) g) (node_admits o c k cs i f) (node_admits o c l ds j q) e
-      (λ us n f g' q. slots_same cs us (positions k) (and_right (taken k || is_seq k) (tames cs) h) n f g' q)
+      node_same c k l cs ds (and_left (known k) (kepts cs) h) (and_left (known l) (kepts ds) g) (and_right (known k) (kepts cs) h) (and_right (known l) (kepts ds) g) (node_admits o c k cs i f) (node_admits o c l ds j q) e
+      (λ us n f g' q. slots_same cs us (positions k) (and_right (known k) (kepts cs) h) n f g' q)
 
-  slots_same : (ts us : Forest) (ss : List Position) → tames ts ≡ true → tames us ≡ true → fit_slots ss ts ≡ true → fit_slots ss us ≡ true → flats ts ≡ flats us → ts ≡ us
+  slots_same : (ts us : Forest) (ss : List Position) → kepts ts ≡ true → kepts us ≡ true → fit_slots ss ts ≡ true → fit_slots ss us ≡ true → flats ts ≡ flats us → ts ≡ us
   slots_same none none ss h g i j e = refl
   slots_same none (part u us) ss h g i j e = cc
   slots_same (part t ts) none ss h g i j e = cc
@@ -431,11 +489,11 @@ mutual
       let p = cons_inj e in
       let i1 = and_right (shaped o c t) _ i in
       let j1 = and_right (shaped o c u) _ j in
-      let q = place_same t u o c (and_left (tame t) (tames ts) h) (and_left (tame u) (tames us) g) (and_left (shaped o c t) _ i) (and_left (shaped o c u) _ j) (and_left (fits_below c t) (fit_slots ss ts) i1) (and_left (fits_below c u) (fit_slots ss us) j1) p.0 in
-      let r = slots_same ts us ss (and_right (tame t) (tames ts) h) (and_right (tame u) (tames us) g) (and_right (fits_below c t) (fit_slots ss ts) i1) (and_right (fits_below c u) (fit_slots ss us) j1) p.1 in
+      let q = place_same t u o c (and_left (kept t) (kepts ts) h) (and_left (kept u) (kepts us) g) (and_left (shaped o c t) _ i) (and_left (shaped o c u) _ j) (and_left (fits_below c t) (fit_slots ss ts) i1) (and_left (fits_below c u) (fit_slots ss us) j1) p.0 in
+      let r = slots_same ts us ss (and_right (kept t) (kepts ts) h) (and_right (kept u) (kepts us) g) (and_right (fits_below c t) (fit_slots ss ts) i1) (and_right (fits_below c u) (fit_slots ss us) j1) p.1 in
       (λ i. part (q i) (r i))
 
-  each_same : (ts us : Forest) (c : Nonterminal) → tames ts ≡ true → tames us ≡ true → fit_each c ts ≡ true → fit_each c us ≡ true → flats ts ≡ flats us → ts ≡ us
+  each_same : (ts us : Forest) (c : Nonterminal) → kepts ts ≡ true → kepts us ≡ true → fit_each c ts ≡ true → fit_each c us ≡ true → flats ts ≡ flats us → ts ≡ us
   each_same none none c h g i j e = refl
   each_same none (part u us) c h g i j e = cc
   each_same (part t ts) none c h g i j e = cc
@@ -443,9 +501,9 @@ mutual
       let p = cons_inj e in
       let i1 = and_right (admits c t) _ i in
       let j1 = and_right (admits c u) _ j in
-      let q = place_same t u Single c (and_left (tame t) (tames ts) h) (and_left (tame u) (tames us) g) (and_left (admits c t) _ i) (and_left (admits c u) _ j) (and_left (fits_below c t) (fit_each c ts) i1) (and_left (fits_below c u) (fit_each c us) j1) p.0 in
-      let r = each_same ts us c (and_right (tame t) (tames ts) h) (and_right (tame u) (tames us) g) (and_right (fits_below c t) (fit_each c ts) i1) (and_right (fits_below c u) (fit_each c us) j1) p.1 in
+      let q = place_same t u Single c (and_left (kept t) (kepts ts) h) (and_left (kept u) (kepts us) g) (and_left (admits c t) _ i) (and_left (admits c u) _ j) (and_left (fits_below c t) (fit_each c ts) i1) (and_left (fits_below c u) (fit_each c us) j1) p.0 in
+      let r = each_same ts us c (and_right (kept t) (kepts ts) h) (and_right (kept u) (kepts us) g) (and_right (fits_below c t) (fit_each c ts) i1) (and_right (fits_below c u) (fit_each c us) j1) p.1 in
       (λ i. part (q i) (r i))
 
-pub tree_same : (t u : Tree) (c : Nonterminal) → tame t ≡ true → tame u ≡ true → is c t ≡ true → is c u ≡ true → flat t ≡ flat u → t ≡ u
+pub tree_same : (t u : Tree) (c : Nonterminal) → kept t ≡ true → kept u ≡ true → is c t ≡ true → is c u ≡ true → flat t ≡ flat u → t ≡ u
 tree_same t u c h g i j e = place_same t u Single c h g (and_left (admits c t) (fits_below c t) i) (and_left (admits c u) (fits_below c u) j) (and_right (admits c t) (fits_below c t) i) (and_right (admits c u) (fits_below c u) j) e

@@ -22,10 +22,10 @@ use Rattle.jsx_tree.proofs.Laws.{scan_lost}
 use Rattle.jsx_tree.specs.Nonterminals.{Nonterminal, BlockOnly, homes, in_homes, leaf_in}
 use Rattle.jsx_tree.proofs.Rows.Bridge.{node_walk}
 use Rattle.jsx_tree.proofs.OneTree.Table.{kinds}
-use Rattle.jsx_tree.proofs.OneTree.Statements.{stated, place, stated_kinds, nth}
+use Rattle.jsx_tree.proofs.OneTree.Statements.{place, stated_kinds, nth}
 use Rattle.jsx_tree.proofs.OneTree.Statements.{stated_nth, for_stated}
-use Rattle.jsx_tree.proofs.OneTree.Places.{taken, is_seq}
-use Rattle.jsx_tree.proofs.OneTree.Parts.{known, kept, kepts}
+use Rattle.jsx_tree.proofs.OneTree.Known.{stated, taken, is_seq, known}
+use Rattle.jsx_tree.proofs.OneTree.Evidence.{Kept, Kepts, kept_left, kept_right, kept_kind}
 use Rattle.jsx_tree.specs.Spelling.{spelled}
 
 abbrev pub mark : Text → Sign
@@ -416,7 +416,7 @@ block_kind k s h = by_stated (test (stated k))
             or_other true b e f = refl
             or_other false b e f = absurd (never b e f)
 
-block_first : {v : Surroundings} {x y : Place} (t : Tree) → kept t ≡ true → IsRead v false BlockOnly x t y → IsTrue (is_found (forth (mark (codes "{")) x))
+block_first : {v : Surroundings} {x y : Place} (t : Tree) → Kept t → IsRead v false BlockOnly x t y → IsTrue (is_found (forth (mark (codes "{")) x))
 block_first (leaf s t) h r = absurd (no_leaf s (and_left (leaf_in BlockOnly s t) _ r.is))
   where
     no_leaf : (s : TokenKind) → leaf_in BlockOnly s t ≡ true → ⊥
@@ -424,7 +424,7 @@ block_first (leaf s t) h r = absurd (no_leaf s (and_left (leaf_in BlockOnly s t)
     no_leaf _ h = cc
 block_first (list ts) h r = let bad = r.is in cc
 block_first {v} {x} {y} (node k cs) h r =
-    let e = block_kind k (and_left (known k) (kepts cs) h) (and_left (in_homes BlockOnly (homes k)) _ r.is) in
+    let e = block_kind k (kept_kind h) (and_left (in_homes BlockOnly (homes k)) _ r.is) in
     let s = at_sign (node_walk false (statement Block) refl (subst (λ k. IsRead v false BlockOnly x (node k cs) y) e r)).walk in
     subst (λ z. IsTrue (is_found z)) (sym s.moves) s.found
 
@@ -439,19 +439,19 @@ sign_follow {s = s} {ps = ps} {x = x} e w p h c rest = by_met (test (met_by w s)
         let q = p.looked (and_left (looks s) _ o) in
         subst (λ z. meets w z ≡ true) (sym q) (rest (and_right (looks s) _ o) p.next (λ n. subst (λ z. after z ≡ true) q (c n)) p.walk)
 
-pub follow_meets : {V : List Context → Surroundings} (e : Want) (ps : Production) (w : Want) (a : List Context) {y z : Place} {ts : Forest} → follow e ps w ≡ true → (is_calm w ≡ true → after y ≡ true) → W.Walk IsRead V (pieces a ps) y ts z → kepts ts ≡ true → meets e z ≡ true → meets w y ≡ true
+pub follow_meets : {V : List Context → Surroundings} (e : Want) (ps : Production) (w : Want) (a : List Context) {y z : Place} {ts : Forest} → follow e ps w ≡ true → (is_calm w ≡ true → after y ≡ true) → W.Walk IsRead V (pieces a ps) y ts z → Kepts ts → meets e z ≡ true → meets w y ≡ true
 follow_meets e ps anything a h c k g m = refl
 follow_meets e [] w a {y} {z} h c k g m = subst (λ z. meets w z ≡ true) (sym (at_end k).1) (implied e w z h (λ n. subst (λ z. after z ≡ true) (at_end k).1 (c n)) m)
 follow_meets e (Fixed s ∷ ps) w a h c k g m = sign_follow e w (signed s ps a k) h c (λ o y c' k'. follow_meets e ps w a o c' k' g m)
 follow_meets e (Within d ∷ ps) w a h c k g m = follow_meets e ps w (d ∷ a) h c k g m
 follow_meets e (Optional x d b r ∷ ps) w a {y} h c k g m =
     let p = at_optional k in
-    let o = and_right (kepts p.trees) _ (subst (λ ts. kepts ts ≡ true) p.is g) in
+    let o = kept_right (subst Kepts p.is g) in
     optional_back w (heard x) d (heard b) r (and_left (met_first w (heard x)) _ h)
     (λ q. subst (λ z. meets w z ≡ true) (sym q) (follow_meets e ps w a (and_right (met_first w (heard x)) _ h) (λ n. subst (λ z. after z ≡ true) q (c n)) p.walk o m)) p.past
 follow_meets e (Part BlockOnly ∷ ps) w a {y} h c k g m =
     let p = at_part k in
-    seen_met w Punctuator (codes "{") y (block_first p.tree (and_left (kept p.tree) _ (subst (λ ts. kepts ts ≡ true) p.is g)) p.read) h
+    seen_met w Punctuator (codes "{") y (block_first p.tree (kept_left (subst Kepts p.is g)) p.read) h
 follow_meets e (Part _ ∷ ps) w a h c k g m = cc
 follow_meets e (Many s d ∷ ps) w a h c k g m = cc
 

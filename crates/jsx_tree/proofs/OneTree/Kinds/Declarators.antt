@@ -10,10 +10,10 @@ use Rattle.jsx_tree.specs.Form.{admits, fits_below, enough}
 use Rattle.jsx_tree.specs.StaticRules.{Surroundings}
 use Rattle.jsx_tree.specs.Spelling.{between}
 use Rattle.jsx_tree.specs.Reading.{Place, Lost, At, forth, scan, continues}
-use Rattle.jsx_tree.proofs.Tokens.{and_left, and_right, and_both}
+use Rattle.jsx_tree.proofs.Tokens.{and_left, and_both}
 use Rattle.jsx_tree.specs.Walk as W
 use Rattle.jsx_tree.specs.Walk.{is_found, IsRead}
-use Rattle.jsx_tree.proofs.OneTree.Statements.{stated, place, stated_kinds, nth}
+use Rattle.jsx_tree.proofs.OneTree.Statements.{place, stated_kinds, nth}
 use Rattle.jsx_tree.proofs.OneTree.Readings.{kind_at, text_at, comma}
 use Rattle.jsx_tree.proofs.OneTree.Checks.{every}
 use Rattle.jsx_tree.proofs.OneTree.Facts.{never, or_else, Test, yes', no', test, eq_nat, Seen, seen}
@@ -25,7 +25,9 @@ use Rattle.jsx_tree.proofs.OneTree.Statements.{stated_nth, for_stated}
 use Rattle.jsx_tree.proofs.OneTree.Endings.{after, at_semi}
 use Rattle.jsx_tree.proofs.OneTree.Missing.{Behind, a_mark, a_brace, a_line, behind as behind_semi}
 use Rattle.jsx_tree.proofs.OneTree.Afters.{after_tree}
-use Rattle.jsx_tree.proofs.OneTree.Parts.{known, kept, kepts, tame_of}
+use Rattle.jsx_tree.proofs.OneTree.Known.{stated}
+use Rattle.jsx_tree.proofs.OneTree.Evidence.{Kept, Kepts, kept_left, kept_right, kept_listed, kept_kind, kept_parts}
+use Rattle.jsx_tree.proofs.OneTree.Parts.{tame_of}
 use Rattle.jsx_tree.proofs.OneTree.Wants.{bound, is_declared, mark, read_start, look_same, at_optional}
 use Rattle.jsx_tree.proofs.OneTree.Rows.{All, all_parts, own_leaf, own_kind, own_same}
 use Rattle.jsx_tree.proofs.OneTree.Lists.{SameRow}
@@ -46,22 +48,22 @@ ends_bound : (x y : Place) → forth (Ends AfterBinding) x ≡ y → IsTrue (is_
 ends_bound Lost y e f = absurd (never false (subst (λ p. is_found p ≡ true) (sym e) f) refl)
 ends_bound (At q g text) y e f = subst (λ p. bound p ≡ true) e refl
 
-init_bound : {v : Surroundings} {m : List Sign} {x y : Place} {t : Tree} → bound x ≡ true → kept t ≡ true → W.Past IsRead v (Optional m (Expr 1) [] []) x (W.one t) y → bound y ≡ true
+init_bound : {v : Surroundings} {m : List Sign} {x y : Place} {t : Tree} → bound x ≡ true → Kept t → W.Past IsRead v (Optional m (Expr 1) [] []) x (W.one t) y → bound y ≡ true
 init_bound b h (W.absent {x = x} {y = y} e f) = subst (λ z. bound z ≡ true) (look_same (Unless []) x y refl e f) b
-init_bound b h (W.present {z = z} {t = t} e r g f) = subst (λ z. bound z ≡ true) g (after_bound z (after_tree t (Expr 1) (tame_of t (Expr 1) refl (and_left (kept t) true h) r.is) refl r))
+init_bound b h (W.present {z = z} {t = t} e r g f) = subst (λ z. bound z ≡ true) g (after_bound z (after_tree t (Expr 1) (tame_of t (Expr 1) refl (kept_left (kept_listed h)) r.is) refl r))
 
 -- a declarator ends behind its initialiser, or where it has none
-bound_end : {v : Surroundings} {x y : Place} (t : Tree) → kept t ≡ true → IsRead v false Declarators x t y → bound y ≡ true
+bound_end : {v : Surroundings} {x y : Place} (t : Tree) → Kept t → IsRead v false Declarators x t y → bound y ≡ true
 bound_end (leaf s t) h r = absurd (own_leaf Declarators s t refl (and_left (leaf_in Declarators s t) _ r.is))
 bound_end (list ts) h r = let bad = r.is in cc
 bound_end {v} {x} {y} (node k cs) h r =
     let i = home_of Declarators k cs (and_left (admits Declarators (node k cs)) (fits_below Declarators (node k cs)) r.is) in
-    let e = declarator_kind k (own_kind Declarators k refl (and_left (known k) (kepts cs) h) i) i in
+    let e = declarator_kind k (own_kind Declarators k refl (kept_kind h) i) i in
     let p = at_part (node_walk false (statement Declarator) refl (subst (λ k. IsRead v false Declarators x (node k cs) y) e r)).walk in
     let s = at_sign p.walk in
     let o = at_optional s.walk in
-    let g = and_right (kept p.tree) _ (subst (λ ts. kepts ts ≡ true) p.is (and_right (known k) (kepts cs) h)) in
-    subst (λ z. bound z ≡ true) (at_end o.walk).1 (init_bound (ends_bound p.next s.next s.moves s.found) (and_left (kepts o.trees) _ (subst (λ ts. kepts ts ≡ true) o.is g)) o.past)
+    let g = kept_right (subst Kepts p.is (kept_parts h)) in
+    subst (λ z. bound z ≡ true) (at_end o.walk).1 (init_bound (ends_bound p.next s.next s.moves s.found) (kept_left (subst Kepts o.is g)) o.past)
 
 -- ---- what stands behind the last
 
@@ -127,26 +129,26 @@ comma_found y e f = subst (λ z. IsTrue (is_found z)) (sym (after_comma y e)) f
 comma_declared : (y : Place) → IsTrue (is_found (forth comma y)) → is_declared y ≡ true
 comma_declared y f = or_left (is_found (forth comma y)) _ f
 
-last_declared : {v : Surroundings} {x y z : Place} (t : Tree) → kept t ≡ true → IsRead v false Declarators x t y → y ≡ z → ended_list z ≡ true → is_declared y ≡ true
+last_declared : {v : Surroundings} {x y z : Place} (t : Tree) → Kept t → IsRead v false Declarators x t y → y ≡ z → ended_list z ≡ true → is_declared y ≡ true
 last_declared {y = y} t h r e m = end_declared y (bound_end t h r) (subst (λ z. ended_list z ≡ true) (sym e) m)
 
-pub declarators_same : {v w : Surroundings} {x y z : Place} (ts us : Forest) → enough NoTrailing ts ≡ true → enough NoTrailing us ≡ true → All ts → kepts ts ≡ true → kepts us ≡ true
+pub declarators_same : {v w : Surroundings} {x y z : Place} (ts us : Forest) → enough NoTrailing ts ≡ true → enough NoTrailing us ≡ true → All ts → Kepts ts → Kepts us
     → W.Items IsRead v NoTrailing Declarators x ts y → W.Items IsRead w NoTrailing Declarators x us z → ended_list y ≡ true → ended_list z ≡ true → SameRow ts us y z
 declarators_same none us g g' a h k i j m n = cc
 declarators_same (part t ts) none g g' a h k i j m n = cc
 declarators_same (part t none) (part u none) g g' a h k (W.last {y = p} r e f) (W.last {y = q} r' e' f') m n =
-    let o = own_same Declarators t u refl (all_parts a).0 (and_left (kept t) true h) (and_left (kept u) true k) r r' (last_declared t (and_left (kept t) true h) r e m) (last_declared u (and_left (kept u) true k) r' e' n) in
+    let o = own_same Declarators t u refl (all_parts a).0 (kept_left h) (kept_left k) r r' (last_declared t (kept_left h) r e m) (last_declared u (kept_left k) r' e' n) in
     record { trees = ap (λ t. part t none) o.tree; place = sym e ∙ (o.place ∙ e') }
 declarators_same (part t none) (part u (part u' us)) g g' a h k (W.last {y = p} r e f) (W.more {y = q} l r' e' j) m n =
     let c = comma_found q e' (items_start j) in
-    let o = own_same Declarators t u refl (all_parts a).0 (and_left (kept t) true h) (and_left (kept u) (kepts (part u' us)) k) r r' (last_declared t (and_left (kept t) true h) r e m) (comma_declared q c) in
-    absurd (end_comma p (bound_end t (and_left (kept t) true h) r) (subst (λ z. ended_list z ≡ true) (sym e) m) (subst (λ z. IsTrue (is_found (forth comma z))) (sym o.place) c))
+    let o = own_same Declarators t u refl (all_parts a).0 (kept_left h) (kept_left k) r r' (last_declared t (kept_left h) r e m) (comma_declared q c) in
+    absurd (end_comma p (bound_end t (kept_left h) r) (subst (λ z. ended_list z ≡ true) (sym e) m) (subst (λ z. IsTrue (is_found (forth comma z))) (sym o.place) c))
 declarators_same (part t (part t' ts)) (part u none) g g' a h k (W.more {y = p} l r e i) (W.last {y = q} r' e' f') m n =
     let c = comma_found p e (items_start i) in
-    let o = own_same Declarators t u refl (all_parts a).0 (and_left (kept t) (kepts (part t' ts)) h) (and_left (kept u) true k) r r' (comma_declared p c) (last_declared u (and_left (kept u) true k) r' e' n) in
-    absurd (end_comma q (bound_end u (and_left (kept u) true k) r') (subst (λ z. ended_list z ≡ true) (sym e') n) (subst (λ z. IsTrue (is_found (forth comma z))) o.place c))
+    let o = own_same Declarators t u refl (all_parts a).0 (kept_left h) (kept_left k) r r' (comma_declared p c) (last_declared u (kept_left k) r' e' n) in
+    absurd (end_comma q (bound_end u (kept_left k) r') (subst (λ z. ended_list z ≡ true) (sym e') n) (subst (λ z. IsTrue (is_found (forth comma z))) o.place c))
 declarators_same (part t (part t' ts)) (part u (part u' us)) g g' a h k (W.more {y = p} l r e i) (W.more {y = q} l' r' e' j) m n =
     let as' = all_parts a in
-    let o = own_same Declarators t u refl as'.0 (and_left (kept t) (kepts (part t' ts)) h) (and_left (kept u) (kepts (part u' us)) k) r r' (comma_declared p (comma_found p e (items_start i))) (comma_declared q (comma_found q e' (items_start j))) in
-    let d = declarators_same (part t' ts) (part u' us) refl refl as'.1 (and_right (kept t) (kepts (part t' ts)) h) (and_right (kept u) (kepts (part u' us)) k) i (move_items (sym (after_comma p e) ∙ (ap (forth comma) o.place ∙ after_comma q e')) j) m n in
+    let o = own_same Declarators t u refl as'.0 (kept_left h) (kept_left k) r r' (comma_declared p (comma_found p e (items_start i))) (comma_declared q (comma_found q e' (items_start j))) in
+    let d = declarators_same (part t' ts) (part u' us) refl refl as'.1 (kept_right h) (kept_right k) i (move_items (sym (after_comma p e) ∙ (ap (forth comma) o.place ∙ after_comma q e')) j) m n in
     record { trees = λ i. part (o.tree i) (d.trees i); place = d.place }

@@ -25,7 +25,8 @@ use Rattle.jsx_tree.proofs.OneTree.Fine.{at_sign, at_part, at_many, at_end}
 use Rattle.jsx_tree.proofs.OneTree.Spines.{home_of}
 use Rattle.jsx_tree.proofs.OneTree.Placed.{whole_reads, tree_reads, hole_free}
 use Rattle.jsx_tree.proofs.OneTree.Chains.{fine}
-use Rattle.jsx_tree.proofs.OneTree.Parts.{known, kept, kepts, tame_of}
+use Rattle.jsx_tree.proofs.OneTree.Evidence.{Kept, Kepts, kept_left, kept_right, kept_list, kept_listed, kept_kind, kept_parts}
+use Rattle.jsx_tree.proofs.OneTree.Parts.{tame_of}
 use Rattle.jsx_tree.proofs.OneTree.Wants.{ended, mark, met, look_met, look_same, read_start, at_optional}
 use Rattle.jsx_tree.proofs.OneTree.Rows.{own_leaf, own_kind, pattern_part}
 use Rattle.jsx_tree.proofs.OneTree.Kinds.Declarators.{declarator_kind, after_comma, items_start}
@@ -161,30 +162,30 @@ init_word (W.absent {x = x} {y = y} e f) b s r = two_tokens r (move_seen (sym (l
 init_word (W.present {x = x} {y = y} e i g f) b s r = two_tokens r (took Punctuator (codes "=") x e (read_start i)) refl
 
 -- a declarator before a punctuator, and a pattern before a word
-declarator_word : {v w : Surroundings} {x y z : Place} {d u : Text} (t p : Tree) → kept t ≡ true → kept p ≡ true → IsRead v false Declarators x t y → IsRead w false (Pat Binds) x p z → Seen y Punctuator d → Seen z IdentifierName u → ⊥
+declarator_word : {v w : Surroundings} {x y z : Place} {d u : Text} (t p : Tree) → Kept t → Kept p → IsRead v false Declarators x t y → IsRead w false (Pat Binds) x p z → Seen y Punctuator d → Seen z IdentifierName u → ⊥
 declarator_word (leaf s t) p h k r q m n = absurd (own_leaf Declarators s t refl (and_left (leaf_in Declarators s t) _ r.is))
 declarator_word (list ts) p h k r q m n = let bad = r.is in cc
 declarator_word {v} {x = x} {y} (node l cs) p h k r q m n =
     let i = home_of Declarators l cs (and_left (admits Declarators (node l cs)) (fits_below Declarators (node l cs)) r.is) in
-    let e = declarator_kind l (own_kind Declarators l refl (and_left (known l) (kepts cs) h) i) i in
+    let e = declarator_kind l (own_kind Declarators l refl (kept_kind h) i) i in
     let b = at_part (node_walk false (statement Declarator) refl (subst (λ k. IsRead v false Declarators x (node k cs) y) e r)).walk in
     let s = at_sign b.walk in
     let o = at_optional s.walk in
-    let g = subst (λ ts. kepts ts ≡ true) b.is (and_right (known l) (kepts cs) h) in
-    let same' = pattern_part b.tree p (and_left (kept b.tree) _ g) k b.read q in
+    let g = subst Kepts b.is (kept_parts h) in
+    let same' = pattern_part b.tree p (kept_left g) k b.read q in
     init_word o.past (at_end o.walk).1 m (by_ends b.next s.next s.moves s.found (move_seen (sym same'.place) n))
   where
     by_ends : {k : TokenKind} {t : Text} (x y : Place) → forth (Ends AfterBinding) x ≡ y → IsTrue (is_found y) → Seen x k t → Seen y k t
     by_ends Lost y e f s = absurd (never false (subst (λ p. is_found p ≡ true) (sym e) f) refl)
     by_ends {k} {t} (At q g text) y e f s = subst (λ y. Seen y k t) e (record { kind = s.kind; text = s.text })
 
-list_word : {v w : Surroundings} {x y z : Place} {u : Text} (ts : Forest) (p : Tree) → enough NoTrailing ts ≡ true → kepts ts ≡ true → kept p ≡ true → W.Items IsRead v NoTrailing Declarators x ts y → IsRead w false (Pat Binds) x p z → Seen y Punctuator (codes ";") → Seen z IdentifierName u → ⊥
+list_word : {v w : Surroundings} {x y z : Place} {u : Text} (ts : Forest) (p : Tree) → enough NoTrailing ts ≡ true → Kepts ts → Kept p → W.Items IsRead v NoTrailing Declarators x ts y → IsRead w false (Pat Binds) x p z → Seen y Punctuator (codes ";") → Seen z IdentifierName u → ⊥
 list_word none p g h k i r m n = cc
-list_word (part t none) p g h k (W.last {y = y} q e f) r m n = declarator_word t p (and_left (kept t) true h) k q r (move_seen (sym e) m) n
+list_word (part t none) p g h k (W.last {y = y} q e f) r m n = declarator_word t p (kept_left h) k q r (move_seen (sym e) m) n
 list_word (part t (part t' ts)) p g h k (W.more {y = y} l q e i) r m n =
-    declarator_word t p (and_left (kept t) (kepts (part t' ts)) h) k q r (comma_seen (after_comma y e) (items_start i)) n
+    declarator_word t p (kept_left h) k q r (comma_seen (after_comma y e) (items_start i)) n
 
-declares_binds : {v w : Surroundings} {x y z : Place} {cs ds : Forest} {u : Text} (a b : DeclareWord) → kepts cs ≡ true → kepts ds ≡ true → IsNode IsRead v false (statement (ForDeclaration a)) x cs y → IsNode IsRead w false (statement (ForBinding b)) x ds z
+declares_binds : {v w : Surroundings} {x y z : Place} {cs ds : Forest} {u : Text} (a b : DeclareWord) → Kepts cs → Kepts ds → IsNode IsRead v false (statement (ForDeclaration a)) x cs y → IsNode IsRead w false (statement (ForBinding b)) x ds z
     → Seen y Punctuator (codes ";") → Seen z IdentifierName u → ⊥
 declares_binds {w = w} {x = x} {ds = ds} a b g g' m n s r =
     let p = at_sign m.walk in
@@ -193,7 +194,7 @@ declares_binds {w = w} {x = x} {ds = ds} a b g g' m n s r =
     let o = at_part q.walk in
     let e = words_same a b (declares_word a m) (binds_word b n) in
     let back : p.next ≡ q.next = sym p.moves ∙ ((λ i. forth (Tok Operator IdentifierName (vars (e i))) x) ∙ q.moves) in
-    list_word l.trees o.tree l.enough' (and_left (kepts l.trees) _ (subst (λ ts. kepts ts ≡ true) l.is g)) (and_left (kept o.tree) _ (subst (λ ts. kepts ts ≡ true) o.is g')) l.read
+    list_word l.trees o.tree l.enough' (kept_list (subst Kepts l.is g)) (kept_left (subst Kepts o.is g')) l.read
     (subst (λ x. IsRead (W.around w ds []) false (Pat Binds) x o.tree o.next) (sym back) o.read) (move_seen (sym (at_end l.walk).1) s) (move_seen (sym (at_end o.walk).1) r)
 
 -- ---- what begins a `for` with three parts, and a head
@@ -202,29 +203,29 @@ mark_calm : {y : Place} → Seen y Punctuator (codes ";") → calm 0 y ≡ true
 mark_calm {y} s = look_met (ended 0) Punctuator (codes ";") y refl s refl
 
 -- the rest of the argument is of two expressions
-init_head : {v w : Surroundings} {x y z : Place} {t h : Tree} {u : Text} → kept t ≡ true → kept h ≡ true → Init v x t y → Head w x h z → Seen y Punctuator (codes ";") → Seen z IdentifierName u → calm 17 z ≡ true → (Whole x t y → Reads 17 x h z → ⊥) → ⊥
+init_head : {v w : Surroundings} {x y z : Place} {t h : Tree} {u : Text} → Kept t → Kept h → Init v x t y → Head w x h z → Seen y Punctuator (codes ";") → Seen z IdentifierName u → calm 17 z ≡ true → (Whole x t y → Reads 17 x h z → ⊥) → ⊥
 init_head f g (declares a k m) (binds b l n) s r c rest = declares_binds a b k l m n s r
 init_head {x = x} f g (declares a k m) (targets {t = h} n) s r c rest = word_start a x (declares_word a m) (target_starts h g n c)
 init_head {x = x} f g (expresses {t = t} m) (binds b l n) s r c rest = word_start b x (binds_word b n) (init_starts t f m (mark_calm s))
 init_head f g (expresses {t = t} m) (targets {t = h} n) s r c rest =
     let i = tame_of t (Expr 0) refl f m.is in
     let j = tame_of h (Pat Assigns) refl g n.is in
-    rest (whole_reads t (fine t i) i m (mark_calm s)) (tree_reads 17 17 (Pat Assigns) (fine h j) j (hole_free h (Pat Assigns) refl n) n target_placed c)
+    rest (whole_reads t (fine t i) i.tame' m (mark_calm s)) (tree_reads 17 17 (Pat Assigns) (fine h j) j.tame' (hole_free h (Pat Assigns) refl n) n target_placed c)
 
-past_head : {v w : Surroundings} {x p y z : Place} {g h : Tree} {u : Text} → kept g ≡ true → kept h ≡ true → W.Past IsRead v (Optional [] ForInit [] []) x (W.one g) y → Head w p h z → x ≡ p → Seen y Punctuator (codes ";") → Seen z IdentifierName u → calm 17 z ≡ true
+past_head : {v w : Surroundings} {x p y z : Place} {g h : Tree} {u : Text} → Kept g → Kept h → W.Past IsRead v (Optional [] ForInit [] []) x (W.one g) y → Head w p h z → x ≡ p → Seen y Punctuator (codes ";") → Seen z IdentifierName u → calm 17 z ≡ true
     → ((t : Tree) → Whole p t y → Reads 17 p h z → ⊥) → ⊥
 past_head f k (W.absent {x = x} {y = y} e i) o b s r c rest = head_mark k o c refl (move_seen (sym (look_same (Unless []) x y refl e i) ∙ b) s)
 past_head {v} {p = p} f k (W.present {x = x} {y = a} {z = q} {w = y} {t = t} e i g l) o b s r c rest =
     let i1 : IsRead v false ForInit a t y = subst (λ y. IsRead v false ForInit a t y) g i in
     let i2 : IsRead v false ForInit p t y = subst (λ x. IsRead v false ForInit x t y) (sym e ∙ b) i1 in
-    init_head (and_left (kept t) true f) k (init_view t (and_left (kept t) true f) i2) o s r c (λ x y. rest t x y)
+    init_head (kept_left (kept_listed f)) k (init_view t (kept_left (kept_listed f)) i2) o s r c (λ x y. rest t x y)
 
 -- ---- the pairs
 
 word_calm : {z : Place} {u : Text} → met (ended 17) IdentifierName u ≡ true → Seen z IdentifierName u → calm 17 z ≡ true
 word_calm {z} {u} h s = look_met (ended 17) IdentifierName u z refl s h
 
-pub for_in_apart : {v w : Surroundings} {x y z : Place} (cs ds : Forest) → kepts cs ≡ true → kepts ds ≡ true → IsNode IsRead v false (statement For) x cs y → IsNode IsRead w false (statement ForIn) x ds z → ⊥
+pub for_in_apart : {v w : Surroundings} {x y z : Place} (cs ds : Forest) → Kepts cs → Kepts ds → IsNode IsRead v false (statement For) x cs y → IsNode IsRead w false (statement ForIn) x ds z → ⊥
 for_in_apart {w = w} cs ds f k a b =
     let p1 = at_sign a.walk in
     let p2 = at_sign p1.walk in
@@ -238,17 +239,17 @@ for_in_apart {w = w} cs ds f k a b =
     let c = at_sign e.walk in
     let e1 : p1.next ≡ q1.next = sym p1.moves ∙ q1.moves in
     let e2 : p2.next ≡ q2.next = sym p2.moves ∙ (ap (forth (mark (codes "("))) e1 ∙ q2.moves) in
-    let f' = and_left (kepts o.trees) _ (subst (λ ts. kepts ts ≡ true) o.is f) in
-    let k' = subst (λ ts. kepts ts ≡ true) h.is k in
-    let k2 = subst (λ ts. kepts ts ≡ true) e.is (and_right (kept h.tree) _ k') in
+    let f' = kept_left (subst Kepts o.is f) in
+    let k' = subst Kepts h.is k in
+    let k2 = subst Kepts e.is (kept_right k') in
     let s = took Punctuator (codes ";") o.next m.moves m.found in
     let r = took IdentifierName (codes "in") h.next n.moves n.found in
     let d = took Punctuator (codes ")") e.next c.moves c.found in
-    let i = tame_of e.tree (Expr 0) refl (and_left (kept e.tree) _ k2) e.read.is in
-    let whole = whole_reads e.tree (fine e.tree i) i e.read (look_met (ended 0) Punctuator (codes ")") e.next refl d refl) in
-    past_head f' (and_left (kept h.tree) _ k') o.past (head_view ForHead h.tree refl (and_left (kept h.tree) _ k') h.read) e2 s r (word_calm refl r) (λ t x y. in_apart x s y n.moves n.found whole d)
+    let i = tame_of e.tree (Expr 0) refl (kept_left k2) e.read.is in
+    let whole = whole_reads e.tree (fine e.tree i) i.tame' e.read (look_met (ended 0) Punctuator (codes ")") e.next refl d refl) in
+    past_head f' (kept_left k') o.past (head_view ForHead h.tree refl (kept_left k') h.read) e2 s r (word_calm refl r) (λ t x y. in_apart x s y n.moves n.found whole d)
 
-pub for_of_apart : {v w : Surroundings} {x y z : Place} (cs ds : Forest) → kepts cs ≡ true → kepts ds ≡ true → IsNode IsRead v false (statement For) x cs y → IsNode IsRead w false (statement ForOf) x ds z → ⊥
+pub for_of_apart : {v w : Surroundings} {x y z : Place} (cs ds : Forest) → Kepts cs → Kepts ds → IsNode IsRead v false (statement For) x cs y → IsNode IsRead w false (statement ForOf) x ds z → ⊥
 for_of_apart {w = w} cs ds f k a b =
     let p1 = at_sign a.walk in
     let p2 = at_sign p1.walk in
@@ -260,13 +261,13 @@ for_of_apart {w = w} cs ds f k a b =
     let n = at_sign h.walk in
     let e1 : p1.next ≡ q1.next = sym p1.moves ∙ q1.moves in
     let e2 : p2.next ≡ q2.next = sym p2.moves ∙ (ap (forth (mark (codes "("))) e1 ∙ q2.moves) in
-    let f' = and_left (kepts o.trees) _ (subst (λ ts. kepts ts ≡ true) o.is f) in
-    let k' = subst (λ ts. kepts ts ≡ true) h.is k in
+    let f' = kept_left (subst Kepts o.is f) in
+    let k' = subst Kepts h.is k in
     let s = took Punctuator (codes ";") o.next m.moves m.found in
     let r = took IdentifierName (codes "of") h.next n.moves n.found in
-    past_head f' (and_left (kept h.tree) _ k') o.past (head_view ForOfHead h.tree refl (and_left (kept h.tree) _ k') h.read) e2 s r (word_calm refl r) (λ t x y. of_apart x s y r)
+    past_head f' (kept_left k') o.past (head_view ForOfHead h.tree refl (kept_left k') h.read) e2 s r (word_calm refl r) (λ t x y. of_apart x s y r)
 
-pub in_of_apart : {v w : Surroundings} {x y z : Place} (cs ds : Forest) → kepts cs ≡ true → kepts ds ≡ true → IsNode IsRead v false (statement ForIn) x cs y → IsNode IsRead w false (statement ForOf) x ds z → ⊥
+pub in_of_apart : {v w : Surroundings} {x y z : Place} (cs ds : Forest) → Kepts cs → Kepts ds → IsNode IsRead v false (statement ForIn) x cs y → IsNode IsRead w false (statement ForOf) x ds z → ⊥
 in_of_apart {w = w} cs ds f k a b =
     let p1 = at_sign a.walk in
     let p2 = at_sign p1.walk in
@@ -278,8 +279,8 @@ in_of_apart {w = w} cs ds f k a b =
     let n = at_sign h.walk in
     let e1 : p1.next ≡ q1.next = sym p1.moves ∙ q1.moves in
     let e2 : p2.next ≡ q2.next = sym p2.moves ∙ (ap (forth (mark (codes "("))) e1 ∙ q2.moves) in
-    let f' = and_left (kept g.tree) _ (subst (λ ts. kepts ts ≡ true) g.is f) in
-    let k' = and_left (kept h.tree) _ (subst (λ ts. kepts ts ≡ true) h.is k) in
+    let f' = kept_left (subst Kepts g.is f) in
+    let k' = kept_left (subst Kepts h.is k) in
     let s = took IdentifierName (codes "in") g.next m.moves m.found in
     let r = took IdentifierName (codes "of") h.next n.moves n.found in
     let o = head_same f' k' (head_view ForHead g.tree refl f' g.read) (head_view ForOfHead h.tree refl k' (subst (λ x. IsRead (W.around w ds []) false ForOfHead x h.tree h.next) (sym e2) h.read)) (word_calm refl s) (word_calm refl r) in

@@ -14,7 +14,9 @@ use Rattle.jsx_tree.proofs.Tokens.{and_left, and_right, same_is}
 use Rattle.jsx_tree.specs.Walk as W
 use Rattle.jsx_tree.specs.Walk.{is_found, IsRead, IsNode}
 use Rattle.jsx_tree.proofs.OneTree.Table.{kinds}
-use Rattle.jsx_tree.proofs.OneTree.Readings.{Step, tok, lit, row, grows, is_arrow, is_paren, is_quote, may_be, kind_at, text_at, Reads, word, regexp, head, paren, target, grow, arrow, braces, Walk, take, literal, Whole, single, several}
+use Rattle.jsx_tree.proofs.OneTree.Readings.{Step, tok, lit, row, grows, is_arrow, is_paren, is_quote, may_be, kind_at, text_at, Reads, word, regexp, head, paren, target, grow, arrow, sealed, braces, Walk, take, literal, Whole, single, several}
+use Rattle.jsx_tree.proofs.OneTree.Sealed.{Opener, of_function, of_class}
+use Rattle.jsx_tree.proofs.OneTree.Starting.{opener_seen}
 use Rattle.jsx_tree.proofs.OneTree.Checks.{every, is_op, same_token}
 use Rattle.jsx_tree.proofs.OneTree.Facts.{never, or_else, eq_nat, kind_is, Seen, took, took_in, same_seen, for_kind, found_at}
 use Rattle.jsx_tree.proofs.OneTree.Slashes.{regexp_slash}
@@ -24,7 +26,8 @@ use Rattle.jsx_tree.proofs.OneTree.Placed.{whole_reads}
 use Rattle.jsx_tree.proofs.OneTree.Chains.{fine}
 use Rattle.jsx_tree.proofs.OneTree.Endings.{at_semi}
 use Rattle.jsx_tree.proofs.OneTree.Afters.{after_tree}
-use Rattle.jsx_tree.proofs.OneTree.Parts.{kept, kepts, tame_of, word_read}
+use Rattle.jsx_tree.proofs.OneTree.Evidence.{Kept, Kepts, kept_left}
+use Rattle.jsx_tree.proofs.OneTree.Parts.{tame_of, word_read}
 use Rattle.jsx_tree.proofs.OneTree.Wants.{look_same}
 use Rattle.jsx_tree.proofs.OneTree.Rows.{calls_on, clause_first}
 
@@ -78,6 +81,10 @@ word_import BigIntLiteral t a k e = never (nat_eq 3 0) (ap (λ n. nat_eq n 0) k)
 word_import StringLiteral t a k e = never (nat_eq 4 0) (ap (λ n. nat_eq n 0) k) refl
 word_import _ t a k e = cc
 
+opener_import : {x p : Place} {w : Text} → Opener w → Seen x IdentifierName w → Import x p → ⊥
+opener_import of_function s i = no_import s refl i
+opener_import of_class s i = no_import s refl i
+
 -- an expression that begins with the word
 reads_calls : {n : ℕ} {x y p : Place} {t : Tree} → Reads n x t y → Import x p → calls_on p ≡ true
 reads_calls (word {s = s} {t = t} {x = x} a e f) i =
@@ -85,6 +92,7 @@ reads_calls (word {s = s} {t = t} {x = x} a e f) i =
     absurd (word_import s t a (sym r.kind ∙ (import_seen i).kind) (sym r.text ∙ (import_seen i).text))
 reads_calls (regexp {t = t} {x = x} e f) i = absurd (never (nat_eq 1 0) (ap (λ n. nat_eq n 0) (sym (regexp_slash t x (found_at e f)).kind ∙ (import_seen i).kind)) refl)
 reads_calls (head {k = k} s a q l d w) i = row_calls w (or_else (is_paren k) _ (or_else (is_arrow k) _ (or_else (grows k) _ (for_kind imports_ok import_rows k s) d) a) q) i
+reads_calls (sealed {x = x} l s) i = absurd (opener_import s.opener (opener_seen x s) i)
 reads_calls (braces {x = x} l c a e f p) i = absurd (no_import (took Punctuator (codes "{") x e f) refl i)
 reads_calls (paren {x = x} l e f a g h) i = absurd (no_import (took Punctuator (codes "(") x e f) refl i)
 reads_calls (target {x = x} l e f r c g h) i = absurd (no_import (took Punctuator (codes "(") x e f) refl i)
@@ -106,32 +114,32 @@ string_calls : (s : TokenKind) (t : Text) → leaf_in StringOnly s t ≡ true �
 string_calls StringLiteral t h = refl
 string_calls _ t h = cc
 
-pub string_first : {v : Surroundings} {x y : Place} (t : Tree) → kept t ≡ true → IsRead v false StringOnly x t y → kind_at x ≡ 4
+pub string_first : {v : Surroundings} {x y : Place} (t : Tree) → Kept t → IsRead v false StringOnly x t y → kind_at x ≡ 4
 string_first {x = x} t h r =
     let w = word_read StringOnly t refl h r in
     let s : Seen x w.kind w.text = took w.kind w.text x w.moves w.found in
     s.kind ∙ string_calls w.kind w.text (and_left (leaf_in StringOnly w.kind w.text) _ (subst (λ t. is StringOnly t ≡ true) w.is_leaf r.is))
 
-import_walk : {V : List Context → Surroundings} (ps : List W.Piece) {x z : Place} {us : Forest} (P : Type 0) → import_row ps ≡ true → kepts us ≡ true → W.Walk IsRead V ps x us z → ((p : Place) → Import x p → calls_on p ≡ false → P) → P
+import_walk : {V : List Context → Surroundings} (ps : List W.Piece) {x z : Place} {us : Forest} (P : Type 0) → import_row ps ≡ true → Kepts us → W.Walk IsRead V ps x us z → ((p : Place) → Import x p → calls_on p ≡ false → P) → P
 import_walk (W.piece a (Fixed (Tok Operator IdentifierName t)) ∷ W.piece b (Part StringOnly) ∷ ps) {x} P h k w rest =
     let s = at_sign w in
     let p = at_part s.walk in
-    let e = string_first p.tree (and_left (kept p.tree) _ (subst (λ ts. kepts ts ≡ true) p.is k)) p.read in
+    let e = string_first p.tree (kept_left (subst Kepts p.is k)) p.read in
     rest s.next (record { moves = (λ i. forth (Tok Operator IdentifierName (sym (same_is t (codes "import") h) i)) x) ∙ s.moves; found = s.found }) (λ i. nat_eq (e i) 1 && (same (text_at s.next) (codes "(") || same (text_at s.next) (codes ".")))
 import_walk (W.piece a (Fixed (Tok Operator IdentifierName t)) ∷ W.piece b (Part ImportClause) ∷ ps) {x} P h k w rest =
     let s = at_sign w in
     let p = at_part s.walk in
-    rest s.next (record { moves = (λ i. forth (Tok Operator IdentifierName (sym (same_is t (codes "import") h) i)) x) ∙ s.moves; found = s.found }) (clause_first p.tree (and_left (kept p.tree) _ (subst (λ ts. kepts ts ≡ true) p.is k)) p.read).0
+    rest s.next (record { moves = (λ i. forth (Tok Operator IdentifierName (sym (same_is t (codes "import") h) i)) x) ∙ s.moves; found = s.found }) (clause_first p.tree (kept_left (subst Kepts p.is k)) p.read).0
 import_walk _ P h k w rest = cc
 
 -- a declaration of imports is no expression statement
-pub import_clash : {V : List Context → Surroundings} {w : Surroundings} (ps : List W.Piece) {x y z : Place} {us : Forest} (ds : Forest) → import_row ps ≡ true → kepts us ≡ true → kepts ds ≡ true → W.Walk IsRead V ps x us y → IsNode IsRead w false (statement ExprStmt) x ds z → ⊥
+pub import_clash : {V : List Context → Surroundings} {w : Surroundings} (ps : List W.Piece) {x y z : Place} {us : Forest} (ds : Forest) → import_row ps ≡ true → Kepts us → Kepts ds → W.Walk IsRead V ps x us y → IsNode IsRead w false (statement ExprStmt) x ds z → ⊥
 import_clash ps {x} ds h f k i b =
     let s = at_sign b.walk in
     let e = at_part s.walk in
-    let o = tame_of e.tree (Expr 0) refl (and_left (kept e.tree) _ (subst (λ ts. kepts ts ≡ true) e.is k)) e.read.is in
+    let o = tame_of e.tree (Expr 0) refl (kept_left (subst Kepts e.is k)) e.read.is in
     let m = at_sign e.walk in
     let g = subst (λ z. IsTrue (is_found z)) (sym m.moves) m.found in
-    let whole = whole_reads e.tree (fine e.tree o) o e.read (at_semi e.next (after_tree e.tree (Expr 0) o refl e.read) g) in
+    let whole = whole_reads e.tree (fine e.tree o) o.tame' e.read (at_semi e.next (after_tree e.tree (Expr 0) o refl e.read) g) in
     let back = look_same (Unless heads) x s.next refl s.moves s.found in
     import_walk ps ⊥ h f i (λ p j n. never (calls_on p) (whole_calls (subst (λ z. Whole z e.tree e.next) (sym back) whole) j) n)

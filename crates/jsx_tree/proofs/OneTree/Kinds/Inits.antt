@@ -1,4 +1,5 @@
 -- What a `for` begins with: declarations, or an expression; a name that is bound, or a target.
+use Rattle.jsx_tree.proofs.OneTree.Evidence.{Kept, Kepts, kept_left, kept_list, kept_kind, kept_parts}
 use Rattle.std.proofs.Common.{◌≡◌, Bool, true, false, not, List, [], ◌∷◌, refl, sym, ◌∙◌, ap, subst, arith}
 use Rattle.std.specs.Prelude.{IsTrue, ◌&&◌, ◌||◌, codes}
 use Rattle.jsx_base.specs.Token.{Text, Operator, TokenKind, IdentifierName, NumericLiteral, BigIntLiteral, StringLiteral, RegExpLiteral, Punctuator, same}
@@ -19,10 +20,11 @@ use Rattle.jsx_tree.proofs.OneTree.Readings.{kind_at, text_at, calm}
 use Rattle.jsx_tree.proofs.OneTree.Checks.{every, starts}
 use Rattle.jsx_tree.proofs.OneTree.Facts.{never, or_else, not_is, Test, yes', no', test, for_kind, Seen, took}
 use Rattle.jsx_tree.proofs.OneTree.Pairs.{two_tokens}
-use Rattle.jsx_tree.proofs.OneTree.Fine.{at_sign, at_part, at_many, at_end}
+use Rattle.jsx_tree.proofs.OneTree.Fine.{re_home, at_sign, at_part, at_many, at_end}
 use Rattle.jsx_tree.proofs.OneTree.Spines.{home_of}
 use Rattle.jsx_tree.proofs.OneTree.Placed.{Placed}
-use Rattle.jsx_tree.proofs.OneTree.Parts.{Which, a_statement, a_taken, a_seq, which, re_home, known, kept, kepts, tame_of, SameAt, expr_same, expr_starts, whole_same, whole_starts}
+use Rattle.jsx_tree.proofs.OneTree.Kept.{Which, a_statement, a_taken, a_seq, which}
+use Rattle.jsx_tree.proofs.OneTree.Parts.{tame_of, SameAt, expr_same, expr_starts, whole_same, whole_starts}
 use Rattle.jsx_tree.proofs.OneTree.Wants.{Want, mark, signed, calm_next, next_calm}
 use Rattle.jsx_tree.proofs.OneTree.Rows.{Each, each_all, All, all_parts, Rest, is_whole, whole_is, pattern_part, part_good, part_same}
 use Rattle.jsx_tree.proofs.OneTree.Lists.{move_items}
@@ -91,12 +93,12 @@ word_start w x s h = never (starts 0 (vars w)) ((λ i. starts (sym s.kind i) (sy
 
 -- declarations, or an expression
 pub data Init (v : Surroundings) (x : Place) : Tree → Place → Type 0 where
-  declares : {y : Place} {cs : Forest} (w : DeclareWord) → kepts cs ≡ true → IsNode IsRead v false (statement (ForDeclaration w)) x cs y → Init v x (node (statement (ForDeclaration w)) cs) y
+  declares : {y : Place} {cs : Forest} (w : DeclareWord) → Kepts cs → IsNode IsRead v false (statement (ForDeclaration w)) x cs y → Init v x (node (statement (ForDeclaration w)) cs) y
   expresses : {y : Place} {t : Tree} → IsRead v false (Expr 0) x t y → Init v x t y
 
 -- a name that is bound, or a target
 pub data Head (v : Surroundings) (x : Place) : Tree → Place → Type 0 where
-  binds : {y : Place} {cs : Forest} (w : DeclareWord) → kepts cs ≡ true → IsNode IsRead v false (statement (ForBinding w)) x cs y → Head v x (node (statement (ForBinding w)) cs) y
+  binds : {y : Place} {cs : Forest} (w : DeclareWord) → Kepts cs → IsNode IsRead v false (statement (ForBinding w)) x cs y → Head v x (node (statement (ForBinding w)) cs) y
   targets : {y : Place} {t : Tree} → IsRead v false (Pat Assigns) x t y → Head v x t y
 
 init_leaf : (s : TokenKind) (t : Text) → leaf_in ForInit s t ≡ true → leaf_in (Expr 0) s t ≡ true
@@ -108,7 +110,7 @@ init_leaf RegExpLiteral t h = refl
 init_leaf _ t h = cc
 
 abbrev init_stated_ok : Kind → Bool
-init_stated_ok k = not (in_homes ForInit (homes k)) || is_declaration k
+init_stated_ok k = not (in_homes ForInit (homes k)) || (is_declaration k || in_homes (Expr 0) (homes k))
 
 abbrev init_taken_ok : Kind → Bool
 init_taken_ok k = not (in_homes ForInit (homes k)) || in_homes (Expr 0) (homes k)
@@ -119,18 +121,22 @@ init_stated = refl
 init_taken : every init_taken_ok kinds ≡ true
 init_taken = refl
 
-pub init_view : {v : Surroundings} {x y : Place} (t : Tree) → kept t ≡ true → IsRead v false ForInit x t y → Init v x t y
+pub init_view : {v : Surroundings} {x y : Place} (t : Tree) → Kept t → IsRead v false ForInit x t y → Init v x t y
 init_view (leaf s u) h r = expresses (re_home ForInit (Expr 0) (leaf s u) (init_leaf s u (and_left (leaf_in ForInit s u) _ r.is)) r)
 init_view (list ts) h r = let bad = r.is in cc
-init_view {v} {x} {y} (node k cs) h r = by_which (which k (and_left (known k) (kepts cs) h))
+init_view {v} {x} {y} (node k cs) h r = by_which (which k (kept_kind h))
   where
     i : in_homes ForInit (homes k) ≡ true
     i = home_of ForInit k cs (and_left (admits ForInit (node k cs)) (fits_below ForInit (node k cs)) r.is)
 
+    by_declaration : Test (is_declaration k) → (is_declaration k || in_homes (Expr 0) (homes k)) ≡ true → Init v x (node k cs) y
+    by_declaration (no' n) o = expresses (re_home ForInit (Expr 0) (node k cs) (or_else (is_declaration k) _ o n) r)
+    by_declaration (yes' d) o =
+        let e = declaration_is k d in
+        subst (λ k. Init v x (node k cs) y) (sym e) (declares (word_of k) (kept_parts h) (node_walk false (statement (ForDeclaration (word_of k))) refl (subst (λ k. IsRead v false ForInit x (node k cs) y) e r)))
+
     by_which : Which k → Init v x (node k cs) y
-    by_which (a_statement s) =
-        let e = declaration_is k (or_else (not (in_homes ForInit (homes k))) _ (for_stated init_stated_ok init_stated k s) (ap not i)) in
-        subst (λ k. Init v x (node k cs) y) (sym e) (declares (word_of k) (and_right (known k) (kepts cs) h) (node_walk false (statement (ForDeclaration (word_of k))) refl (subst (λ k. IsRead v false ForInit x (node k cs) y) e r)))
+    by_which (a_statement s) = by_declaration (test (is_declaration k)) (or_else (not (in_homes ForInit (homes k))) _ (for_stated init_stated_ok init_stated k s) (ap not i))
     by_which (a_taken s) = expresses (re_home ForInit (Expr 0) (node k cs) (or_else (not (in_homes ForInit (homes k))) _ (for_kind init_taken_ok init_taken k s) (ap not i)) r)
     by_which (a_seq e) = expresses (re_home ForInit (Expr 0) (node k cs) (ap (λ k. in_homes (Expr 0) (homes k)) e) r)
 
@@ -162,10 +168,10 @@ head_seq ForHead o = refl
 head_seq ForOfHead o = refl
 head_seq _ o = cc
 
-pub head_view : (c : Nonterminal) {v : Surroundings} {x y : Place} (t : Tree) → is_head c ≡ true → kept t ≡ true → IsRead v false c x t y → Head v x t y
+pub head_view : (c : Nonterminal) {v : Surroundings} {x y : Place} (t : Tree) → is_head c ≡ true → Kept t → IsRead v false c x t y → Head v x t y
 head_view c (leaf s u) o h r = targets (re_home c (Pat Assigns) (leaf s u) (head_leaf c s u o (and_left (leaf_in c s u) _ r.is)) r)
 head_view c (list ts) o h r = let bad = r.is in cc
-head_view c {v} {x} {y} (node k cs) o h r = by_which (which k (and_left (known k) (kepts cs) h))
+head_view c {v} {x} {y} (node k cs) o h r = by_which (which k (kept_kind h))
   where
     i : in_homes c (homes k) ≡ true
     i = home_of c k cs (and_left (admits c (node k cs)) (fits_below c (node k cs)) r.is)
@@ -173,7 +179,7 @@ head_view c {v} {x} {y} (node k cs) o h r = by_which (which k (and_left (known k
     by_which : Which k → Head v x (node k cs) y
     by_which (a_statement s) =
         let e = binding_is k (or_else (not (in_homes c (homes k))) _ (for_stated (head_stated_ok c) (head_stated c o) k s) (ap not i)) in
-        subst (λ k. Head v x (node k cs) y) (sym e) (binds (word_of k) (and_right (known k) (kepts cs) h) (node_walk false (statement (ForBinding (word_of k))) refl (subst (λ k. IsRead v false c x (node k cs) y) e r)))
+        subst (λ k. Head v x (node k cs) y) (sym e) (binds (word_of k) (kept_parts h) (node_walk false (statement (ForBinding (word_of k))) refl (subst (λ k. IsRead v false c x (node k cs) y) e r)))
     by_which (a_taken s) = targets (re_home c (Pat Assigns) (node k cs) (or_else (not (in_homes c (homes k))) _ (for_kind (head_taken_ok c) (head_taken c o) k s) (ap not i)) r)
     by_which (a_seq e) = absurd (never (in_homes c (homes k)) i (ap (λ k. in_homes c (homes k)) e ∙ head_seq c o))
 
@@ -185,30 +191,30 @@ declares_word {x = x} w n = let s = at_sign n.walk in took IdentifierName (vars 
 pub binds_word : {v : Surroundings} {x y : Place} {cs : Forest} (w : DeclareWord) → IsNode IsRead v false (statement (ForBinding w)) x cs y → Seen x IdentifierName (vars w)
 binds_word {x = x} w n = let s = at_sign n.walk in took IdentifierName (vars w) x s.moves s.found
 
-pub init_starts : {v : Surroundings} {x y : Place} (t : Tree) → kept t ≡ true → IsRead v false (Expr 0) x t y → calm 0 y ≡ true → starts (kind_at x) (text_at x) ≡ true
+pub init_starts : {v : Surroundings} {x y : Place} (t : Tree) → Kept t → IsRead v false (Expr 0) x t y → calm 0 y ≡ true → starts (kind_at x) (text_at x) ≡ true
 init_starts t h r c = whole_starts t (tame_of t (Expr 0) refl h r.is) r c
 
 pub target_placed : Placed 17 17 (Pat Assigns)
 target_placed = record { kin' = refl; home' = refl; ended' = refl; seq' = refl }
 
-pub target_starts : {v : Surroundings} {x y : Place} (t : Tree) → kept t ≡ true → IsRead v false (Pat Assigns) x t y → calm 17 y ≡ true → starts (kind_at x) (text_at x) ≡ true
+pub target_starts : {v : Surroundings} {x y : Place} (t : Tree) → Kept t → IsRead v false (Pat Assigns) x t y → calm 17 y ≡ true → starts (kind_at x) (text_at x) ≡ true
 target_starts t h r c = expr_starts 17 17 (Pat Assigns) t target_placed refl (tame_of t (Pat Assigns) refl h r.is) r c
 
 -- a punctuator with which no expression begins
 pub mark_start : {t : Text} (x : Place) → starts 1 t ≡ false → Seen x Punctuator t → starts (kind_at x) (text_at x) ≡ true → ⊥
 mark_start {t} x n s h = never (starts 1 t) ((λ i. starts (sym s.kind i) (sym s.text i)) ∙ h) n
 
-pub init_mark : {v : Surroundings} {x y : Place} {t : Tree} {u : Text} → kept t ≡ true → Init v x t y → calm 0 y ≡ true → starts 1 u ≡ false → Seen x Punctuator u → ⊥
+pub init_mark : {v : Surroundings} {x y : Place} {t : Tree} {u : Text} → Kept t → Init v x t y → calm 0 y ≡ true → starts 1 u ≡ false → Seen x Punctuator u → ⊥
 init_mark h (declares w g n) c o s = two_tokens (declares_word w n) s refl
 init_mark {x = x} h (expresses {t = t} r) c o s = mark_start x o s (init_starts t h r c)
 
-pub head_mark : {v : Surroundings} {x y : Place} {t : Tree} {u : Text} → kept t ≡ true → Head v x t y → calm 17 y ≡ true → starts 1 u ≡ false → Seen x Punctuator u → ⊥
+pub head_mark : {v : Surroundings} {x y : Place} {t : Tree} {u : Text} → Kept t → Head v x t y → calm 17 y ≡ true → starts 1 u ≡ false → Seen x Punctuator u → ⊥
 head_mark h (binds w g n) c o s = two_tokens (binds_word w n) s refl
 head_mark {x = x} h (targets {t = t} r) c o s = mark_start x o s (target_starts t h r c)
 
 -- ---- two of them
 
-init_same : {v w : Surroundings} {x y z : Place} {t u : Tree} → Each t → kept t ≡ true → kept u ≡ true → Init v x t y → Init w x u z → calm 0 y ≡ true → calm 0 z ≡ true → ended_list y ≡ true → ended_list z ≡ true → SameAt t u y z
+init_same : {v w : Surroundings} {x y z : Place} {t u : Tree} → Each t → Kept t → Kept u → Init v x t y → Init w x u z → calm 0 y ≡ true → calm 0 z ≡ true → ended_list y ≡ true → ended_list z ≡ true → SameAt t u y z
 init_same {x = x} {y} {z} o h k (declares {cs = cs} a g m) (declares {cs = ds} b g' n) c d e f =
     let p = at_sign m.walk in
     let q = at_sign n.walk in
@@ -218,7 +224,7 @@ init_same {x = x} {y} {z} o h k (declares {cs = cs} a g m) (declares {cs = ds} b
     let back : p.next ≡ q.next = sym p.moves ∙ ((λ i. forth (Tok Operator IdentifierName (vars (s i))) x) ∙ q.moves) in
     let i = at_end l.walk in
     let j = at_end r.walk in
-    let same' = declarators_same l.trees r.trees l.enough' r.enough' (all_parts (subst All l.is (each_all o))).0 (and_left (kepts l.trees) _ (subst (λ ts. kepts ts ≡ true) l.is g)) (and_left (kepts r.trees) _ (subst (λ ts. kepts ts ≡ true) r.is g'))
+    let same' = declarators_same l.trees r.trees l.enough' r.enough' (all_parts (subst All l.is (each_all o))).0 (kept_list (subst Kepts l.is g)) (kept_list (subst Kepts r.is g'))
     l.read (move_items back r.read) (subst (λ z. ended_list z ≡ true) (sym i.1) e) (subst (λ z. ended_list z ≡ true) (sym j.1) f) in
     let forests : cs ≡ ds = (l.is ∙ ap (part (list l.trees)) i.0) ∙ ((λ i. part (list (same'.trees i)) none) ∙ sym (r.is ∙ ap (part (list r.trees)) j.0)) in
     record { tree = λ i. node (statement (ForDeclaration (s i))) (forests i); place = sym i.1 ∙ (same'.place ∙ j.1) }
@@ -226,7 +232,7 @@ init_same {x = x} o h k (declares a g m) (expresses {t = u} r) c d e f = absurd 
 init_same {x = x} o h k (expresses {t = t} r) (declares b g n) c d e f = absurd (word_start b x (declares_word b n) (init_starts t h r c))
 init_same o h k (expresses {t = t} r) (expresses {t = u} s) c d e f = whole_same t u (tame_of t (Expr 0) refl h r.is) (tame_of u (Expr 0) refl k s.is) r s c d
 
-pub head_same : {v w : Surroundings} {x y z : Place} {t u : Tree} → kept t ≡ true → kept u ≡ true → Head v x t y → Head w x u z → calm 17 y ≡ true → calm 17 z ≡ true → SameAt t u y z
+pub head_same : {v w : Surroundings} {x y z : Place} {t u : Tree} → Kept t → Kept u → Head v x t y → Head w x u z → calm 17 y ≡ true → calm 17 z ≡ true → SameAt t u y z
 head_same {w = w} {x = x} {y} {z} h k (binds {cs = cs} a g m) (binds {cs = ds} b g' n) c d =
     let p = at_sign m.walk in
     let q = at_sign n.walk in
@@ -236,7 +242,7 @@ head_same {w = w} {x = x} {y} {z} h k (binds {cs = cs} a g m) (binds {cs = ds} b
     let back : p.next ≡ q.next = sym p.moves ∙ ((λ i. forth (Tok Operator IdentifierName (vars (s i))) x) ∙ q.moves) in
     let i = at_end l.walk in
     let j = at_end r.walk in
-    let same' = pattern_part l.tree r.tree (and_left (kept l.tree) _ (subst (λ ts. kepts ts ≡ true) l.is g)) (and_left (kept r.tree) _ (subst (λ ts. kepts ts ≡ true) r.is g')) l.read (subst (λ x. IsRead (W.around w ds []) false (Pat Binds) x r.tree r.next) (sym back) r.read) in
+    let same' = pattern_part l.tree r.tree (kept_left (subst Kepts l.is g)) (kept_left (subst Kepts r.is g')) l.read (subst (λ x. IsRead (W.around w ds []) false (Pat Binds) x r.tree r.next) (sym back) r.read) in
     let forests : cs ≡ ds = (l.is ∙ ap (part l.tree) i.0) ∙ ((λ i. part (same'.tree i) none) ∙ sym (r.is ∙ ap (part r.tree) j.0)) in
     record { tree = λ i. node (statement (ForBinding (s i))) (forests i); place = sym i.1 ∙ (same'.place ∙ j.1) }
 head_same {x = x} h k (binds a g m) (targets {t = u} r) c d = absurd (word_start a x (binds_word a m) (target_starts u k r d))
@@ -273,7 +279,7 @@ or_left : (a b : Bool) → a ≡ true → (a || b) ≡ true
 or_left true b h = refl
 or_left false b h = cc
 
-begins_same : {V V' : List Context → Surroundings} {v v' : Surroundings} {a : List Context} {e : Want} {ps : Production} (c : Nonterminal) {x y z : Place} (t u : Tree) → begins_good ps c ≡ true → Each t → kept t ≡ true → kept u ≡ true
+begins_same : {V V' : List Context → Surroundings} {v v' : Surroundings} {a : List Context} {e : Want} {ps : Production} (c : Nonterminal) {x y z : Place} (t u : Tree) → begins_good ps c ≡ true → Each t → Kept t → Kept u
     → IsRead v false c x t y → IsRead v' false c x u z → Rest V a e ps y → Rest V' a e ps z → SameAt t u y z
 begins_same {v = v} {v'} {a} {ps = ps} c {x} {y} {z} t u h o k l r s p q = by_init (test (is_init c && (mark_next (codes ";") ps && calm_next 0 ps)))
   where
@@ -294,7 +300,7 @@ begins_same {v = v} {v'} {a} {ps = ps} c {x} {y} {z} t u h o k l r s p q = by_in
 abbrev pub any_good : Want → Production → Nonterminal → Bool
 any_good e ps c = part_good e ps c || (begins_good ps c || member_good ps c)
 
-pub any_same : {V V' : List Context → Surroundings} {v v' : Surroundings} {a : List Context} {e : Want} {ps : Production} (c : Nonterminal) {x y z : Place} (t u : Tree) → any_good e ps c ≡ true → Each t → kept t ≡ true → kept u ≡ true
+pub any_same : {V V' : List Context → Surroundings} {v v' : Surroundings} {a : List Context} {e : Want} {ps : Production} (c : Nonterminal) {x y z : Place} (t u : Tree) → any_good e ps c ≡ true → Each t → Kept t → Kept u
     → IsRead v false c x t y → IsRead v' false c x u z → Rest V a e ps y → Rest V' a e ps z → SameAt t u y z
 any_same {e = e} {ps} c {x} {y} {z} t u h o k l r s p q = by_part (test (part_good e ps c))
   where
@@ -331,7 +337,7 @@ off_seen a (_ ∷ ps) h w rest = cc
 off_seen a [] h w rest = cc
 
 pub starts_apart : {V V' : List Context → Surroundings} {v : Surroundings} (a : List Context) (ms : List Sign) (c : Nonterminal) (qs ps : Production) (x : Place) {y z w w' : Place} {ts us : Forest} (t : Tree) → head_starts ms c qs ps ≡ true
-    → W.Walk IsRead V (pieces a ps) x ts w → W.Walk IsRead V' (pieces a qs) z us w' → scan x ms ≡ y → kept t ≡ true → IsRead v false c y t z → ⊥
+    → W.Walk IsRead V (pieces a ps) x ts w → W.Walk IsRead V' (pieces a qs) z us w' → scan x ms ≡ y → Kept t → IsRead v false c y t z → ⊥
 starts_apart {v = v} a ms c qs ps x {y} {z} t h i j e k r = off_seen a ps off i by_seen
   where
     o : ((is_whole c || is_init c) && (calm_next 0 qs && mark_off ps)) ≡ true

@@ -1,4 +1,5 @@
 -- Members of a class: the words `static`, `get` and `set` stand before a key, or are one.
+use Rattle.jsx_tree.proofs.OneTree.Evidence.{Kept, Kepts, kept_left, kept_kind}
 use Rattle.std.proofs.Common.{◌≡◌, ℕ, Bool, true, false, not, List, [], ◌∷◌, refl, sym, ◌∙◌, ap, subst, arith}
 use Rattle.std.specs.Prelude.{IsTrue, ◌&&◌, ◌||◌, nat_eq, codes}
 use Rattle.jsx_base.specs.Token.{Text, Operator, Mode, TokenKind, IdentifierName, Punctuator, same, among, breaks, is_token, token}
@@ -17,15 +18,17 @@ use Rattle.jsx_tree.proofs.OneTree.Readings.{kind_at, text_at}
 use Rattle.jsx_tree.proofs.OneTree.Checks.{every, same_token}
 use Rattle.jsx_tree.proofs.OneTree.Facts.{never, or_else, not_is, Test, yes', no', test, eq_nat, for_kind, Seen, took, same_seen}
 use Rattle.jsx_tree.proofs.OneTree.Pairs.{two_tokens}
-use Rattle.jsx_tree.proofs.OneTree.Fine.{at_sign, at_part}
+use Rattle.jsx_tree.proofs.OneTree.Fine.{re_home, at_sign, at_part}
 use Rattle.jsx_tree.proofs.OneTree.Spines.{home_of}
 use Rattle.jsx_tree.proofs.OneTree.Placed.{Placed}
 use Rattle.jsx_tree.proofs.OneTree.Missing.{Behind, a_mark, a_brace, a_line, behind}
-use Rattle.jsx_tree.proofs.OneTree.Parts.{Which, a_statement, a_taken, a_seq, which, re_home, known, kept, kepts, tame_of, stated_home, SameAt, expr_same}
+use Rattle.jsx_tree.proofs.OneTree.Kept.{Which, a_statement, a_taken, a_seq, which}
+use Rattle.jsx_tree.proofs.OneTree.Parts.{tame_of, stated_home, SameAt, expr_same}
 use Rattle.jsx_tree.proofs.OneTree.Wants.{Want, look_same, read_start, at_optional, calm_next, next_calm}
 use Rattle.jsx_tree.proofs.OneTree.Rows.{Rest}
 use Rattle.jsx_tree.proofs.OneTree.Lists.{param_same}
-use Rattle.jsx_tree.proofs.OneTree.Kinds.Keys.{key_at, Keyed, named, bracketed, key_view, key_first, key_same}
+use Rattle.jsx_tree.proofs.OneTree.Readings.{key_start}
+use Rattle.jsx_tree.proofs.OneTree.Kinds.Keys.{Keyed, named, bracketed, key_view, key_first, key_same}
 use Rattle.jsx_tree.proofs.OneTree.Prefixes.{same_next, move_walk, token_clash}
 
 -- ---- parts of members, and what a class extends
@@ -65,10 +68,10 @@ setter_seq : in_homes SetterParam (homes (expression Seq)) ≡ false
 setter_seq = refl
 
 -- what a setter takes is a parameter
-setter_param : {v : Surroundings} {x y : Place} (t : Tree) → kept t ≡ true → IsRead v false SetterParam x t y → IsRead v false Param x t y
+setter_param : {v : Surroundings} {x y : Place} (t : Tree) → Kept t → IsRead v false SetterParam x t y → IsRead v false Param x t y
 setter_param (leaf s t) h r = re_home SetterParam Param (leaf s t) (setter_leaf s t (and_left (leaf_in SetterParam s t) _ r.is)) r
 setter_param (list ts) h r = let bad = r.is in cc
-setter_param {v} {x} {y} (node k cs) h r = by_which (which k (and_left (known k) (kepts cs) h))
+setter_param {v} {x} {y} (node k cs) h r = by_which (which k (kept_kind h))
   where
     i : in_homes SetterParam (homes k) ≡ true
     i = home_of SetterParam k cs (and_left (admits SetterParam (node k cs)) (fits_below SetterParam (node k cs)) r.is)
@@ -84,7 +87,7 @@ heritage_placed = record { kin' = refl; home' = refl; ended' = refl; seq' = refl
 abbrev pub member_good : Production → Nonterminal → Bool
 member_good ps c = is_key_place c || ((is_setter c && calm_next 1 ps) || (is_heritage c && calm_next 17 ps))
 
-pub member_same : {V V' : List Context → Surroundings} {v v' : Surroundings} {a : List Context} {e : Want} {ps : Production} (c : Nonterminal) {x y z : Place} (t u : Tree) → member_good ps c ≡ true → kept t ≡ true → kept u ≡ true
+pub member_same : {V V' : List Context → Surroundings} {v v' : Surroundings} {a : List Context} {e : Want} {ps : Production} (c : Nonterminal) {x y z : Place} (t u : Tree) → member_good ps c ≡ true → Kept t → Kept u
     → IsRead v false c x t y → IsRead v' false c x u z → Rest V a e ps y → Rest V' a e ps z → SameAt t u y z
 member_same {v = v} {v'} {a} {ps = ps} c {x} {y} {z} t u h k l r s p q = by_key (test (is_key_place c))
   where
@@ -147,15 +150,15 @@ field_next u (W.piece a (Fixed (Ends AfterKey)) ∷ W.piece b (Optional (Tok Ope
 field_next u _ q text h w n rest = cc
 
 -- no key begins at the end of a text, or with another punctuator than `[`
-key_end : (k : ℕ) (t : Text) → key_at k t ≡ true → nat_eq k 14 ≡ false
+key_end : (k : ℕ) (t : Text) → key_start k t ≡ true → nat_eq k 14 ≡ false
 key_end k t h = by_end (test (nat_eq k 14))
   where
     by_end : Test (nat_eq k 14) → nat_eq k 14 ≡ false
     by_end (no' n) = n
-    by_end (yes' e) = absurd (never (key_at 14 t) ((λ i. key_at (sym (eq_nat {a = k} {b = 14} e) i) t) ∙ h) refl)
+    by_end (yes' e) = absurd (never (key_start 14 t) ((λ i. key_start (sym (eq_nat {a = k} {b = 14} e) i) t) ∙ h) refl)
 
-key_mark : {x : Place} {t : Text} → same t (codes "[") ≡ false → Seen x Punctuator t → key_at (kind_at x) (text_at x) ≡ true → ⊥
-key_mark {t = t} n s h = never (key_at 1 t) ((λ i. key_at (sym s.kind i) (sym s.text i)) ∙ h) n
+key_mark : {x : Place} {t : Text} → same t (codes "[") ≡ false → Seen x Punctuator t → key_start (kind_at x) (text_at x) ≡ true → ⊥
+key_mark {t = t} n s h = never (key_start 1 t) ((λ i. key_start (sym s.kind i) (sym s.text i)) ∙ h) n
 
 abbrev pub stops_key : Text → List W.Piece → Bool
 stops_key u (W.piece a (Fixed (Tok Operator Punctuator t)) ∷ ps) = not (same t (codes "["))
@@ -165,11 +168,11 @@ or_right : (a b : Bool) → b ≡ true → (a || b) ≡ true
 or_right true b h = refl
 or_right false b h = h
 
-stops_field : {V : List Context → Surroundings} (u : Text) (ps : List W.Piece) (text : Text) {y : Place} {ts : Forest} → (is_field (codes "[") ps && among u prefix_words) ≡ true → W.Walk IsRead V ps (At u AfterExpr text) ts y → key_at (kind_at (At u AfterExpr text)) (text_at (At u AfterExpr text)) ≡ true → ⊥
+stops_field : {V : List Context → Surroundings} (u : Text) (ps : List W.Piece) (text : Text) {y : Place} {ts : Forest} → (is_field (codes "[") ps && among u prefix_words) ≡ true → W.Walk IsRead V ps (At u AfterExpr text) ts y → key_start (kind_at (At u AfterExpr text)) (text_at (At u AfterExpr text)) ≡ true → ⊥
 stops_field u ps text h w b = field_next (codes "[") ps u text (and_left (is_field (codes "[") ps) _ h) w (key_end (kind_at (At u AfterExpr text)) (text_at (At u AfterExpr text)) b) by_after
   where
-    mark_off : (k : ℕ) (t v : Text) → k ≡ 1 → t ≡ v → same v (codes "[") ≡ false → key_at k t ≡ true → ⊥
-    mark_off k t v e f n g = never (key_at 1 v) ((λ i. key_at (sym e i) (sym f i)) ∙ g) n
+    mark_off : (k : ℕ) (t v : Text) → k ≡ 1 → t ≡ v → same v (codes "[") ≡ false → key_start k t ≡ true → ⊥
+    mark_off k t v e f n g = never (key_start 1 v) ((λ i. key_start (sym e i) (sym f i)) ∙ g) n
 
     by_after : (t : Text) → same t (codes "[") ≡ false → AfterField u text t → ⊥
     by_after t n (preset s) = mark_off (kind_at (At u AfterExpr text)) (text_at (At u AfterExpr text)) t s.kind s.text n b
@@ -178,7 +181,7 @@ stops_field u ps text h w b = field_next (codes "[") ps u text (and_left (is_fie
     by_after t n (closed (a_line l c)) = never (continues AfterKey u (text_at (At u AfterKey text))) (or_right (among (text_at (At u AfterKey text)) (codes "=" ∷ codes "(" ∷ [])) _ (and_right (is_field (codes "[") ps) _ h)) c
 
 -- behind a word that is a key no key begins
-stops_clash : {V : List Context → Surroundings} (u : Text) (ps : List W.Piece) (text : Text) {y : Place} {ts : Forest} → stops_key u ps ≡ true → W.Walk IsRead V ps (At u AfterExpr text) ts y → key_at (kind_at (At u AfterExpr text)) (text_at (At u AfterExpr text)) ≡ true → ⊥
+stops_clash : {V : List Context → Surroundings} (u : Text) (ps : List W.Piece) (text : Text) {y : Place} {ts : Forest} → stops_key u ps ≡ true → W.Walk IsRead V ps (At u AfterExpr text) ts y → key_start (kind_at (At u AfterExpr text)) (text_at (At u AfterExpr text)) ≡ true → ⊥
 stops_clash u (W.piece a (Fixed (Tok Operator Punctuator t)) ∷ ps) text h w b = let s = at_sign w in key_mark {x = At u AfterExpr text} (not_is _ h) (took Punctuator t (At u AfterExpr text) s.moves s.found) b
 stops_clash u (W.piece a (Fixed (Ends e)) ∷ ps) text h w b = stops_field u (W.piece a (Fixed (Ends e)) ∷ ps) text h w b
 stops_clash u _ text h w b = cc
@@ -190,9 +193,9 @@ begins_key (W.piece a (Part Key) ∷ ps) = true
 begins_key (W.piece a (Fixed (Tok Operator IdentifierName t)) ∷ ps) = true
 begins_key ps = false
 
-begun_key : {V : List Context → Surroundings} (ps : List W.Piece) {x y : Place} {ts : Forest} → begins_key ps ≡ true → kepts ts ≡ true → W.Walk IsRead V ps x ts y → key_at (kind_at x) (text_at x) ≡ true
-begun_key (W.piece a (Part Key) ∷ ps) h k w = let p = at_part w in key_first (key_view p.tree (and_left (kept p.tree) _ (subst (λ ts. kepts ts ≡ true) p.is k)) p.read)
-begun_key (W.piece a (Fixed (Tok Operator IdentifierName t)) ∷ ps) {x} h k w = let s = at_sign w in let r : Seen x IdentifierName t = took IdentifierName t x s.moves s.found in (λ i. key_at (r.kind i) (r.text i))
+begun_key : {V : List Context → Surroundings} (ps : List W.Piece) {x y : Place} {ts : Forest} → begins_key ps ≡ true → Kepts ts → W.Walk IsRead V ps x ts y → key_start (kind_at x) (text_at x) ≡ true
+begun_key (W.piece a (Part Key) ∷ ps) h k w = let p = at_part w in key_first (key_view p.tree (kept_left (subst Kepts p.is k)) p.read)
+begun_key (W.piece a (Fixed (Tok Operator IdentifierName t)) ∷ ps) {x} h k w = let s = at_sign w in let r : Seen x IdentifierName t = took IdentifierName t x s.moves s.found in (λ i. key_start (r.kind i) (r.text i))
 begun_key _ h k w = cc
 
 abbrev pub is_open : List W.Piece → Bool
@@ -224,14 +227,14 @@ members_apart (W.piece a (Part Key) ∷ ps) (W.piece b (Part Key) ∷ qs) = is_o
 members_apart ps qs = false
 
 -- a word that is a key, and one that stands before a key
-word_clash : {V V' : List Context → Surroundings} {v : Surroundings} (u : Text) (ps qs : List W.Piece) {x p q y z : Place} {t : Tree} {ts us : Forest} → stops_key u ps ≡ true → begins_key qs ≡ true → Keyed v x t p → W.Walk IsRead V ps p ts y → forth (Tok Operator IdentifierName u) x ≡ q → IsTrue (is_found q) → kepts us ≡ true → W.Walk IsRead V' qs q us z → ⊥
+word_clash : {V V' : List Context → Surroundings} {v : Surroundings} (u : Text) (ps qs : List W.Piece) {x p q y z : Place} {t : Tree} {ts us : Forest} → stops_key u ps ≡ true → begins_key qs ≡ true → Keyed v x t p → W.Walk IsRead V ps p ts y → forth (Tok Operator IdentifierName u) x ≡ q → IsTrue (is_found q) → Kepts us → W.Walk IsRead V' qs q us z → ⊥
 word_clash u ps qs {x} h o (bracketed k n) i m f g j = let s = at_sign n.walk in two_tokens (took IdentifierName u x m f) (took Punctuator (codes "[") x s.moves s.found) refl
 word_clash u ps qs {x} h o (named s t a e k) i m f g j =
     let back = same_next x s IdentifierName t u (same_seen (took s t x e k) (took IdentifierName u x m f)) e m in
     let r = took_at Operator IdentifierName u x m f in
-    stops_clash u ps r.text h (move_walk (sym (back ∙ r.is)) i) (subst (λ z. key_at (kind_at z) (text_at z) ≡ true) r.is (begun_key qs o g j))
+    stops_clash u ps r.text h (move_walk (sym (back ∙ r.is)) i) (subst (λ z. key_start (kind_at z) (text_at z) ≡ true) r.is (begun_key qs o g j))
 
-pub members_clash : {V V' : List Context → Surroundings} (ps qs : List W.Piece) {x y z : Place} {ts us : Forest} → members_apart ps qs ≡ true → kepts ts ≡ true → kepts us ≡ true → W.Walk IsRead V ps x ts y → W.Walk IsRead V' qs x us z → ⊥
+pub members_clash : {V V' : List Context → Surroundings} (ps qs : List W.Piece) {x y z : Place} {ts us : Forest} → members_apart ps qs ≡ true → Kepts ts → Kepts us → W.Walk IsRead V ps x ts y → W.Walk IsRead V' qs x us z → ⊥
 members_clash (W.piece a (Fixed (Tok Operator k t)) ∷ ps) (W.piece b (Fixed (Tok Operator l u)) ∷ qs) {x} h f g i j =
     let p = at_sign i in
     let q = at_sign j in
@@ -239,10 +242,10 @@ members_clash (W.piece a (Fixed (Tok Operator k t)) ∷ ps) (W.piece b (Fixed (T
 members_clash (W.piece a (Part Key) ∷ ps) (W.piece b (Fixed (Tok Operator IdentifierName u)) ∷ qs) h f g i j =
     let p = at_part i in
     let q = at_sign j in
-    word_clash u ps qs (and_left (stops_key u ps) _ h) (and_right (stops_key u ps) _ h) (key_view p.tree (and_left (kept p.tree) _ (subst (λ ts. kepts ts ≡ true) p.is f)) p.read) p.walk q.moves q.found g q.walk
+    word_clash u ps qs (and_left (stops_key u ps) _ h) (and_right (stops_key u ps) _ h) (key_view p.tree (kept_left (subst Kepts p.is f)) p.read) p.walk q.moves q.found g q.walk
 members_clash (W.piece a (Part Key) ∷ ps) (W.piece b (Part Key) ∷ qs) h f g i j =
     let p = at_part i in
     let q = at_part j in
-    let o = key_same (key_view p.tree (and_left (kept p.tree) _ (subst (λ ts. kepts ts ≡ true) p.is f)) p.read) (key_view q.tree (and_left (kept q.tree) _ (subst (λ ts. kepts ts ≡ true) q.is g)) q.read) in
+    let o = key_same (key_view p.tree (kept_left (subst Kepts p.is f)) p.read) (key_view q.tree (kept_left (subst Kepts q.is g)) q.read) in
     open_field qs q.next (and_right (is_open ps) _ h) q.walk (subst (λ z. Seen z Punctuator (codes "(")) o.place (open_seen ps (and_left (is_open ps) _ h) p.walk))
 members_clash _ _ h f g i j = cc

@@ -10,7 +10,7 @@ use Rattle.jsx_tree.specs.Form.{admits, is, fits_below}
 use Rattle.jsx_tree.specs.StaticRules.{Surroundings}
 use Rattle.jsx_tree.specs.Spelling.{between}
 use Rattle.jsx_tree.specs.Reading.{Place, Lost, At, forth, scan}
-use Rattle.jsx_tree.proofs.Tokens.{and_left, and_right}
+use Rattle.jsx_tree.proofs.Tokens.{and_left}
 use Rattle.jsx_tree.specs.Walk as W
 use Rattle.jsx_tree.specs.Walk.{is_found, pieces, IsRead}
 use Rattle.jsx_tree.proofs.Rows.Bridge.{node_walk}
@@ -23,7 +23,8 @@ use Rattle.jsx_tree.proofs.OneTree.Pairs.{two_tokens}
 use Rattle.jsx_tree.proofs.OneTree.Fine.{at_part}
 use Rattle.jsx_tree.proofs.OneTree.Spines.{home_of}
 use Rattle.jsx_tree.proofs.OneTree.Placed.{Trail, with_comma, without, trail}
-use Rattle.jsx_tree.proofs.OneTree.Parts.{known, kept, kepts, wordy, word_read}
+use Rattle.jsx_tree.proofs.OneTree.Evidence.{Kept, Kepts, kept_left, kept_right, kept_kind, kept_parts}
+use Rattle.jsx_tree.proofs.OneTree.Parts.{wordy, word_read}
 use Rattle.jsx_tree.proofs.OneTree.Wants.{parted, meets, look_met, read_start}
 use Rattle.jsx_tree.proofs.OneTree.Rows.{All, all_parts, own_leaf, own_kind, own_same}
 use Rattle.jsx_tree.proofs.OneTree.Lists.{SameRow, move_items}
@@ -54,14 +55,14 @@ named_wordy BindingIdent n = refl
 named_wordy Name n = refl
 named_wordy _ n = cc
 
-pub named_kind : (c : Nonterminal) {v : Surroundings} {x y : Place} (t : Tree) → named c ≡ true → kept t ≡ true → IsRead v false c x t y → kind_at x ≡ 0
+pub named_kind : (c : Nonterminal) {v : Surroundings} {x y : Place} (t : Tree) → named c ≡ true → Kept t → IsRead v false c x t y → kind_at x ≡ 0
 named_kind c {x = x} t n h r =
     let w = word_read c t (named_wordy c n) h r in
     let s : Seen x w.kind w.text = took w.kind w.text x w.moves w.found in
     s.kind ∙ named_leaf c w.kind w.text n (and_left (leaf_in c w.kind w.text) _ (subst (λ t. is c t ≡ true) w.is_leaf r.is))
 
-first_kind : {V : List Context → Surroundings} (ps : Production) (a : List Context) {x z : Place} {ts : Forest} → word_first ps ≡ true → kepts ts ≡ true → W.Walk IsRead V (pieces a ps) x ts z → kind_at x ≡ 0
-first_kind (Part c ∷ ps) a n h w = let p = at_part w in named_kind c p.tree n (and_left (kept p.tree) _ (subst (λ ts. kepts ts ≡ true) p.is h)) p.read
+first_kind : {V : List Context → Surroundings} (ps : Production) (a : List Context) {x z : Place} {ts : Forest} → word_first ps ≡ true → Kepts ts → W.Walk IsRead V (pieces a ps) x ts z → kind_at x ≡ 0
+first_kind (Part c ∷ ps) a n h w = let p = at_part w in named_kind c p.tree n (kept_left (subst Kepts p.is h)) p.read
 first_kind _ a n h w = cc
 
 specifier_rows : (s : Side) → every (λ k. not (in_homes (Specifiers s) (homes k)) || word_first (production k)) stated_kinds ≡ true
@@ -70,13 +71,13 @@ specifier_rows Exported = refl
 specifier_rows From = refl
 
 -- a specifier begins with a word
-pub specifier_kind : (s : Side) {v : Surroundings} {x y : Place} (t : Tree) → kept t ≡ true → IsRead v false (Specifiers s) x t y → kind_at x ≡ 0
+pub specifier_kind : (s : Side) {v : Surroundings} {x y : Place} (t : Tree) → Kept t → IsRead v false (Specifiers s) x t y → kind_at x ≡ 0
 specifier_kind s (leaf k t) h r = absurd (own_leaf (Specifiers s) k t refl (and_left (leaf_in (Specifiers s) k t) _ r.is))
 specifier_kind s (list ts) h r = let bad = r.is in cc
 specifier_kind s (node k cs) h r =
     let i = home_of (Specifiers s) k cs (and_left (admits (Specifiers s) (node k cs)) (fits_below (Specifiers s) (node k cs)) r.is) in
-    let o = own_kind (Specifiers s) k refl (and_left (known k) (kepts cs) h) i in
-    first_kind (production k) [] (or_else (not (in_homes (Specifiers s) (homes k))) _ (for_stated (λ k. not (in_homes (Specifiers s) (homes k)) || word_first (production k)) (specifier_rows s) k o) (ap not i)) (and_right (known k) (kepts cs) h) (node_walk false k refl r).walk
+    let o = own_kind (Specifiers s) k refl (kept_kind h) i in
+    first_kind (production k) [] (or_else (not (in_homes (Specifiers s) (homes k))) _ (for_stated (λ k. not (in_homes (Specifiers s) (homes k)) || word_first (production k)) (specifier_rows s) k o) (ap not i)) (kept_parts h) (node_walk false k refl r).walk
 
 -- ---- lists in braces
 
@@ -105,32 +106,32 @@ pub trail_parted : (x y : Place) → Trail x y → Seen y Punctuator (codes "}")
 trail_parted x y (with_comma e f) s = comma_parted x e f
 trail_parted x y (without e) s = brace_parted x (subst (λ z. Seen z Punctuator (codes "}")) (sym e) s)
 
-pub no_item : (s : Side) {v : Surroundings} {x y : Place} (t : Tree) (ts : Forest) → kepts (part t ts) ≡ true → W.Items IsRead v Commas (Specifiers s) x (part t ts) y → Seen x Punctuator (codes "}") → ⊥
-no_item s {x = x} t ts h i b = first_read t ts i ⊥ (λ z r. never (nat_eq (kind_at x) 0) (ap (λ n. nat_eq n 0) (specifier_kind s t (and_left (kept t) (kepts ts) h) r)) (ap (λ n. nat_eq n 0) b.kind))
+pub no_item : (s : Side) {v : Surroundings} {x y : Place} (t : Tree) (ts : Forest) → Kepts (part t ts) → W.Items IsRead v Commas (Specifiers s) x (part t ts) y → Seen x Punctuator (codes "}") → ⊥
+no_item s {x = x} t ts h i b = first_read t ts i ⊥ (λ z r. never (nat_eq (kind_at x) 0) (ap (λ n. nat_eq n 0) (specifier_kind s t (kept_left h) r)) (ap (λ n. nat_eq n 0) b.kind))
 
 -- one list ends behind an item where the other goes on
-pub trail_more : (s : Side) {v : Surroundings} {p q y w z : Place} (t : Tree) (ts : Forest) → p ≡ q → Trail p y → Seen y Punctuator (codes "}") → forth comma q ≡ w → IsTrue (is_found w) → kepts (part t ts) ≡ true → W.Items IsRead v Commas (Specifiers s) w (part t ts) z → ⊥
+pub trail_more : (s : Side) {v : Surroundings} {p q y w z : Place} (t : Tree) (ts : Forest) → p ≡ q → Trail p y → Seen y Punctuator (codes "}") → forth comma q ≡ w → IsTrue (is_found w) → Kepts (part t ts) → W.Items IsRead v Commas (Specifiers s) w (part t ts) z → ⊥
 trail_more s t ts o (with_comma e f) b g k h i = no_item s t ts h i (subst (λ z. Seen z Punctuator (codes "}")) (sym e ∙ (ap (forth comma) o ∙ g)) b)
 trail_more s {p = p} {q = q} t ts o (without e) b g k h i = two_tokens (subst (λ z. Seen z Punctuator (codes "}")) (sym (sym o ∙ e)) b) (took Punctuator (codes ",") q g k) refl
 
-pub specifiers_same : (s : Side) {v w : Surroundings} {x y z : Place} (ts us : Forest) → All ts → kepts ts ≡ true → kepts us ≡ true → W.Items IsRead v Commas (Specifiers s) x ts y → W.Items IsRead w Commas (Specifiers s) x us z
+pub specifiers_same : (s : Side) {v w : Surroundings} {x y z : Place} (ts us : Forest) → All ts → Kepts ts → Kepts us → W.Items IsRead v Commas (Specifiers s) x ts y → W.Items IsRead w Commas (Specifiers s) x us z
     → Seen y Punctuator (codes "}") → Seen z Punctuator (codes "}") → SameRow ts us y z
 specifiers_same s none none a h k (W.nil f) (W.nil f') m n = record { trees = refl; place = refl }
 specifiers_same s none (part u us) a h k (W.nil f) j m n = absurd (no_item s u us k j m)
 specifiers_same s (part t ts) none a h k i (W.nil f) m n = absurd (no_item s t ts h i n)
 specifiers_same s (part t none) (part u none) a h k (W.last {y = p} {z = y} r e f) (W.last {y = q} {z = z} r' e' f') m n =
-    let o = own_same (Specifiers s) t u refl (all_parts a).0 (and_left (kept t) true h) (and_left (kept u) true k) r r' (trail_parted p y (trail p y e f) m) (trail_parted q z (trail q z e' f') n) in
+    let o = own_same (Specifiers s) t u refl (all_parts a).0 (kept_left h) (kept_left k) r r' (trail_parted p y (trail p y e f) m) (trail_parted q z (trail q z e' f') n) in
     record { trees = ap (λ t. part t none) o.tree; place = sym e ∙ (ap (forth TrailingComma) o.place ∙ e') }
 specifiers_same s (part t none) (part u (part u' us)) a h k (W.last {y = p} {z = y} r e f) (W.more {y = q} g r' e' j) m n =
     let c = after_comma q e' in
-    let o = own_same (Specifiers s) t u refl (all_parts a).0 (and_left (kept t) true h) (and_left (kept u) (kepts (part u' us)) k) r r' (trail_parted p y (trail p y e f) m) (comma_parted q c (items_start j)) in
-    absurd (trail_more s u' us o.place (trail p y e f) m c (items_start j) (and_right (kept u) (kepts (part u' us)) k) j)
+    let o = own_same (Specifiers s) t u refl (all_parts a).0 (kept_left h) (kept_left k) r r' (trail_parted p y (trail p y e f) m) (comma_parted q c (items_start j)) in
+    absurd (trail_more s u' us o.place (trail p y e f) m c (items_start j) (kept_right k) j)
 specifiers_same s (part t (part t' ts)) (part u none) a h k (W.more {y = p} g r e i) (W.last {y = q} {z = z} r' e' f') m n =
     let c = after_comma p e in
-    let o = own_same (Specifiers s) t u refl (all_parts a).0 (and_left (kept t) (kepts (part t' ts)) h) (and_left (kept u) true k) r r' (comma_parted p c (items_start i)) (trail_parted q z (trail q z e' f') n) in
-    absurd (trail_more s t' ts (sym o.place) (trail q z e' f') n c (items_start i) (and_right (kept t) (kepts (part t' ts)) h) i)
+    let o = own_same (Specifiers s) t u refl (all_parts a).0 (kept_left h) (kept_left k) r r' (comma_parted p c (items_start i)) (trail_parted q z (trail q z e' f') n) in
+    absurd (trail_more s t' ts (sym o.place) (trail q z e' f') n c (items_start i) (kept_right h) i)
 specifiers_same s (part t (part t' ts)) (part u (part u' us)) a h k (W.more {y = p} g r e i) (W.more {y = q} g' r' e' j) m n =
     let as' = all_parts a in
-    let o = own_same (Specifiers s) t u refl as'.0 (and_left (kept t) (kepts (part t' ts)) h) (and_left (kept u) (kepts (part u' us)) k) r r' (comma_parted p (after_comma p e) (items_start i)) (comma_parted q (after_comma q e') (items_start j)) in
-    let d = specifiers_same s (part t' ts) (part u' us) as'.1 (and_right (kept t) (kepts (part t' ts)) h) (and_right (kept u) (kepts (part u' us)) k) i (move_items (sym (after_comma p e) ∙ (ap (forth comma) o.place ∙ after_comma q e')) j) m n in
+    let o = own_same (Specifiers s) t u refl as'.0 (kept_left h) (kept_left k) r r' (comma_parted p (after_comma p e) (items_start i)) (comma_parted q (after_comma q e') (items_start j)) in
+    let d = specifiers_same s (part t' ts) (part u' us) as'.1 (kept_right h) (kept_right k) i (move_items (sym (after_comma p e) ∙ (ap (forth comma) o.place ∙ after_comma q e')) j) m n in
     record { trees = λ i. part (o.tree i) (d.trees i); place = d.place }

@@ -1,0 +1,60 @@
+-- Functions and the like inside of expressions: two of them that begin at one place are one, up to a size.
+use Rattle.std.proofs.Common.{◌≡◌, ℕ, ◌≤◌, Bool, true, false, refl, sym, arith}
+use Rattle.std.specs.Prelude.{IsTrue, nat_le, codes}
+use Rattle.std.proofs.lemmas.Bool.{leb-true, leb-false}
+use Rattle.jsx_base.specs.Token.{Text, Operator, IdentifierName}
+use Rattle.jsx_tree.specs.Signs.{Tok}
+use Rattle.jsx_tree.specs.Kinds.{FunctionExpr, ClassExpr, InObject, Method, Getter, Setter, Kind, function, node, Forest}
+use Rattle.jsx_tree.specs.Nonterminals.{Nonterminal, Expr}
+use Rattle.jsx_tree.specs.StaticRules.{Surroundings}
+use Rattle.jsx_tree.specs.Reading.{Place, forth}
+use Rattle.jsx_tree.specs.Walk.{is_found, IsRead}
+use Rattle.jsx_tree.proofs.OneTree.Known.{kept, size}
+
+abbrev pub is_sealed : Kind → Bool
+is_sealed (function FunctionExpr) = true
+is_sealed (function ClassExpr) = true
+is_sealed k = false
+
+-- methods of objects
+abbrev pub is_member : Kind → Bool
+is_member (function (Method InObject)) = true
+is_member (function (Getter InObject)) = true
+is_member (function (Setter InObject)) = true
+is_member k = false
+
+-- a node of such a kind at a place for it, and the law up to a size
+pub record Closed (p : Kind → Bool) (c : Nonterminal) (x : Place) (k : Kind) (cs : Forest) (y : Place) : Type 0 where
+  pub kind' : p k ≡ true
+  pub bound : ℕ
+  pub small : size (node k cs) ≤ bound
+  pub good : kept (node k cs) ≡ true
+  pub surroundings : Surroundings
+  pub read : IsRead surroundings false c x (node k cs) y
+  pub law : (l : Kind) (ds : Forest) {v : Surroundings} {z : Place} → p l ≡ true → size (node l ds) ≤ bound → kept (node l ds) ≡ true → IsRead v false c x (node l ds) z → (node k cs ≡ node l ds) × (y ≡ z)
+
+pub closed_same : {p : Kind → Bool} {c : Nonterminal} {x y z : Place} {k l : Kind} {cs ds : Forest} → Closed p c x k cs y → Closed p c x l ds z → (node k cs ≡ node l ds) × (y ≡ z)
+closed_same {y = y} {z} {k} {l} {cs} {ds} a b = by_bound (nat_le a.bound b.bound) refl
+  where
+    by_bound : (c : Bool) → nat_le a.bound b.bound ≡ c → (node k cs ≡ node l ds) × (y ≡ z)
+    by_bound true e =
+        let le = leb-true a.bound b.bound e in
+        let r = b.law k cs a.kind' (omega (arith, le, a.small)) a.good a.read in
+        (sym r.0, sym r.1)
+    by_bound false e =
+        let le = leb-false a.bound b.bound e in
+        a.law l ds b.kind' (omega (arith, le, b.small)) b.good b.read
+
+-- the words that functions and classes begin with
+pub data Opener : Text → Type 0 where
+  of_function : Opener (codes "function")
+  of_class : Opener (codes "class")
+
+pub record Sealed (x : Place) (k : Kind) (cs : Forest) (y : Place) : Type 0 where
+  pub closed : Closed is_sealed (Expr 18) x k cs y
+  pub word : Text
+  pub opener : Opener word
+  pub begins : IsTrue (is_found (forth (Tok Operator IdentifierName word) x))
+
+pub sealed_same : {x y z : Place} {k l : Kind} {cs ds : Forest} → Sealed x k cs y → Sealed x l ds z → (node k cs ≡ node l ds) × (y ≡ z)
+sealed_same a b = closed_same a.closed b.closed
