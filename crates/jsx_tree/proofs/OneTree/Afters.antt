@@ -3,7 +3,7 @@ use Rattle.jsx_tree.proofs.OneTree.Known.{taken, is_seq}
 use Rattle.std.proofs.Common.{◌≡◌, Bool, true, false, List, [], ◌∷◌, ◌++◌, refl, sym, ◌∙◌, ap, subst}
 use Rattle.std.specs.Prelude.{IsTrue, ◌||◌}
 use Rattle.jsx_base.specs.Token.{Text, TokenKind, Elision, is_token, token, same}
-use Rattle.jsx_tree.specs.Signs.{Sign, Tok, Ends, Unless, Space}
+use Rattle.jsx_tree.specs.Signs.{AfterExpr, Sign, Tok, Ends, Unless, Space}
 use Rattle.jsx_tree.specs.Kinds.{Kind, Tree, leaf, node, list, Forest, none, part}
 use Rattle.jsx_tree.specs.Nonterminals.{Nonterminal, in_homes, leaf_in, literal_homes}
 use Rattle.jsx_tree.specs.Grammar.{TwoOrMore, Context, Fixed, Part, Many, Within, Production, production, pun}
@@ -13,6 +13,7 @@ use Rattle.jsx_tree.specs.Spelling.{leaf_signs, gathered, joined, walk, said, sa
 use Rattle.jsx_tree.specs.Reading.{Place, Lost, At, forth, scan}
 use Rattle.jsx_tree.proofs.Tokens.{and_left, and_right, and_both}
 use Rattle.jsx_tree.specs.Walk.{is_found, IsRead}
+use Rattle.jsx_tree.proofs.OneTree.Readings.{is_block}
 use Rattle.jsx_tree.proofs.OneTree.Table.{kinds}
 use Rattle.jsx_tree.proofs.OneTree.Checks.{every}
 use Rattle.jsx_tree.proofs.OneTree.Facts.{never, or_else, not_is, Test, yes', no', test, for_kind}
@@ -139,6 +140,17 @@ mutual
       (walk_ok ps (saids ts) e (saids_ok ts (and_right (tames (part u (part v us))) (tames ts) h)))
   row_tok _ cs g b a o e h f = cc
 
+-- behind a tree in which no arrow has a block
+pub after_tame : (t : Tree) (c : Nonterminal) {v : Surroundings} {x y : Place} → tame t ≡ true → no_hole c ≡ true → IsRead v false c x t y → after y ≡ true
+after_tame t c {v} {x} {y} h n r =
+    subst (λ z. after z ≡ true) r.scans (settle_after (spelled t) x false no_flag (said_tok t c h n r.is) (subst (λ z. IsTrue (is_found z)) (sym r.scans) r.found))
+
+clear_after : (x : Place) → after x ≡ true → is_block x ≡ false
+clear_after (At q AfterExpr text) h = refl
+clear_after _ h = cc
+
+pub clear_tame : (t : Tree) (c : Nonterminal) {v : Surroundings} {x y : Place} → tame t ≡ true → no_hole c ≡ true → IsRead v false c x t y → is_block y ≡ false
+clear_tame t c {y = y} h n r = clear_after y (after_tame t c h n r)
+
 pub after_tree : (t : Tree) (c : Nonterminal) {v : Surroundings} {x y : Place} → Tame t → no_hole c ≡ true → IsRead v false c x t y → after y ≡ true
-after_tree t c {v} {x} {y} h n r =
-    subst (λ z. after z ≡ true) r.scans (settle_after (spelled t) x false no_flag (said_tok t c h.tame' n r.is) (subst (λ z. IsTrue (is_found z)) (sym r.scans) r.found))
+after_tree t c h n r = after_tame t c h.tame' n r

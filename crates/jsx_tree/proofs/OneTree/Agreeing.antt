@@ -13,7 +13,7 @@ use Rattle.jsx_tree.proofs.OneTree.Readings.{sealed, braces, linked, filled, tag
 use Rattle.jsx_tree.proofs.OneTree.Checks.{starts, same_bool, joins, apart, twin}
 use Rattle.jsx_tree.proofs.OneTree.Facts.{not_is, eq_nat, le_nat, Seen, seen, found_at, took, took_in}
 use Rattle.jsx_tree.proofs.OneTree.Sealed.{closed_same}
-use Rattle.jsx_tree.proofs.OneTree.Starting.{arrow_leads, of_grow, no_start, tagged_start}
+use Rattle.jsx_tree.proofs.OneTree.Starting.{items_clear, arrow_leads, of_grow, no_start, tagged_start}
 use Rattle.jsx_tree.proofs.OneTree.Growths.{Through, Split, made_plain, made_coded, unseq_one, calm_one, split}
 use Rattle.jsx_tree.proofs.OneTree.Pairs.{sealed_start, Same, SameOne, and3, same_sign, same_place, same_lit, two_tokens, move, move_items, move_rest, no_comma, seen_at, comma_seen, close_seen, move_tok, ends, onward, tail_only, settle, one_token, start_regexp, start_word, parens_same, braces_same, pass_take, nothing_more, take_take, take_literal, take_under, plain_same, one_against, as_unseq, ends_prop, colon, equals, colon_seen, equals_seen, dots_seen, bracket_seen, shut_seen, same_name, key_dots, open_mark, named_open, short_open, no_end, no_prop, no_link, link_only, take_linked, take_tagged, linked_tagged, tagged_only, lit_lit, SameSpans}
 
@@ -86,9 +86,9 @@ mutual
 
   one_links : {x y z : Place} {ts us : Forest} → Links x ts y → Links x us z → Same (flats ts) (flats us) y z
   one_links (l_end c) (l_end d) = record { trees = refl; places = refl }
-  one_links (l_end c) (l_more {k = k} s l w i) = absurd (no_link k s l w c)
-  one_links (l_more {k = k} s l w i) (l_end c) = absurd (no_link k s l w c)
-  one_links (l_more {k = k} {cs = cs} s l w i) (l_more {k = k'} {z = z'} {cs = ds} {ts = us} s' l' v j) =
+  one_links (l_end c) (l_more {k = k} s l b w i) = absurd (no_link k s l b w c)
+  one_links (l_more {k = k} s l b w i) (l_end c) = absurd (no_link k s l b w c)
+  one_links (l_more {k = k} {cs = cs} s l b w i) (l_more {k = k'} {z = z'} {cs = ds} {ts = us} s' l' b' v j) =
       let q = link_only k k' cs ds s l s' l' v (λ qs us q hh v. one_walk hh w v) (λ qs us q hh v. no_walk hh w v) in
       let o = one_links i (subst (λ p. Links p us z') (sym q.place) j) in
       record { trees = λ i. cons (q.tree i) (o.trees i); places = o.places }
@@ -145,11 +145,11 @@ mutual
   passes (paren l e f a g h) le p c = settle (parens_same e f (λ us q j. whole_items a g h j) p.start) p.through
   passes (target {y = y} {t = t} l e f r k g h) le p c =
       settle (parens_same e f (λ us q j. as_unseq (flat t) (unseq_one r) (one_against r g h (λ u v s d. ends (passes r (omega arith) (split s (omega arith)) d) (calm_one y k)) j)) p.start) p.through
-  passes {n} {z = z} {g = g} (grow {k = k} {z = y} {t = t} {ts = ts} s d l r w) le p c =
+  passes {n} {z = z} {g = g} (grow {k = k} {z = y} {t = t} {ts = ts} s d l b r w) le p c =
       subst (λ f. Through n y f z g) (sym (made_plain k (cons (flat t) (flats ts)) (arrow_leads k d) (of_grow k s d).not_paren))
-      (onward k s d (omega (arith, le, l)) w (tail_only k ts s d (λ qs us q hh v. one_walk hh w v) (λ qs us q hh v. no_walk hh w v)) (passes r le p c) c)
+      (onward k s d (omega (arith, le, l)) b w (tail_only k ts s d (λ qs us q hh v. one_walk hh w v) (λ qs us q hh v. no_walk hh w v)) (passes r le p c) c)
   passes (arrow {ts = ts} l (take e f (each i done)) w) le p c =
-      onward (expression BareArrow) refl refl (omega (arith, le, l)) w (tail_only (expression BareArrow) ts refl refl (λ qs us q hh v. one_walk hh w v) (λ qs us q hh v. no_walk hh w v))
+      onward (expression BareArrow) refl refl (omega (arith, le, l)) (items_clear i) w (tail_only (expression BareArrow) ts refl refl (λ qs us q hh v. one_walk hh w v) (λ qs us q hh v. no_walk hh w v))
       (settle (parens_same e f (λ us q j. one_items refl refl i j) p.start) p.through) c
 
   -- two properties, each before a comma or a brace

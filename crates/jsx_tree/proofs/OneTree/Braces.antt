@@ -270,7 +270,7 @@ rest_reads k {x = x} {y} cs d o f w q =
 -- `...a` of a literal
 spread_prop : {n : ℕ} {x y : Place} {cs : Forest} → Reads n x (node (expression Spread) cs) y → Prop x (node (expression Spread) cs) y
 spread_prop (head s a i l d (take e f (under r c done))) = rest refl refl e f r c
-spread_prop (grow s d l r w) = cc
+spread_prop (grow s d l b r w) = cc
 spread_prop (sealed l s) = let bad = s.closed.kind' in cc
 spread_prop (braces l c a e f p) = cc
 

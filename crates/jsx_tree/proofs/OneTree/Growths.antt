@@ -9,20 +9,20 @@ use Rattle.jsx_tree.specs.Reading.{Place, forth}
 use Rattle.jsx_tree.specs.Walk.{is_found}
 use Rattle.jsx_tree.proofs.OneTree.Table.{code, scope}
 use Rattle.jsx_tree.proofs.OneTree.Sealed.{is_sealed, Sealed}
-use Rattle.jsx_tree.proofs.OneTree.Readings.{row, tail, level, grows, reach, calm, Flat, Flats, one, some, row_of, nil, cons, unseq, paren_of, in_parens, is_arrow, is_paren, made, flat, flats, may_be, Reads, word, head, Props, paren, target, grow, arrow, Walk, done, take, each, regexp, Whole, single, several, Rest, final, also, Items, last, more}
+use Rattle.jsx_tree.proofs.OneTree.Readings.{is_block, row, tail, level, grows, reach, calm, Flat, Flats, one, some, row_of, nil, cons, unseq, paren_of, in_parens, is_arrow, is_paren, made, flat, flats, may_be, Reads, word, head, Props, paren, target, grow, arrow, Walk, done, take, each, regexp, Whole, single, several, Rest, final, also, Items, last, more}
 use Rattle.jsx_tree.proofs.OneTree.Readings.{sealed, braces}
 use Rattle.jsx_tree.proofs.OneTree.Facts.{not_is, Test, yes', no', test, le_nat}
-use Rattle.jsx_tree.proofs.OneTree.Starting.{or_other, weaken, arrow_leads, cond_no, of_head, of_grow}
+use Rattle.jsx_tree.proofs.OneTree.Starting.{items_clear, or_other, weaken, arrow_leads, cond_no, of_head, of_grow}
 
 -- ---- spines
 
 pub data Through (n : ℕ) : Place → Flat → Place → Flat → Type 0 where
   here : {y : Place} {f : Flat} → Through n y f y f
-  step : (k : Kind) {y p z : Place} {f g : Flat} {ts : Forest} → scope k ≡ true → grows k ≡ true → n ≤ level k → Walk (tail k) y ts p → Through n p (some (code k) (cons f (flats ts))) z g → Through n y f z g
+  step : (k : Kind) {y p z : Place} {f g : Flat} {ts : Forest} → scope k ≡ true → grows k ≡ true → n ≤ level k → is_block y ≡ false → Walk (tail k) y ts p → Through n p (some (code k) (cons f (flats ts))) z g → Through n y f z g
 
-pub snoc : (k : Kind) {n : ℕ} {y p z : Place} {f g : Flat} {ts : Forest} → Through n y f p g → scope k ≡ true → grows k ≡ true → n ≤ level k → Walk (tail k) p ts z → Through n y f z (some (code k) (cons g (flats ts)))
-snoc k here s d l w = step k s d l w here
-snoc k (step k' s' d' l' w' th) s d l w = step k' s' d' l' w' (snoc k th s d l w)
+pub snoc : (k : Kind) {n : ℕ} {y p z : Place} {f g : Flat} {ts : Forest} → Through n y f p g → scope k ≡ true → grows k ≡ true → n ≤ level k → is_block p ≡ false → Walk (tail k) p ts z → Through n y f z (some (code k) (cons g (flats ts)))
+snoc k here s d l b w = step k s d l b w here
+snoc k (step k' s' d' l' b' w' th) s d l b w = step k' s' d' l' b' w' (snoc k th s d l b w)
 
 pub data Start : Place → Flat → Place → Type 0 where
   s_word : {s : TokenKind} {t : Text} {x y : Place} → may_be s t ≡ true → forth (Tok Operator s t) x ≡ y → IsTrue (is_found y) → Start x (one s t) y
@@ -76,7 +76,7 @@ unseq_one (sealed {k = k} {cs = cs} l s) = let p = sealed_plain k s.closed.kind'
 unseq_one (paren l e f a g h) = refl
 unseq_one (target l e f r c g h) = refl
 unseq_one (head {k = k} {ts = ts} s a i l d w) = unseq_made k (flats ts) a (of_head k s a d i).not_seq
-unseq_one (grow {k = k} {t = t} {ts = ts} s d l r w) = unseq_made k (cons (flat t) (flats ts)) (arrow_leads k d) (of_grow k s d).not_seq
+unseq_one (grow {k = k} {t = t} {ts = ts} s d l b r w) = unseq_made k (cons (flat t) (flats ts)) (arrow_leads k d) (of_grow k s d).not_seq
 unseq_one (arrow l p w) = refl
 
 pub calm_one : (x : Place) → calm 0 x ≡ true → calm 1 x ≡ true
@@ -112,13 +112,13 @@ split (sealed {k = k} {y = y} {cs = cs} l s) le = record { first = flat (node k 
 split {n} {x = x} (paren {z = z} {t = t} l e f a g h) le = record { first = paren_of (unseq (flat t)); rest = z; start = start_of e f (whole_listed a g h); through = here }
 split (target {y = y} {z = z} {t = t} l e f r c g h) le =
     record { first = paren_of (unseq (flat t)); rest = z; start = start_of e f (record { parts = part t none; is = sym (unseq_one r); items = last (weaken r (omega arith)) (calm_one y c) g h }); through = here }
-split {n} (grow {k = k} {z = z} {t = t} {ts = ts} s d l r w) le =
+split {n} (grow {k = k} {z = z} {t = t} {ts = ts} s d l b r w) le =
     let p = split {n = n} r le in
     record {
       first = p.first;
       rest = p.rest;
       start = p.start;
-      through = subst (λ f. Through n p.rest p.first z f) (sym (made_plain k (cons (flat t) (flats ts)) (arrow_leads k d) ((of_grow k s d).not_paren))) (snoc k p.through s d (omega (arith, le, l)) w);
+      through = subst (λ f. Through n p.rest p.first z f) (sym (made_plain k (cons (flat t) (flats ts)) (arrow_leads k d) ((of_grow k s d).not_paren))) (snoc k p.through s d (omega (arith, le, l)) b w);
     }
 split (arrow {y = y} {ts = ts} l (take e f (each {ts = ps} i done)) w) le =
-    record { first = paren_of (flats ps); rest = y; start = s_paren e f i; through = step (expression BareArrow) refl refl (omega (arith, le, l)) w here }
+    record { first = paren_of (flats ps); rest = y; start = s_paren e f i; through = step (expression BareArrow) refl refl (omega (arith, le, l)) (items_clear i) w here }

@@ -1,5 +1,5 @@
 -- Two readings from one place, one step after another.
-use Rattle.std.proofs.Common.{◌≡◌, ℕ, ◌≤◌, Bool, true, false, not, List, [], refl, sym, ◌∙◌, ap, subst, arith}
+use Rattle.std.proofs.Common.{◌≡◌, ℕ, ◌≤◌, Bool, true, false, not, cond, List, [], refl, sym, ◌∙◌, ap, subst, arith}
 use Rattle.std.specs.Prelude.{IsTrue, ◌&&◌, ◌||◌, nat_eq, codes}
 use Rattle.std.proofs.lemmas.Bool.{eq-eqb}
 use Rattle.jsx_base.specs.Token.{Text, Mode, Operand, Operator, TokenKind, IdentifierName, Punctuator, NumericLiteral, BigIntLiteral, StringLiteral, RegExpLiteral, kind_number, same, among, is_token, token}
@@ -11,7 +11,7 @@ use Rattle.jsx_tree.specs.Walk.{is_found}
 use Rattle.jsx_tree.proofs.Tokens.{and_left, and_right, same_is}
 use Rattle.jsx_tree.proofs.OneTree.Table.{code, scope, kinds}
 use Rattle.jsx_tree.proofs.OneTree.Sealed.{Opener, of_function, of_class, Sealed, sealed_same}
-use Rattle.jsx_tree.proofs.OneTree.Readings.{Step, row, tail, level, grows, reach_of, reach, calm, text_at, broken, Flat, Flats, one, some, row_of, nil, cons, unseq, paren_of, is_arrow, is_paren, made, flat, flats, may_be, holds, comma, Reads, Prop, long, computed, short, preset, rest, member, Opening, o_named, o_computed, o_worded, Props, key_start, kind_at, may_key, Walk, take, literal, is_link, is_tagged, is_quote, is_slash, Rest, Items, shut, gap, last, more}
+use Rattle.jsx_tree.proofs.OneTree.Readings.{is_block, block_reach, ahead, Step, row, tail, level, grows, reach_of, reach, calm, text_at, broken, Flat, Flats, one, some, row_of, nil, cons, unseq, paren_of, is_arrow, is_paren, made, flat, flats, may_be, holds, comma, Reads, Prop, long, computed, short, preset, rest, member, Opening, o_named, o_computed, o_worded, Props, key_start, kind_at, may_key, Walk, take, literal, is_link, is_tagged, is_quote, is_slash, Rest, Items, shut, gap, last, more}
 use Rattle.jsx_tree.proofs.OneTree.Checks.{is_op, starts, blocks, same_token, apart, twin, bare, no_line, no_open, goes_by, every, heads_pair, tails_pair, no_opener, opener_ok, opener_ones, no_slash, slash_ok, slash_ones, tagged_pair, all_tagged, links_pair, link_ok, links, link_ones, heads, tails}
 use Rattle.jsx_tree.proofs.OneTree.Slashes.{Slash, regexp_slash}
 use Rattle.jsx_tree.proofs.OneTree.Facts.{never, or_else, not_is, Test, yes', no', test, eq_nat, le_nat, op_is, kind_is, Seen, seen, found_at, took, took_in, same_seen, for_kind}
@@ -66,7 +66,11 @@ pub move_rest : {y z w : Place} {us : Forest} → y ≡ z → Rest z us w → Re
 move_rest {w = w} {us} e v = subst (λ p. Rest p us w) (sym e) v
 
 comma_reach : {x : Place} → Seen x Punctuator (codes ",") → reach x ≡ 1
-comma_reach {x} s = (λ i. reach_of (s.kind i) (s.text i) (broken x))
+comma_reach {x} s = by_block (test (is_block x))
+  where
+    by_block : Test (is_block x) → reach x ≡ 1
+    by_block (yes' b) = (λ i. cond (b i) (block_reach (s.kind i) (s.text i)) (ahead x))
+    by_block (no' b) = (λ i. cond (b i) (block_reach (kind_at x) (text_at x)) (reach_of (s.kind i) (s.text i) (broken x)))
 
 pub no_comma : {x : Place} → Seen x Punctuator (codes ",") → calm 0 x ≡ true → ⊥
 no_comma {x} s c = let r : reach x ≡ 1 = comma_reach s in let l : reach x ≤ 0 = le_nat c in omega (arith, r, l)
@@ -85,15 +89,15 @@ move_tok s e p f = sym e ∙ (ap (forth s) p ∙ f)
 
 pub ends : {n : ℕ} {y z : Place} {f g : Flat} → Through n y f z g → calm n y ≡ true → SameOne f g y z
 ends here c = record { tree = refl; place = refl }
-ends (step k s d l w th) c = absurd (no_growth k s d l w c)
+ends (step k s d l b w th) c = absurd (no_growth k s d l b w c)
 
 -- what a growth is compared with: any tail that stands at its place
 pub record Only (k : Kind) (y : Place) (f : Flats) (z : Place) : Type 0 where
   pub only : (l : Kind) (us : Forest) (w : Place) → scope l ≡ true → grows l ≡ true → Walk (tail l) y us w → (code k ≡ code l) × (f ≡ flats us) × (z ≡ w)
 
-pub onward : (k : Kind) {n : ℕ} {y p z : Place} {f g : Flat} {ts : Forest} → scope k ≡ true → grows k ≡ true → n ≤ level k → Walk (tail k) y ts p → Only k y (flats ts) p → Through n y f z g → calm n z ≡ true → Through n p (some (code k) (cons f (flats ts))) z g
-onward k s d le w o here c = absurd (no_growth k s d le w c)
-onward k {n} {y} {p} {z} {f} {g} {ts} s d le w o (step l {p = q} {ts = us} s' d' le' v th) c =
+pub onward : (k : Kind) {n : ℕ} {y p z : Place} {f g : Flat} {ts : Forest} → scope k ≡ true → grows k ≡ true → n ≤ level k → is_block y ≡ false → Walk (tail k) y ts p → Only k y (flats ts) p → Through n y f z g → calm n z ≡ true → Through n p (some (code k) (cons f (flats ts))) z g
+onward k s d le b w o here c = absurd (no_growth k s d le b w c)
+onward k {n} {y} {p} {z} {f} {g} {ts} s d le b w o (step l {p = q} {ts = us} s' d' le' b' v th) c =
     let is = o.only l us q s' d' v in
     subst (λ x. Through n x (some (code k) (cons f (flats ts))) z g) (sym is.2)
     (subst (λ x. Through n q x z g) (λ i. some (sym is.0 i) (cons f (sym is.1 i))) th)
@@ -419,16 +423,16 @@ link_facts k s l =
     let r = and_right (goes_by (row k) 18 || goes_by (row k) 19) _ h in
     (and_left (goes_by (row k) 18 || goes_by (row k) 19) _ h, (not_is _ (and_left (not (is_arrow k)) _ r), not_is _ (and_right (not (is_arrow k)) _ r)))
 
-pub link_reach : (k : Kind) {x y : Place} {cs : Forest} → scope k ≡ true → is_link k ≡ true → Walk (row k) x cs y → (18 ≤ reach x) × (reach x ≤ 99)
-link_reach k {x} s l w = by_case (test (goes_by (row k) 18))
+pub link_reach : (k : Kind) {x y : Place} {cs : Forest} → scope k ≡ true → is_link k ≡ true → is_block x ≡ false → Walk (row k) x cs y → (18 ≤ reach x) × (reach x ≤ 99)
+link_reach k {x} s l b w = by_case (test (goes_by (row k) 18))
   where
     by_case : Test (goes_by (row k) 18) → (18 ≤ reach x) × (reach x ≤ 99)
-    by_case (yes' h) = let r : reach x ≡ 18 = goes_on w h in (omega (arith, r), omega (arith, r))
-    by_case (no' h) = let r : reach x ≡ 19 = goes_on w (or_else (goes_by (row k) 18) (goes_by (row k) 19) (link_facts k s l).0 h) in (omega (arith, r), omega (arith, r))
+    by_case (yes' h) = let r : reach x ≡ 18 = goes_on b w h in (omega (arith, r), omega (arith, r))
+    by_case (no' h) = let r : reach x ≡ 19 = goes_on b w (or_else (goes_by (row k) 18) (goes_by (row k) 19) (link_facts k s l).0 h) in (omega (arith, r), omega (arith, r))
 
-pub no_link : (k : Kind) {x y : Place} {cs : Forest} → scope k ≡ true → is_link k ≡ true → Walk (row k) x cs y → calm 17 x ≡ true → ⊥
-no_link k {x} s l w c =
-    let a = (link_reach k s l w).0 in
+pub no_link : (k : Kind) {x y : Place} {cs : Forest} → scope k ≡ true → is_link k ≡ true → is_block x ≡ false → Walk (row k) x cs y → calm 17 x ≡ true → ⊥
+no_link k {x} s l b w c =
+    let a = (link_reach k s l b w).0 in
     let b : reach x ≤ 17 = le_nat c in
     omega (arith, a, b)
 

@@ -2,7 +2,7 @@
 use Rattle.jsx_tree.proofs.OneTree.Known.{stated, taken, is_seq, known, kept, kepts}
 use Rattle.std.proofs.Common.{subst}
 use Rattle.std.proofs.Common.{◌≡◌, ℕ, ◌≤◌, Bool, true, false, not, cond, List, [], ◌∷◌, refl, sym, ◌∙◌, ap}
-use Rattle.std.specs.Prelude.{IsTrue, ◌&&◌, ◌||◌, nat_eq, nat_le}
+use Rattle.std.specs.Prelude.{IsTrue, ◌&&◌, ◌||◌, nat_eq, nat_le, codes}
 use Rattle.jsx_base.specs.Token.{Text, Operator, TokenKind, IdentifierName, StringLiteral, Punctuator, kind_number, same}
 use Rattle.jsx_tree.specs.Signs.{Tok, One}
 use Rattle.jsx_tree.specs.Kinds.{InObject, Method, Getter, Setter, Kind, function, Tree, leaf, node, list, Forest, none, part}
@@ -15,7 +15,7 @@ use Rattle.jsx_tree.proofs.Tokens.{and_left, and_right, and_both}
 use Rattle.jsx_tree.specs.Walk.{is_found, IsRead}
 use Rattle.jsx_tree.proofs.OneTree.Table.{kinds}
 use Rattle.jsx_tree.proofs.OneTree.Statements.{stated_kinds}
-use Rattle.jsx_tree.proofs.OneTree.Readings.{calm, Entry, entry, entries, lookup, is_step, kind_at, text_at, broken}
+use Rattle.jsx_tree.proofs.OneTree.Readings.{is_block, block_reach, ahead, calm, Entry, entry, entries, lookup, is_step, kind_at, text_at, broken}
 use Rattle.jsx_tree.proofs.OneTree.Checks.{every, starts}
 use Rattle.jsx_tree.proofs.OneTree.Facts.{never, or_else, not_is, Test, yes', no', test, kind_is, Seen, took, for_kind}
 use Rattle.jsx_tree.proofs.OneTree.Places.{no_hole}
@@ -175,7 +175,8 @@ calm_most x =
     let steps = cond {A = ℕ} (broken x) 0 17 in
     let marks = cond {A = ℕ} (is_step (text_at x)) steps (lookup (text_at x) entries) in
     let is_mark = nat_eq (kind_at x) (kind_number Punctuator) || nat_eq (kind_at x) (kind_number IdentifierName) in
-    small_cond (is_backquote (text_at x)) 19 (cond is_mark marks 0) refl (small_cond is_mark marks 0 (small_cond (is_step (text_at x)) steps (lookup (text_at x) entries) (small_cond (broken x) 0 17 refl refl) (lookup_small (text_at x) entries refl)) refl)
+    small_cond (is_block x) (block_reach (kind_at x) (text_at x)) (ahead x) (small_cond (nat_eq (kind_at x) 1 && same (text_at x) (codes ",")) 1 0 refl refl)
+    (small_cond (is_backquote (text_at x)) 19 (cond is_mark marks 0) refl (small_cond is_mark marks 0 (small_cond (is_step (text_at x)) steps (lookup (text_at x) entries) (small_cond (broken x) 0 17 refl refl) (lookup_small (text_at x) entries refl)) refl))
 
 -- ---- expressions
 

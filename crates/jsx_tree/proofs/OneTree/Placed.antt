@@ -15,7 +15,7 @@ use Rattle.jsx_tree.specs.Walk as W
 use Rattle.jsx_tree.specs.Walk.{is_found, IsRead}
 use Rattle.jsx_tree.proofs.Tokens.{and_left, and_right, and_both, same_is}
 use Rattle.jsx_tree.proofs.OneTree.Table.{scope}
-use Rattle.jsx_tree.proofs.OneTree.Readings.{sealed, level, reach_of, calm, broken, comma, Reads, regexp, Whole, single, several, Rest, final, also, Items, shut, gap, last, more}
+use Rattle.jsx_tree.proofs.OneTree.Readings.{sealed, level, reach_of, calm, comma, Reads, regexp, Whole, single, several, Rest, final, also, Items, shut, gap, last, more}
 use Rattle.jsx_tree.proofs.OneTree.Facts.{never, not_is, Test, yes', no', test, eq_nat, le_nat, kind_is, Seen, took}
 use Rattle.jsx_tree.proofs.OneTree.Places.{ending, kin, is_prop, place_at, no_seq, no_hole, ended_at, ends_by, closes}
 use Rattle.jsx_tree.proofs.Rows.Bridge.{node_walk}
@@ -82,7 +82,7 @@ space_sign Lost = refl
 space_sign (At q e text) = refl
 
 pub comma_calm : (x : Place) {y : Place} → forth comma x ≡ y → IsTrue (is_found y) → calm 1 x ≡ true
-comma_calm x e f = let s : Seen x Punctuator (codes ",") = took Punctuator (codes ",") x e f in (λ i. nat_le (reach_of (s.kind i) (s.text i) (broken x)) 1)
+comma_calm x e f = let s : Seen x Punctuator (codes ",") = took Punctuator (codes ",") x e f in reach_seen Punctuator (codes ",") 1 x s refl
 
 -- the comma that may trail
 pub data Trail (x y : Place) : Type 0 where

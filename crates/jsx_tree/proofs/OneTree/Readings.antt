@@ -1,7 +1,7 @@
 -- Reading by the rows of the grammar, with what may stand behind each part. It takes more than the grammar does; the trees of the grammar are among it, and of these it says that a text has one, up to patterns and literals.
 use Rattle.std.specs.Prelude.{◌≡◌, ℕ, zero, suc, ◌≤◌, List, [], ◌∷◌, ◌++◌, codes, Bool, true, false, cond, nat_eq, nat_le, IsTrue, not, ◌&&◌, ◌||◌}
 use Rattle.jsx_base.specs.Token.{Text, Mode, Operand, Operator, TokenKind, IdentifierName, Punctuator, NumericLiteral, BigIntLiteral, StringLiteral, RegExpLiteral, NoSubstitution, TemplateHead, TemplateMiddle, TemplateTail, Elision, Lexeme, kind_number, token, no_token, same, among, breaks}
-use Rattle.jsx_tree.specs.Signs.{Sign, Tok, Unless, SameLine}
+use Rattle.jsx_tree.specs.Signs.{AfterBlock, Sign, Tok, Unless, SameLine}
 use Rattle.jsx_tree.specs.Kinds.{WithInit, RestPat, ObjectPat, PropertyPat, ShorthandPat, ShorthandInit, RestProperty, ParenTarget, ComputedKey, BinaryOp, Nullish, Or, And, BitOr, BitXor, BitAnd, Equal, Unequal, StrictEqual, StrictUnequal, Less, Greater, AtMost, AtLeast, InOp, InstanceOf, ShiftLeft, ShiftRight, ShiftOut, Add, Subtract, Multiply, Divide, Remainder, Exponentiate, Seq, Arrow, BareArrow, Call, Chain, NameLink, IndexLink, CallLink, Object, Property, Shorthand, Spread, Parenthesized, PlainTemplate, SubstitutedTemplate, TemplateSpan, Kind, function, expression, Tree, leaf, node, list, Forest, none, part}
 use Rattle.jsx_tree.specs.Nonterminals.{Nonterminal, Expr, MemberObject, ObjectMember, SimpleTarget, Ident, BindingIdent, Name, TemplateOf, TemplatePart, NullishLeft, NewCallee, DotObject, level_of, binary, homes, is_value_word}
 use Rattle.jsx_tree.specs.Grammar.{ListShape, Elisions, Fixed, Part, Many, Production, production}
@@ -167,8 +167,19 @@ abbrev pub broken : Place → Bool
 broken Lost = false
 broken (At q e text) = breaks text
 
+-- behind the block of an arrow a comma alone goes on
+abbrev pub is_block : Place → Bool
+is_block (At q AfterBlock text) = true
+is_block x = false
+
+abbrev pub block_reach : ℕ → Text → ℕ
+block_reach k t = cond (nat_eq k 1 && same t (codes ",")) 1 0
+
+abbrev pub ahead : Place → ℕ
+ahead x = reach_of (kind_at x) (text_at x) (broken x)
+
 abbrev pub reach : Place → ℕ
-reach x = reach_of (kind_at x) (text_at x) (broken x)
+reach x = cond (is_block x) (block_reach (kind_at x) (text_at x)) (ahead x)
 
 abbrev pub calm : ℕ → Place → Bool
 calm n x = nat_le (reach x) n
@@ -310,7 +321,7 @@ mutual
     head : {n : ℕ} {k : Kind} {x y : Place} {ts : Forest} → IsTrue (scope k) → is_arrow k ≡ false → is_paren k ≡ false → n ≤ level k → grows k ≡ false → Walk (row k) x ts y → Reads n x (node k ts) y
     paren : {n : ℕ} {x p y z : Place} {t : Tree} → n ≤ 19 → forth (Tok Operator Punctuator (codes "(")) x ≡ p → IsTrue (is_found p) → Whole p t y → forth (Tok Operator Punctuator (codes ")")) y ≡ z → IsTrue (is_found z) → Reads n x (node (expression Parenthesized) (part t none)) z
     target : {n : ℕ} {x p y z : Place} {t : Tree} → n ≤ 19 → forth (Tok Operator Punctuator (codes "(")) x ≡ p → IsTrue (is_found p) → Reads 17 p t y → IsTrue (calm 0 y) → forth (Tok Operator Punctuator (codes ")")) y ≡ z → IsTrue (is_found z) → Reads n x (node (function ParenTarget) (part t none)) z
-    grow : {n : ℕ} {k : Kind} {x y z : Place} {t : Tree} {ts : Forest} → IsTrue (scope k) → IsTrue (grows k) → n ≤ level k → Reads n x t y → Walk (tail k) y ts z → Reads n x (node k (part t ts)) z
+    grow : {n : ℕ} {k : Kind} {x y z : Place} {t : Tree} {ts : Forest} → IsTrue (scope k) → IsTrue (grows k) → n ≤ level k → is_block y ≡ false → Reads n x t y → Walk (tail k) y ts z → Reads n x (node k (part t ts)) z
     arrow : {n : ℕ} {x y z : Place} {p : Tree} {ts : Forest} → n ≤ 1 → Walk parens x (part p none) y → Walk (tail (expression BareArrow)) y ts z → Reads n x (node (expression Arrow) (part p ts)) z
     sealed : {n : ℕ} {k : Kind} {x y : Place} {cs : Forest} → n ≤ 19 → Sealed x k cs y → Reads n x (node k cs) y
     braces : {n : ℕ} {k : Kind} {x p y : Place} {ts : Forest} → n ≤ 19 → code k ≡ 54 → is_arrow k ≡ false → forth (Tok Operator Punctuator (codes "{")) x ≡ p → IsTrue (is_found p) → Props p ts y → Reads n x (node k (part (list ts) none)) y
@@ -355,7 +366,7 @@ mutual
   -- the links of a chain, to the last
   pub data Links : Place → Forest → Place → Type 0 where
     l_end : {x : Place} → IsTrue (calm 17 x) → Links x none x
-    l_more : {k : Kind} {x y z : Place} {cs ts : Forest} → IsTrue (scope k) → IsTrue (is_link k) → Walk (row k) x cs y → Links y ts z → Links x (part (node k cs) ts) z
+    l_more : {k : Kind} {x y z : Place} {cs ts : Forest} → IsTrue (scope k) → IsTrue (is_link k) → is_block x ≡ false → Walk (row k) x cs y → Links y ts z → Links x (part (node k cs) ts) z
 
   -- an expression of any level
   pub data Whole : Place → Tree → Place → Type 0 where

@@ -1,7 +1,8 @@
 -- What the definitions read, with what may stand behind each part: templates.
+use Rattle.jsx_tree.proofs.OneTree.Next.{reach_seen}
 use Rattle.jsx_tree.proofs.OneTree.Known.{plain_leaf, is_piece}
 use Rattle.std.proofs.Common.{◌≡◌, Bool, true, false, List, [], ◌∷◌, refl, sym, ◌∙◌, ap, subst}
-use Rattle.std.specs.Prelude.{IsTrue, ◌&&◌, nat_le, codes}
+use Rattle.std.specs.Prelude.{IsTrue, ◌&&◌, codes}
 use Rattle.jsx_base.specs.Token.{Text, TokenKind, IdentifierName, Punctuator, NumericLiteral, BigIntLiteral, StringLiteral, NoSubstitution, TemplateHead, TemplateMiddle, TemplateTail, Elision}
 use Rattle.jsx_tree.specs.Signs.{Tok}
 use Rattle.jsx_tree.specs.Kinds.{SubstitutedTemplate, TemplateSpan, PlainTemplate, Kind, expression, Tree, leaf, node, list, Forest, none, part}
@@ -15,7 +16,7 @@ use Rattle.jsx_tree.specs.Walk as W
 use Rattle.jsx_tree.specs.Walk.{is_found, IsRead}
 use Rattle.jsx_tree.proofs.Tokens.{and_left, and_right}
 use Rattle.jsx_tree.proofs.OneTree.Table.{code}
-use Rattle.jsx_tree.proofs.OneTree.Readings.{Step, lit, spans, quoted, row, reach_of, calm, broken, Walk, done, literal, Spans, t_tail, t_more, is_tagged, is_span, brace}
+use Rattle.jsx_tree.proofs.OneTree.Readings.{Step, lit, spans, quoted, row, calm, Walk, done, literal, Spans, t_tail, t_more, is_tagged, is_span, brace}
 use Rattle.jsx_tree.proofs.OneTree.Readings.{filled, tagged}
 use Rattle.jsx_tree.proofs.OneTree.Facts.{never, Seen, took}
 use Rattle.jsx_tree.proofs.OneTree.Places.{is_prop, at_home, no_seq, tagged_home, span_home, free}
@@ -114,7 +115,7 @@ pub piece_walk : (s : TokenKind) {v : Surroundings} {x y z : Place} {t : Tree} {
 piece_walk s {x = x} {z = z} {ts = ts} {qs} p f r w = let a = piece_at s p f r in subst (λ t. Walk (lit s ∷ qs) x (part t ts) z) (sym a.is_tree) (literal a.moves r.found w)
 
 brace_calm : (x : Place) {y : Place} → forth brace x ≡ y → IsTrue (is_found y) → calm 0 x ≡ true
-brace_calm x e f = let s : Seen x Punctuator (codes "}") = took Punctuator (codes "}") x e f in (λ i. nat_le (reach_of (s.kind i) (s.text i) (broken x)) 0)
+brace_calm x e f = let s : Seen x Punctuator (codes "}") = took Punctuator (codes "}") x e f in reach_seen Punctuator (codes "}") 0 x s refl
 
 two_fines : {t u : Tree} {ts : Forest} → Fines (part t (part u ts)) → Fine t × (Fine u × Fines ts)
 two_fines (fine_part f (fine_part g fs)) = (f, (g, fs))

@@ -1,10 +1,11 @@
 -- A text has one tree: two kinds at one place begin with tokens that differ, and one kind reads its row in one way.
 use Rattle.std.specs.Prelude.{◌&&◌}
+use Rattle.jsx_tree.proofs.OneTree.Next.{reach_seen}
 use Rattle.jsx_tree.proofs.OneTree.Wants.{still}
 use Rattle.jsx_tree.proofs.OneTree.Kinds.Directives.{is_expr_stmt, expr_stmt_is}
 use Rattle.jsx_tree.proofs.OneTree.Kinds.Imports.{import_row, import_clash}
 use Rattle.std.proofs.Common.{◌≡◌, ℕ, ◌≤◌, zero, suc, Bool, true, false, not, List, [], ◌∷◌, refl, sym, ◌∙◌, ap, subst, arith}
-use Rattle.std.specs.Prelude.{IsTrue, ◌+◌, ◌||◌, nat_eq, nat_le, codes}
+use Rattle.std.specs.Prelude.{IsTrue, ◌+◌, ◌||◌, nat_eq, codes}
 use Rattle.jsx_base.specs.Token.{Text, Operator, TokenKind, IdentifierName, Punctuator, same, breaks}
 use Rattle.jsx_tree.specs.declared.text.Goal.{Goal}
 use Rattle.jsx_tree.specs.declared.text.Goal.TheVariants as goals
@@ -65,7 +66,7 @@ ident_word IdentifierName t h = or_left (is_ident t) _ h
 ident_word _ t h = cc
 
 colon_calm : (x : Place) → Seen x Punctuator (codes ":") → calm 1 x ≡ true
-colon_calm x s = (λ i. nat_le (reach_of (s.kind i) (s.text i) (broken x)) 1)
+colon_calm x s = reach_seen Punctuator (codes ":") 1 x s refl
 
 -- no semicolon is missing before a `:`
 colon_semi : (x : Place) → after x ≡ true → Seen x Punctuator (codes ":") → IsTrue (is_found (forth Semicolon x)) → ⊥

@@ -10,6 +10,7 @@ use Rattle.jsx_tree.specs.Reading.{Place, Lost, At, forth, scan, go_if, continue
 use Rattle.jsx_tree.proofs.Tokens.{and_left, and_right, same_is, same_self}
 use Rattle.jsx_tree.specs.Walk as W
 use Rattle.jsx_tree.specs.Walk.{is_found, is_heard, heard, keep, pieces, IsRead}
+use Rattle.jsx_tree.proofs.OneTree.Next.{reach_seen}
 use Rattle.jsx_tree.proofs.OneTree.Readings.{calm, reach, reach_of, kind_at, text_at, broken, comma}
 use Rattle.jsx_tree.proofs.OneTree.Checks.{every, same_token}
 use Rattle.jsx_tree.proofs.OneTree.Facts.{for_kind, never, or_else, not_is, Test, yes', no', test, eq_nat, le_nat, kind_is, Seen, seen, took}
@@ -110,11 +111,7 @@ is_look w = true
 -- the same of a token that is looked at
 pub look_met : (w : Want) (k : TokenKind) (t : Text) (x : Place) → is_look w ≡ true → Seen x k t → met w k t ≡ true → meets w x ≡ true
 look_met anything k t x l s h = refl
-look_met (ended n) k t x l s h = by_line (test (broken x))
-  where
-    by_line : Test (broken x) → calm n x ≡ true
-    by_line (yes' b) = (λ i. nat_le (reach_of (s.kind i) (s.text i) (b i)) n) ∙ and_left (nat_le (reach_of (kind_number k) t true) n) _ h
-    by_line (no' b) = (λ i. nat_le (reach_of (s.kind i) (s.text i) (b i)) n) ∙ and_right (nat_le (reach_of (kind_number k) t true) n) _ h
+look_met (ended n) k t x l s h = reach_seen k t n x s h
 look_met still k t x l s h = (λ i. still_at (s.kind i) (s.text i)) ∙ h
 look_met idle k t x l s h = (λ i. idle_at (s.kind i) (s.text i)) ∙ h
 look_met shutting k t x l s h = (λ i. shutting_at (s.kind i) (s.text i)) ∙ h
@@ -212,8 +209,8 @@ declared_calm x a h = by_comma (test (is_found (forth comma x)))
         by_mark (yes' f) g = seen_met (ended 1) Punctuator (codes ";") x f refl
         by_mark (no' f) g = calm_more 0 1 x (omega arith) (at_semi x a (and_right (bound x) _ (or_else (is_found (forth (mark (codes ";")) x)) _ g f)))
 
-equals_reach : {x : Place} → Seen x Punctuator (codes "=") → reach x ≡ 2
-equals_reach {x} s = (λ i. reach_of (s.kind i) (s.text i) (broken x))
+equals_reach : {q text : Text} → Seen (At q AfterExpr text) Punctuator (codes "=") → reach (At q AfterExpr text) ≡ 2
+equals_reach {q} {text} s = (λ i. reach_of (s.kind i) (s.text i) (broken (At q AfterExpr text)))
 
 bound_equals : (x : Place) → bound x ≡ true → IsTrue (is_found (forth Semicolon x)) → Seen x Punctuator (codes "=") → ⊥
 bound_equals Lost b f s = cc

@@ -96,7 +96,7 @@ reads_calls (sealed {x = x} l s) i = absurd (opener_import s.opener (opener_seen
 reads_calls (braces {x = x} l c a e f p) i = absurd (no_import (took Punctuator (codes "{") x e f) refl i)
 reads_calls (paren {x = x} l e f a g h) i = absurd (no_import (took Punctuator (codes "(") x e f) refl i)
 reads_calls (target {x = x} l e f r c g h) i = absurd (no_import (took Punctuator (codes "(") x e f) refl i)
-reads_calls (grow s d l r w) i = reads_calls r i
+reads_calls (grow s d l b r w) i = reads_calls r i
 reads_calls (arrow {x = x} l (take {m = Operator} {k = k} {t = t} e f p) w) i = absurd (no_import (took Punctuator (codes "(") x e f) refl i)
 
 whole_calls : {x y p : Place} {t : Tree} → Whole x t y → Import x p → calls_on p ≡ true
