@@ -21,7 +21,7 @@ use Rattle.jsx_tree.proofs.OneTree.Places.{no_hole}
 use Rattle.jsx_tree.proofs.OneTree.Fine.{tame, tames, Tamed, of_sealed, of_member, of_open, tamed}
 use Rattle.jsx_tree.proofs.OneTree.Evidence.{Tame}
 use Rattle.jsx_tree.proofs.OneTree.Spines.{seq_is, taken_scope}
-use Rattle.jsx_tree.proofs.OneTree.Endings.{after, go_after, after_sign, found_first, settle, keeps, settle_append, settle_any, row_ends, gathered_ok, fixed_ok, walk_ok, row_of_kind, sealed_settled, member_settled, saids_ok, each_said_ok}
+use Rattle.jsx_tree.proofs.OneTree.Endings.{after, past, past_after, go_after, after_sign, found_first, settle, keeps, settle_append, settle_any, row_ends, gathered_ok, fixed_ok, walk_ok, row_of_kind, sealed_settled, member_settled, saids_ok, each_said_ok}
 
 abbrev pub is_tok : Sign → Bool
 is_tok (Tok m s t) = true
@@ -152,5 +152,5 @@ clear_after _ h = cc
 pub clear_tame : (t : Tree) (c : Nonterminal) {v : Surroundings} {x y : Place} → tame t ≡ true → no_hole c ≡ true → IsRead v false c x t y → is_block y ≡ false
 clear_tame t c {y = y} h n r = clear_after y (after_tame t c h n r)
 
-pub after_tree : (t : Tree) (c : Nonterminal) {v : Surroundings} {x y : Place} → Tame t → no_hole c ≡ true → IsRead v false c x t y → after y ≡ true
-after_tree t c h n r = after_tame t c h.tame' n r
+pub after_tree : (t : Tree) (c : Nonterminal) {v : Surroundings} {x y : Place} → Tame t → no_hole c ≡ true → IsRead v false c x t y → past y ≡ true
+after_tree t c {y = y} h n r = past_after y (after_tame t c h.tame' n r)

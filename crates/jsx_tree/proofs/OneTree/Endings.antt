@@ -2,7 +2,7 @@
 use Rattle.std.proofs.Common.{◌≡◌, Bool, true, false, cond, List, [], ◌∷◌, ◌++◌, refl, ◌∙◌, ap, subst}
 use Rattle.std.specs.Prelude.{IsTrue, ◌&&◌, ◌||◌}
 use Rattle.jsx_base.specs.Token.{Text, Operator, TokenKind, Elision, Punctuator, is_token, same, token, at_front, kind_number, skip, breaks}
-use Rattle.jsx_tree.specs.Signs.{Sign, AfterExpr, Tok, Semicolon, TrailingComma, Unless, SameLine, Ends}
+use Rattle.jsx_tree.specs.Signs.{Sign, AfterExpr, AfterBlock, Tok, Semicolon, TrailingComma, Unless, SameLine, Ends}
 use Rattle.jsx_tree.specs.Kinds.{FunctionExpr, ClassExpr, InObject, Method, Getter, Setter, Kind, function, Tree, leaf, node, list, Forest, none, part}
 use Rattle.jsx_tree.specs.Grammar.{ListShape, Commas, Elisions, TwoOrMore, OneOrMore, Adjacent, Context, Fixed, Part, Optional, Many, Within, Production, production}
 use Rattle.jsx_tree.specs.Spelling.{leaf_signs, maybe, before, between, behind, gathered, joined, walk, said, saids, each_said}
@@ -12,10 +12,9 @@ use Rattle.jsx_tree.proofs.Laws.{scan_lost}
 use Rattle.jsx_tree.proofs.Tokens.{and_left, and_right, and_both, same_is}
 use Rattle.jsx_tree.specs.Walk.{is_found}
 use Rattle.jsx_tree.proofs.OneTree.Table.{kinds}
-use Rattle.jsx_tree.proofs.OneTree.Readings.{calm, Whole, single, several, kind_at, text_at}
+use Rattle.jsx_tree.proofs.OneTree.Readings.{Whole, single, several, kind_at, text_at}
 use Rattle.jsx_tree.proofs.OneTree.Checks.{every, starts}
 use Rattle.jsx_tree.proofs.OneTree.Facts.{or_else, Test, yes', no', test, for_kind}
-use Rattle.jsx_tree.proofs.OneTree.Semis.{semi_calm}
 use Rattle.jsx_tree.proofs.OneTree.Known.{taken, is_seq}
 use Rattle.jsx_tree.proofs.OneTree.Sealed.{is_sealed, is_member}
 use Rattle.jsx_tree.proofs.OneTree.Fine.{tame, tames, Tamed, of_sealed, of_member, of_open, tamed}
@@ -38,6 +37,16 @@ whole_begins (several r c e f d) = begins r
 abbrev pub after : Place → Bool
 after (At q AfterExpr text) = true
 after x = false
+
+-- the same, or behind the block of an arrow
+abbrev pub past : Place → Bool
+past (At q AfterExpr text) = true
+past (At q AfterBlock text) = true
+past x = false
+
+pub past_after : (x : Place) → after x ≡ true → past x ≡ true
+past_after (At q AfterExpr text) h = refl
+past_after _ h = cc
 
 -- whether a missing semicolon would stand after an expression, from whether it would before these signs: a token stands behind all else that is said of it
 abbrev pub settle : Bool → List Sign → Bool
@@ -258,9 +267,3 @@ mutual
   pub each_said_ok : (ts : Forest) → tames ts ≡ true → each_ok (each_said ts) ≡ true
   each_said_ok none h = refl
   each_said_ok (part t ts) h = and_both (keeps (joined (said t))) (each_ok (each_said ts)) (joined_ok (said t) (said_ok t (and_left (tame t) (tames ts) h))) (each_said_ok ts (and_right (tame t) (tames ts) h))
-
--- ---- one expression statement
-
-pub at_semi : (y : Place) → after y ≡ true → IsTrue (is_found (forth Semicolon y)) → calm 0 y ≡ true
-at_semi (At q AfterExpr text) a f = semi_calm q text f
-at_semi _ a f = cc

@@ -39,7 +39,7 @@ use Rattle.jsx_tree.proofs.OneTree.Evidence.{Kept, Kepts, kept_left, kept_kind, 
 use Rattle.jsx_tree.proofs.OneTree.Checks.{every}
 use Rattle.jsx_tree.proofs.OneTree.Facts.{never, or_else, not_is, Test, yes', no', test, for_kind}
 use Rattle.jsx_tree.proofs.OneTree.Spines.{seq_is, taken_scope}
-use Rattle.jsx_tree.proofs.OneTree.Endings.{after}
+use Rattle.jsx_tree.proofs.OneTree.Endings.{past}
 use Rattle.jsx_tree.proofs.OneTree.Afters.{after_tree}
 use Rattle.jsx_tree.proofs.OneTree.Parts.{tame_of, calm_most, SameAt, expr_same, whole_same, wordy, word_read, word_same}
 use Rattle.jsx_tree.proofs.OneTree.Wants.{Want, ended, meets, is_calm, follow, follow_meets}
@@ -304,7 +304,7 @@ pub record Rest (V : List Context → Surroundings) (a : List Context) (e : Want
   pub good : Kepts trees
   pub ends : meets e end ≡ true
 
-pub rest_meets : {V : List Context → Surroundings} {a : List Context} {e : Want} {ps : Production} {y : Place} (w : Want) → Rest V a e ps y → follow e ps w ≡ true → (is_calm w ≡ true → after y ≡ true) → meets w y ≡ true
+pub rest_meets : {V : List Context → Surroundings} {a : List Context} {e : Want} {ps : Production} {y : Place} (w : Want) → Rest V a e ps y → follow e ps w ≡ true → (is_calm w ≡ true → past y ≡ true) → meets w y ≡ true
 rest_meets {a = a} {e} {ps} w r h c = follow_meets e ps w a h c r.walk r.good r.ends
 
 whole_part : {V V' : List Context → Surroundings} {v v' : Surroundings} {a : List Context} {e : Want} {ps : Production} {x y z : Place} (t u : Tree) → follow e ps (ended 0) ≡ true → Kept t → Kept u

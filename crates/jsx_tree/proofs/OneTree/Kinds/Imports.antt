@@ -24,7 +24,7 @@ use Rattle.jsx_tree.proofs.OneTree.Pairs.{two_tokens}
 use Rattle.jsx_tree.proofs.OneTree.Fine.{at_sign, at_part}
 use Rattle.jsx_tree.proofs.OneTree.Placed.{whole_reads}
 use Rattle.jsx_tree.proofs.OneTree.Chains.{fine}
-use Rattle.jsx_tree.proofs.OneTree.Endings.{at_semi}
+use Rattle.jsx_tree.proofs.OneTree.Missing.{at_semi}
 use Rattle.jsx_tree.proofs.OneTree.Afters.{after_tree}
 use Rattle.jsx_tree.proofs.OneTree.Evidence.{Kept, Kepts, kept_left}
 use Rattle.jsx_tree.proofs.OneTree.Parts.{tame_of, word_read}
