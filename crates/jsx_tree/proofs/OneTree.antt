@@ -26,6 +26,7 @@ mod Turn
 mod Semis
 mod Endings
 mod Afters
+mod Clear
 mod Missing
 mod Statements
 mod Parts

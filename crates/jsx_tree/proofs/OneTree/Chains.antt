@@ -30,7 +30,7 @@ use Rattle.jsx_tree.proofs.OneTree.Spines.{no_sealed, no_member, home_of, at_kin
 use Rattle.jsx_tree.proofs.OneTree.Next.{calm_at}
 use Rattle.jsx_tree.proofs.OneTree.Placed.{hole_free, tree_reads, one_placed, list_fines, spined_reads}
 use Rattle.jsx_tree.proofs.OneTree.RowWalks.{row_walk, of_row, lead_parts, first_spine}
-use Rattle.jsx_tree.proofs.OneTree.Afters.{clear_tame}
+use Rattle.jsx_tree.proofs.OneTree.Clear.{clear_tame, clear_first}
 use Rattle.jsx_tree.proofs.OneTree.Braces.{braces_good}
 
 -- ---- chains
@@ -146,7 +146,7 @@ node_good k cs t own m f = record { reads = λ n v c x y r i s q. by_lead n v x 
         let np = not_prop (is_brace k) (is_prop k) own in
         let g' = grows_all k np ∙ l in
         let d = lead_facts k t np l in
-        let z = clear_tame p.tree (first_of (production k)) (and_left (tame p.tree) _ ms) d.hole' p.read in
+        let z = clear_tame p.tree (first_of (production k)) (and_left (tame p.tree) _ ms) (clear_first k t np l) p.read in
         let w' = tail_walk k p.tree p.others z d.row' (subst (λ cs. rule k cs ≡ true) p.is u) p.walk g.1 (and_right (tame p.tree) _ ms) q in
         let b : reach p.next ≡ suc (level k) = goes_on z w' (of_grow k (taken_scope k t) g').goes in
         let h : first_ok n cs ≡ true = or_else (not (leads (production k))) (first_ok n cs) (and_right (nat_le n (level k)) _ s) (ap not l) in
