@@ -45,7 +45,7 @@ use Rattle.jsx_tree.proofs.OneTree.Known.{stated, known, kept, kepts, size, size
 use Rattle.jsx_tree.proofs.OneTree.Sealed.{is_sealed, is_member}
 use Rattle.jsx_tree.proofs.OneTree.Evidence.{Law, Kept, Kepts, kept_left, kept_kind, kept_parts}
 use Rattle.jsx_tree.proofs.OneTree.Parts.{tame_of, SameAt, word_read}
-use Rattle.jsx_tree.proofs.OneTree.Wants.{anything, parted, idle, shutting, idle_at, meets, implied, mark, look_same}
+use Rattle.jsx_tree.proofs.OneTree.Wants.{anything, parted, idle, shutting, idle_at, meets, seen_met, implied, mark, look_same}
 use Rattle.jsx_tree.proofs.OneTree.Begins.{is_own, want_of, front, front_fits}
 use Rattle.jsx_tree.proofs.OneTree.Rows.{One, Each, each_leaf, each_node, each_none, each_part, All, leafless, own_leaf, own_kind, clause_is, clause_clash}
 use Rattle.jsx_tree.proofs.OneTree.Lists.{SameRow}
@@ -405,15 +405,22 @@ member_one (function (Setter _)) l cs ds a b h h' r s = cc
 member_one (function _) l cs ds a b h h' r s = cc
 member_one _ l cs ds a b h h' r s = cc
 
+-- two bodies of functions
+body_one : (cs ds : Forest) {v w : Surroundings} {x y z : Place} → Kepts cs → Kepts ds → IsRead v false Body x (node (program FunctionBody) cs) y → IsRead w false Body x (node (program FunctionBody) ds) z → IsTrue (is_found (forth (Tok Operator Punctuator (codes "}")) y)) → IsTrue (is_found (forth (Tok Operator Punctuator (codes "}")) z)) → (cs ≡ ds) × (y ≡ z)
+body_one cs ds {y = y} {z} h h' r s f g =
+    let q = kind_same Body (program FunctionBody) cs ds refl refl refl (node_walk false (program FunctionBody) refl r) (node_walk false (program FunctionBody) refl s) (alls cs) h h' (seen_met shutting Punctuator (codes "}") y f refl) (seen_met shutting Punctuator (codes "}") z g refl) in
+    (q.trees, q.place)
+
 -- by size: the parts of what is sealed are smaller
 law : (n : ℕ) → Law n
-law zero = record { of_sealed = record { one = λ k l cs ds s t le lf h g r q. absurd (no_size (sizes cs) le) }; of_members = record { one = λ k l cs ds s t le lf h g r q. absurd (no_size (sizes cs) le) } }
+law zero = record { of_sealed = record { one = λ k l cs ds s t le lf h g r q. absurd (no_size (sizes cs) le) }; of_members = record { one = λ k l cs ds s t le lf h g r q. absurd (no_size (sizes cs) le) }; of_bodies = record { one_body = λ cs ds le lf h g r q a b. absurd (no_size (sizes cs) le) } }
   where
     no_size : (m : ℕ) → suc m ≤ 0 → ⊥
     no_size m le = omega (arith, le)
 law (suc n) = record {
   of_sealed = record { one = λ k l cs ds s t le lf h g r q. sealed_one k l cs ds s t (smaller k cs (law n) le h) (smaller l ds (law n) lf g) r q };
   of_members = record { one = λ k l cs ds s t le lf h g r q. member_one k l cs ds s t (smaller k cs (law n) le h) (smaller l ds (law n) lf g) r q };
+  of_bodies = record { one_body = λ cs ds le lf h g r q a b. body_one cs ds (smaller (program FunctionBody) cs (law n) le h) (smaller (program FunctionBody) ds (law n) lf g) r q a b };
 }
   where
     smaller : (k : Kind) (cs : Forest) → Law n → size (node k cs) ≤ suc n → kept (node k cs) ≡ true → Kepts cs
