@@ -4,7 +4,7 @@ use Rattle.std.proofs.Common.{◌≡◌, ℕ, ◌≤◌, zero, Bool, true, false
 use Rattle.std.specs.Prelude.{IsTrue, ◌&&◌, ◌||◌, nat_le}
 use Rattle.jsx_base.specs.Token.{Text, Operator, IdentifierName, Punctuator, NumericLiteral, BigIntLiteral, StringLiteral, NoSubstitution, Elision, among}
 use Rattle.jsx_tree.specs.Signs.{Tok, Unless, SameLine, Space, Count, Apart}
-use Rattle.jsx_tree.specs.Kinds.{SubstitutedTemplate, TemplateSpan, NameLink, IndexLink, CallLink, ObjectPat, PropertyPat, ShorthandPat, ShorthandInit, RestProperty, ComputedKey, Object, Property, Shorthand, PlainTemplate, Arrow, Parenthesized, ParenTarget, Kind, function, expression, Tree, node, list, Forest, none, part}
+use Rattle.jsx_tree.specs.Kinds.{SubstitutedTemplate, TemplateSpan, NameLink, IndexLink, CallLink, ObjectPat, PropertyPat, ShorthandPat, ShorthandInit, RestProperty, ComputedKey, Object, Property, Shorthand, PlainTemplate, Arrow, Parenthesized, ParenTarget, Kind, function, expression, Tree, node, list, Forest, none, part, ArrowBlock}
 use Rattle.jsx_tree.specs.Nonterminals.{Nonterminal, Expr, Name, TemplateOf, TemplatePart, NewCallee, homes, in_homes}
 use Rattle.jsx_tree.specs.Grammar.{ListShape, Commas, Elisions, Context, Fixed, Part, Many, Within, Production, production}
 use Rattle.jsx_tree.specs.Form.{leads, admits, fits_below}
@@ -146,6 +146,7 @@ pub of_row : (k : Kind) {n : ℕ} {x y : Place} (ts : Forest) → taken k ≡ tr
 of_row (expression Parenthesized) ts s o l d (take e f (all a (take e' f' (pass g done)))) = paren l e f a e' f'
 of_row (function ParenTarget) ts s o l d (take e f (under r c (take e' f' done))) = target l e f r c e' f'
 of_row (expression Arrow) ts s o l d (take e f (each i w)) = arrow l (take e f (each i done)) w
+of_row (expression ArrowBlock) ts s o l d w = cc
 of_row (expression Object) ts s o l d w = cc
 of_row (expression Property) ts s o l d w = cc
 of_row (expression Shorthand) ts s o l d w = cc

@@ -3,7 +3,7 @@ use Rattle.std.proofs.Common.{[], ◌≡◌, ℕ, ◌≤◌, suc, Bool, true, fa
 use Rattle.std.specs.Prelude.{IsTrue, ◌&&◌, ◌||◌, nat_eq, codes}
 use Rattle.jsx_base.specs.Token.{Text, Mode, is_token, token, Operator, TokenKind, IdentifierName, Punctuator, NumericLiteral, BigIntLiteral, StringLiteral, NoSubstitution, TemplateHead, kind_number, same}
 use Rattle.jsx_tree.specs.Signs.{AfterExpr, Tok, SameLine}
-use Rattle.jsx_tree.specs.Kinds.{Arrow, Kind, expression, Tree, Forest}
+use Rattle.jsx_tree.specs.Kinds.{Arrow, Kind, expression, Tree, Forest, ArrowBlock}
 use Rattle.jsx_tree.specs.Spelling.{mode_of}
 use Rattle.jsx_tree.specs.Reading.{Place, Lost, At, forth, go_if, is_backquote}
 use Rattle.jsx_tree.specs.Nonterminals.{is_value_word}
@@ -12,7 +12,7 @@ use Rattle.jsx_tree.proofs.Tokens.{and_left, and_right}
 use Rattle.jsx_tree.proofs.OneTree.Table.{code, scope}
 use Rattle.jsx_tree.proofs.OneTree.Readings.{is_block, block_reach, ahead, Items, shut, gap, last, more, Step, row, tail, level, grows, lookup, entries, is_step, reach_of, reach, calm, kind_at, text_at, broken, is_arrow, is_paren, may_be, Reads, word, head, paren, target, grow, arrow, Walk, done, take, pass, literal, under, all, each, is_tagged, is_quote, is_slash, regexp}
 use Rattle.jsx_tree.proofs.OneTree.Sealed.{Opener, of_function, of_class, Sealed}
-use Rattle.jsx_tree.proofs.OneTree.Readings.{sealed, braces, linked, filled, tagged}
+use Rattle.jsx_tree.proofs.OneTree.Readings.{sealed, braces, linked, filled, tagged, blocked, bare_blocked}
 use Rattle.jsx_tree.proofs.OneTree.Checks.{is_op, starts, bare, no_line, opens, no_word, no_open, reaches, on_line, goes_by, one_ok, tagged_ok, tagged_ones, opens_quote, ones}
 use Rattle.jsx_tree.proofs.OneTree.Slashes.{regexp_slash}
 use Rattle.jsx_tree.proofs.OneTree.Quotes.{quote_begins}
@@ -86,6 +86,8 @@ weaken (paren l e f a g h) le = paren (omega (arith, le, l)) e f a g h
 weaken (target l e f r c g h) le = target (omega (arith, le, l)) e f r c g h
 weaken (grow s d l b r w) le = grow s d (omega (arith, le, l)) b (weaken r le) w
 weaken (arrow l p w) le = arrow (omega (arith, le, l)) p w
+weaken (blocked l e f p b) le = blocked (omega (arith, le, l)) e f p b
+weaken (bare_blocked l a e f b) le = bare_blocked (omega (arith, le, l)) a e f b
 
 at_kind : (p : ℕ → Text → Bool) {x : Place} {k : TokenKind} {t : Text} → Seen x k t → p (kind_number k) t ≡ true → p (kind_at x) (text_at x) ≡ true
 at_kind p s h = (λ i. p (s.kind i) (s.text i)) ∙ h
@@ -107,6 +109,7 @@ arrow_leads k h = by_kind k (is_arrow k) refl h
     by_kind : (k : Kind) (b : Bool) → is_arrow k ≡ b → grows k ≡ true → b ≡ false
     by_kind k false e h = refl
     by_kind (expression Arrow) true e h = cc
+    by_kind (expression ArrowBlock) true e h = cc
     by_kind _ true e h = cc
 
 pub record HeadFacts (k : Kind) : Type 0 where
@@ -180,6 +183,8 @@ begins (paren {x = x} l e f a g h) = at_kind starts (took Punctuator (codes "(")
 begins (target {x = x} l e f r c g h) = at_kind starts (took Punctuator (codes "(") x e f) refl
 begins (grow s d l b r w) = begins r
 begins (arrow {x = x} l (take e f p) w) = at_kind starts (took Punctuator (codes "(") x e f) refl
+begins (blocked {x = x} l e f p b) = at_kind starts (took Punctuator (codes "(") x e f) refl
+begins (bare_blocked {x = x} {t = t} l a e f b) = at_kind starts (took IdentifierName t x e f) (may_start IdentifierName t a)
 
 -- no expression begins with this token
 pub no_start : {n : ℕ} {x y : Place} {t : Tree} {k : TokenKind} {u : Text} → Seen x k u → starts (kind_number k) u ≡ false → Reads n x t y → ⊥

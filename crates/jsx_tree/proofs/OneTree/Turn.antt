@@ -3,7 +3,7 @@ use Rattle.jsx_tree.proofs.OneTree.Known.{stated, known, kept, kepts}
 use Rattle.std.proofs.Common.{◌≡◌, ℕ, Bool, true, false, not, List, [], ◌∷◌, refl, sym, ◌∙◌, ap, subst, arith}
 use Rattle.std.specs.Prelude.{◌&&◌, ◌||◌, nat_eq, nat_le}
 use Rattle.jsx_base.specs.Token.{Text, TokenKind}
-use Rattle.jsx_tree.specs.Kinds.{Seq, Arrow, BareArrow, Parenthesized, ParenTarget, Kind, function, expression, Tree, leaf, node, list, Forest, none, part}
+use Rattle.jsx_tree.specs.Kinds.{Seq, Arrow, ArrowBlock, BareArrow, Parenthesized, ParenTarget, Kind, function, expression, Tree, leaf, node, list, Forest, none, part}
 use Rattle.jsx_tree.specs.Nonterminals.{Nonterminal, Expr, SimpleTarget, BindingIdent, NullishLeft, NullishOnly, NewCallee, DotObject, MemberObject, ForOfHead, ForHead, number, floor, takes, in_list, homes, in_homes}
 use Rattle.std.proofs.lemmas.Bool.{eq-eqb}
 use Rattle.jsx_tree.specs.Grammar.{TwoOrMore}
@@ -14,7 +14,7 @@ use Rattle.jsx_tree.proofs.OneTree.Readings.{Flat, Flats, one, some, row_of, nil
 use Rattle.jsx_tree.proofs.OneTree.Table.{listed}
 use Rattle.jsx_tree.proofs.OneTree.Checks.{every}
 use Rattle.jsx_tree.proofs.OneTree.Facts.{never, or_else, not_is, Test, yes', no', test, eq_nat, for_kind}
-use Rattle.jsx_tree.proofs.OneTree.Growths.{made_plain, made_paren, unseq_made}
+use Rattle.jsx_tree.proofs.OneTree.Growths.{made_plain, made_paren, made_arrow, unseq_some, unseq_made}
 use Rattle.jsx_tree.proofs.OneTree.Statements.{place, stated_kinds, stated_nth, for_stated}
 use Rattle.jsx_tree.proofs.OneTree.Statements as S
 use Rattle.jsx_tree.proofs.OneTree.Kept.{Which, a_statement, a_taken, a_seq, which}
@@ -202,14 +202,15 @@ top_parens nil = refl
 top_parens (cons f nil) = refl
 top_parens (cons f (cons g fs)) = refl
 
-top_arrow : (fs : Flats) → top (arrow_of fs) ≡ 4
+top_arrow : (n : ℕ) (fs : Flats) → top (arrow_of n fs) ≡ n
 unfolding top
-top_arrow nil = refl
-top_arrow (cons f fs) = refl
+top_arrow n nil = refl
+top_arrow n (cons f fs) = refl
 
-arrow_is : (k : Kind) → is_arrow k ≡ true → k ≡ expression Arrow
-arrow_is (expression Arrow) h = refl
-arrow_is _ h = cc
+arrow_paren : (k : Kind) → is_arrow k ≡ true → nat_eq (code k) 3 ≡ false
+arrow_paren (expression Arrow) h = refl
+arrow_paren (expression ArrowBlock) h = refl
+arrow_paren _ h = cc
 
 bare_is : (k : Kind) → is_bare_arrow k ≡ true → k ≡ expression BareArrow
 bare_is (expression BareArrow) h = refl
@@ -223,7 +224,7 @@ top_made : (k : Kind) (fs : Flats) → top (made k fs) ≡ code k
 top_made k fs = by_arrow (test (is_arrow k))
   where
     by_arrow : Test (is_arrow k) → top (made k fs) ≡ code k
-    by_arrow (yes' a) = subst (λ k. top (made k fs) ≡ code k) (sym (arrow_is k a)) (top_arrow fs)
+    by_arrow (yes' a) = ap top (made_arrow k fs a) ∙ top_arrow (code k) fs
     by_arrow (no' a) = by_paren (test (nat_eq (code k) 3))
       where
         by_paren : Test (nat_eq (code k) 3) → top (made k fs) ≡ code k
@@ -251,11 +252,11 @@ cons_inj {f} {g} {fs} {gs} e = (sym (first_cons f fs) ∙ (ap first e ∙ first_
 pub some_inj : {n m : ℕ} {fs gs : Flats} → some n fs ≡ some m gs → fs ≡ gs
 some_inj {n} {m} {fs} {gs} e = sym (inner_some n fs) ∙ (ap inner e ∙ inner_some m gs)
 
-arrow_inj : (fs gs : Flats) → arrow_of fs ≡ arrow_of gs → fs ≡ gs
-arrow_inj nil nil e = refl
-arrow_inj nil (cons g gs) e = let bad = some_inj e in cc
-arrow_inj (cons f fs) nil e = let bad = some_inj e in cc
-arrow_inj (cons f fs) (cons g gs) e =
+arrow_inj : (n : ℕ) (fs gs : Flats) → arrow_of n fs ≡ arrow_of n gs → fs ≡ gs
+arrow_inj n nil nil e = refl
+arrow_inj n nil (cons g gs) e = let bad = some_inj e in cc
+arrow_inj n (cons f fs) nil e = let bad = some_inj e in cc
+arrow_inj n (cons f fs) (cons g gs) e =
     let p = cons_inj (some_inj e) in
     let q = cons_inj (some_inj p.0) in
     λ i. cons (q.0 i) (p.1 i)
@@ -264,7 +265,7 @@ made_inj : (k : Kind) (fs gs : Flats) → nat_eq (code k) 3 ≡ false → made k
 made_inj k fs gs c e = by_arrow (test (is_arrow k))
   where
     by_arrow : Test (is_arrow k) → fs ≡ gs
-    by_arrow (yes' a) = arrow_inj fs gs (subst (λ k. made k fs ≡ made k gs) (arrow_is k a) e)
+    by_arrow (yes' a) = arrow_inj (code k) fs gs (sym (made_arrow k fs a) ∙ (e ∙ made_arrow k gs a))
     by_arrow (no' a) = some_inj (sym (made_plain k fs a c) ∙ (e ∙ made_plain k gs a c))
 
 -- what stands in parentheses is alone, or a list of two or more
@@ -294,12 +295,12 @@ un c (leaf s t) h i = alone refl
 un c (list ts) h i = cc
 un c (node k cs) h i = by_which (which k (and_left (known k) (kepts cs) h))
   where
-    arrow_un : (fs : Flats) → Un (arrow_of fs)
-    arrow_un nil = alone refl
-    arrow_un (cons f fs) = alone refl
+    arrow_un : (n : ℕ) → nat_eq n 19 ≡ false → (fs : Flats) → Un (arrow_of n fs)
+    arrow_un n e nil = alone (unseq_some n nil e)
+    arrow_un n e (cons f fs) = alone (unseq_some n (cons (some 3 (cons f nil)) fs) e)
 
     by_arrow : scope k ≡ true → Test (is_arrow k) → Un (made k (flats cs))
-    by_arrow s (yes' a) = subst (λ k. Un (made k (flats cs))) (sym (arrow_is k a)) (arrow_un (flats cs))
+    by_arrow s (yes' a) = subst Un (sym (made_arrow k (flats cs) a)) (arrow_un (code k) (not_is _ (for_kind (λ k. not (nat_eq (code k) 19)) no_seq_code k s)) (flats cs))
     by_arrow s (no' a) = alone (unseq_made k (flats cs) a (not_is _ (for_kind (λ k. not (nat_eq (code k) 19)) no_seq_code k s)))
 
     by_which : Which k → Un (made k (flats cs))
@@ -325,7 +326,7 @@ paren_arrow k c = by_arrow (test (is_arrow k))
   where
     by_arrow : Test (is_arrow k) → is_arrow k ≡ false
     by_arrow (no' a) = a
-    by_arrow (yes' a) = absurd (never (nat_eq (code k) 3) c (ap (λ k. nat_eq (code k) 3) (arrow_is k a)))
+    by_arrow (yes' a) = absurd (never (nat_eq (code k) 3) c (arrow_paren k a))
 
 -- in parentheses there is one tree
 record Held (k : Kind) (cs : Forest) : Type 0 where
@@ -397,12 +398,12 @@ leaf_node : (s : TokenKind) (t : Text) (k : Kind) (cs : Forest) → known k ≡ 
 leaf_node s t k cs h e = code_some k h (sym (top_made k (flats cs)) ∙ (ap top (sym e) ∙ top_one s t))
 
 -- a bare arrow's parameter is a name
-bare_leaf : (cs : Forest) → kepts cs ≡ true → fit_slots (positions (expression BareArrow)) cs ≡ true → (fs : Flats) → flats cs ≡ others (cons (row_of nil) (flats cs)) → (f : Flats) → made (expression BareArrow) (flats cs) ≡ arrow_of f → ⊥
-bare_leaf none h g fs d f e = cc
-bare_leaf (part (list ts) cs) h g fs d f e = cc
-bare_leaf (part (leaf s t) cs) h g fs d nil e = let bad = some_inj e in cc
-bare_leaf (part (leaf s t) cs) h g fs d (cons p f) e = let bad = (cons_inj (some_inj e)).0 in cc
-bare_leaf (part (node k ks) cs) h g fs d f e =
+bare_leaf : (cs : Forest) → kepts cs ≡ true → fit_slots (positions (expression BareArrow)) cs ≡ true → (fs : Flats) → flats cs ≡ others (cons (row_of nil) (flats cs)) → (n : ℕ) (f : Flats) → made (expression BareArrow) (flats cs) ≡ arrow_of n f → ⊥
+bare_leaf none h g fs d n f e = cc
+bare_leaf (part (list ts) cs) h g fs d n f e = cc
+bare_leaf (part (leaf s t) cs) h g fs d n nil e = let bad = some_inj e in cc
+bare_leaf (part (leaf s t) cs) h g fs d n (cons p f) e = let bad = (cons_inj (some_inj e)).0 in cc
+bare_leaf (part (node k ks) cs) h g fs d n f e =
     let i = home_of BindingIdent k ks (and_left (in_homes BindingIdent (homes k)) _ g) in
     by_which i (which k (and_left (known k) (kepts ks) (and_left (kept (node k ks)) (kepts cs) h)))
   where
@@ -411,8 +412,8 @@ bare_leaf (part (node k ks) cs) h g fs d f e =
     by_which i (a_taken t) = never (in_homes BindingIdent (homes k)) i (not_is _ (for_kind (λ l. not (in_homes BindingIdent (homes l))) no_names' k t))
     by_which i (a_seq p) = never (in_homes BindingIdent (homes k)) i (ap (λ k. in_homes BindingIdent (homes k)) p)
 
-no_bare : (cs ds : Forest) → kepts cs ≡ true → fit_slots (positions (expression BareArrow)) cs ≡ true → made (expression BareArrow) (flats cs) ≡ made (expression Arrow) (flats ds) → ⊥
-no_bare cs ds h g e = bare_leaf cs h g nil (sym (others_cons (row_of nil) (flats cs))) (flats ds) e
+no_bare : (n : ℕ) (cs ds : Forest) → kepts cs ≡ true → fit_slots (positions (expression BareArrow)) cs ≡ true → made (expression BareArrow) (flats cs) ≡ arrow_of n (flats ds) → ⊥
+no_bare n cs ds h g e = bare_leaf cs h g nil (sym (others_cons (row_of nil) (flats cs))) n (flats ds) e
 
 -- two nodes at one place
 kind_same : (c : Nonterminal) (k l : Kind) (cs ds : Forest) → known k ≡ true → known l ≡ true → kepts cs ≡ true → kepts ds ≡ true → is c (node k cs) ≡ true → is c (node l ds) ≡ true → made k (flats cs) ≡ made l (flats ds) → k ≡ l
@@ -427,11 +428,11 @@ kind_same c k l cs ds s t m n i j e = by_which (which k s) (which l t)
     by_alike : Alike k l → k ≡ l
     by_alike (one_kind p) = p
     by_alike (arrow_bare a b) =
-        absurd (no_bare ds cs n (subst (λ l. fit_slots (positions l) ds ≡ true) (bare_is l b) (and_right (admits c (node l ds)) (fits_below c (node l ds)) j))
-        ((λ i. made (sym (bare_is l b) i) (flats ds)) ∙ (sym e ∙ (λ i. made (arrow_is k a i) (flats cs)))))
+        absurd (no_bare (code k) ds cs n (subst (λ l. fit_slots (positions l) ds ≡ true) (bare_is l b) (and_right (admits c (node l ds)) (fits_below c (node l ds)) j))
+        ((λ i. made (sym (bare_is l b) i) (flats ds)) ∙ (sym e ∙ made_arrow k (flats cs) a)))
     by_alike (bare_arrow b a) =
-        absurd (no_bare cs ds m (subst (λ k. fit_slots (positions k) cs ≡ true) (bare_is k b) (and_right (admits c (node k cs)) (fits_below c (node k cs)) i))
-        ((λ i. made (sym (bare_is k b) i) (flats cs)) ∙ (e ∙ (λ i. made (arrow_is l a i) (flats ds)))))
+        absurd (no_bare (code l) cs ds m (subst (λ k. fit_slots (positions k) cs ≡ true) (bare_is k b) (and_right (admits c (node k cs)) (fits_below c (node k cs)) i))
+        ((λ i. made (sym (bare_is k b) i) (flats cs)) ∙ (e ∙ made_arrow l (flats ds) a)))
 
     by_which : Which k → Which l → k ≡ l
     by_which (a_statement p) (a_statement q) = two_stated k l p q codes'
