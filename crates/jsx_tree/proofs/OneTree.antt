@@ -20,6 +20,7 @@ mod Placed
 mod Templates
 mod RowWalks
 mod Braces
+mod Blocks
 mod Chains
 mod Kept
 mod Turn

@@ -1,4 +1,6 @@
 -- Behind an expression a missing semicolon would stand after an expression, whatever stood before it: each has a token.
+use Rattle.jsx_tree.proofs.OneTree.Fine.{of_blocked}
+use Rattle.jsx_tree.proofs.OneTree.Endings.{blocked_settled}
 use Rattle.jsx_tree.proofs.OneTree.Known.{taken, is_seq}
 use Rattle.std.proofs.Common.{◌≡◌, Bool, true, false, List, [], ◌∷◌, ◌++◌, refl, sym, ◌∙◌, ap, subst}
 use Rattle.std.specs.Prelude.{IsTrue, ◌||◌}
@@ -101,6 +103,7 @@ other_first _ ms h n g = g
 node_tok : (k : Kind) (cs : Forest) → Tamed k cs → fit_slots (positions k) cs ≡ true → ((taken k || is_seq k) ≡ true → tames cs ≡ true → settle block_end false (walk (production k) (saids cs)) ≡ true) → settle block_end false (joined (said (node k cs))) ≡ true
 node_tok k cs (of_sealed s f) g rest = sealed_settled block_end false k cs s f
 node_tok k cs (of_member s f m) g rest = member_settled block_end false k cs s f
+node_tok k cs (of_blocked s f m) g rest = blocked_settled false k cs s f
 node_tok k cs (of_open t m) g rest = rest t m
 
 mutual

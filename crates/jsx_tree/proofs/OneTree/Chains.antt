@@ -1,4 +1,7 @@
 -- What the definitions read, with what may stand behind each part: chains, and at last every tree.
+use Rattle.jsx_tree.proofs.OneTree.Blocks.{FirstFine, first_none, first_fine, blocks_read}
+use Rattle.jsx_tree.proofs.OneTree.Spines.{no_blocked}
+use Rattle.jsx_tree.proofs.OneTree.Fine.{fine_blocked, of_blocked}
 use Rattle.jsx_tree.proofs.OneTree.Known.{is_seq, taken, plain_leaf, is_piece, is_regexp}
 use Rattle.std.proofs.Common.{◌≡◌, ℕ, suc, Bool, true, false, not, List, [], ◌∷◌, refl, sym, ◌∙◌, ap, subst, arith}
 use Rattle.std.specs.Prelude.{IsTrue, ◌&&◌, ◌||◌, nat_le, codes}
@@ -59,6 +62,7 @@ link_reads (fine_seq {k = k} {cs = cs} s f) m r q = absurd (no_seq_here ChainLin
 link_reads (fine_piece {s = s} {t = t} p) m r q = absurd (no_piece ChainLink s t refl p (in_is r))
 link_reads (fine_regexp) m r q = let bad = in_is r in cc
 link_reads (fine_sealed {k = k} {cs = cs} s f) m r q = absurd (no_sealed ChainLink k cs s refl r.is)
+link_reads (fine_blocked {k = k} {cs = cs} s f) m r q = absurd (no_blocked ChainLink k cs s refl r.is)
 link_reads (fine_member {k = k} {t = u} {ts = us} s f n g) m r q = absurd (no_member ChainLink k (part u us) s refl r.is)
 link_reads (fine_list f) m r q = let bad = r.is in cc
 link_reads (fine_leaf {s = IdentifierName} p) m r q = let bad = in_is r in cc
@@ -213,17 +217,13 @@ closes k cs s e = record { closes' = λ {v} {x} {y} r. closed_at v x y r }
     closed_at : (v : Surroundings) (x y : Place) → IsRead v false ObjectMember x (node k cs) y → Closed is_member ObjectMember x k cs y
     closed_at v x y r = record { kind' = s; bound = e.bound; small = e.small; good = e.good; surroundings = v; read = r; law = λ l ds t m g q. e.law.of_members.one k l cs ds s t e.small m e.good g r q }
 
--- the first part, where there is one
-data FirstFine : Forest → Type 0 where
-  first_none : FirstFine none
-  first_fine : {t : Tree} {ts : Forest} → Fine t → FirstFine (part t ts)
-
 member_fine : (k : Kind) (cs : Forest) → is_member k ≡ true → first_tame cs ≡ true → Kept (node k cs) → FirstFine cs → Fine (node k cs)
 member_fine k none s m e f = cc
 member_fine k (part t ts) s m e (first_fine f) = fine_member s f m (closes k (part t ts) s e)
 
 node_of : (k : Kind) (cs : Forest) → Tamed k cs → Kept (node k cs) → (tames cs ≡ true → Fines cs) → (first_tame cs ≡ true → FirstFine cs) → Fine (node k cs)
 node_of k cs (of_member s f m) e rest first = member_fine k cs s m e (first m)
+node_of k cs (of_blocked s f m) e rest first = fine_blocked s (blocks_read k cs s m (first m) e)
 node_of k cs (of_sealed s f) e rest first = fine_sealed s (seals k cs s e)
 node_of k cs (of_open h m) e rest first = node_fine k cs h m (rest m) (test (taken k))
 

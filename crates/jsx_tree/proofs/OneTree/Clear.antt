@@ -1,4 +1,6 @@
 -- Where no tree ends with the block of an arrow: a missing semicolon would stand after an expression there, and nothing else.
+use Rattle.jsx_tree.proofs.OneTree.Fine.{of_blocked}
+use Rattle.jsx_tree.proofs.OneTree.Spines.{blockless, no_blocked}
 use Rattle.std.proofs.Common.{◌≡◌, ℕ, ◌≤◌, Bool, true, false, not, List, [], ◌∷◌, refl, sym, ◌∙◌, subst, arith}
 use Rattle.std.specs.Prelude.{IsTrue, ◌||◌, nat_le, nat_eq}
 use Rattle.std.proofs.lemmas.Bool.{le-leb}
@@ -116,6 +118,28 @@ clear_no_seq (TemplatePart NoSubstitution) h = refl
 clear_no_seq (TemplatePart TemplateTail) h = refl
 clear_no_seq _ h = cc
 
+clear_blockless : (c : Nonterminal) → clear c ≡ true → blockless c ≡ true
+clear_blockless (Expr n) h = by_level (test (nat_le n 1))
+  where
+    by_level : Test (nat_le n 1) → blockless (Expr n) ≡ true
+    by_level (yes' l) = let a : 3 ≤ n = le_nat h in let b : n ≤ 1 = le_nat l in absurd (omega (arith, a, b))
+    by_level (no' l) = (λ i. not (l i || false))
+clear_blockless MemberObject h = refl
+clear_blockless DotObject h = refl
+clear_blockless SimpleTarget h = refl
+clear_blockless NewCallee h = refl
+clear_blockless NullishLeft h = refl
+clear_blockless Ident h = refl
+clear_blockless BindingIdent h = refl
+clear_blockless Name h = refl
+clear_blockless (Pat Binds) h = refl
+clear_blockless (Pat Assigns) h = refl
+clear_blockless ChainLink h = refl
+clear_blockless TemplateOf h = refl
+clear_blockless (TemplatePart NoSubstitution) h = refl
+clear_blockless (TemplatePart TemplateTail) h = refl
+clear_blockless _ h = cc
+
 clear_no_hole : (c : Nonterminal) → clear c ≡ true → no_hole c ≡ true
 clear_no_hole (Expr n) h = refl
 clear_no_hole MemberObject h = refl
@@ -139,6 +163,7 @@ clear_no_hole _ h = cc
 node_clear : (k : Kind) (cs : Forest) (c : Nonterminal) → Tamed k cs → clear c ≡ true → is c (node k cs) ≡ true → (clear_kind k ≡ true → tames cs ≡ true → settle no_end false (walk (production k) (saids cs)) ≡ true) → settle no_end false (joined (said (node k cs))) ≡ true
 node_clear k cs c (of_sealed s f) n i rest = sealed_settled no_end false k cs s f
 node_clear k cs c (of_member s f m) n i rest = member_settled no_end false k cs s f
+node_clear k cs c (of_blocked s f m) n i rest = absurd (no_blocked c k cs s (clear_blockless c n) i)
 node_clear k cs c (of_open t m) n i rest = rest (by_taken (test (taken k))) m
   where
     by_taken : Test (taken k) → clear_kind k ≡ true

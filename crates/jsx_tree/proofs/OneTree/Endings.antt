@@ -1,4 +1,7 @@
 -- Where expressions end: an expression keeps what a missing semicolon would stand after, and where a semicolon stands or is missing nothing goes on with it.
+use Rattle.jsx_tree.proofs.OneTree.Fine.{of_blocked}
+use Rattle.jsx_tree.proofs.OneTree.Known.{is_blocked}
+use Rattle.jsx_tree.specs.Kinds.{expression, ArrowBlock, BareArrowBlock}
 use Rattle.std.proofs.Common.{◌≡◌, Bool, true, false, cond, List, [], ◌∷◌, ◌++◌, refl, sym, ◌∙◌, ap, subst}
 use Rattle.std.specs.Prelude.{IsTrue, ◌&&◌, ◌||◌}
 use Rattle.jsx_base.specs.Token.{Text, Operator, TokenKind, Elision, Punctuator, is_token, same, token, at_front, kind_number, skip, breaks}
@@ -265,6 +268,13 @@ sealed_settled o b (function ClassExpr) cs s f = row_settled o (production (func
 sealed_settled o b (function _) cs s f = cc
 sealed_settled o b _ cs s f = cc
 
+-- an arrow's block ends as itself
+pub blocked_settled : (b : Bool) (k : Kind) (cs : Forest) → is_blocked k ≡ true → fit_slots (positions k) cs ≡ true → settle block_end b (walk (production k) (saids cs)) ≡ true
+blocked_settled b (expression ArrowBlock) cs s f = row_settled block_end (production (expression ArrowBlock)) cs [] false [] false b refl no_flag f
+blocked_settled b (expression BareArrowBlock) cs s f = row_settled block_end (production (expression BareArrowBlock)) cs [] false [] false b refl no_flag f
+blocked_settled b (expression _) cs s f = cc
+blocked_settled b _ cs s f = cc
+
 leaf_ok : (s : TokenKind) (t : Text) → keeps (leaf_signs s t) ≡ true
 leaf_ok Elision t = refl
 leaf_ok _ t = refl
@@ -279,6 +289,7 @@ row_of_kind k h = by_taken (test (taken k))
 node_ok : (k : Kind) (cs : Forest) → Tamed k cs → (tames cs ≡ true → all_ok (saids cs) ≡ true) → each_ok (said (node k cs)) ≡ true
 node_ok k cs (of_sealed s f) rest = and_both (keeps (walk (production k) (saids cs))) true (sealed_settled block_end true k cs s f) refl
 node_ok k cs (of_member s f g) rest = and_both (keeps (walk (production k) (saids cs))) true (member_settled block_end true k cs s f) refl
+node_ok k cs (of_blocked s f g) rest = and_both (keeps (walk (production k) (saids cs))) true (blocked_settled true k cs s f) refl
 node_ok k cs (of_open t m) rest = and_both (keeps (walk (production k) (saids cs))) true (walk_ok (production k) (saids cs) (row_of_kind k t) (rest m)) refl
 
 mutual

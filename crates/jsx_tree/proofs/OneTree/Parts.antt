@@ -1,4 +1,5 @@
 -- One part of a row: where two trees of one place end as the row asks, they are one.
+use Rattle.jsx_tree.proofs.OneTree.Known.{is_blocked}
 use Rattle.jsx_tree.proofs.OneTree.Known.{stated, taken, is_seq, known, kept, kepts}
 use Rattle.std.proofs.Common.{subst}
 use Rattle.std.proofs.Common.{◌≡◌, ℕ, ◌≤◌, Bool, true, false, not, cond, List, [], ◌∷◌, refl, sym, ◌∙◌, ap}
@@ -114,7 +115,7 @@ node_tame k cs (is_shut s) f rest first = or_left (is_sealed k && fit_slots (pos
 node_tame k cs (is_keyed s) f rest first =
     or_right (is_sealed k && fit_slots (positions k) cs) _ (or_left (is_member k && (fit_slots (positions k) cs && first_tame cs)) _ (and_both (is_member k) _ s (and_both (fit_slots (positions k) cs) (first_tame cs) f (first (keyed_clean k s)))))
 node_tame k cs (is_open t) f rest first =
-    or_right (is_sealed k && fit_slots (positions k) cs) _ (or_right (is_member k && (fit_slots (positions k) cs && first_tame cs)) ((taken k || is_seq k) && tames cs) (and_both (taken k || is_seq k) (tames cs) t (rest t)))
+    or_right (is_sealed k && fit_slots (positions k) cs) _ (or_right (is_member k && (fit_slots (positions k) cs && first_tame cs)) ((is_blocked k && (fit_slots (positions k) cs && first_tame cs)) || ((taken k || is_seq k) && tames cs)) (or_right (is_blocked k && (fit_slots (positions k) cs && first_tame cs)) ((taken k || is_seq k) && tames cs) (and_both (taken k || is_seq k) (tames cs) t (rest t))))
 
 pub node_admits : (o : Form) (c : Nonterminal) (k : Kind) (cs : Forest) → shaped o c (node k cs) ≡ true → admits c (node k cs) ≡ true
 node_admits Single c k cs h = h

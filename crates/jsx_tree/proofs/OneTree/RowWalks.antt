@@ -1,4 +1,6 @@
 -- What the definitions read, with what may stand behind each part: rows and nodes.
+use Rattle.jsx_tree.proofs.OneTree.Spines.{no_blocked}
+use Rattle.jsx_tree.proofs.OneTree.Fine.{fine_blocked}
 use Rattle.jsx_tree.proofs.OneTree.Known.{taken}
 use Rattle.std.proofs.Common.{◌≡◌, ℕ, ◌≤◌, zero, Bool, true, false, not, List, [], ◌∷◌, refl, sym, ◌∙◌, ap, subst, arith}
 use Rattle.std.specs.Prelude.{IsTrue, ◌&&◌, ◌||◌, nat_le}
@@ -38,6 +40,7 @@ name_walk (fine_prop {k = k} {cs = cs} t p f) r w =
     let i = home_of Name k cs (and_left (admits Name (node k cs)) (fits_below Name (node k cs)) r.is) in
     absurd (never (in_homes Name (homes k)) i (not_is _ (for_kind (λ l. not (in_homes Name (homes l))) no_names k (taken_scope k t))))
 name_walk (fine_sealed {k = k} {cs = cs} s f) r w = absurd (no_sealed Name k cs s refl r.is)
+name_walk (fine_blocked {k = k} {cs = cs} s f) r w = absurd (no_blocked Name k cs s refl r.is)
 name_walk (fine_member {k = k} {t = u} {ts = us} s f m g) r w = absurd (no_member Name k (part u us) s refl r.is)
 name_walk (fine_list f) r w = let bad = r.is in cc
 name_walk (fine_node {k = k} {cs = cs} t np g) r w =
