@@ -107,7 +107,7 @@ stated k = false
 
 -- the kinds that are taken
 abbrev pub known : Kind → Bool
-known k = (taken k || is_seq k) || stated k
+known k = (taken k || is_seq k) || (stated k || is_blocked k)
 
 abbrev mutual
   pub kept : Tree → Bool

@@ -1,4 +1,7 @@
 -- What is known of a place behind a part, by what its row reads next.
+use Rattle.jsx_tree.proofs.OneTree.Spines.{blocked_home}
+use Rattle.jsx_tree.proofs.OneTree.Kept.{Which, a_statement, a_taken, a_blocked, a_seq, which}
+use Rattle.jsx_tree.specs.Kinds.{Arrow, expression}
 use Rattle.std.proofs.Common.{◌≡◌, ℕ, Bool, true, false, not, List, [], ◌∷◌, refl, sym, ◌∙◌, ap, subst, arith}
 use Rattle.std.specs.Prelude.{IsTrue, ◌&&◌, ◌||◌, nat_eq, nat_le, codes}
 use Rattle.jsx_base.specs.Token.{Text, Operator, TokenKind, IdentifierName, Punctuator, kind_number, among, same, breaks}
@@ -16,7 +19,6 @@ use Rattle.jsx_tree.proofs.OneTree.Checks.{every, same_token}
 use Rattle.jsx_tree.proofs.OneTree.Facts.{for_kind, never, or_else, not_is, Test, yes', no', test, eq_nat, le_nat, kind_is, Seen, seen, took}
 use Rattle.jsx_tree.proofs.OneTree.Fine.{at_sign, at_part, at_end}
 use Rattle.jsx_tree.proofs.OneTree.Fine.{calm_more}
-use Rattle.jsx_tree.proofs.OneTree.Spines.{seq_is, taken_scope}
 use Rattle.jsx_tree.proofs.OneTree.Missing.{Behind, a_mark, a_brace, a_line, behind}
 use Rattle.jsx_tree.proofs.OneTree.Endings.{past, found_first}
 use Rattle.jsx_tree.proofs.OneTree.Missing.{at_semi}
@@ -26,7 +28,7 @@ use Rattle.jsx_tree.proofs.Rows.Bridge.{node_walk}
 use Rattle.jsx_tree.proofs.OneTree.Table.{kinds}
 use Rattle.jsx_tree.proofs.OneTree.Statements.{place, stated_kinds, nth}
 use Rattle.jsx_tree.proofs.OneTree.Statements.{stated_nth, for_stated}
-use Rattle.jsx_tree.proofs.OneTree.Known.{stated, taken, is_seq, known}
+use Rattle.jsx_tree.proofs.OneTree.Known.{known}
 use Rattle.jsx_tree.proofs.OneTree.Evidence.{Kept, Kepts, kept_left, kept_right, kept_kind}
 use Rattle.jsx_tree.specs.Spelling.{spelled}
 
@@ -386,21 +388,15 @@ block_clean : every (λ k. not (in_homes BlockOnly (homes k))) kinds ≡ true
 block_clean = refl
 
 block_kind : (k : Kind) → known k ≡ true → in_homes BlockOnly (homes k) ≡ true → k ≡ statement Block
-block_kind k s h = by_stated (test (stated k))
+block_kind k s h = by_which (which k s)
   where
-    by_stated : Test (stated k) → k ≡ statement Block
-    by_stated (yes' t) =
+    by_which : Which k → k ≡ statement Block
+    by_which (a_statement t) =
         let e = or_else (not (in_homes BlockOnly (homes k))) _ (for_stated (λ k. not (in_homes BlockOnly (homes k)) || nat_eq (place k) (place (statement Block))) block_kinds k t) (ap not h) in
         sym (stated_nth k t) ∙ ap (nth stated_kinds) (eq_nat {a = place k} {b = place (statement Block)} e)
-    by_stated (no' n) = by_taken (test (taken k))
-      where
-        by_taken : Test (taken k) → k ≡ statement Block
-        by_taken (yes' t) = absurd (never (in_homes BlockOnly (homes k)) h (not_is _ (for_kind (λ k. not (in_homes BlockOnly (homes k))) block_clean k (taken_scope k t))))
-        by_taken (no' t) = absurd (never (in_homes BlockOnly (homes k)) h (ap (λ k. in_homes BlockOnly (homes k)) (seq_is k (or_else (taken k) (is_seq k) (or_other (taken k || is_seq k) (stated k) s n) t))))
-          where
-            or_other : (a b : Bool) → (a || b) ≡ true → b ≡ false → a ≡ true
-            or_other true b e f = refl
-            or_other false b e f = absurd (never b e f)
+    by_which (a_taken t) = absurd (never (in_homes BlockOnly (homes k)) h (not_is _ (for_kind (λ k. not (in_homes BlockOnly (homes k))) block_clean k t)))
+    by_which (a_blocked b) = absurd (never (in_homes BlockOnly (homes (expression Arrow))) (blocked_home BlockOnly k b h) refl)
+    by_which (a_seq e) = absurd (never (in_homes BlockOnly (homes k)) h (ap (λ k. in_homes BlockOnly (homes k)) e))
 
 block_first : {v : Surroundings} {x y : Place} (t : Tree) → Kept t → IsRead v false BlockOnly x t y → IsTrue (is_found (forth (mark (codes "{")) x))
 block_first (leaf s t) h r = absurd (no_leaf s (and_left (leaf_in BlockOnly s t) _ r.is))
