@@ -20,12 +20,14 @@ mod Placed
 mod Templates
 mod RowWalks
 mod Braces
+mod Blocks
 mod Chains
 mod Kept
 mod Turn
 mod Semis
 mod Endings
 mod Afters
+mod Clear
 mod Missing
 mod Statements
 mod Parts

@@ -1,19 +1,13 @@
 -- The trees of which a text is proved to have one at most: all but those with a kind that is named here.
 use Rattle.std.specs.Prelude.{Bool, true, false, ◌&&◌}
 use Rattle.jsx_base.specs.Token.{TokenKind, JsxName, JsxString, JsxText}
-use Rattle.jsx_tree.specs.Kinds.{ExpressionKind, ArrowBlock, BareArrowBlock, Kind, program, statement, function, expression, jsx, Tree, leaf, node, list, Forest, none, part}
-
--- not yet: arrows whose body is a block
-abbrev pub decides_expression : ExpressionKind → Bool
-decides_expression ArrowBlock = false
-decides_expression BareArrowBlock = false
-decides_expression k = true
+use Rattle.jsx_tree.specs.Kinds.{Kind, program, statement, function, expression, jsx, Tree, leaf, node, list, Forest, none, part}
 
 abbrev pub decides : Kind → Bool
 decides (program k) = true
 decides (statement k) = true
 decides (function k) = true
-decides (expression k) = decides_expression k
+decides (expression k) = true
 -- not yet
 decides (jsx k) = false
 

@@ -9,13 +9,13 @@ use Rattle.jsx_tree.specs.Reading.{Place, forth}
 use Rattle.jsx_tree.specs.Walk.{is_found}
 use Rattle.jsx_tree.proofs.Tokens.{and_left, and_right, same_is}
 use Rattle.jsx_tree.proofs.OneTree.Readings.{Step, tok, lit, sub, many, calm, Flat, one, some, row_of, nil, cons, unseq, made, flat, flats, comma, Reads, word, head, Prop, long, computed, short, preset, rest, member, o_named, o_computed, o_worded, Props, p_shut, p_last, p_more, paren, target, grow, arrow, Walk, done, take, pass, literal, under, all, each, Links, l_end, l_more, Spans, t_tail, t_more, regexp, brace, Whole, single, several, Rest, final, also, Items, shut, gap, last, more}
-use Rattle.jsx_tree.proofs.OneTree.Readings.{sealed, braces, linked, filled, tagged}
+use Rattle.jsx_tree.proofs.OneTree.Readings.{sealed, braces, linked, filled, tagged, blocked, bare_blocked}
 use Rattle.jsx_tree.proofs.OneTree.Checks.{starts, same_bool, joins, apart, twin}
 use Rattle.jsx_tree.proofs.OneTree.Facts.{not_is, eq_nat, le_nat, Seen, seen, found_at, took, took_in}
 use Rattle.jsx_tree.proofs.OneTree.Sealed.{closed_same}
-use Rattle.jsx_tree.proofs.OneTree.Starting.{arrow_leads, of_grow, no_start, tagged_start}
+use Rattle.jsx_tree.proofs.OneTree.Starting.{items_clear, tok_clear, arrow_leads, of_grow, no_start, tagged_start}
 use Rattle.jsx_tree.proofs.OneTree.Growths.{Through, Split, made_plain, made_coded, unseq_one, calm_one, split}
-use Rattle.jsx_tree.proofs.OneTree.Pairs.{sealed_start, Same, SameOne, and3, same_sign, same_place, same_lit, two_tokens, move, move_items, move_rest, no_comma, seen_at, comma_seen, close_seen, move_tok, ends, onward, tail_only, settle, one_token, start_regexp, start_word, parens_same, braces_same, pass_take, nothing_more, take_take, take_literal, take_under, plain_same, one_against, as_unseq, ends_prop, colon, equals, colon_seen, equals_seen, dots_seen, bracket_seen, shut_seen, same_name, key_dots, open_mark, named_open, short_open, no_end, no_prop, no_link, link_only, take_linked, take_tagged, linked_tagged, tagged_only, lit_lit, SameSpans}
+use Rattle.jsx_tree.proofs.OneTree.Pairs.{sealed_start, Same, SameOne, and3, same_sign, same_place, same_lit, two_tokens, move, move_items, move_rest, no_comma, seen_at, comma_seen, close_seen, move_tok, ends, onward, onward_block, tail_only, settle, one_token, start_regexp, start_word, parens_same, braces_same, pass_take, nothing_more, take_take, take_literal, take_under, plain_same, one_against, as_unseq, ends_prop, colon, equals, colon_seen, equals_seen, dots_seen, bracket_seen, shut_seen, same_name, key_dots, open_mark, named_open, short_open, no_end, no_prop, no_link, link_only, take_linked, take_tagged, linked_tagged, tagged_only, lit_lit, SameSpans}
 
 mutual
   pub one_walk : {ps qs : List Step} {x y z : Place} {ts us : Forest} → twin ps qs ≡ true → Walk ps x ts y → Walk qs x us z → Same (flats ts) (flats us) y z
@@ -86,9 +86,9 @@ mutual
 
   one_links : {x y z : Place} {ts us : Forest} → Links x ts y → Links x us z → Same (flats ts) (flats us) y z
   one_links (l_end c) (l_end d) = record { trees = refl; places = refl }
-  one_links (l_end c) (l_more {k = k} s l w i) = absurd (no_link k s l w c)
-  one_links (l_more {k = k} s l w i) (l_end c) = absurd (no_link k s l w c)
-  one_links (l_more {k = k} {cs = cs} s l w i) (l_more {k = k'} {z = z'} {cs = ds} {ts = us} s' l' v j) =
+  one_links (l_end c) (l_more {k = k} s l b w i) = absurd (no_link k s l b w c)
+  one_links (l_more {k = k} s l b w i) (l_end c) = absurd (no_link k s l b w c)
+  one_links (l_more {k = k} {cs = cs} s l b w i) (l_more {k = k'} {z = z'} {cs = ds} {ts = us} s' l' b' v j) =
       let q = link_only k k' cs ds s l s' l' v (λ qs us q hh v. one_walk hh w v) (λ qs us q hh v. no_walk hh w v) in
       let o = one_links i (subst (λ p. Links p us z') (sym q.place) j) in
       record { trees = λ i. cons (q.tree i) (o.trees i); places = o.places }
@@ -126,7 +126,7 @@ mutual
   no_walk h (pass g w) (linked g' j v) = no_walk h w (linked g' j v)
   no_walk h (filled i w) (filled j v) = no_walk h w (move (one_spans i j).place v)
   no_walk h (pass g w) (filled j v) = no_walk h w (filled j v)
-  no_walk h (pass g w) (tagged s l j v) = no_walk h w (tagged s l j v)
+  no_walk h (pass g w) (tagged {k = k} s l j v) = no_walk h w (tagged {k = k} s l j v)
   no_walk h (take {m = m} {k = k} {t = t} {x = x} e f w) (tagged {k = l} s a i v) = take_tagged m k t x e f (tagged_start l s a i) h
   no_walk h (tagged {k = l} {x = x} s a i w) (take {m = m} {k = k} {t = t} e f v) = take_tagged m k t x e f (tagged_start l s a i) h
   no_walk h (linked {x = x} g i w) (tagged {k = l} s a j v) = linked_tagged x g (tagged_start l s a j)
@@ -145,12 +145,14 @@ mutual
   passes (paren l e f a g h) le p c = settle (parens_same e f (λ us q j. whole_items a g h j) p.start) p.through
   passes (target {y = y} {t = t} l e f r k g h) le p c =
       settle (parens_same e f (λ us q j. as_unseq (flat t) (unseq_one r) (one_against r g h (λ u v s d. ends (passes r (omega arith) (split s (omega arith)) d) (calm_one y k)) j)) p.start) p.through
-  passes {n} {z = z} {g = g} (grow {k = k} {z = y} {t = t} {ts = ts} s d l r w) le p c =
+  passes {n} {z = z} {g = g} (grow {k = k} {z = y} {t = t} {ts = ts} s d l b r w) le p c =
       subst (λ f. Through n y f z g) (sym (made_plain k (cons (flat t) (flats ts)) (arrow_leads k d) (of_grow k s d).not_paren))
-      (onward k s d (omega (arith, le, l)) w (tail_only k ts s d (λ qs us q hh v. one_walk hh w v) (λ qs us q hh v. no_walk hh w v)) (passes r le p c) c)
+      (onward k s d (omega (arith, le, l)) b w (tail_only k ts s d (λ qs us q hh v. one_walk hh w v) (λ qs us q hh v. no_walk hh w v)) (passes r le p c) c)
   passes (arrow {ts = ts} l (take e f (each i done)) w) le p c =
-      onward (expression BareArrow) refl refl (omega (arith, le, l)) w (tail_only (expression BareArrow) ts refl refl (λ qs us q hh v. one_walk hh w v) (λ qs us q hh v. no_walk hh w v))
+      onward (expression BareArrow) refl refl (omega (arith, le, l)) (items_clear i) w (tail_only (expression BareArrow) ts refl refl (λ qs us q hh v. one_walk hh w v) (λ qs us q hh v. no_walk hh w v))
       (settle (parens_same e f (λ us q j. one_items refl refl i j) p.start) p.through) c
+  passes (blocked l e f i b) le p c = onward_block (omega (arith, le, l)) (items_clear i) b (settle (parens_same e f (λ us q j. one_items refl refl i j) p.start) p.through) c
+  passes (bare_blocked {x = x} {t = t} l a e f b) le p c = onward_block (omega (arith, le, l)) (tok_clear Operator IdentifierName t x e) b (settle (start_word a e f p.start) p.through) c
 
   -- two properties, each before a comma or a brace
   one_prop : {x y z : Place} {t u : Tree} {d c : Text} → Prop x t y → Seen y Punctuator d → ends_prop d ≡ true → Prop x u z → Seen z Punctuator c → ends_prop c ≡ true → SameOne (flat t) (flat u) y z

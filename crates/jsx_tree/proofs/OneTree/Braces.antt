@@ -1,4 +1,6 @@
 -- What the definitions read, with what may stand behind each part: properties in braces.
+use Rattle.jsx_tree.proofs.OneTree.Spines.{blockless, no_blocked}
+use Rattle.jsx_tree.proofs.OneTree.Fine.{fine_blocked}
 use Rattle.jsx_tree.proofs.OneTree.Known.{taken, plain_leaf}
 use Rattle.std.proofs.Common.{◌≡◌, ℕ, ◌≤◌, Bool, true, false, not, List, [], ◌∷◌, refl, sym, ◌∙◌, ap, subst}
 use Rattle.std.specs.Prelude.{IsTrue, ◌&&◌, ◌||◌, nat_le, codes}
@@ -31,14 +33,14 @@ use Rattle.jsx_tree.proofs.OneTree.Templates.{template_walk}
 -- ---- braces
 
 -- a leaf of a key, and of a name
-record IsLeafAt (x : Place) (t : Tree) (y : Place) (k : TokenKind → Bool) : Type 0 where
-  kind : TokenKind
-  text : Text
-  is_tree : t ≡ leaf kind text
-  keyed : k kind ≡ true
-  moves : forth (Tok Operator kind text) x ≡ y
+pub record IsLeafAt (x : Place) (t : Tree) (y : Place) (k : TokenKind → Bool) : Type 0 where
+  pub kind : TokenKind
+  pub text : Text
+  pub is_tree : t ≡ leaf kind text
+  pub keyed : k kind ≡ true
+  pub moves : forth (Tok Operator kind text) x ≡ y
 
-abbrev is_name : TokenKind → Bool
+abbrev pub is_name : TokenKind → Bool
 is_name IdentifierName = true
 is_name k = false
 
@@ -60,6 +62,7 @@ key_leaf nk (fine_leaf {s = s} p) r = cc
 key_leaf nk (fine_piece {s = s} {t = t} p) r = absurd (no_piece Key s t refl p (in_is r))
 key_leaf nk (fine_regexp) r = let bad = in_is r in cc
 key_leaf nk (fine_sealed {k = k} {cs = cs} s f) r = absurd (no_sealed Key k cs s refl r.is)
+key_leaf nk (fine_blocked {k = k} {cs = cs} s f) r = absurd (no_blocked Key k cs s refl r.is)
 key_leaf nk (fine_member {k = k} {t = u} {ts = us} s f m g) r = absurd (no_member Key k (part u us) s refl r.is)
 key_leaf nk (fine_list f) r = let bad = r.is in cc
 key_leaf nk (fine_seq {k = k} {cs = cs} s f) r = absurd (no_seq_here Key k cs s refl r.is)
@@ -111,11 +114,12 @@ key_at (fine_piece p) m r = by_leaf (key_leaf refl (fine_piece p) r)
 key_at (fine_regexp) m r = by_leaf (key_leaf refl fine_regexp r)
 key_at (fine_leaf p) m r = by_leaf (key_leaf refl (fine_leaf p) r)
 key_at (fine_sealed {k = k} {cs = cs} s f) m r = absurd (no_sealed Key k cs s refl r.is)
+key_at (fine_blocked {k = k} {cs = cs} s f) m r = absurd (no_blocked Key k cs s refl r.is)
 key_at (fine_member {k = k} {t = u} {ts = us} s f n g) m r = absurd (no_member Key k (part u us) s refl r.is)
 key_at (fine_list f) m r = by_leaf (key_leaf refl (fine_list f) r)
 key_at (fine_seq {k = k} {cs = cs} s f) m r = absurd (no_seq_here Key k cs s refl r.is)
 
-abbrev is_name_place : Nonterminal → Bool
+abbrev pub is_name_place : Nonterminal → Bool
 is_name_place Ident = true
 is_name_place BindingIdent = true
 is_name_place c = false
@@ -124,6 +128,11 @@ name_home : (c : Nonterminal) (k : Kind) → is_name_place c ≡ true → taken 
 name_home Ident k n t = not_is _ (and_left (not (in_homes Ident (homes k))) _ (and_right (is_key k || not (in_homes Key (homes k))) _ (for_kind (λ l. (is_key l || not (in_homes Key (homes l))) && (not (in_homes Ident (homes l)) && not (in_homes BindingIdent (homes l)))) no_keys k (taken_scope k t))))
 name_home BindingIdent k n t = not_is _ (and_right (not (in_homes Ident (homes k))) _ (and_right (is_key k || not (in_homes Key (homes k))) _ (for_kind (λ l. (is_key l || not (in_homes Key (homes l))) && (not (in_homes Ident (homes l)) && not (in_homes BindingIdent (homes l)))) no_keys k (taken_scope k t))))
 name_home _ k n t = cc
+
+name_blockless : (c : Nonterminal) → is_name_place c ≡ true → blockless c ≡ true
+name_blockless Ident n = refl
+name_blockless BindingIdent n = refl
+name_blockless _ n = cc
 
 name_absent : (c : Nonterminal) → is_name_place c ≡ true → absent c ≡ true
 name_absent Ident n = refl
@@ -158,7 +167,7 @@ other_leaf Ident _ t n p o i = cc
 other_leaf BindingIdent _ t n p o i = cc
 other_leaf _ s t n p o i = cc
 
-name_leaf : (c : Nonterminal) {v : Surroundings} {x y : Place} {t : Tree} → is_name_place c ≡ true → Fine t → IsRead v false c x t y → IsLeafAt x t y is_name
+pub name_leaf : (c : Nonterminal) {v : Surroundings} {x y : Place} {t : Tree} → is_name_place c ≡ true → Fine t → IsRead v false c x t y → IsLeafAt x t y is_name
 name_leaf c {x = x} n (fine_leaf {s = IdentifierName} {t = t} p) r = record { kind = IdentifierName; text = t; is_tree = refl; keyed = refl; moves = ap (forth (Tok Operator IdentifierName t)) (sym (one_sign x)) ∙ r.scans }
 name_leaf c n (fine_leaf {s = NumericLiteral} {t = t} p) r = absurd (other_leaf c NumericLiteral t n p refl (in_is r))
 name_leaf c n (fine_leaf {s = BigIntLiteral} {t = t} p) r = absurd (other_leaf c BigIntLiteral t n p refl (in_is r))
@@ -168,13 +177,14 @@ name_leaf c n (fine_leaf {s = s} p) r = cc
 name_leaf c n (fine_piece {s = s} {t = t} p) r = absurd (no_piece c s t (name_free c n) p (in_is r))
 name_leaf c n (fine_regexp {t = t}) r = absurd (name_regexp c t n (in_is r))
 name_leaf c n (fine_sealed {k = k} {cs = cs} s f) r = absurd (no_sealed c k cs s (and_left (sealless c) _ (name_absent c n)) r.is)
+name_leaf c n (fine_blocked {k = k} {cs = cs} s f) r = absurd (no_blocked c k cs s (name_blockless c n) r.is)
 name_leaf c n (fine_member {k = k} {t = u} {ts = us} s f m g) r = absurd (no_member c k (part u us) s (and_right (sealless c) _ (name_absent c n)) r.is)
 name_leaf c n (fine_list f) r = let bad = r.is in cc
 name_leaf c n (fine_seq {k = k} {cs = cs} s f) r = absurd (no_seq_here c k cs s (name_seq c n) r.is)
 name_leaf c n (fine_node {k = k} {cs = cs} t np g) r = absurd (never _ (home_of c k cs (and_left (admits c (node k cs)) (fits_below c (node k cs)) r.is)) (name_home c k n t))
 name_leaf c n (fine_prop {k = k} {cs = cs} t p g) r = absurd (never _ (home_of c k cs (and_left (admits c (node k cs)) (fits_below c (node k cs)) r.is)) (name_home c k n t))
 
-name_text : (s : TokenKind) → is_name s ≡ true → s ≡ IdentifierName
+pub name_text : (s : TokenKind) → is_name s ≡ true → s ≡ IdentifierName
 name_text IdentifierName h = refl
 name_text _ h = cc
 
@@ -261,6 +271,7 @@ rest_reads k {x = x} {y} cs d o f w q =
     name_reads (fine_piece {s = s} {t = t} p) r = absurd (no_piece BindingIdent s t refl p (in_is r))
     name_reads (fine_regexp {t = t}) r = regexp_reads 1 t r
     name_reads (fine_sealed {k = k} {cs = cs} s f) r = absurd (no_sealed BindingIdent k cs s refl r.is)
+    name_reads (fine_blocked {k = k} {cs = cs} s f) r = absurd (no_blocked BindingIdent k cs s refl r.is)
     name_reads (fine_member {k = k} {t = u} {ts = us} s f m g) r = absurd (no_member BindingIdent k (part u us) s refl r.is)
     name_reads (fine_list f) r = let bad = r.is in cc
     name_reads (fine_seq {k = k} {cs = cs} s f) r = absurd (no_seq_here BindingIdent k cs s refl r.is)
@@ -270,7 +281,7 @@ rest_reads k {x = x} {y} cs d o f w q =
 -- `...a` of a literal
 spread_prop : {n : ℕ} {x y : Place} {cs : Forest} → Reads n x (node (expression Spread) cs) y → Prop x (node (expression Spread) cs) y
 spread_prop (head s a i l d (take e f (under r c done))) = rest refl refl e f r c
-spread_prop (grow s d l r w) = cc
+spread_prop (grow s d l b r w) = cc
 spread_prop (sealed l s) = let bad = s.closed.kind' in cc
 spread_prop (braces l c a e f p) = cc
 
@@ -334,6 +345,12 @@ prop_homes ObjectMember p = refl
 prop_homes (PatProp Binds) p = refl
 prop_homes (PatProp Assigns) p = refl
 prop_homes _ p = cc
+
+prop_blockless : (c : Nonterminal) → prop_place c ≡ true → blockless c ≡ true
+prop_blockless ObjectMember p = refl
+prop_blockless (PatProp Binds) p = refl
+prop_blockless (PatProp Assigns) p = refl
+prop_blockless _ p = cc
 
 prop_absent : (c : Nonterminal) → prop_place c ≡ true → sealless c ≡ true
 prop_absent ObjectMember p = refl
@@ -438,6 +455,7 @@ prop_reads c p (fine_leaf {s = s} {t = t} l) m r q = absurd (prop_leaf c s t p (
 prop_reads c p (fine_piece {s = s} {t = t} l) m r q = absurd (no_piece c s t (prop_free c p) l (in_is r))
 prop_reads c p (fine_regexp {t = t}) m r q = absurd (prop_regexp c t p (in_is r))
 prop_reads c p (fine_sealed {k = k} {cs = cs} s f) m r q = absurd (no_sealed c k cs s (prop_absent c p) r.is)
+prop_reads c p (fine_blocked {k = k} {cs = cs} s f) m r q = absurd (no_blocked c k cs s (prop_blockless c p) r.is)
 prop_reads ObjectMember p (fine_member {t = u} {ts = us} s f n g) m r q = member (g.closes' r) (opening _ u us s f n r)
 prop_reads (PatProp Binds) p (fine_member {k = k} {t = u} {ts = us} s f n g) m r q = absurd (no_member (PatProp Binds) k (part u us) s refl r.is)
 prop_reads (PatProp Assigns) p (fine_member {k = k} {t = u} {ts = us} s f n g) m r q = absurd (no_member (PatProp Assigns) k (part u us) s refl r.is)

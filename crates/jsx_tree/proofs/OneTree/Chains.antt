@@ -1,4 +1,7 @@
 -- What the definitions read, with what may stand behind each part: chains, and at last every tree.
+use Rattle.jsx_tree.proofs.OneTree.Blocks.{FirstFine, first_none, first_fine, blocks_read}
+use Rattle.jsx_tree.proofs.OneTree.Spines.{no_blocked}
+use Rattle.jsx_tree.proofs.OneTree.Fine.{fine_blocked, of_blocked}
 use Rattle.jsx_tree.proofs.OneTree.Known.{is_seq, taken, plain_leaf, is_piece, is_regexp}
 use Rattle.std.proofs.Common.{◌≡◌, ℕ, suc, Bool, true, false, not, List, [], ◌∷◌, refl, sym, ◌∙◌, ap, subst, arith}
 use Rattle.std.specs.Prelude.{IsTrue, ◌&&◌, ◌||◌, nat_le, codes}
@@ -15,7 +18,7 @@ use Rattle.jsx_tree.specs.Walk as W
 use Rattle.jsx_tree.specs.Walk.{is_found, IsRead, pieces}
 use Rattle.jsx_tree.proofs.Tokens.{and_left, and_right}
 use Rattle.jsx_tree.proofs.OneTree.Table.{scope}
-use Rattle.jsx_tree.proofs.OneTree.Readings.{chain, row, tail, tail_of, base, level, reach, calm, Reads, grow, Walk, done, take, Links, l_end, l_more, is_link, is_span, grows}
+use Rattle.jsx_tree.proofs.OneTree.Readings.{is_block, chain, row, tail, tail_of, base, level, reach, calm, Reads, grow, Walk, done, take, Links, l_end, l_more, is_link, is_span, grows}
 use Rattle.jsx_tree.proofs.OneTree.Readings.{linked}
 use Rattle.jsx_tree.proofs.OneTree.Facts.{never, or_else, Test, yes', no', test, le_nat, for_kind, found_at}
 use Rattle.jsx_tree.proofs.OneTree.Starting.{goes_on, of_grow}
@@ -30,6 +33,7 @@ use Rattle.jsx_tree.proofs.OneTree.Spines.{no_sealed, no_member, home_of, at_kin
 use Rattle.jsx_tree.proofs.OneTree.Next.{calm_at}
 use Rattle.jsx_tree.proofs.OneTree.Placed.{hole_free, tree_reads, one_placed, list_fines, spined_reads}
 use Rattle.jsx_tree.proofs.OneTree.RowWalks.{row_walk, of_row, lead_parts, first_spine}
+use Rattle.jsx_tree.proofs.OneTree.Clear.{clear_tame, clear_first}
 use Rattle.jsx_tree.proofs.OneTree.Braces.{braces_good}
 
 -- ---- chains
@@ -58,6 +62,7 @@ link_reads (fine_seq {k = k} {cs = cs} s f) m r q = absurd (no_seq_here ChainLin
 link_reads (fine_piece {s = s} {t = t} p) m r q = absurd (no_piece ChainLink s t refl p (in_is r))
 link_reads (fine_regexp) m r q = let bad = in_is r in cc
 link_reads (fine_sealed {k = k} {cs = cs} s f) m r q = absurd (no_sealed ChainLink k cs s refl r.is)
+link_reads (fine_blocked {k = k} {cs = cs} s f) m r q = absurd (no_blocked ChainLink k cs s refl r.is)
 link_reads (fine_member {k = k} {t = u} {ts = us} s f n g) m r q = absurd (no_member ChainLink k (part u us) s refl r.is)
 link_reads (fine_list f) m r q = let bad = r.is in cc
 link_reads (fine_leaf {s = IdentifierName} p) m r q = let bad = in_is r in cc
@@ -69,52 +74,52 @@ link_reads (fine_leaf {s = s} p) m r q = cc
 
 links_calm : {x y : Place} {ts : Forest} → Links x ts y → calm 99 x ≡ true
 links_calm (l_end {x = x} c) = calm_more 17 99 x (omega arith) c
-links_calm (l_more {k = k} {x = x} s l w i) = let b = (link_reach k s l w).1 in le-leb (reach x) 99 (omega (arith, b))
+links_calm (l_more {k = k} {x = x} s l c w i) = let b = (link_reach k s l c w).1 in le-leb (reach x) 99 (omega (arith, b))
 
-more_links : {x y z : Place} {t : Tree} {ts : Forest} → AtLink x t y → Links y ts z → Links x (part t ts) z
-more_links {x} {z = z} {ts = ts} a i = subst (λ t. Links x (part t ts) z) (sym a.is_node) (l_more a.scoped a.linked' a.walk i)
+more_links : {x y z : Place} {t : Tree} {ts : Forest} → is_block x ≡ false → AtLink x t y → Links y ts z → Links x (part t ts) z
+more_links {x} {z = z} {ts = ts} b a i = subst (λ t. Links x (part t ts) z) (sym a.is_node) (l_more a.scoped a.linked' b a.walk i)
 
-links_listed : {v : Surroundings} {x y : Place} (ts : Forest) → Fines ts → tames ts ≡ true → W.Items IsRead v OneOrMore ChainLink x ts y → calm 17 y ≡ true → Links x ts y
-links_listed none f m (W.nil g) q = l_end q
-links_listed {x = x} (part t none) (fine_part f fs) m (W.last {y = w} r g k) q =
+links_listed : {v : Surroundings} {x y : Place} (ts : Forest) → is_block x ≡ false → Fines ts → tames ts ≡ true → W.Items IsRead v OneOrMore ChainLink x ts y → calm 17 y ≡ true → Links x ts y
+links_listed none b f m (W.nil g) q = l_end q
+links_listed {x = x} (part t none) b (fine_part f fs) m (W.last {y = w} r g k) q =
     let c = calm_at 17 g q in
-    subst (λ y. Links x (part t none) y) g (more_links (link_reads f (and_left (tame t) true m) r (calm_more 17 99 w (omega arith) c)) (l_end c))
-links_listed (part t (part t' ts)) (fine_part f fs) m (W.more {y = y} {w = w} n r g i) q =
-    let o = subst (λ p. Links p (part t' ts) w) (sym g) (links_listed (part t' ts) fs (and_right (tame t) _ m) i q) in
-    more_links (link_reads f (and_left (tame t) _ m) r (links_calm o)) o
+    subst (λ y. Links x (part t none) y) g (more_links b (link_reads f (and_left (tame t) true m) r (calm_more 17 99 w (omega arith) c)) (l_end c))
+links_listed (part t (part t' ts)) b (fine_part f fs) m (W.more {y = y} {w = w} n r g i) q =
+    let o = subst (λ p. Links p (part t' ts) w) (sym g) (links_listed (part t' ts) (subst (λ p. is_block p ≡ false) g (clear_tame t ChainLink (and_left (tame t) _ m) refl r)) fs (and_right (tame t) _ m) i q) in
+    more_links b (link_reads f (and_left (tame t) _ m) r (links_calm o)) o
 
 -- a chain's first link has `?.`
 opening : {x y : Place} {ts : Forest} → Links x ts y → first_of_list is_optional ts ≡ true → IsTrue (is_found (forth (Tok Operator Punctuator (codes "?.")) x))
-opening (l_more {k = expression (NameLink true)} s l (take e f w) i) h = found_at e f
-opening (l_more {k = expression (IndexLink true)} s l (take e f w) i) h = found_at e f
-opening (l_more {k = expression (CallLink true)} s l (take e f w) i) h = found_at e f
-opening (l_more {k = expression (NameLink false)} s l w i) h = cc
-opening (l_more {k = expression (IndexLink false)} s l w i) h = cc
-opening (l_more {k = expression (CallLink false)} s l w i) h = cc
-opening (l_more s l w i) h = cc
+opening (l_more {k = expression (NameLink true)} s l b (take e f w) i) h = found_at e f
+opening (l_more {k = expression (IndexLink true)} s l b (take e f w) i) h = found_at e f
+opening (l_more {k = expression (CallLink true)} s l b (take e f w) i) h = found_at e f
+opening (l_more {k = expression (NameLink false)} s l b w i) h = cc
+opening (l_more {k = expression (IndexLink false)} s l b w i) h = cc
+opening (l_more {k = expression (CallLink false)} s l b w i) h = cc
+opening (l_more s l b w i) h = cc
 opening (l_end c) h = cc
 
-chain_tail : {V : List Context → Surroundings} {x y : Place} (t : Tree) (ts : Forest) → rule (expression Chain) (part t ts) ≡ true → W.Walk IsRead V (W.piece [] (Many OneOrMore ChainLink) ∷ []) x ts y → Fines ts → tames ts ≡ true → calm 17 y ≡ true → Walk (chain ∷ []) x ts y
-chain_tail {V} {x} {y} t ts u w f m q =
+chain_tail : {V : List Context → Surroundings} {x y : Place} (t : Tree) (ts : Forest) → is_block x ≡ false → rule (expression Chain) (part t ts) ≡ true → W.Walk IsRead V (W.piece [] (Many OneOrMore ChainLink) ∷ []) x ts y → Fines ts → tames ts ≡ true → calm 17 y ≡ true → Walk (chain ∷ []) x ts y
+chain_tail {V} {x} {y} t ts b u w f m q =
     let p = at_many w in
     let d = at_end p.walk in
     let is : ts ≡ part (list p.trees) none = p.is ∙ ap (part (list p.trees)) d.0 in
     let o : first_of_list is_optional p.trees ≡ true = subst (λ ts. rule (expression Chain) (part t ts) ≡ true) is u in
     let ms = and_left (tames p.trees) true (subst (λ ts. tames ts ≡ true) is m) in
-    let l = links_listed p.trees (list_fines (subst Fines is f)) ms (subst (λ z. W.Items IsRead (V []) OneOrMore ChainLink x p.trees z) d.1 p.read) q in
+    let l = links_listed p.trees b (list_fines (subst Fines is f)) ms (subst (λ z. W.Items IsRead (V []) OneOrMore ChainLink x p.trees z) d.1 p.read) q in
     subst (λ ts. Walk (chain ∷ []) x ts y) (sym is) (linked (opening l o) l done)
 
 chain_is : (k : Kind) → is_chain k ≡ true → k ≡ expression Chain
 chain_is (expression Chain) h = refl
 chain_is _ h = cc
 
-tail_walk : (k : Kind) {V : List Context → Surroundings} {y z : Place} (t : Tree) (ts : Forest) → (is_chain k || row_ok (ending k) (tail_of (production k))) ≡ true → rule k (part t ts) ≡ true → W.Walk IsRead V (pieces [] (tail_of (production k))) y ts z → Fines ts → tames ts ≡ true → calm (ending k) z ≡ true → Walk (tail k) y ts z
-tail_walk k {V} {y} {z} t ts o u w f m q = by_case (test (is_chain k))
+tail_walk : (k : Kind) {V : List Context → Surroundings} {y z : Place} (t : Tree) (ts : Forest) → is_block y ≡ false → (is_chain k || row_ok (ending k) (tail_of (production k))) ≡ true → rule k (part t ts) ≡ true → W.Walk IsRead V (pieces [] (tail_of (production k))) y ts z → Fines ts → tames ts ≡ true → calm (ending k) z ≡ true → Walk (tail k) y ts z
+tail_walk k {V} {y} {z} t ts b o u w f m q = by_case (test (is_chain k))
   where
     by_case : Test (is_chain k) → Walk (tail k) y ts z
     by_case (no' n) = row_walk (ending k) (tail_of (production k)) [] ts (or_else (is_chain k) _ o n) w f m q
     by_case (yes' c) =
-        subst (λ k. rule k (part t ts) ≡ true → W.Walk IsRead V (pieces [] (tail_of (production k))) y ts z → calm (ending k) z ≡ true → Walk (tail k) y ts z) (sym (chain_is k c)) (λ u w q. chain_tail t ts u w f m q) u w q
+        subst (λ k. rule k (part t ts) ≡ true → W.Walk IsRead V (pieces [] (tail_of (production k))) y ts z → calm (ending k) z ≡ true → Walk (tail k) y ts z) (sym (chain_is k c)) (λ u w q. chain_tail t ts b u w f m q) u w q
 
 not_prop : (a b : Bool) → (a || b) ≡ false → b ≡ false
 not_prop true b h = absurd (never true refl h)
@@ -145,11 +150,12 @@ node_good k cs t own m f = record { reads = λ n v c x y r i s q. by_lead n v x 
         let np = not_prop (is_brace k) (is_prop k) own in
         let g' = grows_all k np ∙ l in
         let d = lead_facts k t np l in
-        let w' = tail_walk k p.tree p.others d.row' (subst (λ cs. rule k cs ≡ true) p.is u) p.walk g.1 (and_right (tame p.tree) _ ms) q in
-        let b : reach p.next ≡ suc (level k) = goes_on w' (of_grow k (taken_scope k t) g').goes in
+        let z = clear_tame p.tree (first_of (production k)) (and_left (tame p.tree) _ ms) (clear_first k t np l) p.read in
+        let w' = tail_walk k p.tree p.others z d.row' (subst (λ cs. rule k cs ≡ true) p.is u) p.walk g.1 (and_right (tame p.tree) _ ms) q in
+        let b : reach p.next ≡ suc (level k) = goes_on z w' (of_grow k (taken_scope k t) g').goes in
         let h : first_ok n cs ≡ true = or_else (not (leads (production k))) (first_ok n cs) (and_right (nat_le n (level k)) _ s) (ap not l) in
         subst (λ cs. Reads n x (node k cs) y) (sym p.is)
-        (grow (taken_scope k t) g' (le_nat (and_left (nat_le n (level k)) _ s))
+        (grow (taken_scope k t) g' (le_nat (and_left (nat_le n (level k)) _ s)) z
         (spined_reads n (suc (level k)) (first_of (production k)) g.0 (hole_free p.tree (first_of (production k)) d.hole' p.read) p.read (and_left (kin (first_of (production k))) _ (and_left (place_at (base (first_of (production k))) (first_of (production k))) _ d.place')) (λ o s' i l'. at_kind (first_of (production k)) (ends_by (suc (level k))) o (and_right (nat_le (suc (level k)) 99) _ d.ended') s' i) (and_right (place_at (base (first_of (production k))) (first_of (production k))) _ d.place') (first_spine n p.is h) (le-leb (reach p.next) (suc (level k)) (omega (arith, b)))) w')
       where
         fines_both : {t : Tree} {ts : Forest} → Fines (part t ts) → Fine t × Fines ts
@@ -211,17 +217,13 @@ closes k cs s e = record { closes' = λ {v} {x} {y} r. closed_at v x y r }
     closed_at : (v : Surroundings) (x y : Place) → IsRead v false ObjectMember x (node k cs) y → Closed is_member ObjectMember x k cs y
     closed_at v x y r = record { kind' = s; bound = e.bound; small = e.small; good = e.good; surroundings = v; read = r; law = λ l ds t m g q. e.law.of_members.one k l cs ds s t e.small m e.good g r q }
 
--- the first part, where there is one
-data FirstFine : Forest → Type 0 where
-  first_none : FirstFine none
-  first_fine : {t : Tree} {ts : Forest} → Fine t → FirstFine (part t ts)
-
 member_fine : (k : Kind) (cs : Forest) → is_member k ≡ true → first_tame cs ≡ true → Kept (node k cs) → FirstFine cs → Fine (node k cs)
 member_fine k none s m e f = cc
 member_fine k (part t ts) s m e (first_fine f) = fine_member s f m (closes k (part t ts) s e)
 
 node_of : (k : Kind) (cs : Forest) → Tamed k cs → Kept (node k cs) → (tames cs ≡ true → Fines cs) → (first_tame cs ≡ true → FirstFine cs) → Fine (node k cs)
 node_of k cs (of_member s f m) e rest first = member_fine k cs s m e (first m)
+node_of k cs (of_blocked s f m) e rest first = fine_blocked s (blocks_read k cs s m (first m) e)
 node_of k cs (of_sealed s f) e rest first = fine_sealed s (seals k cs s e)
 node_of k cs (of_open h m) e rest first = node_fine k cs h m (rest m) (test (taken k))
 

@@ -196,6 +196,25 @@ slash_ok k = grows k || (is_arrow k || (is_paren k || no_slash (row k)))
 pub slash_ones : every slash_ok kinds ≡ true
 slash_ones = refl
 
+-- a row doesn't begin with an arrow and a brace
+abbrev pub past_arrow : List Step → Bool
+past_arrow (guard (Unless ts) ∷ ps) = among (codes "{") ts || past_arrow ps
+past_arrow (tok Operator k t ∷ ps) = not (same_token k t Punctuator (codes "{"))
+past_arrow ps = false
+
+abbrev pub no_block : List Step → Bool
+no_block (guard s ∷ ps) = no_block ps
+no_block (tok Operator k t ∷ ps) = not (same_token k t Punctuator (codes "=>")) || past_arrow ps
+no_block (chain ∷ ps) = true
+no_block (quoted ∷ ps) = true
+no_block ps = false
+
+abbrev pub unblocked : Kind → Bool
+unblocked k = not (grows k) || no_block (tail k)
+
+pub block_ones : every unblocked kinds ≡ true
+block_ones = refl
+
 pub ones : every one_ok kinds ≡ true
 ones = refl
 

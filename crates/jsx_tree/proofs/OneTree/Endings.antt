@@ -1,8 +1,11 @@
 -- Where expressions end: an expression keeps what a missing semicolon would stand after, and where a semicolon stands or is missing nothing goes on with it.
-use Rattle.std.proofs.Common.{◌≡◌, Bool, true, false, cond, List, [], ◌∷◌, ◌++◌, refl, ◌∙◌, ap, subst}
+use Rattle.jsx_tree.proofs.OneTree.Fine.{of_blocked}
+use Rattle.jsx_tree.proofs.OneTree.Known.{is_blocked}
+use Rattle.jsx_tree.specs.Kinds.{expression, ArrowBlock, BareArrowBlock}
+use Rattle.std.proofs.Common.{◌≡◌, Bool, true, false, cond, List, [], ◌∷◌, ◌++◌, refl, sym, ◌∙◌, ap, subst}
 use Rattle.std.specs.Prelude.{IsTrue, ◌&&◌, ◌||◌}
 use Rattle.jsx_base.specs.Token.{Text, Operator, TokenKind, Elision, Punctuator, is_token, same, token, at_front, kind_number, skip, breaks}
-use Rattle.jsx_tree.specs.Signs.{Sign, AfterExpr, Tok, Semicolon, TrailingComma, Unless, SameLine, Ends}
+use Rattle.jsx_tree.specs.Signs.{Ending, Sign, AfterExpr, AfterBlock, Tok, Semicolon, TrailingComma, Unless, SameLine, Ends}
 use Rattle.jsx_tree.specs.Kinds.{FunctionExpr, ClassExpr, InObject, Method, Getter, Setter, Kind, function, Tree, leaf, node, list, Forest, none, part}
 use Rattle.jsx_tree.specs.Grammar.{ListShape, Commas, Elisions, TwoOrMore, OneOrMore, Adjacent, Context, Fixed, Part, Optional, Many, Within, Production, production}
 use Rattle.jsx_tree.specs.Spelling.{leaf_signs, maybe, before, between, behind, gathered, joined, walk, said, saids, each_said}
@@ -12,10 +15,9 @@ use Rattle.jsx_tree.proofs.Laws.{scan_lost}
 use Rattle.jsx_tree.proofs.Tokens.{and_left, and_right, and_both, same_is}
 use Rattle.jsx_tree.specs.Walk.{is_found}
 use Rattle.jsx_tree.proofs.OneTree.Table.{kinds}
-use Rattle.jsx_tree.proofs.OneTree.Readings.{calm, Whole, single, several, kind_at, text_at}
+use Rattle.jsx_tree.proofs.OneTree.Readings.{Whole, single, several, kind_at, text_at}
 use Rattle.jsx_tree.proofs.OneTree.Checks.{every, starts}
 use Rattle.jsx_tree.proofs.OneTree.Facts.{or_else, Test, yes', no', test, for_kind}
-use Rattle.jsx_tree.proofs.OneTree.Semis.{semi_calm}
 use Rattle.jsx_tree.proofs.OneTree.Known.{taken, is_seq}
 use Rattle.jsx_tree.proofs.OneTree.Sealed.{is_sealed, is_member}
 use Rattle.jsx_tree.proofs.OneTree.Fine.{tame, tames, Tamed, of_sealed, of_member, of_open, tamed}
@@ -39,45 +41,82 @@ abbrev pub after : Place → Bool
 after (At q AfterExpr text) = true
 after x = false
 
--- whether a missing semicolon would stand after an expression, from whether it would before these signs: a token stands behind all else that is said of it
-abbrev pub settle : Bool → List Sign → Bool
-settle b [] = b
-settle b (Ends e ∷ ms) = settle false ms
-settle b (Tok m k t ∷ ms) = settle true ms
-settle b (m ∷ ms) = settle b ms
+-- the same, or behind the block of an arrow
+abbrev pub past : Place → Bool
+past (At q AfterExpr text) = true
+past (At q AfterBlock text) = true
+past x = false
+
+pub past_after : (x : Place) → after x ≡ true → past x ≡ true
+past_after (At q AfterExpr text) h = refl
+past_after _ h = cc
+
+-- the endings that keep: none but an expression's, or the block's of an arrow too
+abbrev pub no_end : Ending → Bool
+no_end e = false
+
+abbrev pub block_end : Ending → Bool
+block_end AfterBlock = true
+block_end e = false
+
+abbrev pub stays : (Ending → Bool) → Place → Bool
+stays o Lost = false
+stays o (At q AfterExpr text) = true
+stays o (At q e text) = o e
+
+pub stays_after : (x : Place) → stays no_end x ≡ true → after x ≡ true
+stays_after (At q AfterExpr text) h = refl
+stays_after _ h = cc
+
+pub stays_past : (x : Place) → stays block_end x ≡ true → past x ≡ true
+stays_past (At q AfterExpr text) h = refl
+stays_past (At q AfterBlock text) h = refl
+stays_past _ h = cc
+
+pub stays_ends : (o : Ending → Bool) (e : Ending) (x : Place) → o e ≡ true → IsTrue (is_found (forth (Ends e) x)) → stays o (forth (Ends e) x) ≡ true
+stays_ends o e Lost h f = cc
+stays_ends o AfterExpr (At q g text) h f = refl
+stays_ends o _ (At q g text) h f = h
+
+-- whether a missing semicolon would stand after what keeps, from whether it would before these signs: a token stands behind all else that is said of it
+abbrev pub settle : (Ending → Bool) → Bool → List Sign → Bool
+settle o b [] = b
+settle o b (Ends e ∷ ms) = settle o (o e) ms
+settle o b (Tok m k t ∷ ms) = settle o true ms
+settle o b (m ∷ ms) = settle o b ms
 
 abbrev pub keeps : List Sign → Bool
-keeps ms = settle true ms
+keeps ms = settle block_end true ms
 
-pub settle_append : (a c : List Sign) (b : Bool) → settle b (a ++ c) ≡ settle (settle b a) c
-settle_append [] c b = refl
-settle_append (Ends e ∷ a) c b = settle_append a c false
-settle_append (Tok m k t ∷ a) c b = settle_append a c true
-settle_append (_ ∷ a) c b = settle_append a c b
+pub settle_append : (o : Ending → Bool) (a c : List Sign) (b : Bool) → settle o b (a ++ c) ≡ settle o (settle o b a) c
+settle_append o [] c b = refl
+settle_append o (Ends e ∷ a) c b = settle_append o a c (o e)
+settle_append o (Tok m k t ∷ a) c b = settle_append o a c true
+settle_append o (_ ∷ a) c b = settle_append o a c b
 
-pub settle_any : (ms : List Sign) (b : Bool) → settle false ms ≡ true → settle b ms ≡ true
-settle_any [] b h = cc
-settle_any (Ends e ∷ ms) b h = h
-settle_any (Tok m k t ∷ ms) b h = h
-settle_any (_ ∷ ms) b h = settle_any ms b h
+pub settle_any : (o : Ending → Bool) (ms : List Sign) (b : Bool) → settle o false ms ≡ true → settle o b ms ≡ true
+settle_any o [] b h = cc
+settle_any o (Ends e ∷ ms) b h = h
+settle_any o (Tok m k t ∷ ms) b h = h
+settle_any o (_ ∷ ms) b h = settle_any o ms b h
 
-pub go_after : (b : Bool) (x : Place) → after x ≡ true → IsTrue (is_found (go_if b x)) → after (go_if b x) ≡ true
-go_after true x a f = a
-go_after false x a f = cc
+pub go_stays : (o : Ending → Bool) (b : Bool) (x : Place) → stays o x ≡ true → IsTrue (is_found (go_if b x)) → stays o (go_if b x) ≡ true
+go_stays o true x a f = a
+go_stays o false x a f = cc
 
-cond_after : (b : Bool) (x y : Place) → after x ≡ true → (IsTrue (is_found y) → after y ≡ true) → IsTrue (is_found (cond b x y)) → after (cond b x y) ≡ true
-cond_after true x y a g f = a
-cond_after false x y a g f = g f
+cond_stays : (o : Ending → Bool) (b : Bool) (x y : Place) → stays o x ≡ true → (IsTrue (is_found y) → stays o y ≡ true) → IsTrue (is_found (cond b x y)) → stays o (cond b x y) ≡ true
+cond_stays o true x y a g f = a
+cond_stays o false x y a g f = g f
 
-pub after_sign : (m : Sign) (x : Place) → keeps (m ∷ []) ≡ true → after x ≡ true → IsTrue (is_found (forth m x)) → after (forth m x) ≡ true
-after_sign m Lost h a f = cc
-after_sign (Tok m s t) (At q e text) h a f = go_after (is_token (token m (same q []) text) s t) _ refl f
-after_sign Semicolon (At q e text) h a f = cond_after (is_token (token Operator false text) Punctuator _) _ _ refl (go_after (may_lack e q text) (At q e text) a) f
-after_sign TrailingComma (At q e text) h a f = cond_after (is_token (token Operator false text) Punctuator _) _ _ refl (λ g. a) f
-after_sign (Unless ts) (At q e text) h a f = go_after _ (At q e text) a f
-after_sign SameLine (At q e text) h a f = go_after _ (At q e text) a f
-after_sign (Ends g) (At q e text) h a f = cc
-after_sign _ (At q e text) h a f = a
+pub stays_sign : (o : Ending → Bool) (m : Sign) (x : Place) → settle o true (m ∷ []) ≡ true → stays o x ≡ true → IsTrue (is_found (forth m x)) → stays o (forth m x) ≡ true
+stays_sign o m Lost h a f = cc
+stays_sign o (Tok m s t) (At q e text) h a f = go_stays o (is_token (token m (same q []) text) s t) _ refl f
+stays_sign o Semicolon (At q e text) h a f = cond_stays o (is_token (token Operator false text) Punctuator _) _ _ refl (go_stays o (may_lack e q text) (At q e text) a) f
+stays_sign o TrailingComma (At q e text) h a f = cond_stays o (is_token (token Operator false text) Punctuator _) _ _ refl (λ g. a) f
+stays_sign o (Unless ts) (At q e text) h a f = go_stays o _ (At q e text) a f
+stays_sign o SameLine (At q e text) h a f = go_stays o _ (At q e text) a f
+stays_sign o (Ends g) (At q e text) h a f = stays_ends o g (At q e text) h f
+stays_sign o _ (At q e text) h a f = a
 
 pub found_first : (ms : List Sign) (x : Place) → IsTrue (is_found (scan x ms)) → IsTrue (is_found x)
 found_first ms (At q e text) f = refl
@@ -86,7 +125,7 @@ found_first ms Lost f = subst (λ x. IsTrue (is_found x)) (scan_lost ms) f
 -- ---- behind an expression all is kept
 
 keeps_both : (a b : List Sign) → keeps a ≡ true → keeps b ≡ true → keeps (a ++ b) ≡ true
-keeps_both a b h g = settle_append a b true ∙ (ap (λ c. settle c b) h ∙ g)
+keeps_both a b h g = settle_append block_end a b true ∙ (ap (λ c. settle block_end c b) h ∙ g)
 
 abbrev pub each_ok : List (List Sign) → Bool
 each_ok [] = true
@@ -156,7 +195,7 @@ fixed_ok (Ends e) ps h = cc
 fixed_ok _ ps h = (refl, h)
 
 add_first : (m : Sign) (ms : List Sign) → keeps (m ∷ []) ≡ true → keeps ms ≡ true → keeps (m ∷ ms) ≡ true
-add_first (Ends e) ms h g = cc
+add_first (Ends e) ms h g = subst (λ b. settle block_end b ms ≡ true) (sym h) g
 add_first _ ms h g = g
 
 pub walk_ok : (ps : Production) (xs : List (List (List Sign))) → row_ends ps ≡ true → all_ok xs ≡ true → keeps (walk ps xs) ≡ true
@@ -170,64 +209,71 @@ walk_ok (Many s c ∷ ps) (x ∷ xs) h g = keeps_both (gathered s x) (walk ps xs
 walk_ok (Optional a c b r ∷ ps) xs h g = cc
 
 -- a function or a class ends with a token
-abbrev shuts_row : Bool → Production → Bool
-shuts_row b [] = b
-shuts_row b (Fixed (Tok m k t) ∷ ps) = shuts_row true ps
-shuts_row b (Fixed (Ends e) ∷ ps) = shuts_row false ps
-shuts_row b (Fixed m ∷ ps) = shuts_row b ps
-shuts_row b (Within a ∷ ps) = shuts_row b ps
-shuts_row b (q ∷ ps) = shuts_row false ps
+abbrev pub shuts_row : (Ending → Bool) → Bool → Production → Bool
+shuts_row o b [] = b
+shuts_row o b (Fixed (Tok m k t) ∷ ps) = shuts_row o true ps
+shuts_row o b (Fixed (Ends e) ∷ ps) = shuts_row o (o e) ps
+shuts_row o b (Fixed m ∷ ps) = shuts_row o b ps
+shuts_row o b (Within a ∷ ps) = shuts_row o b ps
+shuts_row o b (q ∷ ps) = shuts_row o false ps
 
-data Skipped (ps : Production) (a : List Context) (cs : Forest) : Type 0 where
-  skipped : (g : List Text) (b : Bool) → fit_slots (slots g b a ps) cs ≡ true → Skipped ps a cs
+pub data Passed (ps : Production) (a : List Context) (cs : Forest) : Type 0 where
+  passed : (g : List Text) (b : Bool) → fit_slots (slots g b a ps) cs ≡ true → Passed ps a cs
 
-skip_sign : (m : Sign) (ps : Production) (g : List Text) (b : Bool) (a : List Context) (cs : Forest) → fit_slots (slots g b a (Fixed m ∷ ps)) cs ≡ true → Skipped ps a cs
-skip_sign (Tok m Punctuator t) ps g b a cs f = skipped [] (inside t b) f
-skip_sign (Tok m _ t) ps g b a cs f = skipped g b f
-skip_sign (Unless ts) ps g b a cs f = skipped ts b f
-skip_sign _ ps g b a cs f = skipped g b f
+pub pass_sign : (m : Sign) (ps : Production) (g : List Text) (b : Bool) (a : List Context) (cs : Forest) → fit_slots (slots g b a (Fixed m ∷ ps)) cs ≡ true → Passed ps a cs
+pass_sign (Tok m Punctuator t) ps g b a cs f = passed [] (inside t b) f
+pass_sign (Tok m _ t) ps g b a cs f = passed g b f
+pass_sign (Unless ts) ps g b a cs f = passed ts b f
+pass_sign _ ps g b a cs f = passed g b f
 
-no_flag : {P : Type 0} → false ≡ true → P
+pub no_flag : {P : Type 0} → false ≡ true → P
 no_flag h = cc
 
-row_settled : (ps : Production) (cs : Forest) (g : List Text) (i : Bool) (a : List Context) (b c : Bool) → shuts_row b ps ≡ true → (b ≡ true → c ≡ true) → fit_slots (slots g i a ps) cs ≡ true → settle c (walk ps (saids cs)) ≡ true
-row_settled [] cs g i a b c s h f = h s
-row_settled (Fixed m ∷ ps) cs g i a b c s h f = by_skipped (skip_sign m ps g i a cs f) (λ g' i' b' c' s' h' f'. row_settled ps cs g' i' a b' c' s' h' f')
+pub row_settled : (o : Ending → Bool) (ps : Production) (cs : Forest) (g : List Text) (i : Bool) (a : List Context) (b c : Bool) → shuts_row o b ps ≡ true → (b ≡ true → c ≡ true) → fit_slots (slots g i a ps) cs ≡ true → settle o c (walk ps (saids cs)) ≡ true
+row_settled o [] cs g i a b c s h f = h s
+row_settled o (Fixed m ∷ ps) cs g i a b c s h f = by_passed (pass_sign m ps g i a cs f) (λ g' i' b' c' s' h' f'. row_settled o ps cs g' i' a b' c' s' h' f')
   where
-    by_sign : (m : Sign) → shuts_row b (Fixed m ∷ ps) ≡ true → ((b' c' : Bool) → shuts_row b' ps ≡ true → (b' ≡ true → c' ≡ true) → settle c' (walk ps (saids cs)) ≡ true) → settle c (m ∷ walk ps (saids cs)) ≡ true
+    by_sign : (m : Sign) → shuts_row o b (Fixed m ∷ ps) ≡ true → ((b' c' : Bool) → shuts_row o b' ps ≡ true → (b' ≡ true → c' ≡ true) → settle o c' (walk ps (saids cs)) ≡ true) → settle o c (m ∷ walk ps (saids cs)) ≡ true
     by_sign (Tok n k t) s rest = rest true true s (λ q. refl)
-    by_sign (Ends e) s rest = rest false false s (λ q. q)
+    by_sign (Ends e) s rest = rest (o e) (o e) s (λ q. q)
     by_sign _ s rest = rest b c s h
 
-    by_skipped : Skipped ps a cs → ((g' : List Text) (i' b' c' : Bool) → shuts_row b' ps ≡ true → (b' ≡ true → c' ≡ true) → fit_slots (slots g' i' a ps) cs ≡ true → settle c' (walk ps (saids cs)) ≡ true) → settle c (m ∷ walk ps (saids cs)) ≡ true
-    by_skipped (skipped g' i' f') rest = by_sign m s (λ b' c' s' h'. rest g' i' b' c' s' h' f')
-row_settled (Within d ∷ ps) cs g i a b c s h f = row_settled ps cs g i (d ∷ a) b c s h f
-row_settled (q ∷ ps) none g i a b c s h f = cc
-row_settled (Part d ∷ ps) (part t ts) g i a b c s h f =
+    by_passed : Passed ps a cs → ((g' : List Text) (i' b' c' : Bool) → shuts_row o b' ps ≡ true → (b' ≡ true → c' ≡ true) → fit_slots (slots g' i' a ps) cs ≡ true → settle o c' (walk ps (saids cs)) ≡ true) → settle o c (m ∷ walk ps (saids cs)) ≡ true
+    by_passed (passed g' i' f') rest = by_sign m s (λ b' c' s' h'. rest g' i' b' c' s' h' f')
+row_settled o (Within d ∷ ps) cs g i a b c s h f = row_settled o ps cs g i (d ∷ a) b c s h f
+row_settled o (q ∷ ps) none g i a b c s h f = cc
+row_settled o (Part d ∷ ps) (part t ts) g i a b c s h f =
     let r = and_right (fits_below d t) _ (and_right (shaped Single d t) _ f) in
-    settle_append (joined (said t)) (walk ps (saids ts)) c ∙ row_settled ps ts [] (i || is_piece d) a false (settle c (joined (said t))) s no_flag r
-row_settled (Optional x d y u ∷ ps) (part t ts) g i a b c s h f =
+    settle_append o (joined (said t)) (walk ps (saids ts)) c ∙ row_settled o ps ts [] (i || is_piece d) a false (settle o c (joined (said t))) s no_flag r
+row_settled o (Optional x d y u ∷ ps) (part t ts) g i a b c s h f =
     let r = and_right (fits_below d t) _ (and_right (shaped Maybe d t) _ f) in
-    settle_append (maybe x y u (said t)) (walk ps (saids ts)) c ∙ row_settled ps ts [] i a false (settle c (maybe x y u (said t))) s no_flag r
-row_settled (Many e d ∷ ps) (part t ts) g i a b c s h f =
+    settle_append o (maybe x y u (said t)) (walk ps (saids ts)) c ∙ row_settled o ps ts [] i a false (settle o c (maybe x y u (said t))) s no_flag r
+row_settled o (Many e d ∷ ps) (part t ts) g i a b c s h f =
     let r = and_right (fits_below d t) _ (and_right (shaped (Several e) d t) _ f) in
-    settle_append (gathered e (said t)) (walk ps (saids ts)) c ∙ row_settled ps ts [] i a false (settle c (gathered e (said t))) s no_flag r
+    settle_append o (gathered e (said t)) (walk ps (saids ts)) c ∙ row_settled o ps ts [] i a false (settle o c (gathered e (said t))) s no_flag r
 
-pub member_settled : (b : Bool) (k : Kind) (cs : Forest) → is_member k ≡ true → fit_slots (positions k) cs ≡ true → settle b (walk (production k) (saids cs)) ≡ true
-member_settled b (function (Method InObject)) cs s f = row_settled (production (function (Method InObject))) cs [] false [] false b refl no_flag f
-member_settled b (function (Getter InObject)) cs s f = row_settled (production (function (Getter InObject))) cs [] false [] false b refl no_flag f
-member_settled b (function (Setter InObject)) cs s f = row_settled (production (function (Setter InObject))) cs [] false [] false b refl no_flag f
-member_settled b (function (Method _)) cs s f = cc
-member_settled b (function (Getter _)) cs s f = cc
-member_settled b (function (Setter _)) cs s f = cc
-member_settled b (function _) cs s f = cc
-member_settled b _ cs s f = cc
+pub member_settled : (o : Ending → Bool) (b : Bool) (k : Kind) (cs : Forest) → is_member k ≡ true → fit_slots (positions k) cs ≡ true → settle o b (walk (production k) (saids cs)) ≡ true
+member_settled o b (function (Method InObject)) cs s f = row_settled o (production (function (Method InObject))) cs [] false [] false b refl no_flag f
+member_settled o b (function (Getter InObject)) cs s f = row_settled o (production (function (Getter InObject))) cs [] false [] false b refl no_flag f
+member_settled o b (function (Setter InObject)) cs s f = row_settled o (production (function (Setter InObject))) cs [] false [] false b refl no_flag f
+member_settled o b (function (Method _)) cs s f = cc
+member_settled o b (function (Getter _)) cs s f = cc
+member_settled o b (function (Setter _)) cs s f = cc
+member_settled o b (function _) cs s f = cc
+member_settled o b _ cs s f = cc
 
-pub sealed_settled : (b : Bool) (k : Kind) (cs : Forest) → is_sealed k ≡ true → fit_slots (positions k) cs ≡ true → settle b (walk (production k) (saids cs)) ≡ true
-sealed_settled b (function FunctionExpr) cs s f = row_settled (production (function FunctionExpr)) cs [] false [] false b refl no_flag f
-sealed_settled b (function ClassExpr) cs s f = row_settled (production (function ClassExpr)) cs [] false [] false b refl no_flag f
-sealed_settled b (function _) cs s f = cc
-sealed_settled b _ cs s f = cc
+pub sealed_settled : (o : Ending → Bool) (b : Bool) (k : Kind) (cs : Forest) → is_sealed k ≡ true → fit_slots (positions k) cs ≡ true → settle o b (walk (production k) (saids cs)) ≡ true
+sealed_settled o b (function FunctionExpr) cs s f = row_settled o (production (function FunctionExpr)) cs [] false [] false b refl no_flag f
+sealed_settled o b (function ClassExpr) cs s f = row_settled o (production (function ClassExpr)) cs [] false [] false b refl no_flag f
+sealed_settled o b (function _) cs s f = cc
+sealed_settled o b _ cs s f = cc
+
+-- an arrow's block ends as itself
+pub blocked_settled : (b : Bool) (k : Kind) (cs : Forest) → is_blocked k ≡ true → fit_slots (positions k) cs ≡ true → settle block_end b (walk (production k) (saids cs)) ≡ true
+blocked_settled b (expression ArrowBlock) cs s f = row_settled block_end (production (expression ArrowBlock)) cs [] false [] false b refl no_flag f
+blocked_settled b (expression BareArrowBlock) cs s f = row_settled block_end (production (expression BareArrowBlock)) cs [] false [] false b refl no_flag f
+blocked_settled b (expression _) cs s f = cc
+blocked_settled b _ cs s f = cc
 
 leaf_ok : (s : TokenKind) (t : Text) → keeps (leaf_signs s t) ≡ true
 leaf_ok Elision t = refl
@@ -241,8 +287,9 @@ row_of_kind k h = by_taken (test (taken k))
     by_taken (no' n) = ap (λ k. row_ends (production k)) (seq_is k (or_else (taken k) (is_seq k) h n))
 
 node_ok : (k : Kind) (cs : Forest) → Tamed k cs → (tames cs ≡ true → all_ok (saids cs) ≡ true) → each_ok (said (node k cs)) ≡ true
-node_ok k cs (of_sealed s f) rest = and_both (keeps (walk (production k) (saids cs))) true (sealed_settled true k cs s f) refl
-node_ok k cs (of_member s f g) rest = and_both (keeps (walk (production k) (saids cs))) true (member_settled true k cs s f) refl
+node_ok k cs (of_sealed s f) rest = and_both (keeps (walk (production k) (saids cs))) true (sealed_settled block_end true k cs s f) refl
+node_ok k cs (of_member s f g) rest = and_both (keeps (walk (production k) (saids cs))) true (member_settled block_end true k cs s f) refl
+node_ok k cs (of_blocked s f g) rest = and_both (keeps (walk (production k) (saids cs))) true (blocked_settled true k cs s f) refl
 node_ok k cs (of_open t m) rest = and_both (keeps (walk (production k) (saids cs))) true (walk_ok (production k) (saids cs) (row_of_kind k t) (rest m)) refl
 
 mutual
@@ -258,9 +305,3 @@ mutual
   pub each_said_ok : (ts : Forest) → tames ts ≡ true → each_ok (each_said ts) ≡ true
   each_said_ok none h = refl
   each_said_ok (part t ts) h = and_both (keeps (joined (said t))) (each_ok (each_said ts)) (joined_ok (said t) (said_ok t (and_left (tame t) (tames ts) h))) (each_said_ok ts (and_right (tame t) (tames ts) h))
-
--- ---- one expression statement
-
-pub at_semi : (y : Place) → after y ≡ true → IsTrue (is_found (forth Semicolon y)) → calm 0 y ≡ true
-at_semi (At q AfterExpr text) a f = semi_calm q text f
-at_semi _ a f = cc

@@ -1,11 +1,13 @@
 -- What is known of a tree that the law is proved of: its kinds, and the law for what is sealed in it, by size.
 use Rattle.std.proofs.Common.{◌≡◌, ℕ, ◌≤◌, Bool, true, false, arith}
-use Rattle.std.specs.Prelude.{suc, ◌+◌}
-use Rattle.jsx_tree.specs.Kinds.{Kind, Tree, node, list, Forest, part}
-use Rattle.jsx_tree.specs.Nonterminals.{Nonterminal, Expr, ObjectMember}
+use Rattle.std.specs.Prelude.{IsTrue, suc, ◌+◌, codes}
+use Rattle.jsx_base.specs.Token.{Operator, Punctuator}
+use Rattle.jsx_tree.specs.Signs.{Tok}
+use Rattle.jsx_tree.specs.Kinds.{FunctionBody, Kind, program, Tree, node, list, Forest, part}
+use Rattle.jsx_tree.specs.Nonterminals.{Nonterminal, Expr, ObjectMember, Body}
 use Rattle.jsx_tree.specs.StaticRules.{Surroundings}
-use Rattle.jsx_tree.specs.Reading.{Place}
-use Rattle.jsx_tree.specs.Walk.{IsRead}
+use Rattle.jsx_tree.specs.Reading.{Place, forth}
+use Rattle.jsx_tree.specs.Walk.{is_found, IsRead}
 use Rattle.jsx_tree.proofs.Tokens.{and_left, and_right}
 use Rattle.jsx_tree.proofs.OneTree.Known.{known, kept, kepts, size, sizes}
 use Rattle.jsx_tree.proofs.OneTree.Sealed.{is_sealed, is_member}
@@ -16,9 +18,15 @@ pub record Single (p : Kind → Bool) (c : Nonterminal) (n : ℕ) : Type 0 where
   pub one : (k l : Kind) (cs ds : Forest) {v w : Surroundings} {x y z : Place} → p k ≡ true → p l ≡ true → size (node k cs) ≤ n → size (node l ds) ≤ n → kept (node k cs) ≡ true → kept (node l ds) ≡ true
       → IsRead v false c x (node k cs) y → IsRead w false c x (node l ds) z → (node k cs ≡ node l ds) × (y ≡ z)
 
+-- the same of the bodies of functions, before the brace that ends them
+pub record Bodies (n : ℕ) : Type 0 where
+  pub one_body : (cs ds : Forest) {v w : Surroundings} {x y z : Place} → size (node (program FunctionBody) cs) ≤ n → size (node (program FunctionBody) ds) ≤ n → kept (node (program FunctionBody) cs) ≡ true → kept (node (program FunctionBody) ds) ≡ true
+      → IsRead v false Body x (node (program FunctionBody) cs) y → IsRead w false Body x (node (program FunctionBody) ds) z → IsTrue (is_found (forth (Tok Operator Punctuator (codes "}")) y)) → IsTrue (is_found (forth (Tok Operator Punctuator (codes "}")) z)) → (cs ≡ ds) × (y ≡ z)
+
 pub record Law (n : ℕ) : Type 0 where
   pub of_sealed : Single is_sealed (Expr 18) n
   pub of_members : Single is_member ObjectMember n
+  pub of_bodies : Bodies n
 
 pub record Kept (t : Tree) : Type 0 where
   pub good : kept t ≡ true

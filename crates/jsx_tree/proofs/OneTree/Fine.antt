@@ -1,4 +1,5 @@
 -- A walk along a row taken apart; trees that can be read at their places, and leaves.
+use Rattle.jsx_tree.proofs.OneTree.Known.{is_blocked}
 use Rattle.jsx_tree.proofs.OneTree.Known.{is_seq, taken, plain_leaf, is_piece, is_regexp}
 use Rattle.jsx_tree.specs.Walk as W
 use Rattle.std.proofs.Common.{◌≡◌, ℕ, ◌≤◌, Bool, true, false, not, refl, sym, ◌∙◌, ap, arith, List, [], ◌∷◌}
@@ -64,7 +65,7 @@ abbrev mutual
   pub tame : Tree → Bool
   tame (leaf s t) = plain_leaf s || (is_piece s || is_regexp s)
   -- what is sealed brings its own evidence, and so does what stands behind a method's key
-  tame (node k cs) = (is_sealed k && fit_slots (positions k) cs) || ((is_member k && (fit_slots (positions k) cs && first_tame cs)) || ((taken k || is_seq k) && tames cs))
+  tame (node k cs) = (is_sealed k && fit_slots (positions k) cs) || ((is_member k && (fit_slots (positions k) cs && first_tame cs)) || ((is_blocked k && (fit_slots (positions k) cs && first_tame cs)) || ((taken k || is_seq k) && tames cs)))
   tame (list ts) = tames ts
 
   pub first_tame : Forest → Bool
@@ -79,6 +80,7 @@ abbrev mutual
 pub data Tamed (k : Kind) (cs : Forest) : Type 0 where
   of_sealed : is_sealed k ≡ true → fit_slots (positions k) cs ≡ true → Tamed k cs
   of_member : is_member k ≡ true → fit_slots (positions k) cs ≡ true → first_tame cs ≡ true → Tamed k cs
+  of_blocked : is_blocked k ≡ true → fit_slots (positions k) cs ≡ true → first_tame cs ≡ true → Tamed k cs
   of_open : (taken k || is_seq k) ≡ true → tames cs ≡ true → Tamed k cs
 
 pub tamed : (k : Kind) (cs : Forest) → tame (node k cs) ≡ true → Tamed k cs
@@ -88,16 +90,25 @@ tamed k cs h = by_sealed (test (is_sealed k && fit_slots (positions k) cs))
     by_sealed (yes' s) = of_sealed (and_left (is_sealed k) _ s) (and_right (is_sealed k) _ s)
     by_sealed (no' n) = by_member (test (is_member k && (fit_slots (positions k) cs && first_tame cs))) (or_else (is_sealed k && fit_slots (positions k) cs) _ h n)
       where
-        by_member : Test (is_member k && (fit_slots (positions k) cs && first_tame cs)) → ((is_member k && (fit_slots (positions k) cs && first_tame cs)) || ((taken k || is_seq k) && tames cs)) ≡ true → Tamed k cs
+        by_member : Test (is_member k && (fit_slots (positions k) cs && first_tame cs)) → ((is_member k && (fit_slots (positions k) cs && first_tame cs)) || ((is_blocked k && (fit_slots (positions k) cs && first_tame cs)) || ((taken k || is_seq k) && tames cs))) ≡ true → Tamed k cs
         by_member (yes' s) g =
             let r = and_right (is_member k) _ s in
             of_member (and_left (is_member k) _ s) (and_left (fit_slots (positions k) cs) _ r) (and_right (fit_slots (positions k) cs) _ r)
-        by_member (no' m) g =
-            let o = or_else (is_member k && (fit_slots (positions k) cs && first_tame cs)) ((taken k || is_seq k) && tames cs) g m in
-            of_open (and_left (taken k || is_seq k) (tames cs) o) (and_right (taken k || is_seq k) (tames cs) o)
+        by_member (no' m) g = by_blocked (test (is_blocked k && (fit_slots (positions k) cs && first_tame cs))) (or_else (is_member k && (fit_slots (positions k) cs && first_tame cs)) ((is_blocked k && (fit_slots (positions k) cs && first_tame cs)) || ((taken k || is_seq k) && tames cs)) g m)
+          where
+            by_blocked : Test (is_blocked k && (fit_slots (positions k) cs && first_tame cs)) → ((is_blocked k && (fit_slots (positions k) cs && first_tame cs)) || ((taken k || is_seq k) && tames cs)) ≡ true → Tamed k cs
+            by_blocked (yes' s) g =
+                let r = and_right (is_blocked k) _ s in
+                of_blocked (and_left (is_blocked k) _ s) (and_left (fit_slots (positions k) cs) _ r) (and_right (fit_slots (positions k) cs) _ r)
+            by_blocked (no' b) g =
+                let o = or_else (is_blocked k && (fit_slots (positions k) cs && first_tame cs)) ((taken k || is_seq k) && tames cs) g b in
+                of_open (and_left (taken k || is_seq k) (tames cs) o) (and_right (taken k || is_seq k) (tames cs) o)
 
 none_sealed : every (λ k. not (is_sealed k) && not (is_member k)) kinds ≡ true
 none_sealed = refl
+
+none_blocked : every (λ k. not (is_blocked k)) kinds ≡ true
+none_blocked = refl
 
 pub tames_of : (k : Kind) (cs : Forest) → taken k ≡ true → tame (node k cs) ≡ true → tames cs ≡ true
 tames_of k cs t h = by_tamed (tamed k cs h)
@@ -106,6 +117,7 @@ tames_of k cs t h = by_tamed (tamed k cs h)
     by_tamed (of_open o m) = m
     by_tamed (of_sealed s f) = absurd (never (is_sealed k) s (not_is _ (and_left (not (is_sealed k)) _ (for_kind (λ k. not (is_sealed k) && not (is_member k)) none_sealed k t))))
     by_tamed (of_member s f g) = absurd (never (is_member k) s (not_is _ (and_right (not (is_sealed k)) _ (for_kind (λ k. not (is_sealed k) && not (is_member k)) none_sealed k t))))
+    by_tamed (of_blocked s f g) = absurd (never (is_blocked k) s (not_is _ (for_kind (λ k. not (is_blocked k)) none_blocked k t)))
 
 pub seq_tames : (k : Kind) (cs : Forest) → is_seq k ≡ true → tame (node k cs) ≡ true → tames cs ≡ true
 seq_tames k cs q h = by_tamed (tamed k cs h)
@@ -118,6 +130,11 @@ seq_tames k cs q h = by_tamed (tamed k cs h)
     by_tamed (of_open o m) = m
     by_tamed (of_sealed s f) = absurd (never (is_sealed k) s (not_sealed k q).0)
     by_tamed (of_member s f g) = absurd (never (is_member k) s (not_sealed k q).1)
+    by_tamed (of_blocked s f g) = absurd (never (is_blocked k) s (not_blocked k q))
+      where
+        not_blocked : (k : Kind) → is_seq k ≡ true → is_blocked k ≡ false
+        not_blocked (expression Seq) q = refl
+        not_blocked _ q = cc
 
 abbrev mutual
   pub spine_ok : ℕ → Tree → Bool
@@ -139,6 +156,10 @@ pub record Seals (k : Kind) (cs : Forest) : Type 0 where
 pub record Closes (k : Kind) (cs : Forest) : Type 0 where
   pub closes' : {v : Surroundings} {x y : Place} → IsRead v false ObjectMember x (node k cs) y → Closed is_member ObjectMember x k cs y
 
+-- an arrow with a block, wherever it is read
+pub record Blocks (k : Kind) (cs : Forest) : Type 0 where
+  pub blocks' : {n : ℕ} {v : Surroundings} {c : Nonterminal} {x y : Place} → n ≤ 1 → IsRead v false c x (node k cs) y → Reads n x (node k cs) y
+
 mutual
   pub data Fine : Tree → Type 0 where
     fine_leaf : {s : TokenKind} {t : Text} → plain_leaf s ≡ true → Fine (leaf s t)
@@ -149,6 +170,7 @@ mutual
     fine_seq : {k : Kind} {cs : Forest} → is_seq k ≡ true → Fines cs → Fine (node k cs)
     fine_sealed : {k : Kind} {cs : Forest} → is_sealed k ≡ true → Seals k cs → Fine (node k cs)
     fine_member : {k : Kind} {t : Tree} {ts : Forest} → is_member k ≡ true → Fine t → tame t ≡ true → Closes k (part t ts) → Fine (node k (part t ts))
+    fine_blocked : {k : Kind} {cs : Forest} → is_blocked k ≡ true → Blocks k cs → Fine (node k cs)
     fine_list : {ts : Forest} → Fines ts → Fine (list ts)
 
   pub data Fines : Forest → Type 0 where
@@ -171,7 +193,7 @@ bound_value a b t h = or_in (is_ident t) b (and_left (is_ident t) a h)
     or_in true b e = refl
     or_in false b e = cc
 
-word_kin : (c : Nonterminal) (t : Text) → kin c ≡ true → leaf_in c IdentifierName t ≡ true → is_value_word t ≡ true
+pub word_kin : (c : Nonterminal) (t : Text) → kin c ≡ true → leaf_in c IdentifierName t ≡ true → is_value_word t ≡ true
 word_kin (Expr n) t k h = and_right (nat_le n 18) (is_value_word t) h
 word_kin MemberObject t k h = h
 word_kin DotObject t k h = h

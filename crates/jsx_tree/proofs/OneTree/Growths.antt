@@ -2,27 +2,37 @@
 use Rattle.std.proofs.Common.{◌≡◌, ℕ, ◌≤◌, true, false, not, cond, refl, sym, ◌∙◌, ap, subst, arith}
 use Rattle.std.specs.Prelude.{IsTrue, nat_eq, codes}
 use Rattle.std.proofs.lemmas.Bool.{le-leb}
-use Rattle.jsx_base.specs.Token.{Text, Operand, Operator, TokenKind, Punctuator, RegExpLiteral}
-use Rattle.jsx_tree.specs.Signs.{Tok}
-use Rattle.jsx_tree.specs.Kinds.{FunctionExpr, ClassExpr, BareArrow, Kind, function, expression, Tree, node, Forest, none, part}
-use Rattle.jsx_tree.specs.Reading.{Place, forth}
+use Rattle.jsx_base.specs.Token.{Text, Operand, Operator, TokenKind, Punctuator, RegExpLiteral, IdentifierName}
+use Rattle.jsx_tree.specs.Signs.{Tok, Ends, AfterBlock}
+use Rattle.jsx_tree.specs.Kinds.{FunctionExpr, ClassExpr, BareArrow, Kind, function, expression, Tree, node, Forest, none, part, FunctionBody, program}
+use Rattle.jsx_tree.specs.Reading.{Place, forth, Lost, At}
 use Rattle.jsx_tree.specs.Walk.{is_found}
 use Rattle.jsx_tree.proofs.OneTree.Table.{code, scope}
 use Rattle.jsx_tree.proofs.OneTree.Sealed.{is_sealed, Sealed}
-use Rattle.jsx_tree.proofs.OneTree.Readings.{row, tail, level, grows, reach, calm, Flat, Flats, one, some, row_of, nil, cons, unseq, paren_of, in_parens, is_arrow, is_paren, made, flat, flats, may_be, Reads, word, head, Props, paren, target, grow, arrow, Walk, done, take, each, regexp, Whole, single, several, Rest, final, also, Items, last, more}
-use Rattle.jsx_tree.proofs.OneTree.Readings.{sealed, braces}
-use Rattle.jsx_tree.proofs.OneTree.Facts.{not_is, Test, yes', no', test, le_nat}
-use Rattle.jsx_tree.proofs.OneTree.Starting.{or_other, weaken, arrow_leads, cond_no, of_head, of_grow}
+use Rattle.jsx_tree.proofs.OneTree.Readings.{is_block, row, tail, level, grows, reach, calm, Flat, Flats, one, some, row_of, nil, cons, unseq, paren_of, in_parens, is_arrow, is_paren, made, flat, flats, may_be, Reads, word, head, Props, paren, target, grow, arrow, Walk, done, take, each, regexp, Whole, single, several, Rest, final, also, Items, last, more}
+use Rattle.jsx_tree.proofs.OneTree.Readings.{sealed, braces, Blocked, blocked, bare_blocked, arrow_of}
+use Rattle.jsx_tree.proofs.OneTree.Facts.{not_is, Test, yes', no', test, le_nat, never}
+use Rattle.jsx_tree.proofs.OneTree.Starting.{items_clear, or_other, weaken, arrow_leads, cond_no, of_head, of_grow, tok_clear}
 
 -- ---- spines
 
 pub data Through (n : ℕ) : Place → Flat → Place → Flat → Type 0 where
   here : {y : Place} {f : Flat} → Through n y f y f
-  step : (k : Kind) {y p z : Place} {f g : Flat} {ts : Forest} → scope k ≡ true → grows k ≡ true → n ≤ level k → Walk (tail k) y ts p → Through n p (some (code k) (cons f (flats ts))) z g → Through n y f z g
+  step : (k : Kind) {y p z : Place} {f g : Flat} {ts : Forest} → scope k ≡ true → grows k ≡ true → n ≤ level k → is_block y ≡ false → Walk (tail k) y ts p → Through n p (some (code k) (cons f (flats ts))) z g → Through n y f z g
+  -- the block of an arrow is the last
+  block : {y z : Place} {f : Flat} {cs : Forest} → n ≤ 1 → is_block y ≡ false → Blocked y cs z → Through n y f z (some 70 (cons f (cons (flat (node (program FunctionBody) cs)) nil)))
 
-pub snoc : (k : Kind) {n : ℕ} {y p z : Place} {f g : Flat} {ts : Forest} → Through n y f p g → scope k ≡ true → grows k ≡ true → n ≤ level k → Walk (tail k) p ts z → Through n y f z (some (code k) (cons g (flats ts)))
-snoc k here s d l w = step k s d l w here
-snoc k (step k' s' d' l' w' th) s d l w = step k' s' d' l' w' (snoc k th s d l w)
+pub at_block : {y z : Place} {cs : Forest} → Blocked y cs z → is_block z ≡ true
+at_block b = subst (λ z. is_block z ≡ true) b.ends' (ends_block b.shut b.found_close)
+  where
+    ends_block : (x : Place) → IsTrue (is_found x) → is_block (forth (Ends AfterBlock) x) ≡ true
+    ends_block Lost f = cc
+    ends_block (At q e text) f = refl
+
+pub snoc : (k : Kind) {n : ℕ} {y p z : Place} {f g : Flat} {ts : Forest} → Through n y f p g → scope k ≡ true → grows k ≡ true → n ≤ level k → is_block p ≡ false → Walk (tail k) p ts z → Through n y f z (some (code k) (cons g (flats ts)))
+snoc k here s d l b w = step k s d l b w here
+snoc k (step k' s' d' l' b' w' th) s d l b w = step k' s' d' l' b' w' (snoc k th s d l b w)
+snoc k {p = p} (block l' b' a) s d l b w = absurd (never (is_block p) (at_block a) b)
 
 pub data Start : Place → Flat → Place → Type 0 where
   s_word : {s : TokenKind} {t : Text} {x y : Place} → may_be s t ≡ true → forth (Tok Operator s t) x ≡ y → IsTrue (is_found y) → Start x (one s t) y
@@ -47,7 +57,7 @@ made_coded k n ts a h c = made_plain k ts a (ap (λ m. nat_eq m 3) c ∙ h) ∙ 
 pub made_paren : (k : Kind) (ts : Flats) → is_arrow k ≡ false → nat_eq (code k) 3 ≡ true → made k ts ≡ in_parens ts
 made_paren k ts a c = cond_no (is_arrow k) _ _ a ∙ ap (λ b. cond b (in_parens ts) (some (code k) ts)) c
 
-unseq_some : (n : ℕ) (ts : Flats) → nat_eq n 19 ≡ false → unseq (some n ts) ≡ cons (some n ts) nil
+pub unseq_some : (n : ℕ) (ts : Flats) → nat_eq n 19 ≡ false → unseq (some n ts) ≡ cons (some n ts) nil
 unseq_some n ts e = cond_no (nat_eq n 19) _ _ e
 
 unseq_parens : (ts : Flats) → unseq (in_parens ts) ≡ cons (in_parens ts) nil
@@ -61,6 +71,9 @@ unseq_made k ts a e = by_case (test (nat_eq (code k) 3))
     by_case : Test (nat_eq (code k) 3) → unseq (made k ts) ≡ cons (made k ts) nil
     by_case (yes' c) = subst (λ f. unseq f ≡ cons f nil) (sym (made_paren k ts a c)) (unseq_parens ts)
     by_case (no' c) = subst (λ f. unseq f ≡ cons f nil) (sym (made_plain k ts a c)) (unseq_some (code k) ts e)
+
+pub made_arrow : (k : Kind) (ts : Flats) → is_arrow k ≡ true → made k ts ≡ arrow_of (code k) ts
+made_arrow k ts a = (λ i. cond (a i) (arrow_of (code k) ts) (cond (nat_eq (code k) 3) (in_parens ts) (some (code k) ts)))
 
 sealed_plain : (k : Kind) → is_sealed k ≡ true → (is_arrow k ≡ false) × (nat_eq (code k) 19 ≡ false)
 sealed_plain (function FunctionExpr) h = (refl, refl)
@@ -76,8 +89,10 @@ unseq_one (sealed {k = k} {cs = cs} l s) = let p = sealed_plain k s.closed.kind'
 unseq_one (paren l e f a g h) = refl
 unseq_one (target l e f r c g h) = refl
 unseq_one (head {k = k} {ts = ts} s a i l d w) = unseq_made k (flats ts) a (of_head k s a d i).not_seq
-unseq_one (grow {k = k} {t = t} {ts = ts} s d l r w) = unseq_made k (cons (flat t) (flats ts)) (arrow_leads k d) (of_grow k s d).not_seq
+unseq_one (grow {k = k} {t = t} {ts = ts} s d l b r w) = unseq_made k (cons (flat t) (flats ts)) (arrow_leads k d) (of_grow k s d).not_seq
 unseq_one (arrow l p w) = refl
+unseq_one (blocked l e f p b) = refl
+unseq_one (bare_blocked l a e f b) = refl
 
 pub calm_one : (x : Place) → calm 0 x ≡ true → calm 1 x ≡ true
 calm_one x c = let l : reach x ≤ 0 = le_nat c in le-leb (reach x) 1 (omega (arith, l))
@@ -112,13 +127,15 @@ split (sealed {k = k} {y = y} {cs = cs} l s) le = record { first = flat (node k 
 split {n} {x = x} (paren {z = z} {t = t} l e f a g h) le = record { first = paren_of (unseq (flat t)); rest = z; start = start_of e f (whole_listed a g h); through = here }
 split (target {y = y} {z = z} {t = t} l e f r c g h) le =
     record { first = paren_of (unseq (flat t)); rest = z; start = start_of e f (record { parts = part t none; is = sym (unseq_one r); items = last (weaken r (omega arith)) (calm_one y c) g h }); through = here }
-split {n} (grow {k = k} {z = z} {t = t} {ts = ts} s d l r w) le =
+split {n} (grow {k = k} {z = z} {t = t} {ts = ts} s d l b r w) le =
     let p = split {n = n} r le in
     record {
       first = p.first;
       rest = p.rest;
       start = p.start;
-      through = subst (λ f. Through n p.rest p.first z f) (sym (made_plain k (cons (flat t) (flats ts)) (arrow_leads k d) ((of_grow k s d).not_paren))) (snoc k p.through s d (omega (arith, le, l)) w);
+      through = subst (λ f. Through n p.rest p.first z f) (sym (made_plain k (cons (flat t) (flats ts)) (arrow_leads k d) ((of_grow k s d).not_paren))) (snoc k p.through s d (omega (arith, le, l)) b w);
     }
 split (arrow {y = y} {ts = ts} l (take e f (each {ts = ps} i done)) w) le =
-    record { first = paren_of (flats ps); rest = y; start = s_paren e f i; through = step (expression BareArrow) refl refl (omega (arith, le, l)) w here }
+    record { first = paren_of (flats ps); rest = y; start = s_paren e f i; through = step (expression BareArrow) refl refl (omega (arith, le, l)) (items_clear i) w here }
+split (blocked {y = y} {ts = ps} l e f i b) le = record { first = paren_of (flats ps); rest = y; start = s_paren e f i; through = block (omega (arith, le, l)) (items_clear i) b }
+split (bare_blocked {x = x} {y = y} {t = t} l a e f b) le = record { first = one IdentifierName t; rest = y; start = s_word a e f; through = block (omega (arith, le, l)) (tok_clear Operator IdentifierName t x e) b }

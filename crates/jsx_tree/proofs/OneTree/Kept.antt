@@ -1,4 +1,5 @@
 -- Which kind of tree it is that the law is proved of.
+use Rattle.jsx_tree.proofs.OneTree.Known.{is_blocked}
 use Rattle.std.proofs.Common.{◌≡◌, true}
 use Rattle.std.specs.Prelude.{◌||◌}
 use Rattle.jsx_tree.specs.Kinds.{Seq, Kind, expression}
@@ -10,6 +11,7 @@ use Rattle.jsx_tree.proofs.OneTree.Spines.{seq_is, taken_scope}
 pub data Which (k : Kind) : Type 0 where
   a_statement : stated k ≡ true → Which k
   a_taken : scope k ≡ true → Which k
+  a_blocked : is_blocked k ≡ true → Which k
   a_seq : k ≡ expression Seq → Which k
 
 pub which : (k : Kind) → known k ≡ true → Which k
@@ -21,4 +23,8 @@ which k h = by_stated (test (taken k || is_seq k))
 
     by_stated : Test (taken k || is_seq k) → Which k
     by_stated (yes' g) = by_taken (test (taken k)) g
-    by_stated (no' g) = a_statement (or_else (taken k || is_seq k) (stated k) h g)
+    by_stated (no' g) = by_block (test (stated k)) (or_else (taken k || is_seq k) (stated k || is_blocked k) h g)
+      where
+        by_block : Test (stated k) → (stated k || is_blocked k) ≡ true → Which k
+        by_block (yes' s) b = a_statement s
+        by_block (no' s) b = a_blocked (or_else (stated k) (is_blocked k) b s)

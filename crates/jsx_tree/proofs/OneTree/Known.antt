@@ -1,4 +1,5 @@
 -- The trees that the law is proved of, and how large they are.
+use Rattle.jsx_tree.specs.Kinds.{ArrowBlock, BareArrowBlock}
 use Rattle.std.specs.Prelude.{ℕ, suc, ◌+◌, nat_eq, Bool, true, false, ◌&&◌, ◌||◌}
 use Rattle.jsx_base.specs.Token.{TokenKind, NoSubstitution, TemplateHead, TemplateMiddle, TemplateTail, RegExpLiteral, kind_number}
 use Rattle.jsx_tree.specs.Kinds.{Seq, Script, Module, FunctionBody, Directive, ImportBare, Import, ImportAll, ImportList, ImportBoth, ExportAll, ExportAllAs, ExportDecl, ExportDefaultFn, ExportDefaultClass, ExportDefaultExpr, ExportNames, ExportFrom, Specifier, SpecifierAs, Imported, Exported, From, Var, VarWord, LetWord, ConstWord, Block, Declarator, Empty, ExprStmt, If, Do, While, For, ForDeclaration, ForIn, ForOf, ForBinding, Continue, Break, Return, Throw, Debugger, Label, Switch, Case, Default, Try, Catch, FunctionDecl, ClassDecl, FunctionExpr, ClassExpr, InObject, InClass, Static, Method, Getter, Setter, Field, Kind, program, statement, function, expression, Tree, leaf, node, list, Forest, none, part}
@@ -7,6 +8,12 @@ use Rattle.jsx_tree.proofs.OneTree.Table.{scope}
 abbrev pub is_seq : Kind → Bool
 is_seq (expression Seq) = true
 is_seq k = false
+
+-- arrows with a block
+abbrev pub is_blocked : Kind → Bool
+is_blocked (expression ArrowBlock) = true
+is_blocked (expression BareArrowBlock) = true
+is_blocked k = false
 
 -- the kinds whose rows are read here
 abbrev pub taken : Kind → Bool
@@ -100,7 +107,7 @@ stated k = false
 
 -- the kinds that are taken
 abbrev pub known : Kind → Bool
-known k = (taken k || is_seq k) || stated k
+known k = (taken k || is_seq k) || (stated k || is_blocked k)
 
 abbrev mutual
   pub kept : Tree → Bool

@@ -1,17 +1,17 @@
 -- Where a semicolon stands or is missing: what the next token can't be.
 use Rattle.std.proofs.Common.{◌≡◌, ℕ, Bool, true, false, not, cond, [], ◌∷◌, refl, ◌∙◌, ap, subst, inl, inr}
-use Rattle.std.specs.Prelude.{IsTrue, ◌&&◌, ◌||◌, ◌⊎◌, nat_eq, codes}
+use Rattle.std.specs.Prelude.{IsTrue, ◌&&◌, ◌||◌, ◌⊎◌, nat_eq, nat_le, codes}
 use Rattle.std.proofs.lemmas.Bool.{eq-eqb}
 use Rattle.jsx_base.specs.Token.{Text, Operator, Punctuator, kind_number, same, no_token, at_front, token, skip, breaks, is_token, is_kind, is_end}
-use Rattle.jsx_tree.specs.Signs.{Semicolon, Ending, AfterExpr}
+use Rattle.jsx_tree.specs.Signs.{Semicolon, Ending, AfterExpr, AfterBlock}
 use Rattle.jsx_tree.specs.Reading.{Place, At, forth, go_if, may_lack, continues, is_do}
 use Rattle.jsx_tree.proofs.Tokens.{and_left, and_right, and_both, same_is}
 use Rattle.jsx_base.proofs.Fronts.{other_ahead}
 use Rattle.jsx_tree.specs.Walk.{is_found}
-use Rattle.jsx_tree.proofs.OneTree.Readings.{kind_at, text_at}
+use Rattle.jsx_tree.proofs.OneTree.Readings.{block_reach, calm, kind_at, text_at}
 use Rattle.jsx_tree.proofs.OneTree.Facts.{never, or_else, not_is, Test, yes', no', test, eq_nat}
-use Rattle.jsx_tree.proofs.OneTree.Semis.{next_same}
-use Rattle.jsx_tree.proofs.OneTree.Endings.{end_kind}
+use Rattle.jsx_tree.proofs.OneTree.Semis.{next_same, semi_calm}
+use Rattle.jsx_tree.proofs.OneTree.Endings.{end_kind, past}
 
 brace_mark : (f : Bool) (s : Text) → nat_eq (kind_number (at_front Operator f (125 ∷ s)).kind) 1 ≡ true
 brace_mark true s = refl
@@ -90,3 +90,32 @@ behind q e text d f n = by_next (next_same (same q []) text)
         by_missing (at_end m) = absurd (never (nat_eq (kind_at (At q e text)) 14) (ap (λ k. nat_eq k 14) (end_kind (At q e text) m)) n)
         by_missing (at_brace m) = a_brace ((λ i. kind_number (s i).kind) ∙ eq_nat {a = kind_number (token Operator false text).kind} {b = 1} (brace_front (breaks text) (skip text) m)) ((λ i. (s i).raw) ∙ same_is (token Operator false text).raw (codes "}") m)
         by_missing (at_line b c) = a_line b ((λ i. continues e q (s i).raw) ∙ c)
+
+-- ---- where an expression ends
+
+block_quiet : (k : ℕ) (t : Text) → same t (codes ",") ≡ false → nat_le (block_reach k t) 0 ≡ true
+block_quiet k t n = by_mark (nat_eq k 1)
+  where
+    by_mark : (b : Bool) → nat_le (cond (b && same t (codes ",")) 1 0) 0 ≡ true
+    by_mark true = (λ i. nat_le (cond (n i) 1 0) 0)
+    by_mark false = refl
+
+block_semi : (q text : Text) → IsTrue (is_found (forth Semicolon (At q AfterBlock text))) → calm 0 (At q AfterBlock text) ≡ true
+block_semi q text f = by_end (test (nat_eq (kind_at (At q AfterBlock text)) 14))
+  where
+    by_behind : Behind AfterBlock q (breaks text) (kind_at (At q AfterBlock text)) (text_at (At q AfterBlock text)) → calm 0 (At q AfterBlock text) ≡ true
+    by_behind (a_mark k t) = (λ i. nat_le (block_reach (k i) (t i)) 0)
+    by_behind (a_brace k t) = (λ i. nat_le (block_reach (k i) (t i)) 0)
+    by_behind (a_line b c) = block_quiet (kind_at (At q AfterBlock text)) (text_at (At q AfterBlock text)) c
+
+    by_end : Test (nat_eq (kind_at (At q AfterBlock text)) 14) → calm 0 (At q AfterBlock text) ≡ true
+    by_end (yes' e) = (λ i. nat_le (block_reach (end_is (kind_at (At q AfterBlock text)) e i) (text_at (At q AfterBlock text))) 0)
+      where
+        end_is : (k : ℕ) → nat_eq k 14 ≡ true → k ≡ 14
+        end_is k h = eq_nat {a = k} {b = 14} h
+    by_end (no' n) = by_behind (behind q AfterBlock text refl f n)
+
+pub at_semi : (y : Place) → past y ≡ true → IsTrue (is_found (forth Semicolon y)) → calm 0 y ≡ true
+at_semi (At q AfterExpr text) a f = semi_calm q text f
+at_semi (At q AfterBlock text) a f = block_semi q text f
+at_semi _ a f = cc

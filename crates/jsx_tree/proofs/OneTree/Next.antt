@@ -1,6 +1,7 @@
 -- What the definitions read, with what may stand behind each part: guards, and what stands next.
-use Rattle.std.proofs.Common.{◌≡◌, ℕ, Bool, true, false, not, cond, List, [], ◌∷◌, refl, sym, ◌∙◌, ap, subst, inl, inr}
-use Rattle.std.specs.Prelude.{IsTrue, ◌&&◌, ◌||◌, ◌⊎◌, nat_le, codes}
+use Rattle.std.proofs.Common.{◌≡◌, ℕ, Bool, true, false, not, cond, List, [], ◌∷◌, refl, sym, ◌∙◌, ap, subst, arith, inl, inr}
+use Rattle.std.specs.Prelude.{IsTrue, ◌&&◌, ◌||◌, ◌⊎◌, nat_eq, nat_le, codes}
+use Rattle.std.proofs.lemmas.Bool.{le-leb}
 use Rattle.jsx_base.specs.Token.{Text, Operator, TokenKind, Lexeme, kind_number, same, among, begins, state, lexed, no_token, at_front, token, skip, breaks}
 use Rattle.jsx_tree.specs.Signs.{Sign, Tok, Unless, SameLine, Space, Count, Apart}
 use Rattle.jsx_tree.specs.Kinds.{Forest}
@@ -9,9 +10,9 @@ use Rattle.jsx_tree.specs.StaticRules.{Surroundings}
 use Rattle.jsx_tree.specs.Reading.{Place, Lost, At, forth}
 use Rattle.jsx_tree.specs.Walk as W
 use Rattle.jsx_tree.specs.Walk.{is_found, IsRead, pieces}
-use Rattle.jsx_tree.proofs.Tokens.{and_left, and_right}
-use Rattle.jsx_tree.proofs.OneTree.Readings.{reach_of, calm, broken, holds}
-use Rattle.jsx_tree.proofs.OneTree.Facts.{not_is, Test, yes', no', test, le_nat, Seen, took}
+use Rattle.jsx_tree.proofs.Tokens.{and_left, and_right, same_is}
+use Rattle.jsx_tree.proofs.OneTree.Readings.{is_block, block_reach, ahead, kind_at, text_at, reach_of, calm, broken, holds}
+use Rattle.jsx_tree.proofs.OneTree.Facts.{not_is, Test, yes', no', test, eq_nat, le_nat, Seen, took}
 use Rattle.jsx_tree.proofs.OneTree.Places.{quiet, row_ok}
 use Rattle.jsx_tree.proofs.OneTree.Fine.{at_sign, at_end}
 use Rattle.jsx_tree.proofs.OneTree.Fine.{calm_more}
@@ -68,12 +69,23 @@ line_kept (At q e' text) y e f = let r = if_same (not (breaks text)) (At q e' te
 
 -- ---- what stands next
 
-pub reach_seen : (k : TokenKind) (t : Text) (n : ℕ) (x : Place) → Seen x k t → (nat_le (reach_of (kind_number k) t true) n && nat_le (reach_of (kind_number k) t false) n) ≡ true → calm n x ≡ true
-reach_seen k t n x s h = by_line (test (broken x))
+block_small : (k : ℕ) (t : Text) (n : ℕ) → nat_le (reach_of k t false) n ≡ true → nat_le (block_reach k t) n ≡ true
+block_small k t n h = by_comma (test (nat_eq k 1 && same t (codes ",")))
   where
-    by_line : Test (broken x) → calm n x ≡ true
-    by_line (yes' b) = (λ i. nat_le (reach_of (s.kind i) (s.text i) (b i)) n) ∙ and_left (nat_le (reach_of (kind_number k) t true) n) _ h
-    by_line (no' b) = (λ i. nat_le (reach_of (s.kind i) (s.text i) (b i)) n) ∙ and_right (nat_le (reach_of (kind_number k) t true) n) _ h
+    by_comma : Test (nat_eq k 1 && same t (codes ",")) → nat_le (block_reach k t) n ≡ true
+    by_comma (no' c) = (λ i. nat_le (cond (c i) 1 0) n) ∙ le-leb 0 n (omega arith)
+    by_comma (yes' c) =
+        let e : k ≡ 1 = eq_nat {a = k} {b = 1} (and_left (nat_eq k 1) _ c) in
+        let f = same_is t (codes ",") (and_right (nat_eq k 1) _ c) in
+        (λ i. nat_le (block_reach (e i) (f i)) n) ∙ ((λ i. nat_le (reach_of (sym e i) (sym f i) false) n) ∙ h)
+
+pub reach_seen : (k : TokenKind) (t : Text) (n : ℕ) (x : Place) → Seen x k t → (nat_le (reach_of (kind_number k) t true) n && nat_le (reach_of (kind_number k) t false) n) ≡ true → calm n x ≡ true
+reach_seen k t n x s h = by_block (test (is_block x)) (test (broken x))
+  where
+    by_block : Test (is_block x) → Test (broken x) → calm n x ≡ true
+    by_block (yes' c) b = (λ i. nat_le (cond (c i) (block_reach (s.kind i) (s.text i)) (ahead x)) n) ∙ block_small (kind_number k) t n (and_right (nat_le (reach_of (kind_number k) t true) n) _ h)
+    by_block (no' c) (yes' b) = (λ i. nat_le (cond (c i) (block_reach (kind_at x) (text_at x)) (reach_of (s.kind i) (s.text i) (b i))) n) ∙ and_left (nat_le (reach_of (kind_number k) t true) n) _ h
+    by_block (no' c) (no' b) = (λ i. nat_le (cond (c i) (block_reach (kind_at x) (text_at x)) (reach_of (s.kind i) (s.text i) (b i))) n) ∙ and_right (nat_le (reach_of (kind_number k) t true) n) _ h
 
 pub calm_at : (n : ℕ) {x y : Place} → x ≡ y → calm n y ≡ true → calm n x ≡ true
 calm_at n e c = subst (λ p. calm n p ≡ true) (sym e) c

@@ -1,22 +1,23 @@
 -- Two readings from one place, one step after another.
-use Rattle.std.proofs.Common.{◌≡◌, ℕ, ◌≤◌, Bool, true, false, not, List, [], refl, sym, ◌∙◌, ap, subst, arith}
+use Rattle.jsx_tree.proofs.OneTree.Readings.{Blocked, brace, pass, linked, tagged}
+use Rattle.std.proofs.Common.{◌≡◌, ℕ, ◌≤◌, Bool, true, false, not, cond, List, [], refl, sym, ◌∙◌, ap, subst, arith}
 use Rattle.std.specs.Prelude.{IsTrue, ◌&&◌, ◌||◌, nat_eq, codes}
 use Rattle.std.proofs.lemmas.Bool.{eq-eqb}
 use Rattle.jsx_base.specs.Token.{Text, Mode, Operand, Operator, TokenKind, IdentifierName, Punctuator, NumericLiteral, BigIntLiteral, StringLiteral, RegExpLiteral, kind_number, same, among, is_token, token}
-use Rattle.jsx_tree.specs.Signs.{Sign, Tok, Unless}
-use Rattle.jsx_tree.specs.Kinds.{Kind, Tree, node, Forest}
+use Rattle.jsx_tree.specs.Signs.{Sign, Tok, Unless, Ends, AfterBlock}
+use Rattle.jsx_tree.specs.Kinds.{Kind, Tree, node, Forest, FunctionBody, program}
 use Rattle.jsx_tree.specs.Spelling.{mode_of}
 use Rattle.jsx_tree.specs.Reading.{Place, Lost, At, forth, go_if}
 use Rattle.jsx_tree.specs.Walk.{is_found}
 use Rattle.jsx_tree.proofs.Tokens.{and_left, and_right, same_is}
 use Rattle.jsx_tree.proofs.OneTree.Table.{code, scope, kinds}
-use Rattle.jsx_tree.proofs.OneTree.Sealed.{Opener, of_function, of_class, Sealed, sealed_same}
-use Rattle.jsx_tree.proofs.OneTree.Readings.{Step, row, tail, level, grows, reach_of, reach, calm, text_at, broken, Flat, Flats, one, some, row_of, nil, cons, unseq, paren_of, is_arrow, is_paren, made, flat, flats, may_be, holds, comma, Reads, Prop, long, computed, short, preset, rest, member, Opening, o_named, o_computed, o_worded, Props, key_start, kind_at, may_key, Walk, take, literal, is_link, is_tagged, is_quote, is_slash, Rest, Items, shut, gap, last, more}
-use Rattle.jsx_tree.proofs.OneTree.Checks.{is_op, starts, blocks, same_token, apart, twin, bare, no_line, no_open, goes_by, every, heads_pair, tails_pair, no_opener, opener_ok, opener_ones, no_slash, slash_ok, slash_ones, tagged_pair, all_tagged, links_pair, link_ok, links, link_ones, heads, tails}
+use Rattle.jsx_tree.proofs.OneTree.Sealed.{Opener, of_function, of_class, Sealed, sealed_same, Filled, filled_same}
+use Rattle.jsx_tree.proofs.OneTree.Readings.{is_block, block_reach, ahead, Step, row, tail, level, grows, reach_of, reach, calm, text_at, broken, Flat, Flats, one, some, row_of, nil, cons, unseq, paren_of, is_arrow, is_paren, made, flat, flats, may_be, holds, comma, Reads, Prop, long, computed, short, preset, rest, member, Opening, o_named, o_computed, o_worded, Props, key_start, kind_at, may_key, Walk, take, literal, is_link, is_tagged, is_quote, is_slash, Rest, Items, shut, gap, last, more}
+use Rattle.jsx_tree.proofs.OneTree.Checks.{is_op, starts, blocks, same_token, apart, twin, bare, no_line, no_open, goes_by, every, heads_pair, tails_pair, no_opener, opener_ok, opener_ones, no_slash, slash_ok, slash_ones, tagged_pair, all_tagged, links_pair, link_ok, links, link_ones, heads, tails, past_arrow, no_block, unblocked, block_ones}
 use Rattle.jsx_tree.proofs.OneTree.Slashes.{Slash, regexp_slash}
 use Rattle.jsx_tree.proofs.OneTree.Facts.{never, or_else, not_is, Test, yes', no', test, eq_nat, le_nat, op_is, kind_is, Seen, seen, found_at, took, took_in, same_seen, for_kind}
-use Rattle.jsx_tree.proofs.OneTree.Starting.{opener_seen, opener_value, strip, strip_line, or_other, not_mark, of_head, no_start, word_mark, word_apart, Quoted, tagged_facts, goes_on, no_growth}
-use Rattle.jsx_tree.proofs.OneTree.Growths.{s_sealed, s_braces, Through, here, step, Start, s_word, s_regexp, s_head, s_paren, made_plain, head_code}
+use Rattle.jsx_tree.proofs.OneTree.Starting.{opener_seen, opener_value, strip, strip_line, or_other, not_mark, of_head, no_start, word_mark, word_apart, Quoted, tagged_facts, goes_on, no_growth, tagged_start}
+use Rattle.jsx_tree.proofs.OneTree.Growths.{s_sealed, s_braces, Through, here, step, Start, s_word, s_regexp, s_head, s_paren, made_plain, head_code, block}
 
 -- ---- the one reading
 
@@ -66,7 +67,11 @@ pub move_rest : {y z w : Place} {us : Forest} → y ≡ z → Rest z us w → Re
 move_rest {w = w} {us} e v = subst (λ p. Rest p us w) (sym e) v
 
 comma_reach : {x : Place} → Seen x Punctuator (codes ",") → reach x ≡ 1
-comma_reach {x} s = (λ i. reach_of (s.kind i) (s.text i) (broken x))
+comma_reach {x} s = by_block (test (is_block x))
+  where
+    by_block : Test (is_block x) → reach x ≡ 1
+    by_block (yes' b) = (λ i. cond (b i) (block_reach (s.kind i) (s.text i)) (ahead x))
+    by_block (no' b) = (λ i. cond (b i) (block_reach (kind_at x) (text_at x)) (reach_of (s.kind i) (s.text i) (broken x)))
 
 pub no_comma : {x : Place} → Seen x Punctuator (codes ",") → calm 0 x ≡ true → ⊥
 no_comma {x} s c = let r : reach x ≡ 1 = comma_reach s in let l : reach x ≤ 0 = le_nat c in omega (arith, r, l)
@@ -83,20 +88,77 @@ close_seen {x} {u = u} e f = took Punctuator u x e f
 pub move_tok : (s : Sign) {x x' y y' : Place} → forth s x ≡ y → x ≡ x' → forth s x' ≡ y' → y ≡ y'
 move_tok s e p f = sym e ∙ (ap (forth s) p ∙ f)
 
+-- ---- the block of an arrow
+
+arrow_seen : {y z : Place} {cs : Forest} → Blocked y cs z → Seen y Punctuator (codes "=>")
+arrow_seen {y} b = took Punctuator (codes "=>") y b.arrow' b.found_arrow
+
+pub no_arrow : {n : ℕ} {y z : Place} {cs : Forest} → n ≤ 1 → is_block y ≡ false → Blocked y cs z → calm n y ≡ true → ⊥
+no_arrow {n} {y} le c b q =
+    let s = arrow_seen b in
+    let r : reach y ≡ 2 = (λ i. cond (c i) (block_reach (kind_at y) (text_at y)) (reach_of (s.kind i) (s.text i) (broken y))) in
+    let l : reach y ≤ n = le_nat q in
+    omega (arith, le, r, l)
+
+arrow_passed : {ps : List Step} {x y : Place} {ts : Forest} → Walk ps x ts y → past_arrow ps ≡ true → Seen x Punctuator (codes "{") → ⊥
+arrow_passed (take {m = Operator} {k = k} {t = t} {x = x} e f w) h s = two_tokens (took k t x e f) s (not_is _ h)
+arrow_passed (pass {s = Unless ts} {ps = ps} {x = x} g w) h s = by_guard (test (among (codes "{") ts)) (arrow_passed w)
+  where
+    by_guard : Test (among (codes "{") ts) → (past_arrow ps ≡ true → Seen x Punctuator (codes "{") → ⊥) → ⊥
+    by_guard (yes' a) r = never (among (codes "{") ts) a (subst (λ u. among u ts ≡ false) s.text (not_is (among (text_at x) ts) g))
+    by_guard (no' a) r = r (or_else (among (codes "{") ts) (past_arrow ps) h a) s
+arrow_passed _ h s = cc
+
+pub block_apart : {ps : List Step} {y z w : Place} {cs ts : Forest} → Walk ps y ts w → no_block ps ≡ true → Blocked y cs z → ⊥
+block_apart (pass g v) h b = block_apart v h b
+block_apart (take {m = Operator} {k = k} {t = t} {ps = ps} {x = y} e f v) h b = by_same (test (same_token k t Punctuator (codes "=>")))
+  where
+    by_same : Test (same_token k t Punctuator (codes "=>")) → ⊥
+    by_same (no' n) = two_tokens (took k t y e f) (arrow_seen b) n
+    by_same (yes' n) =
+        let p = same_place y (same_sign Operator Operator k Punctuator t (codes "=>") n) e b.arrow' in
+        arrow_passed v (or_else (not (same_token k t Punctuator (codes "=>"))) (past_arrow ps) h (ap not n)) (seen_at p (took Punctuator (codes "{") b.behind b.open' b.found_open))
+block_apart (linked {x = y} g a v) h b = two_tokens (seen Punctuator (codes "?.") y g) (arrow_seen b) refl
+block_apart (tagged {k = k} s l a v) h b =
+    let q = tagged_start k s l a in
+    never (is_quote Punctuator) (subst (λ n. is_quote n ≡ true) (kind_is q.kind Punctuator (sym q.here.kind ∙ (arrow_seen b).kind)) q.quotes) refl
+block_apart _ h b = cc
+
+pub tail_block : (k : Kind) {y z w : Place} {cs ts : Forest} → scope k ≡ true → grows k ≡ true → Walk (tail k) y ts w → Blocked y cs z → ⊥
+tail_block k s d v b = block_apart v (or_else (not (grows k)) (no_block (tail k)) (for_kind unblocked block_ones k s) (ap not d)) b
+
+pub blocks_same : {y z w : Place} {cs ds : Forest} → Blocked y cs z → Blocked y ds w → (cs ≡ ds) × (z ≡ w)
+blocks_same {cs = cs} {ds} a b =
+    let p = sym a.arrow' ∙ b.arrow' in
+    let q = move_tok (Tok Operator Punctuator (codes "{")) a.open' p b.open' in
+    let r = filled_same a.filled (subst (λ x. Filled x ds b.last) (sym q) b.filled) in
+    (r.0, move_tok (Ends AfterBlock) a.ends' (move_tok brace a.close' r.1 b.close') b.ends')
+
 pub ends : {n : ℕ} {y z : Place} {f g : Flat} → Through n y f z g → calm n y ≡ true → SameOne f g y z
 ends here c = record { tree = refl; place = refl }
-ends (step k s d l w th) c = absurd (no_growth k s d l w c)
+ends (step k s d l b w th) c = absurd (no_growth k s d l b w c)
+ends (block l b a) c = absurd (no_arrow l b a c)
 
 -- what a growth is compared with: any tail that stands at its place
 pub record Only (k : Kind) (y : Place) (f : Flats) (z : Place) : Type 0 where
   pub only : (l : Kind) (us : Forest) (w : Place) → scope l ≡ true → grows l ≡ true → Walk (tail l) y us w → (code k ≡ code l) × (f ≡ flats us) × (z ≡ w)
 
-pub onward : (k : Kind) {n : ℕ} {y p z : Place} {f g : Flat} {ts : Forest} → scope k ≡ true → grows k ≡ true → n ≤ level k → Walk (tail k) y ts p → Only k y (flats ts) p → Through n y f z g → calm n z ≡ true → Through n p (some (code k) (cons f (flats ts))) z g
-onward k s d le w o here c = absurd (no_growth k s d le w c)
-onward k {n} {y} {p} {z} {f} {g} {ts} s d le w o (step l {p = q} {ts = us} s' d' le' v th) c =
+pub onward : (k : Kind) {n : ℕ} {y p z : Place} {f g : Flat} {ts : Forest} → scope k ≡ true → grows k ≡ true → n ≤ level k → is_block y ≡ false → Walk (tail k) y ts p → Only k y (flats ts) p → Through n y f z g → calm n z ≡ true → Through n p (some (code k) (cons f (flats ts))) z g
+onward k s d le b w o here c = absurd (no_growth k s d le b w c)
+onward k {n} {y} {p} {z} {f} {g} {ts} s d le b w o (step l {p = q} {ts = us} s' d' le' b' v th) c =
     let is = o.only l us q s' d' v in
     subst (λ x. Through n x (some (code k) (cons f (flats ts))) z g) (sym is.2)
     (subst (λ x. Through n q x z g) (λ i. some (sym is.0 i) (cons f (sym is.1 i))) th)
+onward k s d le b w o (block l' b' a) c = absurd (tail_block k s d w a)
+
+-- the same where it is the block of an arrow that is read
+pub onward_block : {n : ℕ} {y p z : Place} {f g : Flat} {cs : Forest} → n ≤ 1 → is_block y ≡ false → Blocked y cs p → Through n y f z g → calm n z ≡ true → Through n p (some 70 (cons f (cons (flat (node (program FunctionBody) cs)) nil))) z g
+onward_block le b a here c = absurd (no_arrow le b a c)
+onward_block le b a (step k s d l b' w th) c = absurd (tail_block k s d w a)
+onward_block {n} {p = p} {z} {f} {cs = cs} le b a (block {cs = ds} l b' a') c =
+    let o = blocks_same a a' in
+    subst (λ x. Through n x (some 70 (cons f (cons (flat (node (program FunctionBody) cs)) nil))) z (some 70 (cons f (cons (flat (node (program FunctionBody) ds)) nil)))) (sym o.1)
+    (subst (λ us. Through n z (some 70 (cons f (cons (flat (node (program FunctionBody) cs)) nil))) z (some 70 (cons f (cons (flat (node (program FunctionBody) us)) nil)))) o.0 here)
 
 not_true : (b : Bool) → b ≡ true → not b ≡ false
 not_true true e = refl
@@ -419,16 +481,16 @@ link_facts k s l =
     let r = and_right (goes_by (row k) 18 || goes_by (row k) 19) _ h in
     (and_left (goes_by (row k) 18 || goes_by (row k) 19) _ h, (not_is _ (and_left (not (is_arrow k)) _ r), not_is _ (and_right (not (is_arrow k)) _ r)))
 
-pub link_reach : (k : Kind) {x y : Place} {cs : Forest} → scope k ≡ true → is_link k ≡ true → Walk (row k) x cs y → (18 ≤ reach x) × (reach x ≤ 99)
-link_reach k {x} s l w = by_case (test (goes_by (row k) 18))
+pub link_reach : (k : Kind) {x y : Place} {cs : Forest} → scope k ≡ true → is_link k ≡ true → is_block x ≡ false → Walk (row k) x cs y → (18 ≤ reach x) × (reach x ≤ 99)
+link_reach k {x} s l b w = by_case (test (goes_by (row k) 18))
   where
     by_case : Test (goes_by (row k) 18) → (18 ≤ reach x) × (reach x ≤ 99)
-    by_case (yes' h) = let r : reach x ≡ 18 = goes_on w h in (omega (arith, r), omega (arith, r))
-    by_case (no' h) = let r : reach x ≡ 19 = goes_on w (or_else (goes_by (row k) 18) (goes_by (row k) 19) (link_facts k s l).0 h) in (omega (arith, r), omega (arith, r))
+    by_case (yes' h) = let r : reach x ≡ 18 = goes_on b w h in (omega (arith, r), omega (arith, r))
+    by_case (no' h) = let r : reach x ≡ 19 = goes_on b w (or_else (goes_by (row k) 18) (goes_by (row k) 19) (link_facts k s l).0 h) in (omega (arith, r), omega (arith, r))
 
-pub no_link : (k : Kind) {x y : Place} {cs : Forest} → scope k ≡ true → is_link k ≡ true → Walk (row k) x cs y → calm 17 x ≡ true → ⊥
-no_link k {x} s l w c =
-    let a = (link_reach k s l w).0 in
+pub no_link : (k : Kind) {x y : Place} {cs : Forest} → scope k ≡ true → is_link k ≡ true → is_block x ≡ false → Walk (row k) x cs y → calm 17 x ≡ true → ⊥
+no_link k {x} s l b w c =
+    let a = (link_reach k s l b w).0 in
     let b : reach x ≤ 17 = le_nat c in
     omega (arith, a, b)
 

@@ -1,8 +1,11 @@
 -- One part of a row: where two trees of one place end as the row asks, they are one.
+use Rattle.jsx_tree.specs.Kinds.{Arrow, ArrowBlock, BareArrowBlock, expression}
+use Rattle.jsx_tree.proofs.OneTree.Spines.{blockless, blocked_home}
+use Rattle.jsx_tree.proofs.OneTree.Known.{is_blocked}
 use Rattle.jsx_tree.proofs.OneTree.Known.{stated, taken, is_seq, known, kept, kepts}
 use Rattle.std.proofs.Common.{subst}
 use Rattle.std.proofs.Common.{◌≡◌, ℕ, ◌≤◌, Bool, true, false, not, cond, List, [], ◌∷◌, refl, sym, ◌∙◌, ap}
-use Rattle.std.specs.Prelude.{IsTrue, ◌&&◌, ◌||◌, nat_eq, nat_le}
+use Rattle.std.specs.Prelude.{IsTrue, ◌&&◌, ◌||◌, nat_eq, nat_le, codes}
 use Rattle.jsx_base.specs.Token.{Text, Operator, TokenKind, IdentifierName, StringLiteral, Punctuator, kind_number, same}
 use Rattle.jsx_tree.specs.Signs.{Tok, One}
 use Rattle.jsx_tree.specs.Kinds.{InObject, Method, Getter, Setter, Kind, function, Tree, leaf, node, list, Forest, none, part}
@@ -15,7 +18,7 @@ use Rattle.jsx_tree.proofs.Tokens.{and_left, and_right, and_both}
 use Rattle.jsx_tree.specs.Walk.{is_found, IsRead}
 use Rattle.jsx_tree.proofs.OneTree.Table.{kinds}
 use Rattle.jsx_tree.proofs.OneTree.Statements.{stated_kinds}
-use Rattle.jsx_tree.proofs.OneTree.Readings.{calm, Entry, entry, entries, lookup, is_step, kind_at, text_at, broken}
+use Rattle.jsx_tree.proofs.OneTree.Readings.{is_block, block_reach, ahead, calm, Entry, entry, entries, lookup, is_step, kind_at, text_at, broken}
 use Rattle.jsx_tree.proofs.OneTree.Checks.{every, starts}
 use Rattle.jsx_tree.proofs.OneTree.Facts.{never, or_else, not_is, Test, yes', no', test, kind_is, Seen, took, for_kind}
 use Rattle.jsx_tree.proofs.OneTree.Places.{no_hole}
@@ -36,7 +39,7 @@ use Rattle.jsx_tree.proofs.OneTree.Endings.{whole_begins}
 -- ---- no statement stands in an expression but in what is sealed
 
 abbrev pub bare : Nonterminal → Bool
-bare c = every (λ l. not (in_homes c (homes l))) stated_kinds
+bare c = every (λ l. not (in_homes c (homes l))) stated_kinds && blockless c
 
 abbrev pub clean : Nonterminal → Bool
 clean c = every (λ l. (is_sealed l || is_member l) || not (in_homes c (homes l))) stated_kinds
@@ -56,20 +59,25 @@ clean_kind k h = by_taken (test (taken k))
     by_taken (no' n) = ap (λ k. clean_slots (positions k)) (seq_is k (or_else (taken k) (is_seq k) h n))
 
 pub stated_home : (c : Nonterminal) (k : Kind) → bare c ≡ true → stated k ≡ true → in_homes c (homes k) ≡ true → ⊥
-stated_home c k h s i = never (in_homes c (homes k)) i (not_is _ (for_stated (λ l. not (in_homes c (homes l))) h k s))
+stated_home c k h s i = never (in_homes c (homes k)) i (not_is _ (for_stated (λ l. not (in_homes c (homes l))) (and_left (every (λ l. not (in_homes c (homes l))) stated_kinds) (blockless c) h) k s))
 
 bare_known : (c : Nonterminal) (k : Kind) (cs : Forest) → bare c ≡ true → known k ≡ true → admits c (node k cs) ≡ true → (taken k || is_seq k) ≡ true
 bare_known c k cs h s i = by_taken (test (taken k || is_seq k))
   where
     by_taken : Test (taken k || is_seq k) → (taken k || is_seq k) ≡ true
     by_taken (yes' t) = t
-    by_taken (no' n) = absurd (stated_home c k h (or_else (taken k || is_seq k) (stated k) s n) (home_of c k cs i))
+    by_taken (no' n) = by_stated (test (stated k)) (or_else (taken k || is_seq k) (stated k || is_blocked k) s n)
+      where
+        by_stated : Test (stated k) → (stated k || is_blocked k) ≡ true → (taken k || is_seq k) ≡ true
+        by_stated (yes' t) o = absurd (stated_home c k h t (home_of c k cs i))
+        by_stated (no' t) o = absurd (never (in_homes c (homes (expression Arrow))) (blocked_home c k (or_else (stated k) (is_blocked k) o t) (home_of c k cs i)) (not_is _ (and_right (every (λ l. not (in_homes c (homes l))) stated_kinds) (blockless c) h)))
 
 -- what a kind is at such a place
 data Fair (k : Kind) : Type 0 where
   is_open : (taken k || is_seq k) ≡ true → Fair k
   is_shut : is_sealed k ≡ true → Fair k
   is_keyed : is_member k ≡ true → Fair k
+  is_arrowed : is_blocked k ≡ true → Fair k
 
 fair : (c : Nonterminal) (k : Kind) (cs : Forest) → clean c ≡ true → known k ≡ true → admits c (node k cs) ≡ true → Fair k
 fair c k cs h s i = by_taken (test (taken k || is_seq k)) (test (is_sealed k)) (test (is_member k))
@@ -83,8 +91,13 @@ fair c k cs h s i = by_taken (test (taken k || is_seq k)) (test (is_sealed k)) (
     by_taken (no' n) (yes' q) m = is_shut q
     by_taken (no' n) (no' q) (yes' m) = is_keyed m
     by_taken (no' n) (no' q) (no' m) =
-        let g = for_stated (λ l. (is_sealed l || is_member l) || not (in_homes c (homes l))) h k (or_else (taken k || is_seq k) (stated k) s n) in
-        absurd (never (in_homes c (homes k)) (home_of c k cs i) (not_is _ (or_else (is_sealed k || is_member k) (not (in_homes c (homes k))) g (or_false (is_sealed k) (is_member k) q m))))
+        by_stated (test (stated k)) (or_else (taken k || is_seq k) (stated k || is_blocked k) s n)
+      where
+        by_stated : Test (stated k) → (stated k || is_blocked k) ≡ true → Fair k
+        by_stated (no' t) o = is_arrowed (or_else (stated k) (is_blocked k) o t)
+        by_stated (yes' t) o =
+            let g = for_stated (λ l. (is_sealed l || is_member l) || not (in_homes c (homes l))) h k t in
+            absurd (never (in_homes c (homes k)) (home_of c k cs i) (not_is _ (or_else (is_sealed k || is_member k) (not (in_homes c (homes k))) g (or_false (is_sealed k) (is_member k) q m))))
 
 or_left : (a b : Bool) → a ≡ true → (a || b) ≡ true
 or_left true b h = refl
@@ -109,12 +122,20 @@ keyed_clean (function (Setter _)) h = cc
 keyed_clean (function _) h = cc
 keyed_clean _ h = cc
 
+blocked_clean : (k : Kind) → is_blocked k ≡ true → clean_first (positions k) ≡ true
+blocked_clean (expression ArrowBlock) h = refl
+blocked_clean (expression BareArrowBlock) h = refl
+blocked_clean (expression _) h = cc
+blocked_clean _ h = cc
+
 node_tame : (k : Kind) (cs : Forest) → Fair k → fit_slots (positions k) cs ≡ true → ((taken k || is_seq k) ≡ true → tames cs ≡ true) → (clean_first (positions k) ≡ true → first_tame cs ≡ true) → tame (node k cs) ≡ true
 node_tame k cs (is_shut s) f rest first = or_left (is_sealed k && fit_slots (positions k) cs) _ (and_both (is_sealed k) (fit_slots (positions k) cs) s f)
 node_tame k cs (is_keyed s) f rest first =
     or_right (is_sealed k && fit_slots (positions k) cs) _ (or_left (is_member k && (fit_slots (positions k) cs && first_tame cs)) _ (and_both (is_member k) _ s (and_both (fit_slots (positions k) cs) (first_tame cs) f (first (keyed_clean k s)))))
+node_tame k cs (is_arrowed s) f rest first =
+    or_right (is_sealed k && fit_slots (positions k) cs) _ (or_right (is_member k && (fit_slots (positions k) cs && first_tame cs)) _ (or_left (is_blocked k && (fit_slots (positions k) cs && first_tame cs)) _ (and_both (is_blocked k) _ s (and_both (fit_slots (positions k) cs) (first_tame cs) f (first (blocked_clean k s))))))
 node_tame k cs (is_open t) f rest first =
-    or_right (is_sealed k && fit_slots (positions k) cs) _ (or_right (is_member k && (fit_slots (positions k) cs && first_tame cs)) ((taken k || is_seq k) && tames cs) (and_both (taken k || is_seq k) (tames cs) t (rest t)))
+    or_right (is_sealed k && fit_slots (positions k) cs) _ (or_right (is_member k && (fit_slots (positions k) cs && first_tame cs)) ((is_blocked k && (fit_slots (positions k) cs && first_tame cs)) || ((taken k || is_seq k) && tames cs)) (or_right (is_blocked k && (fit_slots (positions k) cs && first_tame cs)) ((taken k || is_seq k) && tames cs) (and_both (taken k || is_seq k) (tames cs) t (rest t))))
 
 pub node_admits : (o : Form) (c : Nonterminal) (k : Kind) (cs : Forest) → shaped o c (node k cs) ≡ true → admits c (node k cs) ≡ true
 node_admits Single c k cs h = h
@@ -175,7 +196,8 @@ calm_most x =
     let steps = cond {A = ℕ} (broken x) 0 17 in
     let marks = cond {A = ℕ} (is_step (text_at x)) steps (lookup (text_at x) entries) in
     let is_mark = nat_eq (kind_at x) (kind_number Punctuator) || nat_eq (kind_at x) (kind_number IdentifierName) in
-    small_cond (is_backquote (text_at x)) 19 (cond is_mark marks 0) refl (small_cond is_mark marks 0 (small_cond (is_step (text_at x)) steps (lookup (text_at x) entries) (small_cond (broken x) 0 17 refl refl) (lookup_small (text_at x) entries refl)) refl)
+    small_cond (is_block x) (block_reach (kind_at x) (text_at x)) (ahead x) (small_cond (nat_eq (kind_at x) 1 && same (text_at x) (codes ",")) 1 0 refl refl)
+    (small_cond (is_backquote (text_at x)) 19 (cond is_mark marks 0) refl (small_cond is_mark marks 0 (small_cond (is_step (text_at x)) steps (lookup (text_at x) entries) (small_cond (broken x) 0 17 refl refl) (lookup_small (text_at x) entries refl)) refl))
 
 -- ---- expressions
 

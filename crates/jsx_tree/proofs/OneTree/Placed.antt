@@ -1,4 +1,6 @@
 -- What the definitions read, with what may stand behind each part: parts, lists and whole expressions.
+use Rattle.jsx_tree.proofs.OneTree.Spines.{blocked_level, blocked_spine}
+use Rattle.jsx_tree.proofs.OneTree.Fine.{fine_blocked}
 use Rattle.jsx_tree.proofs.OneTree.Known.{taken, plain_leaf}
 use Rattle.std.proofs.Common.{◌≡◌, ℕ, ◌≤◌, Bool, true, false, not, cond, [], ◌∷◌, refl, sym, ◌∙◌, ap, subst, arith}
 use Rattle.std.specs.Prelude.{IsTrue, ◌&&◌, ◌||◌, nat_eq, nat_le, codes}
@@ -15,7 +17,7 @@ use Rattle.jsx_tree.specs.Walk as W
 use Rattle.jsx_tree.specs.Walk.{is_found, IsRead}
 use Rattle.jsx_tree.proofs.Tokens.{and_left, and_right, and_both, same_is}
 use Rattle.jsx_tree.proofs.OneTree.Table.{scope}
-use Rattle.jsx_tree.proofs.OneTree.Readings.{sealed, level, reach_of, calm, broken, comma, Reads, regexp, Whole, single, several, Rest, final, also, Items, shut, gap, last, more}
+use Rattle.jsx_tree.proofs.OneTree.Readings.{sealed, level, reach_of, calm, comma, Reads, regexp, Whole, single, several, Rest, final, also, Items, shut, gap, last, more}
 use Rattle.jsx_tree.proofs.OneTree.Facts.{never, not_is, Test, yes', no', test, eq_nat, le_nat, kind_is, Seen, took}
 use Rattle.jsx_tree.proofs.OneTree.Places.{ending, kin, is_prop, place_at, no_seq, no_hole, ended_at, ends_by, closes}
 use Rattle.jsx_tree.proofs.Rows.Bridge.{node_walk}
@@ -67,6 +69,7 @@ tree_reads n m c (fine_piece {s = s} {t = t} p) h o r l k = absurd (no_piece c s
 tree_reads n m c (fine_regexp {t = t}) h o r l k = regexp_reads n t r
 tree_reads n m c (fine_prop {k = q} {cs = cs} t p f) h o r l k = absurd (no_prop_here c m q cs l.ended' t p r)
 tree_reads n m c (fine_sealed {k = q} {cs = cs} s f) h o r l k = sealed (sealed_level n c q cs s l.home' r.is) (f.seals r)
+tree_reads n m c (fine_blocked {k = q} {cs = cs} s b) h o r l k = b.blocks' (blocked_level n c q cs s l.home' r.is) r
 tree_reads n m c (fine_member {k = q} {t = u} {ts = us} s f e g) h o r l k = absurd (no_member c q (part u us) s (kin_memberless c l.kin') r.is)
 tree_reads n m c (fine_list f) h o r l k = let bad = r.is in cc
 tree_reads n m c (fine_seq {k = q} {cs = cs} s f) h o r l k = absurd (no_seq_here c q cs s l.seq' r.is)
@@ -82,7 +85,7 @@ space_sign Lost = refl
 space_sign (At q e text) = refl
 
 pub comma_calm : (x : Place) {y : Place} → forth comma x ≡ y → IsTrue (is_found y) → calm 1 x ≡ true
-comma_calm x e f = let s : Seen x Punctuator (codes ",") = took Punctuator (codes ",") x e f in (λ i. nat_le (reach_of (s.kind i) (s.text i) (broken x)) 1)
+comma_calm x e f = let s : Seen x Punctuator (codes ",") = took Punctuator (codes ",") x e f in reach_seen Punctuator (codes ",") 1 x s refl
 
 -- the comma that may trail
 pub data Trail (x y : Place) : Type 0 where
@@ -197,6 +200,7 @@ slot_of c (fine_node t np g) r = a_tree refl refl
 slot_of c (fine_seq t g) r = a_tree refl refl
 slot_of c (fine_prop t p g) r = a_tree refl refl
 slot_of c (fine_sealed s g) r = a_tree refl refl
+slot_of c (fine_blocked s b) r = a_tree refl refl
 slot_of c (fine_member s f m g) r = a_tree refl refl
 slot_of c (fine_list f) r = let bad = r.is in cc
 
@@ -270,6 +274,7 @@ whole_reads t (fine_piece {s = s} {t = u} p) h r q = absurd (no_piece (Expr 0) s
 whole_reads t (fine_regexp {t = u}) h r q = single (regexp_reads 1 u r) q
 whole_reads t (fine_prop {k = k} {cs = cs} tk p f) h r q = absurd (no_prop_here (Expr 0) 0 k cs refl tk p r)
 whole_reads t (fine_sealed {k = k} {cs = cs} s f) h r q = single (sealed (omega arith) (f.seals r)) q
+whole_reads t (fine_blocked s b) h r q = single (b.blocks' (omega arith) r) q
 whole_reads t (fine_member {k = k} {t = u} {ts = us} s f m g) h r q = absurd (no_member (Expr 0) k (part u us) s refl r.is)
 whole_reads t (fine_list f) h r q = let bad = r.is in cc
 whole_reads t (fine_node {k = k} {cs = cs} tk np g) h r q = single (taken_reads 1 0 (Expr 0) k cs tk g (tames_of k cs tk h) r refl refl q) q
@@ -286,6 +291,7 @@ spined_reads n m c (fine_prop {k = q} {cs = cs} t p f) o r l d z h k =
     let i = home_of c q cs (and_left (admits c (node q cs)) (fits_below c (node q cs)) r.is) in
     absurd (never (is_prop q) p (not_is _ (and_left (not (is_prop q)) _ (d q (taken_scope q t) i (and_left (nat_le n (level q)) _ h)))))
 spined_reads n m c (fine_sealed {k = q} {cs = cs} s f) o r l d z h k = sealed (spine_level q cs n s h) (f.seals r)
+spined_reads n m c (fine_blocked {k = q} {cs = cs} s b) o r l d z h k = b.blocks' (blocked_spine q cs n s h) r
 spined_reads n m c (fine_member {k = q} {t = u} {ts = us} s f e g) o r l d z h k = absurd (no_member c q (part u us) s (kin_memberless c l) r.is)
 spined_reads n m c (fine_list f) o r l d z h k = cc
 spined_reads n m c (fine_seq {k = q} {cs = cs} s f) o r l d z h k = absurd (no_seq_here c q cs s z r.is)

@@ -1,8 +1,8 @@
 -- Reading by the rows of the grammar, with what may stand behind each part. It takes more than the grammar does; the trees of the grammar are among it, and of these it says that a text has one, up to patterns and literals.
 use Rattle.std.specs.Prelude.{◌≡◌, ℕ, zero, suc, ◌≤◌, List, [], ◌∷◌, ◌++◌, codes, Bool, true, false, cond, nat_eq, nat_le, IsTrue, not, ◌&&◌, ◌||◌}
 use Rattle.jsx_base.specs.Token.{Text, Mode, Operand, Operator, TokenKind, IdentifierName, Punctuator, NumericLiteral, BigIntLiteral, StringLiteral, RegExpLiteral, NoSubstitution, TemplateHead, TemplateMiddle, TemplateTail, Elision, Lexeme, kind_number, token, no_token, same, among, breaks}
-use Rattle.jsx_tree.specs.Signs.{Sign, Tok, Unless, SameLine}
-use Rattle.jsx_tree.specs.Kinds.{WithInit, RestPat, ObjectPat, PropertyPat, ShorthandPat, ShorthandInit, RestProperty, ParenTarget, ComputedKey, BinaryOp, Nullish, Or, And, BitOr, BitXor, BitAnd, Equal, Unequal, StrictEqual, StrictUnequal, Less, Greater, AtMost, AtLeast, InOp, InstanceOf, ShiftLeft, ShiftRight, ShiftOut, Add, Subtract, Multiply, Divide, Remainder, Exponentiate, Seq, Arrow, BareArrow, Call, Chain, NameLink, IndexLink, CallLink, Object, Property, Shorthand, Spread, Parenthesized, PlainTemplate, SubstitutedTemplate, TemplateSpan, Kind, function, expression, Tree, leaf, node, list, Forest, none, part}
+use Rattle.jsx_tree.specs.Signs.{AfterBlock, Sign, Tok, Unless, SameLine, Ends}
+use Rattle.jsx_tree.specs.Kinds.{WithInit, RestPat, ObjectPat, PropertyPat, ShorthandPat, ShorthandInit, RestProperty, ParenTarget, ComputedKey, BinaryOp, Nullish, Or, And, BitOr, BitXor, BitAnd, Equal, Unequal, StrictEqual, StrictUnequal, Less, Greater, AtMost, AtLeast, InOp, InstanceOf, ShiftLeft, ShiftRight, ShiftOut, Add, Subtract, Multiply, Divide, Remainder, Exponentiate, Seq, Arrow, BareArrow, Call, Chain, NameLink, IndexLink, CallLink, Object, Property, Shorthand, Spread, Parenthesized, PlainTemplate, SubstitutedTemplate, TemplateSpan, Kind, function, expression, Tree, leaf, node, list, Forest, none, part, FunctionBody, program, ArrowBlock, BareArrowBlock}
 use Rattle.jsx_tree.specs.Nonterminals.{Nonterminal, Expr, MemberObject, ObjectMember, SimpleTarget, Ident, BindingIdent, Name, TemplateOf, TemplatePart, NullishLeft, NewCallee, DotObject, level_of, binary, homes, is_value_word}
 use Rattle.jsx_tree.specs.Grammar.{ListShape, Elisions, Fixed, Part, Many, Production, production}
 use Rattle.jsx_tree.specs.Spelling.{mode_of}
@@ -10,7 +10,7 @@ use Rattle.jsx_tree.specs.Reading.{Place, Lost, At, forth, is_backquote}
 use Rattle.jsx_tree.specs.Form.{leads, is_close}
 use Rattle.jsx_tree.specs.Walk.{is_found}
 use Rattle.jsx_tree.proofs.OneTree.Table.{code, scope}
-use Rattle.jsx_tree.proofs.OneTree.Sealed.{is_member, Closed, Sealed}
+use Rattle.jsx_tree.proofs.OneTree.Sealed.{is_member, Closed, Sealed, Filled}
 
 -- ---- a row as reading goes along it
 
@@ -167,8 +167,19 @@ abbrev pub broken : Place → Bool
 broken Lost = false
 broken (At q e text) = breaks text
 
+-- behind the block of an arrow a comma alone goes on
+abbrev pub is_block : Place → Bool
+is_block (At q AfterBlock text) = true
+is_block x = false
+
+abbrev pub block_reach : ℕ → Text → ℕ
+block_reach k t = cond (nat_eq k 1 && same t (codes ",")) 1 0
+
+abbrev pub ahead : Place → ℕ
+ahead x = reach_of (kind_at x) (text_at x) (broken x)
+
 abbrev pub reach : Place → ℕ
-reach x = reach_of (kind_at x) (text_at x) (broken x)
+reach x = cond (is_block x) (block_reach (kind_at x) (text_at x)) (ahead x)
 
 abbrev pub calm : ℕ → Place → Bool
 calm n x = nat_le (reach x) n
@@ -200,9 +211,9 @@ abbrev pub in_parens : Flats → Flat
 in_parens (cons e nil) = paren_of (unseq e)
 in_parens ts = some 3 ts
 
-abbrev pub arrow_of : Flats → Flat
-arrow_of (cons p ts) = some 4 (cons (some 3 (cons p nil)) ts)
-arrow_of ts = some 4 ts
+abbrev pub arrow_of : ℕ → Flats → Flat
+arrow_of n (cons p ts) = some n (cons (some 3 (cons p nil)) ts)
+arrow_of n ts = some n ts
 
 abbrev pub is_span : Kind → Bool
 is_span (expression (TemplateSpan b)) = true
@@ -214,6 +225,7 @@ grows k = not (is_span k) && leads (production k)
 
 abbrev pub is_arrow : Kind → Bool
 is_arrow (expression Arrow) = true
+is_arrow (expression ArrowBlock) = true
 is_arrow k = false
 
 -- kinds with a constructor of their own below
@@ -238,7 +250,7 @@ is_paren (function (RestProperty r)) = true
 is_paren k = false
 
 abbrev pub made : Kind → Flats → Flat
-made k ts = cond (is_arrow k) (arrow_of ts) (cond (nat_eq (code k) 3) (in_parens ts) (some (code k) ts))
+made k ts = cond (is_arrow k) (arrow_of (code k) ts) (cond (nat_eq (code k) 3) (in_parens ts) (some (code k) ts))
 
 abbrev mutual
   pub flat : Tree → Flat
@@ -302,6 +314,21 @@ key_start k t = nat_eq k 0 || (nat_eq k 2 || (nat_eq k 3 || (nat_eq k 4 || (nat_
 abbrev pub comma : Sign
 comma = Tok Operator Punctuator (codes ",")
 
+-- an arrow and its block, behind the parameters
+pub record Blocked (y : Place) (cs : Forest) (z : Place) : Type 0 where
+  pub behind : Place
+  pub inside : Place
+  pub last : Place
+  pub shut : Place
+  pub arrow' : forth (Tok Operator Punctuator (codes "=>")) y ≡ behind
+  pub found_arrow : IsTrue (is_found behind)
+  pub open' : forth (Tok Operator Punctuator (codes "{")) behind ≡ inside
+  pub found_open : IsTrue (is_found inside)
+  pub filled : Filled inside cs last
+  pub close' : forth brace last ≡ shut
+  pub found_close : IsTrue (is_found shut)
+  pub ends' : forth (Ends AfterBlock) shut ≡ z
+
 mutual
   -- an expression or a pattern of this level or more, of which nothing is said behind it
   pub data Reads : ℕ → Place → Tree → Place → Type 0 where
@@ -310,8 +337,10 @@ mutual
     head : {n : ℕ} {k : Kind} {x y : Place} {ts : Forest} → IsTrue (scope k) → is_arrow k ≡ false → is_paren k ≡ false → n ≤ level k → grows k ≡ false → Walk (row k) x ts y → Reads n x (node k ts) y
     paren : {n : ℕ} {x p y z : Place} {t : Tree} → n ≤ 19 → forth (Tok Operator Punctuator (codes "(")) x ≡ p → IsTrue (is_found p) → Whole p t y → forth (Tok Operator Punctuator (codes ")")) y ≡ z → IsTrue (is_found z) → Reads n x (node (expression Parenthesized) (part t none)) z
     target : {n : ℕ} {x p y z : Place} {t : Tree} → n ≤ 19 → forth (Tok Operator Punctuator (codes "(")) x ≡ p → IsTrue (is_found p) → Reads 17 p t y → IsTrue (calm 0 y) → forth (Tok Operator Punctuator (codes ")")) y ≡ z → IsTrue (is_found z) → Reads n x (node (function ParenTarget) (part t none)) z
-    grow : {n : ℕ} {k : Kind} {x y z : Place} {t : Tree} {ts : Forest} → IsTrue (scope k) → IsTrue (grows k) → n ≤ level k → Reads n x t y → Walk (tail k) y ts z → Reads n x (node k (part t ts)) z
+    grow : {n : ℕ} {k : Kind} {x y z : Place} {t : Tree} {ts : Forest} → IsTrue (scope k) → IsTrue (grows k) → n ≤ level k → is_block y ≡ false → Reads n x t y → Walk (tail k) y ts z → Reads n x (node k (part t ts)) z
     arrow : {n : ℕ} {x y z : Place} {p : Tree} {ts : Forest} → n ≤ 1 → Walk parens x (part p none) y → Walk (tail (expression BareArrow)) y ts z → Reads n x (node (expression Arrow) (part p ts)) z
+    blocked : {n : ℕ} {x p y z : Place} {ts cs : Forest} → n ≤ 1 → forth (Tok Operator Punctuator (codes "(")) x ≡ p → IsTrue (is_found p) → Items false (codes ")") p ts y → Blocked y cs z → Reads n x (node (expression ArrowBlock) (part (list ts) (part (node (program FunctionBody) cs) none))) z
+    bare_blocked : {n : ℕ} {x y z : Place} {t : Text} {cs : Forest} → n ≤ 1 → IsTrue (is_value_word t) → forth (Tok Operator IdentifierName t) x ≡ y → IsTrue (is_found y) → Blocked y cs z → Reads n x (node (expression BareArrowBlock) (part (leaf IdentifierName t) (part (node (program FunctionBody) cs) none))) z
     sealed : {n : ℕ} {k : Kind} {x y : Place} {cs : Forest} → n ≤ 19 → Sealed x k cs y → Reads n x (node k cs) y
     braces : {n : ℕ} {k : Kind} {x p y : Place} {ts : Forest} → n ≤ 19 → code k ≡ 54 → is_arrow k ≡ false → forth (Tok Operator Punctuator (codes "{")) x ≡ p → IsTrue (is_found p) → Props p ts y → Reads n x (node k (part (list ts) none)) y
 
@@ -355,7 +384,7 @@ mutual
   -- the links of a chain, to the last
   pub data Links : Place → Forest → Place → Type 0 where
     l_end : {x : Place} → IsTrue (calm 17 x) → Links x none x
-    l_more : {k : Kind} {x y z : Place} {cs ts : Forest} → IsTrue (scope k) → IsTrue (is_link k) → Walk (row k) x cs y → Links y ts z → Links x (part (node k cs) ts) z
+    l_more : {k : Kind} {x y z : Place} {cs ts : Forest} → IsTrue (scope k) → IsTrue (is_link k) → is_block x ≡ false → Walk (row k) x cs y → Links y ts z → Links x (part (node k cs) ts) z
 
   -- an expression of any level
   pub data Whole : Place → Tree → Place → Type 0 where

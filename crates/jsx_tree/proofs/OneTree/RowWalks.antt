@@ -1,10 +1,12 @@
 -- What the definitions read, with what may stand behind each part: rows and nodes.
+use Rattle.jsx_tree.proofs.OneTree.Spines.{no_blocked}
+use Rattle.jsx_tree.proofs.OneTree.Fine.{fine_blocked}
 use Rattle.jsx_tree.proofs.OneTree.Known.{taken}
 use Rattle.std.proofs.Common.{◌≡◌, ℕ, ◌≤◌, zero, Bool, true, false, not, List, [], ◌∷◌, refl, sym, ◌∙◌, ap, subst, arith}
 use Rattle.std.specs.Prelude.{IsTrue, ◌&&◌, ◌||◌, nat_le}
 use Rattle.jsx_base.specs.Token.{Text, Operator, IdentifierName, Punctuator, NumericLiteral, BigIntLiteral, StringLiteral, NoSubstitution, Elision, among}
 use Rattle.jsx_tree.specs.Signs.{Tok, Unless, SameLine, Space, Count, Apart}
-use Rattle.jsx_tree.specs.Kinds.{SubstitutedTemplate, TemplateSpan, NameLink, IndexLink, CallLink, ObjectPat, PropertyPat, ShorthandPat, ShorthandInit, RestProperty, ComputedKey, Object, Property, Shorthand, PlainTemplate, Arrow, Parenthesized, ParenTarget, Kind, function, expression, Tree, node, list, Forest, none, part}
+use Rattle.jsx_tree.specs.Kinds.{SubstitutedTemplate, TemplateSpan, NameLink, IndexLink, CallLink, ObjectPat, PropertyPat, ShorthandPat, ShorthandInit, RestProperty, ComputedKey, Object, Property, Shorthand, PlainTemplate, Arrow, Parenthesized, ParenTarget, Kind, function, expression, Tree, node, list, Forest, none, part, ArrowBlock}
 use Rattle.jsx_tree.specs.Nonterminals.{Nonterminal, Expr, Name, TemplateOf, TemplatePart, NewCallee, homes, in_homes}
 use Rattle.jsx_tree.specs.Grammar.{ListShape, Commas, Elisions, Context, Fixed, Part, Many, Within, Production, production}
 use Rattle.jsx_tree.specs.Form.{leads, admits, fits_below}
@@ -38,6 +40,7 @@ name_walk (fine_prop {k = k} {cs = cs} t p f) r w =
     let i = home_of Name k cs (and_left (admits Name (node k cs)) (fits_below Name (node k cs)) r.is) in
     absurd (never (in_homes Name (homes k)) i (not_is _ (for_kind (λ l. not (in_homes Name (homes l))) no_names k (taken_scope k t))))
 name_walk (fine_sealed {k = k} {cs = cs} s f) r w = absurd (no_sealed Name k cs s refl r.is)
+name_walk (fine_blocked {k = k} {cs = cs} s f) r w = absurd (no_blocked Name k cs s refl r.is)
 name_walk (fine_member {k = k} {t = u} {ts = us} s f m g) r w = absurd (no_member Name k (part u us) s refl r.is)
 name_walk (fine_list f) r w = let bad = r.is in cc
 name_walk (fine_node {k = k} {cs = cs} t np g) r w =
@@ -146,6 +149,7 @@ pub of_row : (k : Kind) {n : ℕ} {x y : Place} (ts : Forest) → taken k ≡ tr
 of_row (expression Parenthesized) ts s o l d (take e f (all a (take e' f' (pass g done)))) = paren l e f a e' f'
 of_row (function ParenTarget) ts s o l d (take e f (under r c (take e' f' done))) = target l e f r c e' f'
 of_row (expression Arrow) ts s o l d (take e f (each i w)) = arrow l (take e f (each i done)) w
+of_row (expression ArrowBlock) ts s o l d w = cc
 of_row (expression Object) ts s o l d w = cc
 of_row (expression Property) ts s o l d w = cc
 of_row (expression Shorthand) ts s o l d w = cc

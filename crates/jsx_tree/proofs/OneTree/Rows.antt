@@ -1,4 +1,7 @@
 -- Two readings of one row from one place are one: once for all rows of statements.
+use Rattle.jsx_tree.proofs.OneTree.Spines.{blocked_home}
+use Rattle.jsx_tree.proofs.OneTree.Kept.{Which, a_statement, a_taken, a_blocked, a_seq, which}
+use Rattle.jsx_tree.specs.Kinds.{Arrow}
 use Rattle.std.proofs.Common.{sym}
 use Rattle.jsx_tree.proofs.OneTree.Facts.{eq_nat}
 use Rattle.jsx_tree.proofs.OneTree.Readings.{text_at}
@@ -34,12 +37,11 @@ use Rattle.jsx_tree.proofs.OneTree.Begins.{at_seen}
 use Rattle.jsx_tree.specs.Walk as W
 use Rattle.jsx_tree.specs.Walk.{pieces, IsRead}
 use Rattle.jsx_tree.proofs.OneTree.Table.{kinds}
-use Rattle.jsx_tree.proofs.OneTree.Known.{stated, taken, is_seq, known}
+use Rattle.jsx_tree.proofs.OneTree.Known.{stated, known}
 use Rattle.jsx_tree.proofs.OneTree.Evidence.{Kept, Kepts, kept_left, kept_kind, kept_parts}
 use Rattle.jsx_tree.proofs.OneTree.Checks.{every}
 use Rattle.jsx_tree.proofs.OneTree.Facts.{never, or_else, not_is, Test, yes', no', test, for_kind}
-use Rattle.jsx_tree.proofs.OneTree.Spines.{seq_is, taken_scope}
-use Rattle.jsx_tree.proofs.OneTree.Endings.{after}
+use Rattle.jsx_tree.proofs.OneTree.Endings.{past}
 use Rattle.jsx_tree.proofs.OneTree.Afters.{after_tree}
 use Rattle.jsx_tree.proofs.OneTree.Parts.{tame_of, calm_most, SameAt, expr_same, whole_same, wordy, word_read, word_same}
 use Rattle.jsx_tree.proofs.OneTree.Wants.{Want, ended, meets, is_calm, follow, follow_meets}
@@ -147,19 +149,13 @@ own_leaf _ s t o h = cc
 
 -- what stands at such a place is a statement's kind
 pub own_kind : (c : Nonterminal) (k : Kind) → is_own c ≡ true → known k ≡ true → in_homes c (homes k) ≡ true → stated k ≡ true
-own_kind c k o h i = by_stated (test (stated k))
+own_kind c k o h i = by_which (which k h)
   where
-    or_other : (a b : Bool) → (a || b) ≡ true → b ≡ false → a ≡ true
-    or_other true b e f = refl
-    or_other false b e f = absurd (never b e f)
-
-    by_taken : Test (taken k) → stated k ≡ false → stated k ≡ true
-    by_taken (yes' t) n = absurd (never (in_homes c (homes k)) i (not_is _ (for_kind (λ k. not (in_homes c (homes k))) (own_clean c o) k (taken_scope k t))))
-    by_taken (no' t) n = absurd (never (in_homes c (homes k)) i (ap (λ k. in_homes c (homes k)) (seq_is k (or_else (taken k) (is_seq k) (or_other (taken k || is_seq k) (stated k) h n) t)) ∙ own_seq c o))
-
-    by_stated : Test (stated k) → stated k ≡ true
-    by_stated (yes' t) = t
-    by_stated (no' n) = by_taken (test (taken k)) n
+    by_which : Which k → stated k ≡ true
+    by_which (a_statement t) = t
+    by_which (a_taken t) = absurd (never (in_homes c (homes k)) i (not_is _ (for_kind (λ k. not (in_homes c (homes k))) (own_clean c o) k t)))
+    by_which (a_blocked b) = absurd (never (in_homes c (homes (expression Arrow))) (blocked_home c k b i) (not_is _ (for_kind (λ k. not (in_homes c (homes k))) (own_clean c o) (expression Arrow) refl)))
+    by_which (a_seq e) = absurd (never (in_homes c (homes k)) i (ap (λ k. in_homes c (homes k)) e ∙ own_seq c o))
 
 -- what is imported is a name alone, or begins otherwise
 abbrev pub clause_row : List W.Piece → Bool
@@ -304,7 +300,7 @@ pub record Rest (V : List Context → Surroundings) (a : List Context) (e : Want
   pub good : Kepts trees
   pub ends : meets e end ≡ true
 
-pub rest_meets : {V : List Context → Surroundings} {a : List Context} {e : Want} {ps : Production} {y : Place} (w : Want) → Rest V a e ps y → follow e ps w ≡ true → (is_calm w ≡ true → after y ≡ true) → meets w y ≡ true
+pub rest_meets : {V : List Context → Surroundings} {a : List Context} {e : Want} {ps : Production} {y : Place} (w : Want) → Rest V a e ps y → follow e ps w ≡ true → (is_calm w ≡ true → past y ≡ true) → meets w y ≡ true
 rest_meets {a = a} {e} {ps} w r h c = follow_meets e ps w a h c r.walk r.good r.ends
 
 whole_part : {V V' : List Context → Surroundings} {v v' : Surroundings} {a : List Context} {e : Want} {ps : Production} {x y z : Place} (t u : Tree) → follow e ps (ended 0) ≡ true → Kept t → Kept u

@@ -6,7 +6,7 @@ use Rattle.jsx_base.specs.Token.{kind_number, IdentifierName}
 use Rattle.jsx_tree.specs.Form.{is}
 use Rattle.jsx_tree.specs.Nonterminals.{leaf_in}
 use Rattle.jsx_tree.proofs.OneTree.Parts.{word_read}
-use Rattle.jsx_tree.specs.Signs.{Sign, Tok, Semicolon, Space, TrailingComma, Unless, SameLine, Ends, AfterWord, AfterKey}
+use Rattle.jsx_tree.specs.Signs.{Sign, Tok, Semicolon, Space, TrailingComma, Unless, SameLine, Ends, AfterWord, AfterKey, AfterBinding}
 use Rattle.jsx_tree.specs.Kinds.{Tree, list, Forest, none, part}
 use Rattle.jsx_tree.specs.Nonterminals.{Nonterminal, Expr, Ident, BindingIdent, Declarators, Param, CaseClause, ClassMember, is_ident}
 use Rattle.jsx_tree.specs.Grammar.{ListShape, Commas, NoTrailing, Context, Fixed, Part, Optional, Many, Within, Production, fixed}
@@ -30,7 +30,7 @@ use Rattle.jsx_tree.proofs.OneTree.Endings.{found_first}
 use Rattle.jsx_tree.proofs.OneTree.Afters.{after_tree}
 use Rattle.jsx_tree.proofs.OneTree.Evidence.{Kept, Kepts, kept_left, kept_right, kept_list}
 use Rattle.jsx_tree.proofs.OneTree.Parts.{tame_of, whole_starts}
-use Rattle.jsx_tree.proofs.OneTree.Wants.{Want, ended, other, is_calm, meets, is_at, looks, look_same, signed, follow, at_optional, read_start, mark}
+use Rattle.jsx_tree.proofs.OneTree.Wants.{declared, at_binding, is_declared, declared_equals, Want, ended, other, is_calm, meets, is_at, looks, look_same, signed, follow, at_optional, read_start, mark}
 use Rattle.jsx_tree.proofs.OneTree.Begins.{fits, name', at_seen, ident_fits, is_listed, stop_of}
 use Rattle.jsx_tree.proofs.OneTree.Rows.{All, all_parts, Rest, rest_meets, is_whole, whole_is}
 use Rattle.jsx_tree.proofs.OneTree.Kinds.Inits.{any_good, any_same, no_signs, none_is, head_starts, starts_apart}
@@ -45,16 +45,20 @@ pub data Said : Type 0 where
   word_ending : Said
   -- behind the key of a field
   key_ending : Said
+  -- behind what a declarator binds
+  binding_ending : Said
 
 abbrev pub said_at : Said → Place → Bool
 said_at no_ending x = true
 said_at word_ending (At q AfterWord text) = true
 said_at key_ending (At q AfterKey text) = true
+said_at binding_ending x = at_binding x
 said_at d x = false
 
 abbrev pub still_said : Said → Sign → Said
 still_said d (Ends AfterWord) = word_ending
 still_said d (Ends AfterKey) = key_ending
+still_said d (Ends AfterBinding) = binding_ending
 still_said d s = cond (looks s) d no_ending
 
 ends_word : (x y : Place) → forth (Ends AfterWord) x ≡ y → IsTrue (is_found y) → said_at word_ending y ≡ true
@@ -65,9 +69,14 @@ ends_key : (x y : Place) → forth (Ends AfterKey) x ≡ y → IsTrue (is_found 
 ends_key Lost y e f = absurd (never false (subst (λ p. is_found p ≡ true) (sym e) f) refl)
 ends_key (At q g text) y e f = subst (λ p. said_at key_ending p ≡ true) e refl
 
+ends_binding : (x y : Place) → forth (Ends AfterBinding) x ≡ y → IsTrue (is_found y) → said_at binding_ending y ≡ true
+ends_binding Lost y e f = absurd (never false (subst (λ p. is_found p ≡ true) (sym e) f) refl)
+ends_binding (At q g text) y e f = subst (λ p. said_at binding_ending p ≡ true) e refl
+
 keeps_said : (d : Said) (s : Sign) {x y : Place} → said_at d x ≡ true → forth s x ≡ y → (is_heard s ≡ true → IsTrue (is_found y)) → (looks s ≡ true → x ≡ y) → said_at (still_said d s) y ≡ true
 keeps_said d (Ends AfterWord) {x} {y} w e f l = ends_word x y e (f refl)
 keeps_said d (Ends AfterKey) {x} {y} w e f l = ends_key x y e (f refl)
+keeps_said d (Ends AfterBinding) {x} {y} w e f l = ends_binding x y e (f refl)
 keeps_said d (Ends _) w e f l = refl
 keeps_said d (Tok m k t) w e f l = refl
 keeps_said d Semicolon w e f l = refl
@@ -79,6 +88,19 @@ keeps_said d _ w e f l = subst (λ z. said_at d z ≡ true) (l refl) w
 abbrev pub is_word : Said → Bool
 is_word word_ending = true
 is_word d = false
+
+abbrev pub is_binding : Said → Bool
+is_binding binding_ending = true
+is_binding d = false
+
+binding_said : (d : Said) (x : Place) → is_binding d ≡ true → said_at d x ≡ true → at_binding x ≡ true
+binding_said binding_ending x h w = w
+binding_said _ x h w = cc
+
+-- the end of a declarator
+abbrev pub ends_declared : Want → Production → Bool
+ends_declared declared [] = true
+ends_declared e ps = false
 
 abbrev pub is_keyed : Said → Bool
 is_keyed key_ending = true
@@ -142,7 +164,7 @@ head_name ms c ps = no_signs ms && (is_name_place c && mark_first ps)
 
 -- why it isn't both absent and present
 abbrev pub tells : Said → Want → List Sign → Nonterminal → List Sign → List Text → Production → Bool
-tells d e m c b r ps = head_starts (heard m) c (fixed b ++ ps) ps || (head_name (heard m) c ps || (head_in r (heard m) || (head_other e ps (heard m) || ((is_word d && (head_line (heard m) && (semi_first ps && starty e (fixed b ++ ps) c))) || (is_keyed d && (head_equals (heard m) && semi_first ps))))))
+tells d e m c b r ps = head_starts (heard m) c (fixed b ++ ps) ps || (head_name (heard m) c ps || (head_in r (heard m) || (head_other e ps (heard m) || ((is_word d && (head_line (heard m) && (semi_first ps && starty e (fixed b ++ ps) c))) || ((is_keyed d && (head_equals (heard m) && semi_first ps)) || (is_binding d && (head_equals (heard m) && ends_declared e ps)))))))
 
 ident_is : (c : Nonterminal) → is_ident_place c ≡ true → c ≡ Ident
 ident_is Ident h = refl
@@ -303,6 +325,10 @@ name_apart {v = v} a ms c ps x {y} {z} t h w e k r =
     let d = name_leaf n.kind n.text (and_left (leaf_in BindingIdent n.kind n.text) _ (subst (λ t. is BindingIdent t ≡ true) n.is_leaf r'.is)) in
     never (fits name' x) (ap (fits name') back ∙ ((λ i. nat_eq (s.kind i) 0 && is_ident (s.text i)) ∙ d)) (mark_kind a ps (and_right (is_name_place c) _ o) w)
 
+declared_end : {V : List Context → Surroundings} {a : List Context} (e : Want) (ps : Production) {x : Place} → ends_declared e ps ≡ true → Rest V a e ps x → is_declared x ≡ true
+declared_end declared [] h r = subst (λ z. is_declared z ≡ true) (sym (at_end r.walk).1) r.ends
+declared_end _ _ h r = cc
+
 absent_present : {V V' : List Context → Surroundings} {v : Surroundings} {a : List Context} (d : Said) (e : Want) (m : List Sign) (c : Nonterminal) (b : List Sign) (r : List Text) (ps : Production) (x : Place) {n y z : Place} (t : Tree) → tells d e m c b r ps ≡ true
     → said_at d x ≡ true → forth (Unless r) x ≡ n → IsTrue (is_found n) → Rest V a e ps n → scan x (heard m) ≡ y → Kept t → IsRead v false c y t z → Rest V' a e (fixed b ++ ps) z → ⊥
 absent_present {V = V} {a = a} d e m c b r ps x {n} {y} {z} t h w f g p i k j q = by_starts (test (head_starts (heard m) c (fixed b ++ ps) ps))
@@ -322,22 +348,29 @@ absent_present {V = V} {a = a} d e m c b r ps x {n} {y} {z} t h w f g p i k j q 
         let back = look_same SameLine x y refl l (read_start j) in
         worded_apart x (word_said d x (and_left (is_word d) _ o) w) (semi_found a ps (and_left (semi_first ps) _ o2) rest.walk) (not_broken x y l (read_start j)) (subst (λ z. starts (kind_at z) (text_at z) ≡ true) (sym back) s)
 
-    by_said : Test (is_word d && (head_line (heard m) && (semi_first ps && starty e (fixed b ++ ps) c))) → ((is_word d && (head_line (heard m) && (semi_first ps && starty e (fixed b ++ ps) c))) || (is_keyed d && (head_equals (heard m) && semi_first ps))) ≡ true → ⊥
-    by_said (yes' o) u = by_line o
-    by_said (no' o) u =
-        let o1 = or_else (is_word d && (head_line (heard m) && (semi_first ps && starty e (fixed b ++ ps) c))) _ u o in
+    by_keyed : Test (is_keyed d && (head_equals (heard m) && semi_first ps)) → ((is_keyed d && (head_equals (heard m) && semi_first ps)) || (is_binding d && (head_equals (heard m) && ends_declared e ps))) ≡ true → ⊥
+    by_keyed (yes' o1) u =
         let o2 = and_right (is_keyed d) _ o1 in
         keyed_apart x (key_said d x (and_left (is_keyed d) _ o1) w) (semi_found a ps (and_right (head_equals (heard m)) _ o2) rest.walk) (equals_seen (heard m) x y (and_left (head_equals (heard m)) _ o2) i (read_start j))
+    by_keyed (no' n) u =
+        let o1 = or_else (is_keyed d && (head_equals (heard m) && semi_first ps)) _ u n in
+        let o2 = and_right (is_binding d) _ o1 in
+        declared_equals x (binding_said d x (and_left (is_binding d) _ o1) w) (declared_end e ps (and_right (head_equals (heard m)) _ o2) rest) (equals_seen (heard m) x y (and_left (head_equals (heard m)) _ o2) i (read_start j))
 
-    by_other : Test (head_other e ps (heard m)) → (head_other e ps (heard m) || ((is_word d && (head_line (heard m) && (semi_first ps && starty e (fixed b ++ ps) c))) || (is_keyed d && (head_equals (heard m) && semi_first ps)))) ≡ true → ⊥
+    by_said : Test (is_word d && (head_line (heard m) && (semi_first ps && starty e (fixed b ++ ps) c))) → ((is_word d && (head_line (heard m) && (semi_first ps && starty e (fixed b ++ ps) c))) || ((is_keyed d && (head_equals (heard m) && semi_first ps)) || (is_binding d && (head_equals (heard m) && ends_declared e ps)))) ≡ true → ⊥
+    by_said (yes' o) u = by_line o
+    by_said (no' o) u =
+        by_keyed (test (is_keyed d && (head_equals (heard m) && semi_first ps))) (or_else (is_word d && (head_line (heard m) && (semi_first ps && starty e (fixed b ++ ps) c))) _ u o)
+
+    by_other : Test (head_other e ps (heard m)) → (head_other e ps (heard m) || ((is_word d && (head_line (heard m) && (semi_first ps && starty e (fixed b ++ ps) c))) || ((is_keyed d && (head_equals (heard m) && semi_first ps)) || (is_binding d && (head_equals (heard m) && ends_declared e ps))))) ≡ true → ⊥
     by_other (yes' o) u = other_apart e ps (heard m) x y o rest i (read_start j)
     by_other (no' o) u = by_said (test (is_word d && (head_line (heard m) && (semi_first ps && starty e (fixed b ++ ps) c)))) (or_else (head_other e ps (heard m)) _ u o)
 
-    by_in : Test (head_in r (heard m)) → (head_in r (heard m) || (head_other e ps (heard m) || ((is_word d && (head_line (heard m) && (semi_first ps && starty e (fixed b ++ ps) c))) || (is_keyed d && (head_equals (heard m) && semi_first ps))))) ≡ true → ⊥
+    by_in : Test (head_in r (heard m)) → (head_in r (heard m) || (head_other e ps (heard m) || ((is_word d && (head_line (heard m) && (semi_first ps && starty e (fixed b ++ ps) c))) || ((is_keyed d && (head_equals (heard m) && semi_first ps)) || (is_binding d && (head_equals (heard m) && ends_declared e ps)))))) ≡ true → ⊥
     by_in (yes' o) u = in_apart r (heard m) x n y o f g i (read_start j)
     by_in (no' o) u = by_other (test (head_other e ps (heard m))) (or_else (head_in r (heard m)) _ u o)
 
-    by_name : Test (head_name (heard m) c ps) → (head_name (heard m) c ps || (head_in r (heard m) || (head_other e ps (heard m) || ((is_word d && (head_line (heard m) && (semi_first ps && starty e (fixed b ++ ps) c))) || (is_keyed d && (head_equals (heard m) && semi_first ps)))))) ≡ true → ⊥
+    by_name : Test (head_name (heard m) c ps) → (head_name (heard m) c ps || (head_in r (heard m) || (head_other e ps (heard m) || ((is_word d && (head_line (heard m) && (semi_first ps && starty e (fixed b ++ ps) c))) || ((is_keyed d && (head_equals (heard m) && semi_first ps)) || (is_binding d && (head_equals (heard m) && ends_declared e ps))))))) ≡ true → ⊥
     by_name (yes' o) u = name_apart a (heard m) c ps x t o rest.walk i k j
     by_name (no' o) u = by_in (test (head_in r (heard m))) (or_else (head_name (heard m) c ps) _ u o)
 

@@ -2,10 +2,10 @@
 use Rattle.std.proofs.Common.{◌≡◌, ℕ, ◌≤◌, Bool, true, false, refl, sym, arith}
 use Rattle.std.specs.Prelude.{IsTrue, nat_le, codes}
 use Rattle.std.proofs.lemmas.Bool.{leb-true, leb-false}
-use Rattle.jsx_base.specs.Token.{Text, Operator, IdentifierName}
+use Rattle.jsx_base.specs.Token.{Text, Operator, IdentifierName, Punctuator}
 use Rattle.jsx_tree.specs.Signs.{Tok}
-use Rattle.jsx_tree.specs.Kinds.{FunctionExpr, ClassExpr, InObject, Method, Getter, Setter, Kind, function, node, Forest}
-use Rattle.jsx_tree.specs.Nonterminals.{Nonterminal, Expr}
+use Rattle.jsx_tree.specs.Kinds.{FunctionBody, FunctionExpr, ClassExpr, InObject, Method, Getter, Setter, Kind, program, function, node, Forest}
+use Rattle.jsx_tree.specs.Nonterminals.{Nonterminal, Expr, Body}
 use Rattle.jsx_tree.specs.StaticRules.{Surroundings}
 use Rattle.jsx_tree.specs.Reading.{Place, forth}
 use Rattle.jsx_tree.specs.Walk.{is_found, IsRead}
@@ -44,6 +44,29 @@ closed_same {y = y} {z} {k} {l} {cs} {ds} a b = by_bound (nat_le a.bound b.bound
     by_bound false e =
         let le = leb-false a.bound b.bound e in
         a.law l ds b.kind' (omega (arith, le, b.small)) b.good b.read
+
+-- a function's body before its brace, and the law up to a size
+pub record Filled (x : Place) (cs : Forest) (y : Place) : Type 0 where
+  pub bound : ℕ
+  pub small : size (node (program FunctionBody) cs) ≤ bound
+  pub good : kept (node (program FunctionBody) cs) ≡ true
+  pub surroundings : Surroundings
+  pub read : IsRead surroundings false Body x (node (program FunctionBody) cs) y
+  pub shuts : IsTrue (is_found (forth (Tok Operator Punctuator (codes "}")) y))
+  pub law : (ds : Forest) {v : Surroundings} {z : Place} → size (node (program FunctionBody) ds) ≤ bound → kept (node (program FunctionBody) ds) ≡ true → IsRead v false Body x (node (program FunctionBody) ds) z
+      → IsTrue (is_found (forth (Tok Operator Punctuator (codes "}")) z)) → (cs ≡ ds) × (y ≡ z)
+
+pub filled_same : {x y z : Place} {cs ds : Forest} → Filled x cs y → Filled x ds z → (cs ≡ ds) × (y ≡ z)
+filled_same {y = y} {z} {cs} {ds} a b = by_bound (nat_le a.bound b.bound) refl
+  where
+    by_bound : (c : Bool) → nat_le a.bound b.bound ≡ c → (cs ≡ ds) × (y ≡ z)
+    by_bound true e =
+        let le = leb-true a.bound b.bound e in
+        let r = b.law cs (omega (arith, le, a.small)) a.good a.read a.shuts in
+        (sym r.0, sym r.1)
+    by_bound false e =
+        let le = leb-false a.bound b.bound e in
+        a.law ds (omega (arith, le, b.small)) b.good b.read b.shuts
 
 -- the words that functions and classes begin with
 pub data Opener : Text → Type 0 where

@@ -6,7 +6,7 @@ use Rattle.jsx_tree.specs.Signs.{Ending, AfterExpr, Semicolon}
 use Rattle.jsx_tree.specs.Reading.{Place, At, forth, go_if, may_lack, continues, going_on, is_backquote}
 use Rattle.jsx_tree.proofs.Tokens.{and_left, and_right, same_is}
 use Rattle.jsx_tree.specs.Walk.{is_found}
-use Rattle.jsx_tree.proofs.OneTree.Readings.{Entry, entry, entries, lookup, is_step, reach_of, reach, calm}
+use Rattle.jsx_tree.proofs.OneTree.Readings.{ahead, Entry, entry, entries, lookup, is_step, reach_of, calm}
 use Rattle.jsx_tree.proofs.OneTree.Facts.{never, or_else, not_is, Test, yes', no', test}
 
 -- every token that goes on is one of the definitions' list
@@ -50,13 +50,13 @@ pub next_same : (f : Bool) (text : Text) → (token Operator f text ≡ token Op
 next_same false text = inl refl
 next_same true text = front (breaks text) (skip text)
 
-pub reach_from : (q : Text) (e : Ending) (text : Text) → reach_of (kind_number (token Operator false text).kind) (token Operator false text).raw (breaks text) ≡ 0 → reach (At q e text) ≡ 0
+pub reach_from : (q : Text) (e : Ending) (text : Text) → reach_of (kind_number (token Operator false text).kind) (token Operator false text).raw (breaks text) ≡ 0 → ahead (At q e text) ≡ 0
 reach_from q e text h = by_next (next_same (same q []) text)
   where
     none_here : (b : Bool) → reach_of 14 [] b ≡ 0
     none_here b = refl
 
-    by_next : (token Operator (same q []) text ≡ token Operator false text) ⊎ (token Operator (same q []) text ≡ no_token (skip text)) → reach (At q e text) ≡ 0
+    by_next : (token Operator (same q []) text ≡ token Operator false text) ⊎ (token Operator (same q []) text ≡ no_token (skip text)) → ahead (At q e text) ≡ 0
     by_next (inl s) = (λ i. reach_of (kind_number (s i).kind) (s i).raw (breaks text)) ∙ h
     by_next (inr s) = (λ i. reach_of (kind_number (s i).kind) (s i).raw (breaks text)) ∙ none_here (breaks text)
 

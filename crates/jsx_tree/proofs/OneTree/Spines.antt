@@ -1,4 +1,8 @@
 -- Down the left side of a tree the levels are those that its place asks.
+use Rattle.jsx_tree.proofs.OneTree.Fine.{of_blocked, first_tame}
+use Rattle.jsx_tree.proofs.OneTree.Known.{is_blocked}
+use Rattle.jsx_tree.specs.Form.{positions}
+use Rattle.jsx_tree.specs.Kinds.{Arrow, ArrowBlock, BareArrowBlock}
 use Rattle.jsx_tree.proofs.OneTree.Known.{is_seq, taken}
 use Rattle.std.proofs.Common.{◌≡◌, ℕ, ◌≤◌, suc, Bool, true, false, not, cond, [], ◌∷◌, refl, sym, ◌∙◌, ap, subst, arith}
 use Rattle.std.specs.Prelude.{◌&&◌, ◌||◌, nat_le}
@@ -200,6 +204,43 @@ no_sealed c k cs s a i = by_kind k s (home_of c k cs (and_left (admits c (node k
     by_kind (function _) s h = cc
     by_kind _ s h = cc
 
+-- arrows with a block stand where other arrows do
+abbrev pub blockless : Nonterminal → Bool
+blockless c = not (in_homes c (homes (expression ArrowBlock)))
+
+pub no_blocked : (c : Nonterminal) (k : Kind) (cs : Forest) → is_blocked k ≡ true → blockless c ≡ true → is c (node k cs) ≡ true → ⊥
+no_blocked c k cs s a i = by_kind k s (home_of c k cs (and_left (admits c (node k cs)) (fits_below c (node k cs)) i))
+  where
+    by_kind : (k : Kind) → is_blocked k ≡ true → in_homes c (homes k) ≡ true → ⊥
+    by_kind (expression ArrowBlock) s h = never _ h (not_is _ a)
+    by_kind (expression BareArrowBlock) s h = never _ h (not_is _ a)
+    by_kind (expression _) s h = cc
+    by_kind _ s h = cc
+
+pub blocked_home : (c : Nonterminal) (k : Kind) → is_blocked k ≡ true → in_homes c (homes k) ≡ true → in_homes c (homes (expression Arrow)) ≡ true
+blocked_home c (expression ArrowBlock) s h = h
+blocked_home c (expression BareArrowBlock) s h = h
+blocked_home c (expression _) s h = cc
+blocked_home c _ s h = cc
+
+pub blocked_level : (n : ℕ) (c : Nonterminal) (k : Kind) (cs : Forest) → is_blocked k ≡ true → place_at n c ≡ true → is c (node k cs) ≡ true → n ≤ 1
+blocked_level n c k cs s p i =
+    let h = blocked_home c k s (home_of c k cs (and_left (admits c (node k cs)) (fits_below c (node k cs)) i)) in
+    let q = at_kind c (spine_check n) (expression Arrow) (and_right (kin c) _ p) refl h in
+    le_nat (and_left (nat_le n 1) _ (and_right true _ q))
+
+blocked_node : (k : Kind) (cs : Forest) (m : ℕ) → is_blocked k ≡ true → nat_le m 1 ≡ true → fit_slots (positions k) cs ≡ true → (fit_slots (positions (expression BareArrowBlock)) cs ≡ true → first_ok m cs ≡ true) → spine_ok m (node k cs) ≡ true
+blocked_node (expression ArrowBlock) cs m s h f r = and_both (nat_le m 1) true h refl
+blocked_node (expression BareArrowBlock) cs m s h f r = and_both (nat_le m 1) (first_ok m cs) h (r f)
+blocked_node (expression _) cs m s h f r = cc
+blocked_node _ cs m s h f r = cc
+
+pub blocked_spine : (k : Kind) (cs : Forest) (m : ℕ) → is_blocked k ≡ true → spine_ok m (node k cs) ≡ true → m ≤ 1
+blocked_spine (expression ArrowBlock) cs m s h = le_nat (and_left (nat_le m 1) _ h)
+blocked_spine (expression BareArrowBlock) cs m s h = le_nat (and_left (nat_le m 1) _ h)
+blocked_spine (expression _) cs m s h = cc
+blocked_spine _ cs m s h = cc
+
 pub sealed_level : (n : ℕ) (c : Nonterminal) (k : Kind) (cs : Forest) → is_sealed k ≡ true → place_at n c ≡ true → is c (node k cs) ≡ true → n ≤ 19
 sealed_level n c k cs s p i =
     let h = sealed_home c k (and_left (kin c) _ p) s (home_of c k cs (and_left (admits c (node k cs)) (fits_below c (node k cs)) i)) in
@@ -230,21 +271,27 @@ spine_level (function _) cs m s h = cc
 spine_level _ cs m s h = cc
 
 by_tamed : (k : Kind) (cs : Forest) (c : Nonterminal) (m n : ℕ) → m ≤ n → place_at n c ≡ true → no_seq c ≡ true → Tamed k cs → is c (node k cs) ≡ true
-    → (tames cs ≡ true → m ≤ base (first_of (production k)) → place_at (base (first_of (production k))) (first_of (production k)) ≡ true → no_seq (first_of (production k)) ≡ true → leads (production k) ≡ true → fit_slots (slots [] false [] (production k)) cs ≡ true → first_ok m cs ≡ true) → spine_ok m (node k cs) ≡ true
-by_tamed k cs c m n le p q (of_open h t) i rec = by_taken k cs c m n le p q h i (test (taken k)) (rec t)
-by_tamed k cs c m n le p q (of_member s f g) i rec = absurd (no_member c k cs s (kin_memberless c (and_left (kin c) _ p)) i)
-by_tamed k cs c m n le p q (of_sealed s f) i rec = let l = sealed_level n c k cs s p i in level_spine k cs m s (le-leb m 19 (omega (arith, le, l)))
+    → (tames cs ≡ true → m ≤ base (first_of (production k)) → place_at (base (first_of (production k))) (first_of (production k)) ≡ true → no_seq (first_of (production k)) ≡ true → leads (production k) ≡ true → fit_slots (slots [] false [] (production k)) cs ≡ true → first_ok m cs ≡ true)
+    → (m ≤ 19 → first_tame cs ≡ true → fit_slots (positions (expression BareArrowBlock)) cs ≡ true → first_ok m cs ≡ true) → spine_ok m (node k cs) ≡ true
+by_tamed k cs c m n le p q (of_open h t) i rec bare = by_taken k cs c m n le p q h i (test (taken k)) (rec t)
+by_tamed k cs c m n le p q (of_blocked s f g) i rec bare = let l = blocked_level n c k cs s p i in blocked_node k cs m s (le-leb m 1 (omega (arith, le, l))) f (λ h. bare (omega (arith, le, l)) g h)
+by_tamed k cs c m n le p q (of_member s f g) i rec bare = absurd (no_member c k cs s (kin_memberless c (and_left (kin c) _ p)) i)
+by_tamed k cs c m n le p q (of_sealed s f) i rec bare = let l = sealed_level n c k cs s p i in level_spine k cs m s (le-leb m 19 (omega (arith, le, l)))
 
 mutual
   pub home_spine : (t : Tree) (c : Nonterminal) (m n : ℕ) → m ≤ n → place_at n c ≡ true → no_seq c ≡ true → tame t ≡ true → is c t ≡ true → spine_ok m t ≡ true
   home_spine (leaf s t) c m n le p q h i = refl
   home_spine (list ts) c m n le p q h i = cc
   home_spine (node k cs) c m n le p q h i =
-      by_tamed k cs c m n le p q (tamed k cs h) i (λ t a b d l f. home_first cs (production k) m a b d t l f)
+      by_tamed k cs c m n le p q (tamed k cs h) i (λ t a b d l f. home_first cs (production k) m a b d t l f) (λ a g f. home_head cs m a g f)
 
   pub home_first : (cs : Forest) (ps : Production) (m : ℕ) → m ≤ base (first_of ps) → place_at (base (first_of ps)) (first_of ps) ≡ true → no_seq (first_of ps) ≡ true → tames cs ≡ true → leads ps ≡ true → fit_slots (slots [] false [] ps) cs ≡ true → first_ok m cs ≡ true
   home_first none ps m le p q h l f = absurd (first_here ps l f)
   home_first (part t ts) ps m le p q h l f = home_spine t (first_of ps) m (base (first_of ps)) le p q (and_left (tame t) (tames ts) h) (first_is ps t ts l f)
+
+  home_head : (cs : Forest) (m : ℕ) → m ≤ 19 → first_tame cs ≡ true → fit_slots (positions (expression BareArrowBlock)) cs ≡ true → first_ok m cs ≡ true
+  home_head none m le h f = cc
+  home_head (part t ts) m le h f = home_spine t BindingIdent m 19 le refl refl h (first_is (production (expression BareArrowBlock)) t ts refl f)
 
 -- a callee of `new` has no call on its spine
 
@@ -274,6 +321,7 @@ callee_tamed : (k : Kind) (cs : Forest) → Tamed k cs → spine_ok 17 (node k c
 callee_tamed k cs (of_open t m) h c rec = callee_node k cs t h c (rec m)
 callee_tamed k cs (of_member s f g) h c rec = member_spine k cs s
 callee_tamed k cs (of_sealed s f) h c rec = level_spine k cs 18 s refl
+callee_tamed k cs (of_blocked s f g) h c rec = let l = blocked_spine k cs 17 s h in absurd (omega (arith, l))
 
 mutual
   pub callee_spine : (t : Tree) → tame t ≡ true → spine_ok 17 t ≡ true → spine_calls t ≡ false → spine_ok 18 t ≡ true

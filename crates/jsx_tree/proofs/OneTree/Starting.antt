@@ -1,18 +1,18 @@
 -- What an expression begins with, and what goes on with one.
-use Rattle.std.proofs.Common.{◌≡◌, ℕ, ◌≤◌, suc, Bool, true, false, not, cond, List, refl, sym, ◌∙◌, ap, subst, arith}
+use Rattle.std.proofs.Common.{[], ◌≡◌, ℕ, ◌≤◌, suc, Bool, true, false, not, cond, List, refl, sym, ◌∙◌, ap, subst, arith}
 use Rattle.std.specs.Prelude.{IsTrue, ◌&&◌, ◌||◌, nat_eq, codes}
-use Rattle.jsx_base.specs.Token.{Text, Operator, TokenKind, IdentifierName, Punctuator, NumericLiteral, BigIntLiteral, StringLiteral, NoSubstitution, TemplateHead, kind_number, same}
-use Rattle.jsx_tree.specs.Signs.{Tok, SameLine}
-use Rattle.jsx_tree.specs.Kinds.{Arrow, Kind, expression, Tree, Forest}
+use Rattle.jsx_base.specs.Token.{Text, Mode, is_token, token, Operator, TokenKind, IdentifierName, Punctuator, NumericLiteral, BigIntLiteral, StringLiteral, NoSubstitution, TemplateHead, kind_number, same}
+use Rattle.jsx_tree.specs.Signs.{AfterExpr, Tok, SameLine}
+use Rattle.jsx_tree.specs.Kinds.{Arrow, Kind, expression, Tree, Forest, ArrowBlock}
 use Rattle.jsx_tree.specs.Spelling.{mode_of}
-use Rattle.jsx_tree.specs.Reading.{Place, forth, is_backquote}
+use Rattle.jsx_tree.specs.Reading.{Place, Lost, At, forth, go_if, is_backquote}
 use Rattle.jsx_tree.specs.Nonterminals.{is_value_word}
 use Rattle.jsx_tree.specs.Walk.{is_found}
 use Rattle.jsx_tree.proofs.Tokens.{and_left, and_right}
 use Rattle.jsx_tree.proofs.OneTree.Table.{code, scope}
-use Rattle.jsx_tree.proofs.OneTree.Readings.{Step, row, tail, level, grows, lookup, entries, is_step, reach_of, reach, calm, kind_at, text_at, broken, is_arrow, is_paren, may_be, Reads, word, head, paren, target, grow, arrow, Walk, done, take, pass, literal, under, all, each, is_tagged, is_quote, is_slash, regexp}
+use Rattle.jsx_tree.proofs.OneTree.Readings.{is_block, block_reach, ahead, Items, shut, gap, last, more, Step, row, tail, level, grows, lookup, entries, is_step, reach_of, reach, calm, kind_at, text_at, broken, is_arrow, is_paren, may_be, Reads, word, head, paren, target, grow, arrow, Walk, done, take, pass, literal, under, all, each, is_tagged, is_quote, is_slash, regexp}
 use Rattle.jsx_tree.proofs.OneTree.Sealed.{Opener, of_function, of_class, Sealed}
-use Rattle.jsx_tree.proofs.OneTree.Readings.{sealed, braces, linked, filled, tagged}
+use Rattle.jsx_tree.proofs.OneTree.Readings.{sealed, braces, linked, filled, tagged, blocked, bare_blocked}
 use Rattle.jsx_tree.proofs.OneTree.Checks.{is_op, starts, bare, no_line, opens, no_word, no_open, reaches, on_line, goes_by, one_ok, tagged_ok, tagged_ones, opens_quote, ones}
 use Rattle.jsx_tree.proofs.OneTree.Slashes.{regexp_slash}
 use Rattle.jsx_tree.proofs.OneTree.Quotes.{quote_begins}
@@ -84,8 +84,10 @@ weaken (sealed l s) le = sealed (omega (arith, le, l)) s
 weaken (braces l c a e f p) le = braces (omega (arith, le, l)) c a e f p
 weaken (paren l e f a g h) le = paren (omega (arith, le, l)) e f a g h
 weaken (target l e f r c g h) le = target (omega (arith, le, l)) e f r c g h
-weaken (grow s d l r w) le = grow s d (omega (arith, le, l)) (weaken r le) w
+weaken (grow s d l b r w) le = grow s d (omega (arith, le, l)) b (weaken r le) w
 weaken (arrow l p w) le = arrow (omega (arith, le, l)) p w
+weaken (blocked l e f p b) le = blocked (omega (arith, le, l)) e f p b
+weaken (bare_blocked l a e f b) le = bare_blocked (omega (arith, le, l)) a e f b
 
 at_kind : (p : ℕ → Text → Bool) {x : Place} {k : TokenKind} {t : Text} → Seen x k t → p (kind_number k) t ≡ true → p (kind_at x) (text_at x) ≡ true
 at_kind p s h = (λ i. p (s.kind i) (s.text i)) ∙ h
@@ -107,6 +109,7 @@ arrow_leads k h = by_kind k (is_arrow k) refl h
     by_kind : (k : Kind) (b : Bool) → is_arrow k ≡ b → grows k ≡ true → b ≡ false
     by_kind k false e h = refl
     by_kind (expression Arrow) true e h = cc
+    by_kind (expression ArrowBlock) true e h = cc
     by_kind _ true e h = cc
 
 pub record HeadFacts (k : Kind) : Type 0 where
@@ -178,8 +181,10 @@ begins (sealed {x = x} l s) = at_kind starts (opener_seen x s) (opener_starts s.
 begins (braces {x = x} l c a e f p) = at_kind starts (took Punctuator (codes "{") x e f) refl
 begins (paren {x = x} l e f a g h) = at_kind starts (took Punctuator (codes "(") x e f) refl
 begins (target {x = x} l e f r c g h) = at_kind starts (took Punctuator (codes "(") x e f) refl
-begins (grow s d l r w) = begins r
+begins (grow s d l b r w) = begins r
 begins (arrow {x = x} l (take e f p) w) = at_kind starts (took Punctuator (codes "(") x e f) refl
+begins (blocked {x = x} l e f p b) = at_kind starts (took Punctuator (codes "(") x e f) refl
+begins (bare_blocked {x = x} {t = t} l a e f b) = at_kind starts (took IdentifierName t x e f) (may_start IdentifierName t a)
 
 -- no expression begins with this token
 pub no_start : {n : ℕ} {x y : Place} {t : Tree} {k : TokenKind} {u : Text} → Seen x k u → starts (kind_number k) u ≡ false → Reads n x t y → ⊥
@@ -228,13 +233,13 @@ tagged_facts k s l =
 pub tagged_start : (k : Kind) {x y : Place} {cs : Forest} → scope k ≡ true → is_tagged k ≡ true → Walk (row k) x cs y → Quoted x
 tagged_start k s l w = opened w (tagged_facts k s l).0
 
-quote_reach : {x : Place} → Quoted x → reach x ≡ 19
+quote_reach : {x : Place} → Quoted x → ahead x ≡ 19
 quote_reach {x} q = (λ i. reach_of (q.here.kind i) (q.here.text i) (broken x)) ∙ (λ i. cond (q.back i) 19 (cond (nat_eq (kind_number q.kind) (kind_number Punctuator) || nat_eq (kind_number q.kind) (kind_number IdentifierName)) (cond (is_step q.text) (cond (broken x) 0 17) (lookup q.text entries)) 0))
 
-dot_reach : {x : Place} → Seen x Punctuator (codes "?.") → reach x ≡ 18
+dot_reach : {x : Place} → Seen x Punctuator (codes "?.") → ahead x ≡ 18
 dot_reach {x} s = (λ i. reach_of (s.kind i) (s.text i) (broken x))
 
-reach_by : {ps : List Step} {x y : Place} {ts : Forest} {n : ℕ} (b : Bool) → broken x ≡ b → Walk ps x ts y → reaches b ps n ≡ true → reach x ≡ n
+reach_by : {ps : List Step} {x y : Place} {ts : Forest} {n : ℕ} (b : Bool) → broken x ≡ b → Walk ps x ts y → reaches b ps n ≡ true → ahead x ≡ n
 reach_by b o (pass g w) h = reach_by b o w h
 reach_by b o (take {m = Operator} {k = k} {t = t} {x = x} e f w) h = let s : Seen x k t = took k t x e f in (λ i. reach_of (s.kind i) (s.text i) (o i)) ∙ eq_nat h
 reach_by {n = n} b o (linked {x = x} g a w) h = dot_reach (seen Punctuator (codes "?.") x g) ∙ sym (eq_nat h)
@@ -245,19 +250,37 @@ whole_line : {ps : List Step} {x y : Place} {ts : Forest} → Walk ps x ts y →
 whole_line (pass {s = SameLine} g w) h = not_is _ g
 whole_line _ h = cc
 
-pub goes_on : {ps : List Step} {x y : Place} {ts : Forest} {n : ℕ} → Walk ps x ts y → goes_by ps n ≡ true → reach x ≡ n
-goes_on {ps} {x} {n = n} w h = by_case (test (broken x))
+goes_ahead : {ps : List Step} {x y : Place} {ts : Forest} {n : ℕ} → Walk ps x ts y → goes_by ps n ≡ true → ahead x ≡ n
+goes_ahead {ps} {x} {n = n} w h = by_case (test (broken x))
   where
-    by_case : Test (broken x) → reach x ≡ n
+    by_case : Test (broken x) → ahead x ≡ n
     by_case (no' o) = reach_by false o w (and_left (reaches false ps n) (on_line ps || reaches true ps n) h)
     by_case (yes' o) = by_line (test (on_line ps))
       where
-        by_line : Test (on_line ps) → reach x ≡ n
+        by_line : Test (on_line ps) → ahead x ≡ n
         by_line (yes' l) = absurd (never (broken x) o (whole_line w l))
         by_line (no' l) = reach_by true o w (or_else (on_line ps) (reaches true ps n) (and_right (reaches false ps n) (on_line ps || reaches true ps n) h) l)
 
-pub no_growth : (k : Kind) {n : ℕ} {x y : Place} {ts : Forest} → scope k ≡ true → grows k ≡ true → n ≤ level k → Walk (tail k) x ts y → calm n x ≡ true → ⊥
-no_growth k {n} {x} s d le w c =
-    let r : reach x ≡ suc (level k) = goes_on w (of_grow k s d).goes in
+pub goes_on : {ps : List Step} {x y : Place} {ts : Forest} {n : ℕ} → is_block x ≡ false → Walk ps x ts y → goes_by ps n ≡ true → reach x ≡ n
+goes_on {x = x} b w h = (λ i. cond (b i) (block_reach (kind_at x) (text_at x)) (ahead x)) ∙ goes_ahead w h
+
+-- no place behind a token is behind a block
+pub tok_clear : (m : Mode) (k : TokenKind) (t : Text) (x : Place) {y : Place} → forth (Tok m k t) x ≡ y → is_block y ≡ false
+tok_clear m k t Lost e = subst (λ z. is_block z ≡ false) e refl
+tok_clear m k t (At q g text) e = subst (λ z. is_block z ≡ false) e (if_clear (is_token (token m (same q []) text) k t) (token m (same q []) text).rest)
+  where
+    if_clear : (b : Bool) (r : Text) → is_block (go_if b (At t AfterExpr r)) ≡ false
+    if_clear true r = refl
+    if_clear false r = refl
+
+pub items_clear : {h : Bool} {u : Text} {x y : Place} {ts : Forest} → Items h u x ts y → is_block y ≡ false
+items_clear (shut {u = u} {x = x} e f) = tok_clear Operator Punctuator u x e
+items_clear (gap e f i) = items_clear i
+items_clear (last {u = u} {y = y} r c e f) = tok_clear Operator Punctuator u y e
+items_clear (more r c e f i) = items_clear i
+
+pub no_growth : (k : Kind) {n : ℕ} {x y : Place} {ts : Forest} → scope k ≡ true → grows k ≡ true → n ≤ level k → is_block x ≡ false → Walk (tail k) x ts y → calm n x ≡ true → ⊥
+no_growth k {n} {x} s d le b w c =
+    let r : reach x ≡ suc (level k) = goes_on b w (of_grow k s d).goes in
     let l : reach x ≤ n = le_nat c in
     omega (arith, le, r, l)

@@ -1,6 +1,6 @@
 -- The kinds that are read alike have one number. Each kind of expression or pattern has its position in their list.
 use Rattle.std.specs.Prelude.{ℕ, zero, suc, List, [], ◌∷◌, Bool, true, false, IsTrue}
-use Rattle.jsx_tree.specs.Kinds.{Script, Module, FunctionBody, Directive, ImportBare, Import, ImportAll, ImportList, ImportBoth, ExportAll, ExportAllAs, ExportDecl, ExportDefaultFn, ExportDefaultClass, ExportDefaultExpr, ExportNames, ExportFrom, Specifier, SpecifierAs, Imported, Exported, From, Var, VarWord, LetWord, ConstWord, Block, Declarator, Empty, ExprStmt, If, Do, While, For, ForDeclaration, ForIn, ForOf, ForBinding, Continue, Break, Return, Throw, Debugger, Label, Switch, Case, Default, Try, Catch, FunctionDecl, ClassDecl, FunctionExpr, ClassExpr, InObject, InClass, Static, Method, Getter, Setter, Field, program, statement, Binds, Assigns, ArrayPat, WithInit, RestPat, ObjectPat, PropertyPat, ShorthandPat, ShorthandInit, RestProperty, ParenTarget, ComputedKey, Nullish, Or, And, BitOr, BitXor, BitAnd, Equal, Unequal, StrictEqual, StrictUnequal, Less, Greater, AtMost, AtLeast, InOp, InstanceOf, ShiftLeft, ShiftRight, ShiftOut, Add, Subtract, Multiply, Divide, Remainder, Exponentiate, Delete, Void, TypeOf, Positive, Negative, Complement, Not, Increment, Decrement, Seq, Assign, OpAssign, Arrow, BareArrow, Cond, Binary, Unary, PrefixUpdate, PostfixUpdate, Call, Member, Index, New, NewWithoutArguments, SuperCall, SuperMember, SuperIndex, ImportCall, ImportMeta, NewTarget, Chain, NameLink, IndexLink, CallLink, Array, Object, Property, Shorthand, Spread, Parenthesized, Tagged, PlainTemplate, SubstitutedTemplate, TemplateSpan, Kind, function, expression}
+use Rattle.jsx_tree.specs.Kinds.{Script, Module, FunctionBody, Directive, ImportBare, Import, ImportAll, ImportList, ImportBoth, ExportAll, ExportAllAs, ExportDecl, ExportDefaultFn, ExportDefaultClass, ExportDefaultExpr, ExportNames, ExportFrom, Specifier, SpecifierAs, Imported, Exported, From, Var, VarWord, LetWord, ConstWord, Block, Declarator, Empty, ExprStmt, If, Do, While, For, ForDeclaration, ForIn, ForOf, ForBinding, Continue, Break, Return, Throw, Debugger, Label, Switch, Case, Default, Try, Catch, FunctionDecl, ClassDecl, FunctionExpr, ClassExpr, InObject, InClass, Static, Method, Getter, Setter, Field, program, statement, Binds, Assigns, ArrayPat, WithInit, RestPat, ObjectPat, PropertyPat, ShorthandPat, ShorthandInit, RestProperty, ParenTarget, ComputedKey, Nullish, Or, And, BitOr, BitXor, BitAnd, Equal, Unequal, StrictEqual, StrictUnequal, Less, Greater, AtMost, AtLeast, InOp, InstanceOf, ShiftLeft, ShiftRight, ShiftOut, Add, Subtract, Multiply, Divide, Remainder, Exponentiate, Delete, Void, TypeOf, Positive, Negative, Complement, Not, Increment, Decrement, Seq, Assign, OpAssign, Arrow, BareArrow, Cond, Binary, Unary, PrefixUpdate, PostfixUpdate, Call, Member, Index, New, NewWithoutArguments, SuperCall, SuperMember, SuperIndex, ImportCall, ImportMeta, NewTarget, Chain, NameLink, IndexLink, CallLink, Array, Object, Property, Shorthand, Spread, Parenthesized, Tagged, PlainTemplate, SubstitutedTemplate, TemplateSpan, Kind, function, expression, ArrowBlock, BareArrowBlock}
 use Rattle.std.proofs.Common.{◌≡◌, refl}
 
 abbrev pub code : Kind → ℕ
@@ -9,6 +9,8 @@ code (expression Spread) = 2
 code (expression Parenthesized) = 3
 code (expression Arrow) = 4
 code (expression BareArrow) = 4
+code (expression ArrowBlock) = 70
+code (expression BareArrowBlock) = 70
 code (expression Assign) = 5
 code (expression Cond) = 6
 code (expression Call) = 7

@@ -1,7 +1,10 @@
 -- What the definitions read, with what may stand behind each part: templates.
+use Rattle.jsx_tree.proofs.OneTree.Spines.{blockless, no_blocked}
+use Rattle.jsx_tree.proofs.OneTree.Fine.{fine_blocked}
+use Rattle.jsx_tree.proofs.OneTree.Next.{reach_seen}
 use Rattle.jsx_tree.proofs.OneTree.Known.{plain_leaf, is_piece}
 use Rattle.std.proofs.Common.{◌≡◌, Bool, true, false, List, [], ◌∷◌, refl, sym, ◌∙◌, ap, subst}
-use Rattle.std.specs.Prelude.{IsTrue, ◌&&◌, nat_le, codes}
+use Rattle.std.specs.Prelude.{IsTrue, ◌&&◌, codes}
 use Rattle.jsx_base.specs.Token.{Text, TokenKind, IdentifierName, Punctuator, NumericLiteral, BigIntLiteral, StringLiteral, NoSubstitution, TemplateHead, TemplateMiddle, TemplateTail, Elision}
 use Rattle.jsx_tree.specs.Signs.{Tok}
 use Rattle.jsx_tree.specs.Kinds.{SubstitutedTemplate, TemplateSpan, PlainTemplate, Kind, expression, Tree, leaf, node, list, Forest, none, part}
@@ -15,7 +18,7 @@ use Rattle.jsx_tree.specs.Walk as W
 use Rattle.jsx_tree.specs.Walk.{is_found, IsRead}
 use Rattle.jsx_tree.proofs.Tokens.{and_left, and_right}
 use Rattle.jsx_tree.proofs.OneTree.Table.{code}
-use Rattle.jsx_tree.proofs.OneTree.Readings.{Step, lit, spans, quoted, row, reach_of, calm, broken, Walk, done, literal, Spans, t_tail, t_more, is_tagged, is_span, brace}
+use Rattle.jsx_tree.proofs.OneTree.Readings.{Step, lit, spans, quoted, row, calm, Walk, done, literal, Spans, t_tail, t_more, is_tagged, is_span, brace}
 use Rattle.jsx_tree.proofs.OneTree.Readings.{filled, tagged}
 use Rattle.jsx_tree.proofs.OneTree.Facts.{never, Seen, took}
 use Rattle.jsx_tree.proofs.OneTree.Places.{is_prop, at_home, no_seq, tagged_home, span_home, free}
@@ -38,6 +41,17 @@ piece_home TemplateHead p = refl
 piece_home TemplateMiddle p = refl
 piece_home TemplateTail p = refl
 piece_home _ p = cc
+
+piece_blockless : (s : TokenKind) → is_piece s ≡ true → blockless (TemplatePart s) ≡ true
+piece_blockless NoSubstitution p = refl
+piece_blockless TemplateHead p = refl
+piece_blockless TemplateMiddle p = refl
+piece_blockless TemplateTail p = refl
+piece_blockless _ p = cc
+
+spans_blockless : (b : Bool) → blockless (TemplateSpans b) ≡ true
+spans_blockless true = refl
+spans_blockless false = refl
 
 piece_absent : (s : TokenKind) → is_piece s ≡ true → absent (TemplatePart s) ≡ true
 piece_absent NoSubstitution p = refl
@@ -103,6 +117,7 @@ piece_at TemplateTail p (fine_leaf {s = StringLiteral} q) r = let bad = in_is r 
 piece_at TemplateTail p (fine_leaf {s = Elision} q) r = let bad = in_is r in cc
 piece_at TemplateTail p (fine_leaf q) r = cc
 piece_at s p (fine_sealed {k = k} {cs = cs} q f) r = absurd (no_sealed (TemplatePart s) k cs q (and_left (sealless (TemplatePart s)) _ (piece_absent s p)) r.is)
+piece_at s p (fine_blocked {k = k} {cs = cs} q f) r = absurd (no_blocked (TemplatePart s) k cs q (piece_blockless s p) r.is)
 piece_at s p (fine_member {k = k} {t = u} {ts = us} q f m g) r = absurd (no_member (TemplatePart s) k (part u us) q (and_right (sealless (TemplatePart s)) _ (piece_absent s p)) r.is)
 piece_at s p (fine_list f) r = let bad = r.is in cc
 piece_at s p (fine_seq {k = k} {cs = cs} q f) r = absurd (no_seq_here (TemplatePart s) k cs q (piece_seq s p) r.is)
@@ -114,7 +129,7 @@ pub piece_walk : (s : TokenKind) {v : Surroundings} {x y z : Place} {t : Tree} {
 piece_walk s {x = x} {z = z} {ts = ts} {qs} p f r w = let a = piece_at s p f r in subst (λ t. Walk (lit s ∷ qs) x (part t ts) z) (sym a.is_tree) (literal a.moves r.found w)
 
 brace_calm : (x : Place) {y : Place} → forth brace x ≡ y → IsTrue (is_found y) → calm 0 x ≡ true
-brace_calm x e f = let s : Seen x Punctuator (codes "}") = took Punctuator (codes "}") x e f in (λ i. nat_le (reach_of (s.kind i) (s.text i) (broken x)) 0)
+brace_calm x e f = let s : Seen x Punctuator (codes "}") = took Punctuator (codes "}") x e f in reach_seen Punctuator (codes "}") 0 x s refl
 
 two_fines : {t u : Tree} {ts : Forest} → Fines (part t (part u ts)) → Fine t × (Fine u × Fines ts)
 two_fines (fine_part f (fine_part g fs)) = (f, (g, fs))
@@ -174,6 +189,7 @@ more_spans b (fine_seq {k = k} {cs = cs} s f) m r i = absurd (no_seq_here (Templ
 more_spans true (fine_regexp) m r i = let bad = in_is r in cc
 more_spans false (fine_regexp) m r i = let bad = in_is r in cc
 more_spans b (fine_sealed {k = k} {cs = cs} s f) m r i = absurd (no_sealed (TemplateSpans b) k cs s (and_left (sealless (TemplateSpans b)) _ (spans_absent b)) r.is)
+more_spans b (fine_blocked {k = k} {cs = cs} s f) m r i = absurd (no_blocked (TemplateSpans b) k cs s (spans_blockless b) r.is)
 more_spans b (fine_member {k = k} {t = u} {ts = us} s f n g) m r i = absurd (no_member (TemplateSpans b) k (part u us) s (and_right (sealless (TemplateSpans b)) _ (spans_absent b)) r.is)
 more_spans b (fine_list f) m r i = let bad = r.is in cc
 more_spans b (fine_leaf {s = s} {t = t} p) m r i = absurd (spans_leaf b s t p (in_is r))
@@ -235,6 +251,7 @@ tag_walk (fine_node {k = k} {cs = cs} t np g) m r w =
 tag_walk (fine_seq {k = k} {cs = cs} s f) m r w = absurd (no_seq_here TemplateOf k cs s refl r.is)
 tag_walk (fine_regexp) m r w = let bad = in_is r in cc
 tag_walk (fine_sealed {k = k} {cs = cs} s f) m r w = absurd (no_sealed TemplateOf k cs s refl r.is)
+tag_walk (fine_blocked {k = k} {cs = cs} s f) m r w = absurd (no_blocked TemplateOf k cs s refl r.is)
 tag_walk (fine_member {k = k} {t = u} {ts = us} s f n g) m r w = absurd (no_member TemplateOf k (part u us) s refl r.is)
 tag_walk (fine_list f) m r w = let bad = r.is in cc
 tag_walk (fine_leaf {s = IdentifierName} p) m r w = let bad = in_is r in cc

@@ -1,10 +1,11 @@
 -- A text has one tree: two kinds at one place begin with tokens that differ, and one kind reads its row in one way.
 use Rattle.std.specs.Prelude.{◌&&◌}
+use Rattle.jsx_tree.proofs.OneTree.Next.{reach_seen}
 use Rattle.jsx_tree.proofs.OneTree.Wants.{still}
 use Rattle.jsx_tree.proofs.OneTree.Kinds.Directives.{is_expr_stmt, expr_stmt_is}
 use Rattle.jsx_tree.proofs.OneTree.Kinds.Imports.{import_row, import_clash}
 use Rattle.std.proofs.Common.{◌≡◌, ℕ, ◌≤◌, zero, suc, Bool, true, false, not, List, [], ◌∷◌, refl, sym, ◌∙◌, ap, subst, arith}
-use Rattle.std.specs.Prelude.{IsTrue, ◌+◌, ◌||◌, nat_eq, nat_le, codes}
+use Rattle.std.specs.Prelude.{IsTrue, ◌+◌, ◌||◌, nat_eq, codes}
 use Rattle.jsx_base.specs.Token.{Text, Operator, TokenKind, IdentifierName, Punctuator, same, breaks}
 use Rattle.jsx_tree.specs.declared.text.Goal.{Goal}
 use Rattle.jsx_tree.specs.declared.text.Goal.TheVariants as goals
@@ -35,7 +36,8 @@ use Rattle.jsx_tree.proofs.OneTree.Spines.{home_of}
 use Rattle.jsx_tree.proofs.OneTree.Placed.{whole_reads}
 use Rattle.jsx_tree.proofs.OneTree.Chains.{fine}
 use Rattle.jsx_tree.proofs.OneTree.Statements.{stated_nth, for_stated}
-use Rattle.jsx_tree.proofs.OneTree.Endings.{after, at_semi}
+use Rattle.jsx_tree.proofs.OneTree.Endings.{after}
+use Rattle.jsx_tree.proofs.OneTree.Missing.{at_semi}
 use Rattle.jsx_tree.proofs.OneTree.Endings.{end_kind}
 use Rattle.jsx_tree.proofs.OneTree.Missing.{Behind, a_mark, a_brace, a_line, behind}
 use Rattle.jsx_tree.proofs.OneTree.Afters.{after_tok, after_tree}
@@ -43,7 +45,7 @@ use Rattle.jsx_tree.proofs.OneTree.Known.{stated, known, kept, kepts, size, size
 use Rattle.jsx_tree.proofs.OneTree.Sealed.{is_sealed, is_member}
 use Rattle.jsx_tree.proofs.OneTree.Evidence.{Law, Kept, Kepts, kept_left, kept_kind, kept_parts}
 use Rattle.jsx_tree.proofs.OneTree.Parts.{tame_of, SameAt, word_read}
-use Rattle.jsx_tree.proofs.OneTree.Wants.{anything, parted, idle, shutting, idle_at, meets, implied, mark, look_same}
+use Rattle.jsx_tree.proofs.OneTree.Wants.{anything, parted, idle, shutting, idle_at, meets, seen_met, implied, mark, look_same}
 use Rattle.jsx_tree.proofs.OneTree.Begins.{is_own, want_of, front, front_fits}
 use Rattle.jsx_tree.proofs.OneTree.Rows.{One, Each, each_leaf, each_node, each_none, each_part, All, leafless, own_leaf, own_kind, clause_is, clause_clash}
 use Rattle.jsx_tree.proofs.OneTree.Lists.{SameRow}
@@ -65,7 +67,7 @@ ident_word IdentifierName t h = or_left (is_ident t) _ h
 ident_word _ t h = cc
 
 colon_calm : (x : Place) → Seen x Punctuator (codes ":") → calm 1 x ≡ true
-colon_calm x s = (λ i. nat_le (reach_of (s.kind i) (s.text i) (broken x)) 1)
+colon_calm x s = reach_seen Punctuator (codes ":") 1 x s refl
 
 -- no semicolon is missing before a `:`
 colon_semi : (x : Place) → after x ≡ true → Seen x Punctuator (codes ":") → IsTrue (is_found (forth Semicolon x)) → ⊥
@@ -403,15 +405,22 @@ member_one (function (Setter _)) l cs ds a b h h' r s = cc
 member_one (function _) l cs ds a b h h' r s = cc
 member_one _ l cs ds a b h h' r s = cc
 
+-- two bodies of functions
+body_one : (cs ds : Forest) {v w : Surroundings} {x y z : Place} → Kepts cs → Kepts ds → IsRead v false Body x (node (program FunctionBody) cs) y → IsRead w false Body x (node (program FunctionBody) ds) z → IsTrue (is_found (forth (Tok Operator Punctuator (codes "}")) y)) → IsTrue (is_found (forth (Tok Operator Punctuator (codes "}")) z)) → (cs ≡ ds) × (y ≡ z)
+body_one cs ds {y = y} {z} h h' r s f g =
+    let q = kind_same Body (program FunctionBody) cs ds refl refl refl (node_walk false (program FunctionBody) refl r) (node_walk false (program FunctionBody) refl s) (alls cs) h h' (seen_met shutting Punctuator (codes "}") y f refl) (seen_met shutting Punctuator (codes "}") z g refl) in
+    (q.trees, q.place)
+
 -- by size: the parts of what is sealed are smaller
 law : (n : ℕ) → Law n
-law zero = record { of_sealed = record { one = λ k l cs ds s t le lf h g r q. absurd (no_size (sizes cs) le) }; of_members = record { one = λ k l cs ds s t le lf h g r q. absurd (no_size (sizes cs) le) } }
+law zero = record { of_sealed = record { one = λ k l cs ds s t le lf h g r q. absurd (no_size (sizes cs) le) }; of_members = record { one = λ k l cs ds s t le lf h g r q. absurd (no_size (sizes cs) le) }; of_bodies = record { one_body = λ cs ds le lf h g r q a b. absurd (no_size (sizes cs) le) } }
   where
     no_size : (m : ℕ) → suc m ≤ 0 → ⊥
     no_size m le = omega (arith, le)
 law (suc n) = record {
   of_sealed = record { one = λ k l cs ds s t le lf h g r q. sealed_one k l cs ds s t (smaller k cs (law n) le h) (smaller l ds (law n) lf g) r q };
   of_members = record { one = λ k l cs ds s t le lf h g r q. member_one k l cs ds s t (smaller k cs (law n) le h) (smaller l ds (law n) lf g) r q };
+  of_bodies = record { one_body = λ cs ds le lf h g r q a b. body_one cs ds (smaller (program FunctionBody) cs (law n) le h) (smaller (program FunctionBody) ds (law n) lf g) r q a b };
 }
   where
     smaller : (k : Kind) (cs : Forest) → Law n → size (node k cs) ≤ suc n → kept (node k cs) ≡ true → Kepts cs

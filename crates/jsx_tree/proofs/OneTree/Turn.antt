@@ -1,9 +1,13 @@
 -- Two trees at one place that are the same up to patterns and literals are one tree.
+use Rattle.jsx_tree.proofs.OneTree.Known.{is_blocked}
+use Rattle.jsx_tree.proofs.OneTree.Spines.{blocked_home}
+use Rattle.jsx_tree.proofs.OneTree.Kept.{a_blocked}
+use Rattle.jsx_tree.specs.Kinds.{BareArrowBlock}
 use Rattle.jsx_tree.proofs.OneTree.Known.{stated, known, kept, kepts}
 use Rattle.std.proofs.Common.{◌≡◌, ℕ, Bool, true, false, not, List, [], ◌∷◌, refl, sym, ◌∙◌, ap, subst, arith}
 use Rattle.std.specs.Prelude.{◌&&◌, ◌||◌, nat_eq, nat_le}
 use Rattle.jsx_base.specs.Token.{Text, TokenKind}
-use Rattle.jsx_tree.specs.Kinds.{Seq, Arrow, BareArrow, Parenthesized, ParenTarget, Kind, function, expression, Tree, leaf, node, list, Forest, none, part}
+use Rattle.jsx_tree.specs.Kinds.{Seq, Arrow, ArrowBlock, BareArrow, Parenthesized, ParenTarget, Kind, function, expression, Tree, leaf, node, list, Forest, none, part}
 use Rattle.jsx_tree.specs.Nonterminals.{Nonterminal, Expr, SimpleTarget, BindingIdent, NullishLeft, NullishOnly, NewCallee, DotObject, MemberObject, ForOfHead, ForHead, number, floor, takes, in_list, homes, in_homes}
 use Rattle.std.proofs.lemmas.Bool.{eq-eqb}
 use Rattle.jsx_tree.specs.Grammar.{TwoOrMore}
@@ -14,7 +18,7 @@ use Rattle.jsx_tree.proofs.OneTree.Readings.{Flat, Flats, one, some, row_of, nil
 use Rattle.jsx_tree.proofs.OneTree.Table.{listed}
 use Rattle.jsx_tree.proofs.OneTree.Checks.{every}
 use Rattle.jsx_tree.proofs.OneTree.Facts.{never, or_else, not_is, Test, yes', no', test, eq_nat, for_kind}
-use Rattle.jsx_tree.proofs.OneTree.Growths.{made_plain, made_paren, unseq_made}
+use Rattle.jsx_tree.proofs.OneTree.Growths.{made_plain, made_paren, made_arrow, unseq_some, unseq_made}
 use Rattle.jsx_tree.proofs.OneTree.Statements.{place, stated_kinds, stated_nth, for_stated}
 use Rattle.jsx_tree.proofs.OneTree.Statements as S
 use Rattle.jsx_tree.proofs.OneTree.Kept.{Which, a_statement, a_taken, a_seq, which}
@@ -99,6 +103,36 @@ stated_taken k l s t e = never (nat_eq (code k) (code l)) (eq-eqb (code k) (code
 
 stated_seq : (k : Kind) → stated k ≡ true → code k ≡ 19 → ⊥
 stated_seq k s e = never (nat_eq (code k) 19) (eq-eqb (code k) 19 e) ((stated_facts k s).no_row)
+
+-- ---- arrows with a block have a number of their own
+
+blocked_code : (k : Kind) → is_blocked k ≡ true → code k ≡ 70
+blocked_code (expression ArrowBlock) h = refl
+blocked_code (expression BareArrowBlock) h = refl
+blocked_code (expression _) h = cc
+blocked_code _ h = cc
+
+data OfBlock (k : Kind) : Type 0 where
+  listed_block : k ≡ expression ArrowBlock → OfBlock k
+  bare_block : k ≡ expression BareArrowBlock → OfBlock k
+
+of_block : (k : Kind) → is_blocked k ≡ true → OfBlock k
+of_block (expression ArrowBlock) h = listed_block refl
+of_block (expression BareArrowBlock) h = bare_block refl
+of_block (expression _) h = cc
+of_block _ h = cc
+
+no_seventy : every (λ k. not (nat_eq (code k) 70)) kinds ≡ true
+no_seventy = refl
+
+stated_seventy : every (λ k. not (nat_eq (code k) 70)) stated_kinds ≡ true
+stated_seventy = refl
+
+seventy : (k : Kind) → Which k → code k ≡ 70 → is_blocked k ≡ true
+seventy k (a_blocked b) e = b
+seventy k (a_statement t) e = absurd (never (nat_eq (code k) 70) (eq-eqb (code k) 70 e) (not_is _ (for_stated (λ k. not (nat_eq (code k) 70)) stated_seventy k t)))
+seventy k (a_taken t) e = absurd (never (nat_eq (code k) 70) (eq-eqb (code k) 70 e) (not_is _ (for_kind (λ k. not (nat_eq (code k) 70)) no_seventy k t)))
+seventy k (a_seq p) e = let q : code k ≡ 19 = ap code p in absurd (omega (arith, e, q))
 
 -- ---- one kind at one place
 
@@ -202,14 +236,15 @@ top_parens nil = refl
 top_parens (cons f nil) = refl
 top_parens (cons f (cons g fs)) = refl
 
-top_arrow : (fs : Flats) → top (arrow_of fs) ≡ 4
+top_arrow : (n : ℕ) (fs : Flats) → top (arrow_of n fs) ≡ n
 unfolding top
-top_arrow nil = refl
-top_arrow (cons f fs) = refl
+top_arrow n nil = refl
+top_arrow n (cons f fs) = refl
 
-arrow_is : (k : Kind) → is_arrow k ≡ true → k ≡ expression Arrow
-arrow_is (expression Arrow) h = refl
-arrow_is _ h = cc
+arrow_paren : (k : Kind) → is_arrow k ≡ true → nat_eq (code k) 3 ≡ false
+arrow_paren (expression Arrow) h = refl
+arrow_paren (expression ArrowBlock) h = refl
+arrow_paren _ h = cc
 
 bare_is : (k : Kind) → is_bare_arrow k ≡ true → k ≡ expression BareArrow
 bare_is (expression BareArrow) h = refl
@@ -223,7 +258,7 @@ top_made : (k : Kind) (fs : Flats) → top (made k fs) ≡ code k
 top_made k fs = by_arrow (test (is_arrow k))
   where
     by_arrow : Test (is_arrow k) → top (made k fs) ≡ code k
-    by_arrow (yes' a) = subst (λ k. top (made k fs) ≡ code k) (sym (arrow_is k a)) (top_arrow fs)
+    by_arrow (yes' a) = ap top (made_arrow k fs a) ∙ top_arrow (code k) fs
     by_arrow (no' a) = by_paren (test (nat_eq (code k) 3))
       where
         by_paren : Test (nat_eq (code k) 3) → top (made k fs) ≡ code k
@@ -251,11 +286,11 @@ cons_inj {f} {g} {fs} {gs} e = (sym (first_cons f fs) ∙ (ap first e ∙ first_
 pub some_inj : {n m : ℕ} {fs gs : Flats} → some n fs ≡ some m gs → fs ≡ gs
 some_inj {n} {m} {fs} {gs} e = sym (inner_some n fs) ∙ (ap inner e ∙ inner_some m gs)
 
-arrow_inj : (fs gs : Flats) → arrow_of fs ≡ arrow_of gs → fs ≡ gs
-arrow_inj nil nil e = refl
-arrow_inj nil (cons g gs) e = let bad = some_inj e in cc
-arrow_inj (cons f fs) nil e = let bad = some_inj e in cc
-arrow_inj (cons f fs) (cons g gs) e =
+arrow_inj : (n : ℕ) (fs gs : Flats) → arrow_of n fs ≡ arrow_of n gs → fs ≡ gs
+arrow_inj n nil nil e = refl
+arrow_inj n nil (cons g gs) e = let bad = some_inj e in cc
+arrow_inj n (cons f fs) nil e = let bad = some_inj e in cc
+arrow_inj n (cons f fs) (cons g gs) e =
     let p = cons_inj (some_inj e) in
     let q = cons_inj (some_inj p.0) in
     λ i. cons (q.0 i) (p.1 i)
@@ -264,7 +299,7 @@ made_inj : (k : Kind) (fs gs : Flats) → nat_eq (code k) 3 ≡ false → made k
 made_inj k fs gs c e = by_arrow (test (is_arrow k))
   where
     by_arrow : Test (is_arrow k) → fs ≡ gs
-    by_arrow (yes' a) = arrow_inj fs gs (subst (λ k. made k fs ≡ made k gs) (arrow_is k a) e)
+    by_arrow (yes' a) = arrow_inj (code k) fs gs (sym (made_arrow k fs a) ∙ (e ∙ made_arrow k gs a))
     by_arrow (no' a) = some_inj (sym (made_plain k fs a c) ∙ (e ∙ made_plain k gs a c))
 
 -- what stands in parentheses is alone, or a list of two or more
@@ -294,17 +329,18 @@ un c (leaf s t) h i = alone refl
 un c (list ts) h i = cc
 un c (node k cs) h i = by_which (which k (and_left (known k) (kepts cs) h))
   where
-    arrow_un : (fs : Flats) → Un (arrow_of fs)
-    arrow_un nil = alone refl
-    arrow_un (cons f fs) = alone refl
+    arrow_un : (n : ℕ) → nat_eq n 19 ≡ false → (fs : Flats) → Un (arrow_of n fs)
+    arrow_un n e nil = alone (unseq_some n nil e)
+    arrow_un n e (cons f fs) = alone (unseq_some n (cons (some 3 (cons f nil)) fs) e)
 
-    by_arrow : scope k ≡ true → Test (is_arrow k) → Un (made k (flats cs))
-    by_arrow s (yes' a) = subst (λ k. Un (made k (flats cs))) (sym (arrow_is k a)) (arrow_un (flats cs))
-    by_arrow s (no' a) = alone (unseq_made k (flats cs) a (not_is _ (for_kind (λ k. not (nat_eq (code k) 19)) no_seq_code k s)))
+    by_arrow : nat_eq (code k) 19 ≡ false → Test (is_arrow k) → Un (made k (flats cs))
+    by_arrow e (yes' a) = subst Un (sym (made_arrow k (flats cs) a)) (arrow_un (code k) e (flats cs))
+    by_arrow e (no' a) = alone (unseq_made k (flats cs) a e)
 
     by_which : Which k → Un (made k (flats cs))
     by_which (a_statement s) = let f = stated_facts k s in alone (unseq_made k (flats cs) f.no_arrow f.no_row)
-    by_which (a_taken s) = by_arrow s (test (is_arrow k))
+    by_which (a_taken s) = by_arrow (not_is _ (for_kind (λ k. not (nat_eq (code k) 19)) no_seq_code k s)) (test (is_arrow k))
+    by_which (a_blocked s) = by_arrow (ap (λ n. nat_eq n 19) (blocked_code k s)) (test (is_arrow k))
     by_which (a_seq e) = subst (λ k. Un (made k (flats cs))) (sym e) (seq_un cs (subst (λ k. fit_slots (positions k) cs ≡ true) e (and_right (admits c (node k cs)) (fits_below c (node k cs)) i)))
 
 abbrev pub parens_only : Kind → Bool
@@ -325,7 +361,7 @@ paren_arrow k c = by_arrow (test (is_arrow k))
   where
     by_arrow : Test (is_arrow k) → is_arrow k ≡ false
     by_arrow (no' a) = a
-    by_arrow (yes' a) = absurd (never (nat_eq (code k) 3) c (ap (λ k. nat_eq (code k) 3) (arrow_is k a)))
+    by_arrow (yes' a) = absurd (never (nat_eq (code k) 3) c (arrow_paren k a))
 
 -- in parentheses there is one tree
 record Held (k : Kind) (cs : Forest) : Type 0 where
@@ -362,6 +398,7 @@ parts_same k cs ds s m n f g e = by_paren (test (nat_eq (code k) 3))
       where
         by_which : Which k → flats cs ≡ flats ds
         by_which (a_statement t) = absurd (never (nat_eq (code k) 3) c ((stated_facts k t).no_paren))
+        by_which (a_blocked t) = absurd (never (nat_eq (code k) 3) c (ap (λ n. nat_eq n 3) (blocked_code k t)))
         by_which (a_seq p) = absurd (never (nat_eq (code k) 3) c (ap (λ k. nat_eq (code k) 3) p))
         by_which (a_taken t) =
             let a = paren_held k cs t c m f in
@@ -392,27 +429,29 @@ code_some k s e = by_which (which k s)
     by_which (a_statement t) = never (nat_eq (code k) 0) (eq-eqb (code k) 0 e) ((stated_facts k t).no_zero)
     by_which (a_taken t) = never (nat_eq (code k) 0) (eq-eqb (code k) 0 e) (not_is _ (for_kind (λ k. not (nat_eq (code k) 0)) no_zero k t))
     by_which (a_seq p) = let q : code k ≡ 19 = ap code p in omega (arith, e, q)
+    by_which (a_blocked p) = let q : code k ≡ 70 = blocked_code k p in omega (arith, e, q)
 
 leaf_node : (s : TokenKind) (t : Text) (k : Kind) (cs : Forest) → known k ≡ true → one s t ≡ made k (flats cs) → ⊥
 leaf_node s t k cs h e = code_some k h (sym (top_made k (flats cs)) ∙ (ap top (sym e) ∙ top_one s t))
 
 -- a bare arrow's parameter is a name
-bare_leaf : (cs : Forest) → kepts cs ≡ true → fit_slots (positions (expression BareArrow)) cs ≡ true → (fs : Flats) → flats cs ≡ others (cons (row_of nil) (flats cs)) → (f : Flats) → made (expression BareArrow) (flats cs) ≡ arrow_of f → ⊥
-bare_leaf none h g fs d f e = cc
-bare_leaf (part (list ts) cs) h g fs d f e = cc
-bare_leaf (part (leaf s t) cs) h g fs d nil e = let bad = some_inj e in cc
-bare_leaf (part (leaf s t) cs) h g fs d (cons p f) e = let bad = (cons_inj (some_inj e)).0 in cc
-bare_leaf (part (node k ks) cs) h g fs d f e =
+bare_leaf : (ss : List Position) (m : ℕ) (cs : Forest) → kepts cs ≡ true → fit_slots (position Single BindingIdent [] false [] ∷ ss) cs ≡ true → (fs : Flats) → flats cs ≡ others (cons (row_of nil) (flats cs)) → (n : ℕ) (f : Flats) → some m (flats cs) ≡ arrow_of n f → ⊥
+bare_leaf ss m none h g fs d n f e = cc
+bare_leaf ss m (part (list ts) cs) h g fs d n f e = cc
+bare_leaf ss m (part (leaf s t) cs) h g fs d n nil e = let bad = some_inj e in cc
+bare_leaf ss m (part (leaf s t) cs) h g fs d n (cons p f) e = let bad = (cons_inj (some_inj e)).0 in cc
+bare_leaf ss m (part (node k ks) cs) h g fs d n f e =
     let i = home_of BindingIdent k ks (and_left (in_homes BindingIdent (homes k)) _ g) in
     by_which i (which k (and_left (known k) (kepts ks) (and_left (kept (node k ks)) (kepts cs) h)))
   where
     by_which : in_homes BindingIdent (homes k) ≡ true → Which k → ⊥
     by_which i (a_statement t) = never (in_homes BindingIdent (homes k)) i ((stated_facts k t).no_name)
     by_which i (a_taken t) = never (in_homes BindingIdent (homes k)) i (not_is _ (for_kind (λ l. not (in_homes BindingIdent (homes l))) no_names' k t))
+    by_which i (a_blocked t) = never (in_homes BindingIdent (homes (expression Arrow))) (blocked_home BindingIdent k t i) refl
     by_which i (a_seq p) = never (in_homes BindingIdent (homes k)) i (ap (λ k. in_homes BindingIdent (homes k)) p)
 
-no_bare : (cs ds : Forest) → kepts cs ≡ true → fit_slots (positions (expression BareArrow)) cs ≡ true → made (expression BareArrow) (flats cs) ≡ made (expression Arrow) (flats ds) → ⊥
-no_bare cs ds h g e = bare_leaf cs h g nil (sym (others_cons (row_of nil) (flats cs))) (flats ds) e
+no_bare : (ss : List Position) (m n : ℕ) (cs ds : Forest) → kepts cs ≡ true → fit_slots (position Single BindingIdent [] false [] ∷ ss) cs ≡ true → some m (flats cs) ≡ arrow_of n (flats ds) → ⊥
+no_bare ss m n cs ds h g e = bare_leaf ss m cs h g nil (sym (others_cons (row_of nil) (flats cs))) n (flats ds) e
 
 -- two nodes at one place
 kind_same : (c : Nonterminal) (k l : Kind) (cs ds : Forest) → known k ≡ true → known l ≡ true → kepts cs ≡ true → kepts ds ≡ true → is c (node k cs) ≡ true → is c (node l ds) ≡ true → made k (flats cs) ≡ made l (flats ds) → k ≡ l
@@ -427,13 +466,24 @@ kind_same c k l cs ds s t m n i j e = by_which (which k s) (which l t)
     by_alike : Alike k l → k ≡ l
     by_alike (one_kind p) = p
     by_alike (arrow_bare a b) =
-        absurd (no_bare ds cs n (subst (λ l. fit_slots (positions l) ds ≡ true) (bare_is l b) (and_right (admits c (node l ds)) (fits_below c (node l ds)) j))
-        ((λ i. made (sym (bare_is l b) i) (flats ds)) ∙ (sym e ∙ (λ i. made (arrow_is k a i) (flats cs)))))
+        absurd (no_bare _ 4 (code k) ds cs n (subst (λ l. fit_slots (positions l) ds ≡ true) (bare_is l b) (and_right (admits c (node l ds)) (fits_below c (node l ds)) j))
+        ((λ i. made (sym (bare_is l b) i) (flats ds)) ∙ (sym e ∙ made_arrow k (flats cs) a)))
     by_alike (bare_arrow b a) =
-        absurd (no_bare cs ds m (subst (λ k. fit_slots (positions k) cs ≡ true) (bare_is k b) (and_right (admits c (node k cs)) (fits_below c (node k cs)) i))
-        ((λ i. made (sym (bare_is k b) i) (flats cs)) ∙ (e ∙ (λ i. made (arrow_is l a i) (flats ds)))))
+        absurd (no_bare _ 4 (code l) cs ds m (subst (λ k. fit_slots (positions k) cs ≡ true) (bare_is k b) (and_right (admits c (node k cs)) (fits_below c (node k cs)) i))
+        ((λ i. made (sym (bare_is k b) i) (flats cs)) ∙ (e ∙ made_arrow l (flats ds) a)))
+
+    fits : {k : Kind} (cs : Forest) (m : Kind) → k ≡ m → is c (node k cs) ≡ true → fit_slots (positions m) cs ≡ true
+    fits {k} cs m p i = subst (λ k. fit_slots (positions k) cs ≡ true) p (and_right (admits c (node k cs)) (fits_below c (node k cs)) i)
+
+    two_blocked : OfBlock k → OfBlock l → k ≡ l
+    two_blocked (listed_block a) (listed_block b) = a ∙ sym b
+    two_blocked (bare_block a) (bare_block b) = a ∙ sym b
+    two_blocked (listed_block a) (bare_block b) = absurd (no_bare _ 70 70 ds cs n (fits ds (expression BareArrowBlock) b j) ((λ i. made (sym b i) (flats ds)) ∙ (sym e ∙ (λ i. made (a i) (flats cs)))))
+    two_blocked (bare_block a) (listed_block b) = absurd (no_bare _ 70 70 cs ds m (fits cs (expression BareArrowBlock) a i) ((λ i. made (sym a i) (flats cs)) ∙ (e ∙ (λ i. made (b i) (flats ds)))))
 
     by_which : Which k → Which l → k ≡ l
+    by_which (a_blocked p) q = two_blocked (of_block k p) (of_block l (seventy l q (sym codes' ∙ blocked_code k p)))
+    by_which p (a_blocked q) = two_blocked (of_block k (seventy k p (codes' ∙ blocked_code l q))) (of_block l q)
     by_which (a_statement p) (a_statement q) = two_stated k l p q codes'
     by_which (a_statement p) (a_taken q) = absurd (stated_taken k l p q codes')
     by_which (a_taken p) (a_statement q) = absurd (stated_taken l k q p (sym codes'))

@@ -1,8 +1,11 @@
 -- What is known of a place behind a part, by what its row reads next.
-use Rattle.std.proofs.Common.{◌≡◌, ℕ, ◌≤◌, Bool, true, false, not, List, [], ◌∷◌, refl, sym, ◌∙◌, ap, subst, arith}
+use Rattle.jsx_tree.proofs.OneTree.Spines.{blocked_home}
+use Rattle.jsx_tree.proofs.OneTree.Kept.{Which, a_statement, a_taken, a_blocked, a_seq, which}
+use Rattle.jsx_tree.specs.Kinds.{Arrow, expression}
+use Rattle.std.proofs.Common.{◌≡◌, ℕ, Bool, true, false, not, List, [], ◌∷◌, refl, sym, ◌∙◌, ap, subst, arith}
 use Rattle.std.specs.Prelude.{IsTrue, ◌&&◌, ◌||◌, nat_eq, nat_le, codes}
 use Rattle.jsx_base.specs.Token.{Text, Operator, TokenKind, IdentifierName, Punctuator, kind_number, among, same, breaks}
-use Rattle.jsx_tree.specs.Signs.{Sign, Space, Tok, Semicolon, TrailingComma, Unless, SameLine, Ends, AfterExpr, AfterBinding}
+use Rattle.jsx_tree.specs.Signs.{AfterBlock, Sign, Space, Tok, Semicolon, TrailingComma, Unless, SameLine, Ends, AfterExpr, AfterBinding}
 use Rattle.jsx_tree.specs.Kinds.{Block, Kind, statement, Tree, leaf, node, list, Forest, none, part}
 use Rattle.jsx_tree.specs.Grammar.{Context, Fixed, Part, Optional, Many, Within, Production}
 use Rattle.jsx_tree.specs.StaticRules.{Surroundings}
@@ -10,21 +13,22 @@ use Rattle.jsx_tree.specs.Reading.{Place, Lost, At, forth, scan, go_if, continue
 use Rattle.jsx_tree.proofs.Tokens.{and_left, and_right, same_is, same_self}
 use Rattle.jsx_tree.specs.Walk as W
 use Rattle.jsx_tree.specs.Walk.{is_found, is_heard, heard, keep, pieces, IsRead}
-use Rattle.jsx_tree.proofs.OneTree.Readings.{calm, reach, reach_of, kind_at, text_at, broken, comma}
+use Rattle.jsx_tree.proofs.OneTree.Next.{reach_seen}
+use Rattle.jsx_tree.proofs.OneTree.Readings.{calm, reach_of, kind_at, text_at, comma}
 use Rattle.jsx_tree.proofs.OneTree.Checks.{every, same_token}
 use Rattle.jsx_tree.proofs.OneTree.Facts.{for_kind, never, or_else, not_is, Test, yes', no', test, eq_nat, le_nat, kind_is, Seen, seen, took}
 use Rattle.jsx_tree.proofs.OneTree.Fine.{at_sign, at_part, at_end}
 use Rattle.jsx_tree.proofs.OneTree.Fine.{calm_more}
-use Rattle.jsx_tree.proofs.OneTree.Spines.{seq_is, taken_scope}
 use Rattle.jsx_tree.proofs.OneTree.Missing.{Behind, a_mark, a_brace, a_line, behind}
-use Rattle.jsx_tree.proofs.OneTree.Endings.{after, at_semi, found_first}
+use Rattle.jsx_tree.proofs.OneTree.Endings.{past, found_first}
+use Rattle.jsx_tree.proofs.OneTree.Missing.{at_semi}
 use Rattle.jsx_tree.proofs.Laws.{scan_lost}
 use Rattle.jsx_tree.specs.Nonterminals.{Nonterminal, BlockOnly, homes, in_homes, leaf_in}
 use Rattle.jsx_tree.proofs.Rows.Bridge.{node_walk}
 use Rattle.jsx_tree.proofs.OneTree.Table.{kinds}
 use Rattle.jsx_tree.proofs.OneTree.Statements.{place, stated_kinds, nth}
 use Rattle.jsx_tree.proofs.OneTree.Statements.{stated_nth, for_stated}
-use Rattle.jsx_tree.proofs.OneTree.Known.{stated, taken, is_seq, known}
+use Rattle.jsx_tree.proofs.OneTree.Known.{known}
 use Rattle.jsx_tree.proofs.OneTree.Evidence.{Kept, Kepts, kept_left, kept_right, kept_kind}
 use Rattle.jsx_tree.specs.Spelling.{spelled}
 
@@ -62,8 +66,13 @@ idle_at k t = shutting_at k t || (nat_eq k 14 || (nat_eq k 0 && (same t (codes "
 -- what a declarator ends behind: its initialiser, or nothing
 abbrev pub bound : Place → Bool
 bound (At q AfterExpr text) = true
+bound (At q AfterBlock text) = true
 bound (At q AfterBinding text) = true
 bound x = false
+
+abbrev pub at_binding : Place → Bool
+at_binding (At q AfterBinding text) = true
+at_binding x = false
 
 abbrev pub is_declared : Place → Bool
 is_declared x = is_found (forth comma x) || (is_found (forth (mark (codes ";")) x) || (bound x && is_found (forth Semicolon x)))
@@ -110,11 +119,7 @@ is_look w = true
 -- the same of a token that is looked at
 pub look_met : (w : Want) (k : TokenKind) (t : Text) (x : Place) → is_look w ≡ true → Seen x k t → met w k t ≡ true → meets w x ≡ true
 look_met anything k t x l s h = refl
-look_met (ended n) k t x l s h = by_line (test (broken x))
-  where
-    by_line : Test (broken x) → calm n x ≡ true
-    by_line (yes' b) = (λ i. nat_le (reach_of (s.kind i) (s.text i) (b i)) n) ∙ and_left (nat_le (reach_of (kind_number k) t true) n) _ h
-    by_line (no' b) = (λ i. nat_le (reach_of (s.kind i) (s.text i) (b i)) n) ∙ and_right (nat_le (reach_of (kind_number k) t true) n) _ h
+look_met (ended n) k t x l s h = reach_seen k t n x s h
 look_met still k t x l s h = (λ i. still_at (s.kind i) (s.text i)) ∙ h
 look_met idle k t x l s h = (λ i. idle_at (s.kind i) (s.text i)) ∙ h
 look_met shutting k t x l s h = (λ i. shutting_at (s.kind i) (s.text i)) ∙ h
@@ -151,7 +156,6 @@ implies shutting idle = true
 implies shutting still = true
 implies declared declared = true
 implies declared (ended n) = nat_le 1 n
-implies declared (other k t) = same_token k t Punctuator (codes "=")
 implies still (other k t) = nat_eq (kind_number k) 0 && among t (codes "catch" ∷ codes "finally" ∷ [])
 implies parted parted = true
 implies parted (other k t) = nat_eq (kind_number k) 0
@@ -201,7 +205,7 @@ parted_other x k t h m = by_at (test (is_at x k t))
         let s = is_seen x k t a in
         absurd (never (nat_eq (kind_at x) 1) (and_left (nat_eq (kind_at x) 1) _ m) (ap (λ n. nat_eq n 1) (s.kind ∙ eq_nat {a = kind_number k} {b = 0} h)))
 
-declared_calm : (x : Place) → after x ≡ true → is_declared x ≡ true → calm 1 x ≡ true
+declared_calm : (x : Place) → past x ≡ true → is_declared x ≡ true → calm 1 x ≡ true
 declared_calm x a h = by_comma (test (is_found (forth comma x)))
   where
     by_comma : Test (is_found (forth comma x)) → calm 1 x ≡ true
@@ -212,15 +216,8 @@ declared_calm x a h = by_comma (test (is_found (forth comma x)))
         by_mark (yes' f) g = seen_met (ended 1) Punctuator (codes ";") x f refl
         by_mark (no' f) g = calm_more 0 1 x (omega arith) (at_semi x a (and_right (bound x) _ (or_else (is_found (forth (mark (codes ";")) x)) _ g f)))
 
-equals_reach : {x : Place} → Seen x Punctuator (codes "=") → reach x ≡ 2
-equals_reach {x} s = (λ i. reach_of (s.kind i) (s.text i) (broken x))
-
-bound_equals : (x : Place) → bound x ≡ true → IsTrue (is_found (forth Semicolon x)) → Seen x Punctuator (codes "=") → ⊥
+bound_equals : (x : Place) → at_binding x ≡ true → IsTrue (is_found (forth Semicolon x)) → Seen x Punctuator (codes "=") → ⊥
 bound_equals Lost b f s = cc
-bound_equals (At q AfterExpr text) b f s =
-    let r : reach (At q AfterExpr text) ≡ 2 = equals_reach s in
-    let l : reach (At q AfterExpr text) ≤ 0 = le_nat (at_semi (At q AfterExpr text) refl f) in
-    omega (arith, r, l)
 bound_equals (At q AfterBinding text) b f s = by_behind (behind q AfterBinding text refl f (ap (λ k. nat_eq k 14) s.kind))
   where
     by_behind : Behind AfterBinding q (breaks text) (kind_at (At q AfterBinding text)) (text_at (At q AfterBinding text)) → ⊥
@@ -229,8 +226,9 @@ bound_equals (At q AfterBinding text) b f s = by_behind (behind q AfterBinding t
     by_behind (a_line b' c) = never (continues AfterBinding q (codes "=")) refl (ap (continues AfterBinding q) (sym s.text) ∙ c)
 bound_equals (At q _ text) b f s = cc
 
-declared_equals : (x : Place) → is_declared x ≡ true → Seen x Punctuator (codes "=") → ⊥
-declared_equals x h s = by_comma (test (is_found (forth comma x)))
+-- a declarator with no initialiser ends before no `=`
+pub declared_equals : (x : Place) → at_binding x ≡ true → is_declared x ≡ true → Seen x Punctuator (codes "=") → ⊥
+declared_equals x a h s = by_comma (test (is_found (forth comma x)))
   where
     apart : (u : Text) → same (codes "=") u ≡ false → IsTrue (is_found (forth (mark u) x)) → ⊥
     apart u n f = never (same (codes "=") u) (ap (λ v. same v u) (sym s.text ∙ (seen Punctuator u x f).text) ∙ same_self u) n
@@ -243,22 +241,13 @@ declared_equals x h s = by_comma (test (is_found (forth comma x)))
         by_mark (yes' f) g = apart (codes ";") refl f
         by_mark (no' f) g =
             let r = or_else (is_found (forth (mark (codes ";")) x)) _ g f in
-            bound_equals x (and_left (bound x) _ r) (and_right (bound x) _ r) s
-
-declared_other : (x : Place) (k : TokenKind) (t : Text) → same_token k t Punctuator (codes "=") ≡ true → is_declared x ≡ true → not (is_at x k t) ≡ true
-declared_other x k t h m = by_at (test (is_at x k t))
-  where
-    by_at : Test (is_at x k t) → not (is_at x k t) ≡ true
-    by_at (no' n) = ap not n
-    by_at (yes' a) =
-        let s = is_seen x k t a in
-        absurd (declared_equals x m (record { kind = s.kind ∙ eq_nat {a = kind_number k} {b = 1} (and_left (nat_eq (kind_number k) 1) _ h); text = s.text ∙ same_is t (codes "=") (and_right (nat_eq (kind_number k) 1) _ h) }))
+            bound_equals x a (and_right (bound x) _ r) s
 
 abbrev pub is_calm : Want → Bool
 is_calm (ended n) = true
 is_calm w = false
 
-pub implied : (e w : Want) (x : Place) → implies e w ≡ true → (is_calm w ≡ true → after x ≡ true) → meets e x ≡ true → meets w x ≡ true
+pub implied : (e w : Want) (x : Place) → implies e w ≡ true → (is_calm w ≡ true → past x ≡ true) → meets e x ≡ true → meets w x ≡ true
 implied e anything x h a m = refl
 implied (ended n) (ended m') x h a m = calm_more n m' x (le_nat h) m
 implied still still x h a m = m
@@ -270,7 +259,6 @@ implied shutting idle x h a m = or_left (shutting_at (kind_at x) (text_at x)) _ 
 implied shutting still x h a m = shut_still (kind_at x) (text_at x) m
 implied declared declared x h a m = m
 implied declared (ended n) x h a m = calm_more 1 n x (le_nat h) (declared_calm x (a refl) m)
-implied declared (other k t) x h a m = declared_other x k t h m
 implied parted parted x h a m = m
 implied parted (other k t) x h a m = parted_other x k t h m
 implied _ _ x h a m = cc
@@ -365,7 +353,7 @@ met_heard w Semicolon h = refl
 met_heard w (Tok m k t) h = tok_heard w (Tok m k t) h
 met_heard w _ h = cc
 
-met_back : (w : Want) (s : Sign) (x : Place) → met_by w s ≡ true → (is_calm w ≡ true → after x ≡ true) → IsTrue (is_found (forth s x)) → meets w x ≡ true
+met_back : (w : Want) (s : Sign) (x : Place) → met_by w s ≡ true → (is_calm w ≡ true → past x ≡ true) → IsTrue (is_found (forth s x)) → meets w x ≡ true
 met_back (ended n) Semicolon x h a f = calm_more 0 n x (omega arith) (at_semi x (a refl) f)
 met_back w (Tok m k t) x h a f = tok_back w (Tok m k t) x h f
 met_back w _ x h a f = cc
@@ -400,21 +388,15 @@ block_clean : every (λ k. not (in_homes BlockOnly (homes k))) kinds ≡ true
 block_clean = refl
 
 block_kind : (k : Kind) → known k ≡ true → in_homes BlockOnly (homes k) ≡ true → k ≡ statement Block
-block_kind k s h = by_stated (test (stated k))
+block_kind k s h = by_which (which k s)
   where
-    by_stated : Test (stated k) → k ≡ statement Block
-    by_stated (yes' t) =
+    by_which : Which k → k ≡ statement Block
+    by_which (a_statement t) =
         let e = or_else (not (in_homes BlockOnly (homes k))) _ (for_stated (λ k. not (in_homes BlockOnly (homes k)) || nat_eq (place k) (place (statement Block))) block_kinds k t) (ap not h) in
         sym (stated_nth k t) ∙ ap (nth stated_kinds) (eq_nat {a = place k} {b = place (statement Block)} e)
-    by_stated (no' n) = by_taken (test (taken k))
-      where
-        by_taken : Test (taken k) → k ≡ statement Block
-        by_taken (yes' t) = absurd (never (in_homes BlockOnly (homes k)) h (not_is _ (for_kind (λ k. not (in_homes BlockOnly (homes k))) block_clean k (taken_scope k t))))
-        by_taken (no' t) = absurd (never (in_homes BlockOnly (homes k)) h (ap (λ k. in_homes BlockOnly (homes k)) (seq_is k (or_else (taken k) (is_seq k) (or_other (taken k || is_seq k) (stated k) s n) t))))
-          where
-            or_other : (a b : Bool) → (a || b) ≡ true → b ≡ false → a ≡ true
-            or_other true b e f = refl
-            or_other false b e f = absurd (never b e f)
+    by_which (a_taken t) = absurd (never (in_homes BlockOnly (homes k)) h (not_is _ (for_kind (λ k. not (in_homes BlockOnly (homes k))) block_clean k t)))
+    by_which (a_blocked b) = absurd (never (in_homes BlockOnly (homes (expression Arrow))) (blocked_home BlockOnly k b h) refl)
+    by_which (a_seq e) = absurd (never (in_homes BlockOnly (homes k)) h (ap (λ k. in_homes BlockOnly (homes k)) e))
 
 block_first : {v : Surroundings} {x y : Place} (t : Tree) → Kept t → IsRead v false BlockOnly x t y → IsTrue (is_found (forth (mark (codes "{")) x))
 block_first (leaf s t) h r = absurd (no_leaf s (and_left (leaf_in BlockOnly s t) _ r.is))
@@ -428,8 +410,8 @@ block_first {v} {x} {y} (node k cs) h r =
     let s = at_sign (node_walk false (statement Block) refl (subst (λ k. IsRead v false BlockOnly x (node k cs) y) e r)).walk in
     subst (λ z. IsTrue (is_found z)) (sym s.moves) s.found
 
-sign_follow : {V : List Context → Surroundings} {a : List Context} {s : Sign} {ps : Production} {x z : Place} {ts : Forest} (e w : Want) → Signed V a s ps x ts z → (met_by w s || (looks s && follow e ps w)) ≡ true → (is_calm w ≡ true → after x ≡ true)
-    → (follow e ps w ≡ true → (y : Place) → (is_calm w ≡ true → after y ≡ true) → W.Walk IsRead V (pieces a ps) y ts z → meets w y ≡ true) → meets w x ≡ true
+sign_follow : {V : List Context → Surroundings} {a : List Context} {s : Sign} {ps : Production} {x z : Place} {ts : Forest} (e w : Want) → Signed V a s ps x ts z → (met_by w s || (looks s && follow e ps w)) ≡ true → (is_calm w ≡ true → past x ≡ true)
+    → (follow e ps w ≡ true → (y : Place) → (is_calm w ≡ true → past y ≡ true) → W.Walk IsRead V (pieces a ps) y ts z → meets w y ≡ true) → meets w x ≡ true
 sign_follow {s = s} {ps = ps} {x = x} e w p h c rest = by_met (test (met_by w s))
   where
     by_met : Test (met_by w s) → meets w x ≡ true
@@ -437,18 +419,18 @@ sign_follow {s = s} {ps = ps} {x = x} e w p h c rest = by_met (test (met_by w s)
     by_met (no' g) =
         let o = or_else (met_by w s) _ h g in
         let q = p.looked (and_left (looks s) _ o) in
-        subst (λ z. meets w z ≡ true) (sym q) (rest (and_right (looks s) _ o) p.next (λ n. subst (λ z. after z ≡ true) q (c n)) p.walk)
+        subst (λ z. meets w z ≡ true) (sym q) (rest (and_right (looks s) _ o) p.next (λ n. subst (λ z. past z ≡ true) q (c n)) p.walk)
 
-pub follow_meets : {V : List Context → Surroundings} (e : Want) (ps : Production) (w : Want) (a : List Context) {y z : Place} {ts : Forest} → follow e ps w ≡ true → (is_calm w ≡ true → after y ≡ true) → W.Walk IsRead V (pieces a ps) y ts z → Kepts ts → meets e z ≡ true → meets w y ≡ true
+pub follow_meets : {V : List Context → Surroundings} (e : Want) (ps : Production) (w : Want) (a : List Context) {y z : Place} {ts : Forest} → follow e ps w ≡ true → (is_calm w ≡ true → past y ≡ true) → W.Walk IsRead V (pieces a ps) y ts z → Kepts ts → meets e z ≡ true → meets w y ≡ true
 follow_meets e ps anything a h c k g m = refl
-follow_meets e [] w a {y} {z} h c k g m = subst (λ z. meets w z ≡ true) (sym (at_end k).1) (implied e w z h (λ n. subst (λ z. after z ≡ true) (at_end k).1 (c n)) m)
+follow_meets e [] w a {y} {z} h c k g m = subst (λ z. meets w z ≡ true) (sym (at_end k).1) (implied e w z h (λ n. subst (λ z. past z ≡ true) (at_end k).1 (c n)) m)
 follow_meets e (Fixed s ∷ ps) w a h c k g m = sign_follow e w (signed s ps a k) h c (λ o y c' k'. follow_meets e ps w a o c' k' g m)
 follow_meets e (Within d ∷ ps) w a h c k g m = follow_meets e ps w (d ∷ a) h c k g m
 follow_meets e (Optional x d b r ∷ ps) w a {y} h c k g m =
     let p = at_optional k in
     let o = kept_right (subst Kepts p.is g) in
     optional_back w (heard x) d (heard b) r (and_left (met_first w (heard x)) _ h)
-    (λ q. subst (λ z. meets w z ≡ true) (sym q) (follow_meets e ps w a (and_right (met_first w (heard x)) _ h) (λ n. subst (λ z. after z ≡ true) q (c n)) p.walk o m)) p.past
+    (λ q. subst (λ z. meets w z ≡ true) (sym q) (follow_meets e ps w a (and_right (met_first w (heard x)) _ h) (λ n. subst (λ z. past z ≡ true) q (c n)) p.walk o m)) p.past
 follow_meets e (Part BlockOnly ∷ ps) w a {y} h c k g m =
     let p = at_part k in
     seen_met w Punctuator (codes "{") y (block_first p.tree (kept_left (subst Kepts p.is g)) p.read) h

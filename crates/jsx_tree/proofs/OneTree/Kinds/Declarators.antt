@@ -2,7 +2,7 @@
 use Rattle.std.proofs.Common.{◌≡◌, Bool, true, false, not, List, [], refl, sym, ◌∙◌, ap, subst}
 use Rattle.std.specs.Prelude.{IsTrue, ◌&&◌, ◌||◌, nat_eq, codes}
 use Rattle.jsx_base.specs.Token.{Punctuator, same, breaks}
-use Rattle.jsx_tree.specs.Signs.{Sign, Semicolon, Ends, AfterExpr, AfterBinding, Space, Unless}
+use Rattle.jsx_tree.specs.Signs.{AfterBlock, Sign, Semicolon, Ends, AfterExpr, AfterBinding, Space, Unless}
 use Rattle.jsx_tree.specs.Kinds.{Declarator, Kind, statement, Tree, leaf, node, list, Forest, none, part}
 use Rattle.jsx_tree.specs.Nonterminals.{Expr, Declarators, homes, in_homes, leaf_in}
 use Rattle.jsx_tree.specs.Grammar.{NoTrailing, Optional}
@@ -22,7 +22,8 @@ use Rattle.jsx_tree.proofs.Rows.Bridge.{node_walk}
 use Rattle.jsx_tree.proofs.OneTree.Fine.{at_sign, at_part, at_end}
 use Rattle.jsx_tree.proofs.OneTree.Spines.{home_of}
 use Rattle.jsx_tree.proofs.OneTree.Statements.{stated_nth, for_stated}
-use Rattle.jsx_tree.proofs.OneTree.Endings.{after, at_semi}
+use Rattle.jsx_tree.proofs.OneTree.Endings.{past}
+use Rattle.jsx_tree.proofs.OneTree.Missing.{at_semi}
 use Rattle.jsx_tree.proofs.OneTree.Missing.{Behind, a_mark, a_brace, a_line, behind as behind_semi}
 use Rattle.jsx_tree.proofs.OneTree.Afters.{after_tree}
 use Rattle.jsx_tree.proofs.OneTree.Known.{stated}
@@ -40,8 +41,9 @@ declarator_kind k t h =
     let e = or_else (not (in_homes Declarators (homes k))) _ (for_stated (λ k. not (in_homes Declarators (homes k)) || nat_eq (place k) (place (statement Declarator))) declarator_kinds k t) (ap not h) in
     sym (stated_nth k t) ∙ ap (nth stated_kinds) (eq_nat {a = place k} {b = place (statement Declarator)} e)
 
-after_bound : (x : Place) → after x ≡ true → bound x ≡ true
+after_bound : (x : Place) → past x ≡ true → bound x ≡ true
 after_bound (At q AfterExpr text) a = refl
+after_bound (At q AfterBlock text) a = refl
 after_bound _ a = cc
 
 ends_bound : (x y : Place) → forth (Ends AfterBinding) x ≡ y → IsTrue (is_found y) → bound y ≡ true
@@ -89,6 +91,7 @@ end_declared x b h = or_right (is_found (forth comma x)) _ (by_mark (test (is_fo
 bound_comma : (x : Place) → bound x ≡ true → IsTrue (is_found (forth Semicolon x)) → Seen x Punctuator (codes ",") → ⊥
 bound_comma Lost b f s = cc
 bound_comma (At q AfterExpr text) b f s = no_comma s (at_semi (At q AfterExpr text) refl f)
+bound_comma (At q AfterBlock text) b f s = no_comma s (at_semi (At q AfterBlock text) refl f)
 bound_comma (At q AfterBinding text) b f s = by_behind (behind_semi q AfterBinding text refl f (ap (λ k. nat_eq k 14) s.kind))
   where
     by_behind : Behind AfterBinding q (breaks text) (kind_at (At q AfterBinding text)) (text_at (At q AfterBinding text)) → ⊥

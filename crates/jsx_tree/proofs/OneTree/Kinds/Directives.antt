@@ -24,7 +24,8 @@ use Rattle.jsx_tree.proofs.OneTree.Spines.{home_of}
 use Rattle.jsx_tree.proofs.OneTree.Placed.{whole_reads}
 use Rattle.jsx_tree.proofs.OneTree.Chains.{fine}
 use Rattle.jsx_tree.proofs.OneTree.Turn.{tree_same}
-use Rattle.jsx_tree.proofs.OneTree.Endings.{at_semi}
+use Rattle.jsx_tree.proofs.OneTree.Endings.{past_after}
+use Rattle.jsx_tree.proofs.OneTree.Missing.{at_semi}
 use Rattle.jsx_tree.proofs.OneTree.Afters.{after_tok, after_tree}
 use Rattle.jsx_tree.proofs.OneTree.Statements.{place, stated_kinds, nth}
 use Rattle.jsx_tree.proofs.OneTree.Statements.{stated_nth, for_stated}
@@ -118,7 +119,7 @@ string_alone {x = x} cs h n d =
     let c = at_semi p.next (after_tree p.tree (Expr 0) i refl p.read) (subst (λ z. IsTrue (is_found z)) (sym m.moves) m.found) in
     let w = whole_reads p.tree (fine p.tree i) i.tame' p.read c in
     let a : Reads 1 x (leaf StringLiteral d.text) d.next = word refl d.moves d.found in
-    let o = one_whole (single a (at_semi d.next (after_tok Operator StringLiteral d.text x d.moves d.found) d.semi)) (subst (λ z. Whole z p.tree p.next) (sym back) w) in
+    let o = one_whole (single a (at_semi d.next (past_after d.next (after_tok Operator StringLiteral d.text x d.moves d.found)) d.semi)) (subst (λ z. Whole z p.tree p.next) (sym back) w) in
     let e : leaf StringLiteral d.text ≡ p.tree = tree_same (leaf StringLiteral d.text) p.tree (Expr 0) refl i.kept'.good (and_both true _ refl d.is_text) p.read.is o.tree in
     subst (λ cs. is_string_stmt (node (statement ExprStmt) cs) ≡ true) (sym (p.is ∙ (λ i. part (sym e i) (z.0 i)))) refl
 

@@ -13,13 +13,14 @@ use Rattle.jsx_tree.proofs.Tokens.{and_left, and_right, same_is}
 use Rattle.jsx_tree.specs.Walk as W
 use Rattle.jsx_tree.specs.Walk.{is_found, IsRead, IsNode}
 use Rattle.jsx_tree.proofs.Rows.Bridge.{node_walk}
+use Rattle.jsx_tree.proofs.OneTree.Next.{reach_seen}
 use Rattle.jsx_tree.proofs.OneTree.Table.{kinds}
-use Rattle.jsx_tree.proofs.OneTree.Readings.{Step, tok, sub, tail, grows, reach_of, calm, broken, Flat, comma, Reads, Walk, done, take, under, Whole, single, several, Rest, final, also}
+use Rattle.jsx_tree.proofs.OneTree.Readings.{Blocked, Step, tok, sub, tail, grows, calm, Flat, comma, Reads, Walk, done, take, under, Whole, single, several, Rest, final, also}
 use Rattle.jsx_tree.proofs.OneTree.Checks.{every, same_token, apart}
 use Rattle.jsx_tree.proofs.OneTree.Facts.{never, or_else, Test, yes', no', test, eq_nat, le_nat, kind_is, Seen, took, for_kind}
 use Rattle.jsx_tree.proofs.OneTree.Starting.{no_growth}
-use Rattle.jsx_tree.proofs.OneTree.Growths.{Through, here, step, calm_one, split}
-use Rattle.jsx_tree.proofs.OneTree.Pairs.{two_tokens, move, ends, tail_only}
+use Rattle.jsx_tree.proofs.OneTree.Growths.{Through, here, step, block, calm_one, split}
+use Rattle.jsx_tree.proofs.OneTree.Pairs.{two_tokens, move, ends, tail_only, no_arrow, tail_block, blocks_same}
 use Rattle.jsx_tree.proofs.OneTree.Agreeing.{one_walk, no_walk, passes}
 use Rattle.jsx_tree.proofs.OneTree.Fine.{at_sign, at_part, at_many, at_end}
 use Rattle.jsx_tree.proofs.OneTree.Spines.{home_of}
@@ -36,11 +37,16 @@ use Rattle.jsx_tree.proofs.OneTree.Kinds.Inits.{Init, declares, expresses, Head,
 
 through_place : {n : ℕ} {p q z w : Place} {f f' g g' : Flat} → Through n p f z g → Through n q f' w g' → p ≡ q → calm n z ≡ true → calm n w ≡ true → z ≡ w
 through_place here here e c d = e
-through_place {n} here (step k s d l w th) e c c' = absurd (no_growth k s d l w (subst (λ z. calm n z ≡ true) e c))
-through_place {n} (step k s d l w th) here e c c' = absurd (no_growth k s d l w (subst (λ z. calm n z ≡ true) (sym e) c'))
-through_place (step k {ts = ts} s d l w th) (step k' {p = p} {ts = us} s' d' l' w' th') e c c' =
+through_place {n} here (step k s d l b w th) e c c' = absurd (no_growth k s d l b w (subst (λ z. calm n z ≡ true) e c))
+through_place {n} (step k s d l b w th) here e c c' = absurd (no_growth k s d l b w (subst (λ z. calm n z ≡ true) (sym e) c'))
+through_place (step k {ts = ts} s d l b w th) (step k' {p = p} {ts = us} s' d' l' b' w' th') e c c' =
     let o = (tail_only k ts s d (λ qs us q hh v. one_walk hh w v) (λ qs us q hh v. no_walk hh w v)).only k' us p s' d' (move e w') in
     through_place th th' o.2 c c'
+through_place {n} here (block l b a) e c c' = absurd (no_arrow l b a (subst (λ z. calm n z ≡ true) e c))
+through_place {n} (block l b a) here e c c' = absurd (no_arrow l b a (subst (λ z. calm n z ≡ true) (sym e) c'))
+through_place {z = z} (block {cs = cs} l b a) (step k s d l' b' w th) e c c' = absurd (tail_block k s d w (subst (λ p. Blocked p cs z) e a))
+through_place {w = w} (step k s d l b v th) (block {cs = ds} l' b' a) e c c' = absurd (tail_block k s d v (subst (λ p. Blocked p ds w) (sym e) a))
+through_place {w = w} (block l b a) (block {cs = ds} l' b' a') e c c' = (blocks_same a (subst (λ p. Blocked p ds w) (sym e) a')).1
 
 reads_place : {x y z : Place} {t u : Tree} → Reads 1 x t y → Reads 1 x u z → calm 1 y ≡ true → calm 1 z ≡ true → y ≡ z
 reads_place r s c d = (ends (passes {n = 1} r (omega arith) (split s (omega arith)) d) c).place
@@ -133,7 +139,8 @@ right_apart k th o c i l =
 
 in_through : {y p z : Place} {g g' : Flat} → Through 1 y g z g' → Others z (codes ";") → calm 1 z ≡ true → forth in_word y ≡ p → IsTrue (is_found p) → Lead p (codes ")") → ⊥
 in_through {y} here o c i f l = others_word o (took IdentifierName (codes "in") y i f)
-in_through (step k s d le w th) o c i f l = by_tail (test (in_tail (tail k)))
+in_through {y} (block le b a) o c i f l = two_tokens (took IdentifierName (codes "in") y i f) (took Punctuator (codes "=>") y a.arrow' a.found_arrow) refl
+in_through (step k s d le b w th) o c i f l = by_tail (test (in_tail (tail k)))
   where
     by_tail : Test (in_tail (tail k)) → ⊥
     by_tail (yes' h) = right_apart (right w h) th o c i l
@@ -147,7 +154,8 @@ in_apart a m r i f b n =
 
 of_through : {y z : Place} {g g' : Flat} → Through 1 y g z g' → Others z (codes ";") → Seen y IdentifierName (codes "of") → ⊥
 of_through here o s = others_word o s
-of_through {y} (step k c d le w th) o s = no_growth k c d le w (λ i. nat_le (reach_of (s.kind i) (s.text i) (broken y)) 1)
+of_through {y} (block le b a) o s = two_tokens s (took Punctuator (codes "=>") y a.arrow' a.found_arrow) refl
+of_through {y} (step k c d le b w th) o s = no_growth k c d le b w (reach_seen IdentifierName (codes "of") 1 y s refl)
 
 -- nothing goes on with an expression before `of`
 of_apart : {x y w : Place} {t h : Tree} → Whole x t w → Seen w Punctuator (codes ";") → Reads 17 x h y → Seen y IdentifierName (codes "of") → ⊥

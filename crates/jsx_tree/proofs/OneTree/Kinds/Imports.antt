@@ -1,4 +1,5 @@
 -- An expression that begins with the word `import` goes on as no declaration of imports does.
+use Rattle.jsx_tree.proofs.OneTree.Readings.{blocked, bare_blocked}
 use Rattle.std.proofs.Common.{◌≡◌, ℕ, Bool, true, false, not, List, ◌∷◌, refl, sym, ◌∙◌, ap, subst}
 use Rattle.std.specs.Prelude.{IsTrue, ◌&&◌, ◌||◌, nat_eq, codes}
 use Rattle.jsx_base.specs.Token.{Text, Operator, TokenKind, IdentifierName, Punctuator, StringLiteral, NumericLiteral, BigIntLiteral, kind_number, same}
@@ -24,7 +25,7 @@ use Rattle.jsx_tree.proofs.OneTree.Pairs.{two_tokens}
 use Rattle.jsx_tree.proofs.OneTree.Fine.{at_sign, at_part}
 use Rattle.jsx_tree.proofs.OneTree.Placed.{whole_reads}
 use Rattle.jsx_tree.proofs.OneTree.Chains.{fine}
-use Rattle.jsx_tree.proofs.OneTree.Endings.{at_semi}
+use Rattle.jsx_tree.proofs.OneTree.Missing.{at_semi}
 use Rattle.jsx_tree.proofs.OneTree.Afters.{after_tree}
 use Rattle.jsx_tree.proofs.OneTree.Evidence.{Kept, Kepts, kept_left}
 use Rattle.jsx_tree.proofs.OneTree.Parts.{tame_of, word_read}
@@ -96,7 +97,11 @@ reads_calls (sealed {x = x} l s) i = absurd (opener_import s.opener (opener_seen
 reads_calls (braces {x = x} l c a e f p) i = absurd (no_import (took Punctuator (codes "{") x e f) refl i)
 reads_calls (paren {x = x} l e f a g h) i = absurd (no_import (took Punctuator (codes "(") x e f) refl i)
 reads_calls (target {x = x} l e f r c g h) i = absurd (no_import (took Punctuator (codes "(") x e f) refl i)
-reads_calls (grow s d l r w) i = reads_calls r i
+reads_calls (grow s d l b r w) i = reads_calls r i
+reads_calls (blocked {x = x} l e f p b) i = absurd (no_import (took Punctuator (codes "(") x e f) refl i)
+reads_calls (bare_blocked {x = x} {t = t} l a e f b) i =
+    let r : Seen x IdentifierName t = took IdentifierName t x e f in
+    absurd (word_import IdentifierName t a (sym r.kind ∙ (import_seen i).kind) (sym r.text ∙ (import_seen i).text))
 reads_calls (arrow {x = x} l (take {m = Operator} {k = k} {t = t} e f p) w) i = absurd (no_import (took Punctuator (codes "(") x e f) refl i)
 
 whole_calls : {x y p : Place} {t : Tree} → Whole x t y → Import x p → calls_on p ≡ true

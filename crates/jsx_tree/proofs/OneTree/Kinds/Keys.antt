@@ -1,7 +1,11 @@
 -- Two readings of one key from one place are one.
+use Rattle.jsx_tree.proofs.OneTree.Spines.{blocked_home}
+use Rattle.jsx_tree.proofs.OneTree.Kept.{a_blocked}
+use Rattle.jsx_tree.specs.Kinds.{Arrow}
+use Rattle.jsx_tree.proofs.OneTree.Next.{reach_seen}
 use Rattle.jsx_tree.proofs.OneTree.Evidence.{Kept, Kepts, kept_left, kept_kind, kept_parts}
 use Rattle.std.proofs.Common.{◌≡◌, true, false, not, [], ◌∷◌, refl, sym, ◌∙◌, ap, subst, arith}
-use Rattle.std.specs.Prelude.{IsTrue, ◌||◌, nat_le, codes}
+use Rattle.std.specs.Prelude.{IsTrue, ◌||◌, codes}
 use Rattle.jsx_base.specs.Token.{Text, Operator, TokenKind, IdentifierName, NumericLiteral, BigIntLiteral, StringLiteral, Punctuator, kind_number}
 use Rattle.jsx_tree.specs.Signs.{Tok, One}
 use Rattle.jsx_tree.specs.Kinds.{Seq, ComputedKey, Kind, function, expression, Tree, leaf, node, list, Forest, none, part}
@@ -15,7 +19,7 @@ use Rattle.jsx_tree.specs.Walk as W
 use Rattle.jsx_tree.specs.Walk.{is_found, IsRead, IsNode}
 use Rattle.jsx_tree.proofs.Rows.Bridge.{node_walk}
 use Rattle.jsx_tree.proofs.OneTree.Table.{kinds}
-use Rattle.jsx_tree.proofs.OneTree.Readings.{key_start, kind_at, text_at, reach_of, calm, broken, may_key}
+use Rattle.jsx_tree.proofs.OneTree.Readings.{key_start, kind_at, text_at, calm, may_key}
 use Rattle.jsx_tree.proofs.OneTree.Checks.{every, same_token}
 use Rattle.jsx_tree.proofs.OneTree.Facts.{never, or_else, for_kind, Seen, took}
 use Rattle.jsx_tree.proofs.OneTree.Pairs.{two_tokens}
@@ -69,6 +73,7 @@ key_view {v} {x} {y} (node k cs) h r = by_which (which k (kept_kind h))
     by_which : Which k → Keyed v x (node k cs) y
     by_which (a_statement s) = absurd (stated_home Key k refl s i)
     by_which (a_seq e) = absurd (never (in_homes Key (homes k)) i (ap (λ k. in_homes Key (homes k)) e ∙ key_seq))
+    by_which (a_blocked s) = absurd (never (in_homes Key (homes (expression Arrow))) (blocked_home Key k s i) refl)
     by_which (a_taken s) =
         let e = key_is k (or_else (not (in_homes Key (homes k))) _ (for_kind (λ k. not (in_homes Key (homes k)) || is_key k) key_taken k s) (ap not i)) in
         subst (λ k. Keyed v x (node k cs) y) (sym e) (bracketed (kept_parts h) (node_walk false (function ComputedKey) refl (subst (λ k. IsRead v false Key x (node k cs) y) e r)))
@@ -114,4 +119,4 @@ key_same {w = w} {x = x} {y} {z} (bracketed {cs = cs} g m) (bracketed {cs = ds} 
     record { tree = ap (node (function ComputedKey)) forests; place = sym i.1 ∙ ((sym c.moves ∙ (ap (forth (Tok Operator Punctuator (codes "]"))) o.place ∙ d.moves)) ∙ j.1) }
   where
     close : {x : Place} → Seen x Punctuator (codes "]") → calm 1 x ≡ true
-    close {x} s = (λ i. nat_le (reach_of (s.kind i) (s.text i) (broken x)) 1)
+    close {x} s = reach_seen Punctuator (codes "]") 1 x s refl
