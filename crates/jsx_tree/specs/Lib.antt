@@ -10,7 +10,9 @@ pub mod Depth
 pub mod Normal
 pub mod Parentheses
 pub mod StaticRules
+pub mod ViewOperators
 pub mod View
+pub mod ViewProgram
 pub mod Spans
 pub mod Told
 pub mod Program

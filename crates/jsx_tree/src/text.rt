@@ -26,7 +26,22 @@ pub struct Ident<'s> {
 #[derive(Clone, Copy, Debug, PartialEq, Eq)]
 pub enum LiteralKind {
     Num,
+    BigInt,
     Str,
+    RegExp,
+}
+
+/// An expression that is always spelled alike.
+#[derive(Clone, Copy, Debug, PartialEq, Eq)]
+pub enum Word {
+    This,
+    Null,
+    True,
+    False,
+    /// `import.meta`
+    ImportMeta,
+    /// `new.target`
+    NewTarget,
 }
 
 /// The word that a declaration of variables begins with.
@@ -35,4 +50,18 @@ pub enum DeclareWord {
     Var,
     Let,
     Const,
+}
+
+/// How a link of an optional chain begins: `?.b` or `.b`.
+#[derive(Clone, Copy, Debug, PartialEq, Eq)]
+pub enum LinkForm {
+    Optional,
+    Plain,
+}
+
+/// Whether a member belongs to a class's instances or, with `static` before it, to the class.
+#[derive(Clone, Copy, Debug, PartialEq, Eq)]
+pub enum Placement {
+    Instance,
+    Static,
 }
