@@ -1,6 +1,7 @@
 pub mod Spellings
 pub mod Gaps
 pub mod Places
+pub mod NodeSpans
 pub mod Words
 pub mod Takes
 pub mod Taking
@@ -12,6 +13,7 @@ pub mod Items
 pub mod Modules
 pub mod OneTree
 pub mod Steps
+pub mod Making
 pub mod Trees
 pub mod Texts
 pub mod Placing

@@ -1,28 +1,21 @@
 -- The places of the nodes that the parser makes: each along its row.
-use Rattle.std.proofs.Common.{◌≡◌, nat_eq, Bool, true, false, List, [], ◌∷◌, map, refl, sym, ◌∙◌, ap, subst, Option, Some, None, Box, Vec, Global}
+use Rattle.std.proofs.Common.{◌≡◌, nat_eq, Bool, true, false, List, [], ◌∷◌, map, refl, sym, ◌∙◌, ap, subst, Option, Box, Vec, Global}
 use Rattle.std.specs.Prelude.{IsTrue, codes, cond, ◌||◌}
 use Rattle.std.proofs.lemmas.Bool.{eqb-true}
 use Rattle.jsx_base.specs.Token.{Text, Operator, Punctuator, JsxName, IdentifierName, Lexeme, breaks, skip, at_front, token, same, first_is, is_token}
 use Rattle.jsx_base.specs.Lines.{size}
 use Rattle.jsx_base.specs.declared.place.Span.{Span}
 use Rattle.jsx_tree.specs.declared.text.Text.{Text as TreeText}
-use Rattle.jsx_tree.specs.declared.tree.Expr.{Expr}
-use Rattle.jsx_tree.specs.declared.tree.Expr.TheVariants as expr
-use Rattle.jsx_tree.specs.declared.tree.Access.TheVariants as access
-use Rattle.jsx_tree.specs.declared.tree.Pat.{Pat}
-use Rattle.jsx_tree.specs.declared.tree.Pat.TheVariants as pat
-use Rattle.jsx_tree.specs.declared.tree.Jsx.TheVariants as jsxs
-use Rattle.jsx_tree.specs.declared.tree.Tag.TheVariants as tags
+use Rattle.jsx_tree.specs.declared.tree.Jsx.{Jsx}
 use Rattle.jsx_tree.specs.Signs.{AfterExpr, AfterBinding, Tok, Semicolon, TrailingComma, Ends}
-use Rattle.jsx_tree.specs.Kinds.{ConstWord, Module, Var, Declarator, ExprStmt, Call, Member, program, statement, expression, Tree, leaf, node, list, Forest, none, part}
+use Rattle.jsx_tree.specs.Kinds.{ConstWord, Module, Var, Declarator, ExprStmt, Call, Member, Element, program, statement, expression, jsx, Tree, leaf, node, list, Forest, none, part}
 use Rattle.jsx_tree.specs.Nonterminals as grammar
 use Rattle.jsx_tree.specs.Grammar.{Commas, NoTrailing, TopLines, Many, p, semi, production}
 use Rattle.jsx_tree.specs.Spelling.{mode_of, saids, spelled}
 use Rattle.jsx_tree.specs.Reading.{Place, Lost, At, forth, scan}
 use Rattle.jsx_tree.specs.Spans.{Comes, spans, Told, tells, Tales, no_tales, tale, IsTold, AreTold, starts, places, placed_in}
-use Rattle.jsx_tree.specs.View.{text_of, forest, directive, view_expr, view_pat, view_jsx}
-use Rattle.jsx_tree.specs.Told.{told_list, told_text, told_node, told_jsx, told_expr, told_pat, told_directive}
-use Rattle.jsx_tree.proofs.Telling.{told-Expr-Access, told-Access-Call, told-Access-Member, told-Pat-Binding}
+use Rattle.jsx_tree.specs.View.{text_of, inside, forest, directive}
+use Rattle.jsx_tree.specs.Told.{told_list, told_text, told_node, told_jsx, told_directive}
 use Rattle.jsx_tree.specs.Walk.{is_found}
 use Rattle.jsx_syntax.specs.Here.{Here, place_of, sign_of}
 use Rattle.jsx_syntax.specs.declared.lexer.Fixed.TheVariants as fixed
@@ -30,8 +23,7 @@ use Rattle.jsx_syntax.specs.Spans.{Spans, next_of, end_of, Takes, IsPlaced, IsPl
 use Rattle.jsx_base.proofs.Fronts.{other_ahead}
 use Rattle.jsx_tree.proofs.Apart.{clash}
 use Rattle.jsx_tree.proofs.Signs.{semi_too, comma_too}
-use Rattle.jsx_syntax.proofs.Trees.{binding_is, plain_is, member_is, call_is}
-use Rattle.jsx_syntax.proofs.Placing.{row_end, row_sign, row_quiet, row_unless, row_within, row_part, row_list, row_present, row_absent, list_none, node_is, leaf_is, led, placed_as}
+use Rattle.jsx_syntax.proofs.Placing.{row_end, row_sign, row_quiet, row_unless, row_within, row_part, row_list, row_present, row_absent, list_none, node_is, leaf_is, led}
 
 -- ---- a semicolon and a trailing comma
 
@@ -76,46 +68,29 @@ name_placed k c = leaf_is refl refl (c, tt) k
 tag_placed : {a : TreeText} {x y : Here} → Takes (Tok (mode_of JsxName) JsxName (text_of a)) x y → Comes a (next_of x) → IsPlaced (told_text a) (leaf JsxName (text_of a)) x y
 tag_placed k c = leaf_is refl refl (c, tt) k
 
-pub element_placed : {at : Option Span} {a : TreeText} {x y z w v : Here} → Takes (sign_of fixed.Less) x y → Takes (Tok (mode_of JsxName) JsxName (text_of a)) y z → Comes a (next_of y) → Takes (sign_of fixed.TagSlash) z w → Takes (sign_of fixed.TagGreater) w v → Spans at (next_of x) (end_of v)
-    → IsPlaced (told_jsx (jsxs.Element at (tags.Name a))) (view_jsx (jsxs.Element at (tags.Name a))) x v
-element_placed {a = a} less name comes slash greater s =
+pub element_row : {at : Option Span} {a : TreeText} {x y z w v : Here} → Takes (sign_of fixed.Less) x y → Takes (Tok (mode_of JsxName) JsxName (text_of a)) y z → Comes a (next_of y) → Takes (sign_of fixed.TagSlash) z w → Takes (sign_of fixed.TagGreater) w v → Spans at (next_of x) (end_of v)
+    → IsPlaced (told_node at (told_text a ∷ told_list [] ∷ [])) (node (jsx Element) (part (leaf JsxName (text_of a)) (part (list none) none))) x v
+element_row {a = a} less name comes slash greater s =
     node_is (λ c e ps. refl) (λ ms text. refl) s
     (row_sign less (row_quiet (λ q. refl) (row_part (tag_placed name comes) (row_list list_none (row_sign slash (row_sign greater row_end))))))
 
-member_row : {at : Option Span} {d : Told} {t : Tree} {a : TreeText} {w z x y : Here} → IsPlaced d t w z → Takes (sign_of fixed.Dot) z x → Takes (Tok Operator IdentifierName (text_of a)) x y → Comes a (next_of x) → Spans at (next_of w) (end_of y)
+pub element_told : {d : Told} (at : Option Span) (a : TreeText) (as' : Vec (Box Jsx Global) Global) → as'.items ≡ [] → d ≡ told_node at (told_text a ∷ told_list (map (inside told_jsx) as'.items) ∷ []) → d ≡ told_node at (told_text a ∷ told_list [] ∷ [])
+element_told at a as' e is = is ∙ ap (λ js. told_node at (told_text a ∷ told_list (map (inside told_jsx) js) ∷ [])) e
+
+pub member_row : {at : Option Span} {d : Told} {t : Tree} {a : TreeText} {w z x y : Here} → IsPlaced d t w z → Takes (sign_of fixed.Dot) z x → Takes (Tok Operator IdentifierName (text_of a)) x y → Comes a (next_of x) → Spans at (next_of w) (end_of y)
     → IsPlaced (told_node at (d ∷ told_text a ∷ [])) (node (expression Member) (part t (part (leaf IdentifierName (text_of a)) none))) w y
 member_row l dot name comes s = node_is (λ c e ps. refl) (led l _) s (row_part l (row_quiet (λ q. refl) (row_sign dot (row_part (name_placed name comes) row_end))))
 
-pub member_placed : (at : Option Span) (o : Box Expr Global) (a : TreeText) (first : Expr) {w z x y : Here} → o.value ≡ first → IsPlaced (told_expr first) (view_expr first) w z → Takes (sign_of fixed.Dot) z x → Takes (Tok Operator IdentifierName (text_of a)) x y → Comes a (next_of x)
-    → Spans at (next_of w) (end_of y) → IsPlaced (told_expr (expr.Access (access.Member at o a))) (view_expr (expr.Access (access.Member at o a))) w y
-member_placed at o a first e l dot name comes s =
-    placed_as (told-Expr-Access (access.Member at o a) ∙ (told-Access-Member at o a ∙ ap (λ v. told_node at (told_expr v ∷ told_text a ∷ [])) e)) (member_is at o a e) (member_row l dot name comes s)
-
-call_row : {at : Option Span} {d : Told} {t : Tree} {es : Tales} {us : Forest} {w z x y : Here} → IsPlaced d t w z → Takes (sign_of fixed.Open) z x → IsPlacedRow (Many Commas grammar.Argument ∷ p ")" ∷ []) (tale (tells [] es) no_tales) (part (list us) none) x y → Spans at (next_of w) (end_of y)
+pub call_row : {at : Option Span} {d : Told} {t : Tree} {es : Tales} {us : Forest} {w z x y : Here} → IsPlaced d t w z → Takes (sign_of fixed.Open) z x → IsPlacedRow (Many Commas grammar.Argument ∷ p ")" ∷ []) (tale (tells [] es) no_tales) (part (list us) none) x y → Spans at (next_of w) (end_of y)
     → IsPlaced (tells (spans at ∷ []) (tale d (tale (tells [] es) no_tales))) (node (expression Call) (part t (part (list us) none))) w y
 call_row l bracket r s = node_is (λ c e ps. refl) (led l _) s (row_part l (row_quiet (λ q. refl) (row_sign bracket r)))
 
-pub call_placed : (at : Option Span) (o : Box Expr Global) (xs : Vec Expr Global) (first : Expr) {w z x y : Here} → o.value ≡ first → IsPlaced (told_expr first) (view_expr first) w z → Takes (sign_of fixed.Open) z x
-    → IsPlacedRow (Many Commas grammar.Argument ∷ p ")" ∷ []) (tale (told_list (map told_expr xs.items)) no_tales) (part (list (forest (map view_expr xs.items))) none) x y
-    → Spans at (next_of w) (end_of y) → IsPlaced (told_expr (expr.Access (access.Call at o xs))) (view_expr (expr.Access (access.Call at o xs))) w y
-call_placed at o xs first e l bracket r s =
-    placed_as (told-Expr-Access (access.Call at o xs) ∙ (told-Access-Call at o xs ∙ ap (λ v. told_node at (told_expr v ∷ told_list (map told_expr xs.items) ∷ [])) e)) (call_is at o xs e) (call_row l bracket r s)
-
-declarator_row : {at : Option Span} {d e : Told} {t u : Tree} {x y z w v : Here} → IsPlaced d t x y → Takes (Ends AfterBinding) y z → Takes (sign_of fixed.Equals) z w → IsPlaced e u w v → Spans at (next_of x) (end_of v)
+pub declarator_row : {at : Option Span} {d e : Told} {t u : Tree} {x y z w v : Here} → IsPlaced d t x y → Takes (Ends AfterBinding) y z → Takes (sign_of fixed.Equals) z w → IsPlaced e u w v → Spans at (next_of x) (end_of v)
     → IsPlaced (told_node at (d ∷ told_list (e ∷ []) ∷ [])) (node (statement Declarator) (part t (part (list (part u none)) none))) x v
 declarator_row l ends equals m s = node_is (λ c e ps. refl) (led l _) s (row_part l (row_sign ends (row_present equals.same equals.leads m row_end)))
 
-pub declarator_placed : (at : Option Span) (o : Box Pat Global) (i : Box Expr Global) (name : Pat) (value : Expr) {x y z w v : Here} → o.value ≡ name → i.value ≡ value → IsPlaced (told_pat name) (view_pat name) x y → Takes (Ends AfterBinding) y z → Takes (sign_of fixed.Equals) z w → IsPlaced (told_expr value) (view_expr value) w v
-    → Spans at (next_of x) (end_of v) → IsPlaced (told_pat (pat.Binding at o (Some i))) (view_pat (pat.Binding at o (Some i))) x v
-declarator_placed at o i name value e f l ends equals m s =
-    placed_as (told-Pat-Binding at o (Some i) ∙ (λ j. told_node at (told_pat (e j) ∷ told_list (told_expr (f j) ∷ []) ∷ []))) (binding_is at o i e f) (declarator_row l ends equals m s)
-
-plain_row : {at : Option Span} {d : Told} {t : Tree} {x y z : Here} → IsPlaced d t x y → Takes (Ends AfterBinding) y z → Spans at (next_of x) (end_of z) → IsPlaced (told_node at (d ∷ told_list [] ∷ [])) (node (statement Declarator) (part t (part (list none) none))) x z
+pub plain_row : {at : Option Span} {d : Told} {t : Tree} {x y z : Here} → IsPlaced d t x y → Takes (Ends AfterBinding) y z → Spans at (next_of x) (end_of z) → IsPlaced (told_node at (d ∷ told_list [] ∷ [])) (node (statement Declarator) (part t (part (list none) none))) x z
 plain_row l ends s = node_is (λ c e ps. refl) (led l _) s (row_part l (row_sign ends (row_absent row_end)))
-
-pub plain_placed : (at : Option Span) (o : Box Pat Global) (name : Pat) {x y z : Here} → o.value ≡ name → IsPlaced (told_pat name) (view_pat name) x y → Takes (Ends AfterBinding) y z → Spans at (next_of x) (end_of z) → IsPlaced (told_pat (pat.Binding at o None)) (view_pat (pat.Binding at o None)) x z
-plain_placed at o name e l ends s =
-    placed_as (told-Pat-Binding at o None ∙ (λ j. told_node at (told_pat (e j) ∷ told_list [] ∷ []))) (plain_is at o e) (plain_row l ends s)
 
 pub constant_placed : {at : Option Span} {ds : Tales} {ts : Forest} {w x z : Here} → Takes (sign_of fixed.Const) w x → IsPlacedRow (Many NoTrailing grammar.Declarators ∷ semi ∷ []) (tale (tells [] ds) no_tales) (part (list ts) none) x z → Spans at (next_of w) (end_of z)
     → IsPlaced (tells (spans at ∷ []) (tale (tells [] ds) no_tales)) (node (statement (Var ConstWord)) (part (list ts) none)) w z

@@ -1,4 +1,5 @@
 pub mod Here
+pub mod NodeSpans
 pub mod Spans
 pub mod Seen
 pub mod Answers

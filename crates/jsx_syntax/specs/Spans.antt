@@ -5,17 +5,8 @@ use Rattle.jsx_base.specs.Lines.{size}
 use Rattle.jsx_base.specs.declared.place.BytePos.{BytePos}
 use Rattle.jsx_base.specs.declared.place.Span.{Span}
 use Rattle.jsx_tree.specs.declared.tree.Expr.{Expr}
-use Rattle.jsx_tree.specs.declared.tree.Access.TheOpen.{Access-F, Expr-F}
-use Rattle.jsx_tree.specs.declared.tree.Access.TheFolds.{fold-Expr}
-use Rattle.jsx_tree.specs.declared.tree.Jsx.{Jsx}
-use Rattle.jsx_tree.specs.declared.tree.Jsx.TheVariants.{Element}
-use Rattle.jsx_tree.specs.declared.tree.Pat.{Pat}
-use Rattle.jsx_tree.specs.declared.tree.Pat.TheOpen.{Pat-F}
-use Rattle.jsx_tree.specs.declared.tree.Pat.TheFolds.{fold-Pat}
-use Rattle.jsx_tree.specs.declared.tree.Stmt.{Stmt}
-use Rattle.jsx_tree.specs.declared.tree.Stmt.TheVariants as stmt
-use Rattle.jsx_tree.specs.declared.tree.Program.{Program}
-use Rattle.jsx_tree.specs.declared.tree.Program.TheVariants as programs
+use Rattle.jsx_tree.specs.declared.program.Program.{Program}
+use Rattle.jsx_tree.specs.declared.program.Program.TheVariants as programs
 use Rattle.jsx_syntax.specs.declared.error.ParseError.{ParseError}
 use Rattle.jsx_syntax.specs.declared.error.ParseError.TheVariants.{Syntax}
 use Rattle.jsx_tree.specs.Signs.{Sign}
@@ -29,6 +20,7 @@ use Rattle.jsx_tree.specs.Told.{told_expr}
 use Rattle.jsx_tree.specs.Spans.{from_first, is_text, start, list_starts, starts, placed, places, each_placed, Told, Tales, IsTold, AreTold}
 use Rattle.jsx_tree.specs.Walk.{is_found}
 use Rattle.jsx_syntax.specs.Here.{Here, place_of}
+use Rattle.jsx_syntax.specs.NodeSpans.{expr_at}
 
 -- where the token that was taken last begins and ends, and where the next one begins
 abbrev pub begin_of : Here → ℕ
@@ -61,37 +53,10 @@ pub record FailsAt (e : ParseError) (place : ℕ) : Type 0 where
   pub is : e ≡ Syntax at
   pub place_is : at.0 ≡ place
 
--- the span that a node has, whatever spans its parts have
-
-abbrev pub jsx_at : Jsx → Option Span
-jsx_at (Element at _) = at
-
-abbrev pub expr_at_step : Expr-F (Option Span) (Option Span) → Option Span
-expr_at_step (Expr-F.Ident at _) = at
-expr_at_step (Expr-F.Literal at _ _) = at
-expr_at_step (Expr-F.Access at) = at
-expr_at_step (Expr-F.Jsx j) = jsx_at j
-
-abbrev pub access_at_step : Access-F (Option Span) (Option Span) → Option Span
-access_at_step (Access-F.Call at _ _) = at
-access_at_step (Access-F.Member at _ _) = at
-
-abbrev pub expr_at : Expr → Option Span
-expr_at = fold-Expr (Option Span) (Option Span) access_at_step expr_at_step
-
-abbrev pub pat_at_step : Pat-F (Option Span) → Option Span
-pat_at_step (Pat-F.Ident at _) = at
-pat_at_step (Pat-F.Binding at _ _) = at
-
-abbrev pub pat_at : Pat → Option Span
-pat_at = fold-Pat (Option Span) pat_at_step
-
-abbrev pub stmt_at : Stmt → Option Span
-stmt_at (stmt.Var at _ _) = at
-stmt_at (stmt.Expr at _) = at
-
+-- the span of a whole program
 abbrev pub program_at : Program → Span
 program_at (programs.Module m) = m.span
+program_at (programs.Script m) = m.span
 
 -- ---- the places of all that a tree has in it
 

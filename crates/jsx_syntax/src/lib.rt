@@ -6,6 +6,7 @@ mod error;
 mod expression;
 mod identifiers;
 mod lexer;
+mod make;
 mod module;
 mod parser;
 mod seen;

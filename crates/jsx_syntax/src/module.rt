@@ -5,7 +5,8 @@ ghost use Rattle.std.specs.Str.{chars};
 ghost use Rattle.jsx_tree.specs.Kinds.{Tree};
 ghost use Rattle.jsx_tree.specs.Stage.{ReadsSoFar};
 ghost use Rattle.jsx_tree.specs.Grammar.{TopLines};
-ghost use Rattle.jsx_tree.specs.View.{forest, view, view_item};
+ghost use Rattle.jsx_tree.specs.View.{forest};
+ghost use Rattle.jsx_tree.specs.ViewProgram.{view, view_item};
 ghost use Rattle.jsx_tree.specs.Spans.{IsTold, placed_in};
 ghost use Rattle.jsx_tree.specs.Told.{tales, told, told_item};
 ghost use Rattle.jsx_base.specs.Token.{Text};
@@ -32,7 +33,7 @@ fn items<'s>(alloc: Global, lexer: &mut Lexer<'s>) -> Result<Vec<Item<'s>>, Pars
     let mut items = Vec::new(alloc);
     'statements: while !lexer.is_at_end() {
         let statement = statement(alloc, lexer)?;
-        items.push(Item::Stmt(Box::new(alloc, statement)?))?;
+        items.push(Item::Stmt(statement))?;
     }
     Ok(items)
 }
@@ -83,8 +84,10 @@ mod tests {
         if text.len() >= 1000 {
             return Err(ParseError::Memory);
         }
-        let Program::Module(module) = parse(alloc, text)?;
-        Ok(module.body.len())
+        match parse(alloc, text)? {
+            Program::Module(module) => Ok(module.body.len()),
+            Program::Script(script) => Ok(script.body.len()),
+        }
     }
 
     #[test]

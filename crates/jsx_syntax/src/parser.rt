@@ -16,13 +16,16 @@ ghost use Rattle.jsx_tree.specs.Walk.{nothing, one};
 ghost use Rattle.jsx_tree.specs.Answers.{Only, Barred};
 ghost use Rattle.jsx_tree.specs.SoFar.{in_module, so_far};
 ghost use Rattle.jsx_syntax.specs.Answers.{Refused};
-ghost use Rattle.jsx_syntax.specs.Spans.{FailsAt, IsPlaced, Spans, Takes, begin_of, end_of, next_of, pat_at};
+ghost use Rattle.jsx_syntax.specs.NodeSpans.{pat_at};
+ghost use Rattle.jsx_syntax.specs.Spans.{FailsAt, IsPlaced, Spans, Takes, begin_of, end_of, next_of};
 
 use crate::error::ParseError;
 use crate::identifiers::{is_bound, is_plain_tag};
 use crate::lexer::{Fixed, Leaf, Lexer};
+use crate::make;
 use jsx_base::{BytePos, Span};
 use jsx_tree::{Ident, Pat, Text};
+use std::alloc::Global;
 
 /// From a place to the end of the token that was taken last.
 pub fn span_to(lo: BytePos, lexer: &Lexer) -> Option<Span>
@@ -55,10 +58,13 @@ pub fn expect(lexer: &mut Lexer, fixed: Fixed) -> Result<(), ParseError>
 }
 
 /// A binding identifier (ECMA-262 section 13.1).
-pub fn binding_identifier<'s>(lexer: &mut Lexer<'s>) -> Result<Pat<'s>, ParseError>
-    ensures read { IfOk result (λ p. Only so_far in_module (Part (grammar.Pat Binds)) (place_of lexer.old) (one (view_pat p)) (place_of lexer.new)) }
-    ensures span { IfOk result (λ p. Spans (pat_at p) (next_of lexer.old) (end_of lexer.new)) }
-    ensures placed { IfOk result (λ p. IsPlaced (told_pat p) (view_pat p) lexer.old lexer.new) }
+pub fn binding_identifier<'s>(
+    alloc: Global,
+    lexer: &mut Lexer<'s>,
+) -> Result<Box<Pat<'s>>, ParseError>
+    ensures read { IfOk result (λ p. Only so_far in_module (Part (grammar.Pat Binds)) (place_of lexer.old) (one (view_pat p.value)) (place_of lexer.new)) }
+    ensures span { IfOk result (λ p. Spans (pat_at p.value) (next_of lexer.old) (end_of lexer.new)) }
+    ensures placed { IfOk result (λ p. IsPlaced (told_pat p.value) (view_pat p.value) lexer.old lexer.new) }
     ensures begins { OnOk result (begin_of lexer.new ≡ next_of lexer.old) }
     ensures shorter { OnOk result (left lexer.new < left lexer.old) }
     ensures refused { Refused result (Barred so_far in_module (Part (grammar.Pat Binds)) (place_of lexer.old)) }
@@ -71,7 +77,7 @@ pub fn binding_identifier<'s>(lexer: &mut Lexer<'s>) -> Result<Pat<'s>, ParseErr
     }
     let lo = lexer.last_place();
     let text = Text::Read(raw, lo);
-    Ok(Pat::Ident(span_to(lo, lexer), Ident { text }))
+    Ok(make::bound_name(alloc, span_to(lo, lexer), Ident { text })?)
 }
 
 /// The name of a tag.

@@ -6,7 +6,7 @@ ghost use Rattle.jsx_tree.specs.Nonterminals as grammar;
 ghost use Rattle.jsx_tree.specs.Grammar.{Many, NoTrailing, Part, semi};
 ghost use Rattle.jsx_tree.specs.StaticRules.{all_of, has_init};
 ghost use Rattle.jsx_tree.specs.Stage.{is_string};
-ghost use Rattle.jsx_tree.specs.View.{forest, view_expr, view_pat, view_stmt};
+ghost use Rattle.jsx_tree.specs.View.{forest, inside, view_expr, view_pat, view_stmt};
 ghost use Rattle.jsx_tree.specs.Spans.{no_tales, tale};
 ghost use Rattle.jsx_tree.specs.Told.{told_list, told_pat, told_stmt};
 ghost use Rattle.jsx_tree.specs.Walk.{one};
@@ -15,32 +15,33 @@ ghost use Rattle.jsx_tree.specs.SoFar.{behind_const, in_module, row_so_far, so_f
 ghost use Rattle.jsx_syntax.specs.Here.{place_of, left, sign_of};
 ghost use Rattle.jsx_syntax.specs.declared.lexer.Fixed.TheVariants as fixed;
 ghost use Rattle.jsx_syntax.specs.Answers.{Refused};
-ghost use Rattle.jsx_syntax.specs.Spans.{IsPlaced, IsPlacedBehind, IsPlacedRow, Spans, begin_of, end_of, next_of, pat_at, stmt_at};
+ghost use Rattle.jsx_syntax.specs.NodeSpans.{pat_at, stmt_at};
+ghost use Rattle.jsx_syntax.specs.Spans.{IsPlaced, IsPlacedBehind, IsPlacedRow, Spans, begin_of, end_of, next_of};
 
 use crate::error::ParseError;
 use crate::expression::{expression, start_of};
 use crate::lexer::{Ending, Fixed, Lexer};
+use crate::make;
 use crate::parser::{binding_identifier, expect, give_up, span_to};
 use jsx_tree::{DeclareWord, Expr, LiteralKind, Pat, Stmt};
 use std::alloc::Global;
 
 /// A variable, with an initializer or without: `a = b`.
-fn declarator<'s>(alloc: Global, lexer: &mut Lexer<'s>) -> Result<Pat<'s>, ParseError>
-    ensures read { IfOk result (λ p. Only so_far in_module (Part grammar.Declarators) (place_of lexer.old) (one (view_pat p)) (place_of lexer.new)) }
-    ensures span { IfOk result (λ p. Spans (pat_at p) (next_of lexer.old) (end_of lexer.new)) }
-    ensures placed { IfOk result (λ p. IsPlaced (told_pat p) (view_pat p) lexer.old lexer.new) }
+fn declarator<'s>(alloc: Global, lexer: &mut Lexer<'s>) -> Result<Box<Pat<'s>>, ParseError>
+    ensures read { IfOk result (λ p. Only so_far in_module (Part grammar.Declarators) (place_of lexer.old) (one (view_pat p.value)) (place_of lexer.new)) }
+    ensures span { IfOk result (λ p. Spans (pat_at p.value) (next_of lexer.old) (end_of lexer.new)) }
+    ensures placed { IfOk result (λ p. IsPlaced (told_pat p.value) (view_pat p.value) lexer.old lexer.new) }
     ensures shorter { OnOk result (left lexer.new < left lexer.old) }
     ensures refused { Refused result (Barred so_far in_module (Part grammar.Declarators) (place_of lexer.old)) }
 {
-    let name = binding_identifier(lexer)?;
+    let name = binding_identifier(alloc, lexer)?;
     let lo = lexer.last_place();
     lexer.ends(Ending::Binding);
-    let name = Box::new(alloc, name)?;
     if !lexer.take(Fixed::Equals) {
-        return Ok(Pat::Binding(span_to(lo, lexer), name, None));
+        return Ok(make::declarator(alloc, span_to(lo, lexer), name, None)?);
     }
     let value = expression(alloc, lexer)?;
-    Ok(Pat::Binding(span_to(lo, lexer), name, Some(Box::new(alloc, value)?)))
+    Ok(make::declarator(alloc, span_to(lo, lexer), name, Some(value))?)
 }
 
 /// Whether a variable has an initializer.
@@ -51,10 +52,10 @@ fn is_initialized(declarator: &Pat) -> bool
 }
 
 /// One declarator or more behind the word `const`, with commas between, and the semicolon: `a = b, c = d;`.
-fn declarators<'s>(alloc: Global, lexer: &mut Lexer<'s>) -> Result<Vec<Pat<'s>>, ParseError>
-    ensures read { IfOk result (λ v. OnlyRow so_far in_module behind_const (place_of lexer.old) (part (list (forest (map view_pat v.items))) none) (place_of lexer.new)) }
-    ensures initialized { IfOk result (λ v. IsTrue (all_of (has_init ConstWord) (forest (map view_pat v.items)))) }
-    ensures placed { IfOk result (λ v. IsPlacedRow (Many NoTrailing grammar.Declarators ∷ semi ∷ []) (tale (told_list (map told_pat v.items)) no_tales) (part (list (forest (map view_pat v.items))) none) lexer.old lexer.new) }
+fn declarators<'s>(alloc: Global, lexer: &mut Lexer<'s>) -> Result<Vec<Box<Pat<'s>>>, ParseError>
+    ensures read { IfOk result (λ v. OnlyRow so_far in_module behind_const (place_of lexer.old) (part (list (forest (map (inside view_pat) v.items))) none) (place_of lexer.new)) }
+    ensures initialized { IfOk result (λ v. IsTrue (all_of (has_init ConstWord) (forest (map (inside view_pat) v.items)))) }
+    ensures placed { IfOk result (λ v. IsPlacedRow (Many NoTrailing grammar.Declarators ∷ semi ∷ []) (tale (told_list (map (inside told_pat) v.items)) no_tales) (part (list (forest (map (inside view_pat) v.items))) none) lexer.old lexer.new) }
     ensures shorter { OnOk result (left lexer.new < left lexer.old) }
     ensures refused { Refused result (NoNode so_far in_module behind_const (statement (Var ConstWord)) (place_of lexer.old)) }
 {
@@ -73,16 +74,19 @@ fn declarators<'s>(alloc: Global, lexer: &mut Lexer<'s>) -> Result<Vec<Pat<'s>>,
 }
 
 /// A lexical declaration behind its word: `const a = b, c = d;`.
-fn lexical_declaration<'s>(alloc: Global, lexer: &mut Lexer<'s>) -> Result<Stmt<'s>, ParseError>
-    ensures read { IfOk result (λ s. BuiltNode so_far in_module behind_const (statement (Var ConstWord)) (view_stmt s) (place_of lexer.old) (place_of lexer.new)) }
-    ensures span { IfOk result (λ s. Spans (stmt_at s) (begin_of lexer.old) (end_of lexer.new)) }
-    ensures placed { IfOk result (λ s. IsPlacedBehind (sign_of fixed.Const) lexer.old (told_stmt s) (view_stmt s) lexer.new) }
+fn lexical_declaration<'s>(
+    alloc: Global,
+    lexer: &mut Lexer<'s>,
+) -> Result<Box<Stmt<'s>>, ParseError>
+    ensures read { IfOk result (λ s. BuiltNode so_far in_module behind_const (statement (Var ConstWord)) (view_stmt s.value) (place_of lexer.old) (place_of lexer.new)) }
+    ensures span { IfOk result (λ s. Spans (stmt_at s.value) (begin_of lexer.old) (end_of lexer.new)) }
+    ensures placed { IfOk result (λ s. IsPlacedBehind (sign_of fixed.Const) lexer.old (told_stmt s.value) (view_stmt s.value) lexer.new) }
     ensures shorter { OnOk result (left lexer.new < left lexer.old) }
     ensures refused { Refused result (NoNode so_far in_module behind_const (statement (Var ConstWord)) (place_of lexer.old)) }
 {
     let lo = lexer.last_place();
     let all = declarators(alloc, lexer)?;
-    Ok(Stmt::Var(span_to(lo, lexer), DeclareWord::Const, all))
+    Ok(make::variables(alloc, span_to(lo, lexer), DeclareWord::Const, all)?)
 }
 
 fn is_string(expr: &Expr) -> bool
@@ -92,10 +96,13 @@ fn is_string(expr: &Expr) -> bool
 }
 
 /// An expression statement: `a(b);`. A string alone isn't one.
-fn expression_statement<'s>(alloc: Global, lexer: &mut Lexer<'s>) -> Result<Stmt<'s>, ParseError>
-    ensures read { IfOk result (λ s. BuiltNode so_far in_module (row_so_far (statement ExprStmt)) (statement ExprStmt) (view_stmt s) (place_of lexer.old) (place_of lexer.new)) }
-    ensures span { IfOk result (λ s. Spans (stmt_at s) (next_of lexer.old) (end_of lexer.new)) }
-    ensures placed { IfOk result (λ s. IsPlaced (told_stmt s) (view_stmt s) lexer.old lexer.new) }
+fn expression_statement<'s>(
+    alloc: Global,
+    lexer: &mut Lexer<'s>,
+) -> Result<Box<Stmt<'s>>, ParseError>
+    ensures read { IfOk result (λ s. BuiltNode so_far in_module (row_so_far (statement ExprStmt)) (statement ExprStmt) (view_stmt s.value) (place_of lexer.old) (place_of lexer.new)) }
+    ensures span { IfOk result (λ s. Spans (stmt_at s.value) (next_of lexer.old) (end_of lexer.new)) }
+    ensures placed { IfOk result (λ s. IsPlaced (told_stmt s.value) (view_stmt s.value) lexer.old lexer.new) }
     ensures shorter { OnOk result (left lexer.new < left lexer.old) }
     ensures refused { Refused result (NoNode so_far in_module (row_so_far (statement ExprStmt)) (statement ExprStmt) (place_of lexer.old)) }
 {
@@ -105,14 +112,14 @@ fn expression_statement<'s>(alloc: Global, lexer: &mut Lexer<'s>) -> Result<Stmt
     }
     expect(lexer, Fixed::Semicolon)?;
     let span = span_to(start_of(&expr), lexer);
-    Ok(Stmt::Expr(span, Box::new(alloc, expr)?))
+    Ok(make::expression_statement(alloc, span, expr)?)
 }
 
 /// A statement.
-pub fn statement<'s>(alloc: Global, lexer: &mut Lexer<'s>) -> Result<Stmt<'s>, ParseError>
-    ensures read { IfOk result (λ s. Only so_far in_module (Part grammar.Item) (place_of lexer.old) (one (view_stmt s)) (place_of lexer.new)) }
-    ensures span { IfOk result (λ s. Spans (stmt_at s) (next_of lexer.old) (end_of lexer.new)) }
-    ensures placed { IfOk result (λ s. IsPlaced (told_stmt s) (view_stmt s) lexer.old lexer.new) }
+pub fn statement<'s>(alloc: Global, lexer: &mut Lexer<'s>) -> Result<Box<Stmt<'s>>, ParseError>
+    ensures read { IfOk result (λ s. Only so_far in_module (Part grammar.Item) (place_of lexer.old) (one (view_stmt s.value)) (place_of lexer.new)) }
+    ensures span { IfOk result (λ s. Spans (stmt_at s.value) (next_of lexer.old) (end_of lexer.new)) }
+    ensures placed { IfOk result (λ s. IsPlaced (told_stmt s.value) (view_stmt s.value) lexer.old lexer.new) }
     ensures shorter { OnOk result (left lexer.new < left lexer.old) }
     ensures refused { Refused result (Barred so_far in_module (Part grammar.Item) (place_of lexer.old)) }
 {

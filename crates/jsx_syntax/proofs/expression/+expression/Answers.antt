@@ -1,28 +1,29 @@
 use Rattle.std.proofs.Common.{◌≡◌, arith, map, refl, sym, ◌∙◌, ap, subst}
 use Rattle.jsx_tree.specs.Nonterminals.{Expr}
 use Rattle.jsx_tree.specs.Grammar.{Commas, Part, pun}
-use Rattle.jsx_tree.specs.View.{forest, view_expr}
+use Rattle.jsx_tree.specs.View.{forest, inside, view_expr}
 use Rattle.jsx_tree.specs.Told.{tales, told_expr}
 use Rattle.jsx_tree.specs.Walk.{one}
 use Rattle.jsx_tree.specs.Answers.{Moves, Stuck, Only}
 use Rattle.jsx_tree.specs.SoFar.{in_module, so_far}
 use Rattle.jsx_syntax.specs.Here.{place_of, left}
-use Rattle.jsx_syntax.specs.Spans.{IsPlacedList, end_of}
+use Rattle.jsx_syntax.specs.NodeSpans.{expr_at}
+use Rattle.jsx_syntax.specs.Spans.{IsPlacedList, Spans, end_of, next_of}
 use Rattle.jsx_tree.proofs.Rows.SoFar.{of_so_far}
 use Rattle.jsx_tree.proofs.Rows.Lists.{begun, ended, ended_behind, no_more, not_closed, item_more, round}
 use Rattle.jsx_syntax.proofs.Values.{only_argument, barred_argument, member_follows, member_barred, call_follows, call_barred, value_only}
 use Rattle.jsx_syntax.proofs.Places.{spans_from}
 use Rattle.jsx_syntax.proofs.Steps.{passed}
-use Rattle.jsx_syntax.proofs.Trees.{call_is, pushed}
-use Rattle.jsx_syntax.proofs.Placing.{PlacedFront, plain_commas, row_end, row_sign, row_list, list_none, front_none, front_more, front_last, list_to, map_pushed, placed_from, placed_to, takes_from}
-use Rattle.jsx_syntax.proofs.PlacedNodes.{no_trailing, takes_trailing, call_placed}
+use Rattle.jsx_syntax.proofs.Trees.{pushed}
+use Rattle.jsx_syntax.proofs.Placing.{PlacedFront, plain_commas, row_end, row_sign, row_list, list_none, front_none, front_more, front_last, list_to, map_pushed, placed_as, placed_from, placed_to, takes_from}
+use Rattle.jsx_syntax.proofs.PlacedNodes.{no_trailing, takes_trailing, call_row}
 use Rattle.jsx_syntax.proofs.expression.+expression.Goals as goal
 
 pub arguments-arguments-init : goal.arguments-arguments-init
 arguments-arguments-init t c = record {
-  so_far = begun _ (ap (λ xs. forest (map view_expr xs)) c.new-all.ensures.items);
-  placed = subst (λ xs. PlacedFront Commas (map told_expr xs) (map view_expr xs) c.args.lexer.now c.args.lexer.now) (sym c.new-all.ensures.items) front_none;
-  closed = subst (λ xs. IsPlacedList Commas (tales (map told_expr xs)) (forest (map view_expr xs)) c.args.lexer.now c.args.lexer.now) (sym c.new-all.ensures.items) list_none;
+  so_far = begun _ (ap (λ xs. forest (map (inside view_expr) xs)) c.new-all.ensures.items);
+  placed = subst (λ xs. PlacedFront Commas (map (inside told_expr) xs) (map (inside view_expr) xs) c.args.lexer.now c.args.lexer.now) (sym c.new-all.ensures.items) front_none;
+  closed = subst (λ xs. IsPlacedList Commas (tales (map (inside told_expr) xs)) (forest (map (inside view_expr) xs)) c.args.lexer.now c.args.lexer.now) (sym c.new-all.ensures.items) list_none;
   within = omega arith;
 }
 
@@ -37,18 +38,18 @@ arguments-returns-in_err-expect-clause-refused t c = passed _ c.in_err-expect.en
 
 pub arguments-returns-then-not-take-clause-read : goal.arguments-returns-then-not-take-clause-read
 arguments-returns-then-not-take-clause-read t c = ended_behind _ _ of_so_far c.arguments.invariant.so_far (record { same = sym (ap place_of (c.take.ensures.stays c.arguments-test.true)); stuck = record { is = c.take.ensures.missing c.arguments-test.true } }) (only_argument c.in_ok-argument.ensures.read)
-    (record { same = sym (ap place_of (c.take-in-arguments.ensures.stays c.if-not-take.true)); stuck = record { is = c.take-in-arguments.ensures.missing c.if-not-take.true } }) c.in_ok-expect.ensures.read (pushed view_expr _ _ _ c.in_ok-push.ensures.items)
+    (record { same = sym (ap place_of (c.take-in-arguments.ensures.stays c.if-not-take.true)); stuck = record { is = c.take-in-arguments.ensures.missing c.if-not-take.true } }) c.in_ok-expect.ensures.read (pushed (inside view_expr) _ _ _ c.in_ok-push.ensures.items)
 
 pub arguments-arguments-preserved : goal.arguments-arguments-preserved
 arguments-arguments-preserved t c =
     let same : left c.take.new.self ≡ left c.arguments.lexer = ap left (c.take.ensures.stays c.arguments-test.true) in
     let argument = placed_from (c.take.ensures.stays c.arguments-test.true) c.in_ok-argument.ensures.placed in
     let comma = c.take-in-arguments.ensures.takes c.if-not-take.false in
-    let told_all = map_pushed told_expr c.arguments.all.items _ c.in_ok-argument.argument _ c.in_ok-push.ensures.items refl in
-    let view_all = map_pushed view_expr c.arguments.all.items _ c.in_ok-argument.argument _ c.in_ok-push.ensures.items refl in
+    let told_all = map_pushed (inside told_expr) c.arguments.all.items _ c.in_ok-argument.argument _ c.in_ok-push.ensures.items refl in
+    let view_all = map_pushed (inside view_expr) c.arguments.all.items _ c.in_ok-argument.argument _ c.in_ok-push.ensures.items refl in
     record {
       so_far = item_more _ _ of_so_far refl c.arguments.invariant.so_far (record { same = sym (ap place_of (c.take.ensures.stays c.arguments-test.true)); stuck = record { is = c.take.ensures.missing c.arguments-test.true } }) (only_argument c.in_ok-argument.ensures.read)
-          (record { is = c.take-in-arguments.ensures.taken c.if-not-take.false; found = refl }) (pushed view_expr _ _ _ c.in_ok-push.ensures.items);
+          (record { is = c.take-in-arguments.ensures.taken c.if-not-take.false; found = refl }) (pushed (inside view_expr) _ _ _ c.in_ok-push.ensures.items);
       within = omega (arith, same, c.take-in-arguments.ensures.shorter c.if-not-take.false, c.in_ok-argument.ensures.shorter, c.arguments.invariant.within);
       placed = front_more plain_commas c.arguments.invariant.placed argument comma.same comma.leads told_all view_all;
       closed = front_last plain_commas c.arguments.invariant.placed argument comma.same (takes_trailing comma) told_all view_all;
@@ -58,7 +59,7 @@ pub arguments-returns-clause-read : goal.arguments-returns-clause-read
 arguments-returns-clause-read t c = ended _ of_so_far refl round c.arguments.invariant.so_far (record { is = c.take.ensures.taken c.arguments-test.false; found = refl })
 
 pub call-returns-clause-read : goal.call-returns-clause-read
-call-returns-clause-read t c = record { parts = _; is = call_is c.span_to-span.result c.in_ok-new.field-0 c.in_ok-all.all c.in_ok-new.ensures.ok; row = c.in_ok-all.ensures.read }
+call-returns-clause-read t c = record { parts = _; is = c.in_ok-call.ensures.view; row = c.in_ok-all.ensures.read }
 
 pub expression-steps-init : goal.expression-steps-init
 expression-steps-init t c = record { so_far = c.in_ok-expr.ensures.read; span = c.in_ok-expr.ensures.span; placed = c.in_ok-expr.ensures.placed; within = c.in_ok-expr.ensures.shorter }
@@ -98,14 +99,14 @@ pub expression-returns-else-take-2-clause-read : goal.expression-returns-else-ta
 expression-returns-else-take-2-clause-read t c =
     let stays : place_of c.take.new.self ≡ place_of c.steps.lexer = ap place_of (c.take.ensures.stays c.if-take.false) in
     let stays' : place_of c.take-else-take.new.self ≡ place_of c.steps.lexer = ap place_of (c.take-else-take.ensures.stays c.if-take-2.false) ∙ stays in
-    subst (λ p. Only so_far in_module (Part (Expr 1)) (place_of c.args.lexer.now) (one (view_expr c.steps.expr)) p) (sym stays')
+    subst (λ p. Only so_far in_module (Part (Expr 1)) (place_of c.args.lexer.now) (one (view_expr c.steps.expr.value)) p) (sym stays')
     (value_only c.steps.invariant.so_far (record { is = c.take.ensures.missing c.if-take.false }) (subst (λ p. Stuck (pun "(") p) stays (record { is = c.take-else-take.ensures.missing c.if-take-2.false })))
 
 pub arguments-returns-then-not-take-clause-placed : goal.arguments-returns-then-not-take-clause-placed
 arguments-returns-then-not-take-clause-placed t c =
     let argument = placed_from (c.take.ensures.stays c.arguments-test.true) c.in_ok-argument.ensures.placed in
     row_list (list_to (c.take-in-arguments.ensures.stays c.if-not-take.true) (front_last plain_commas c.arguments.invariant.placed argument refl (no_trailing _ (c.take-in-arguments.ensures.missing c.if-not-take.true))
-    (map_pushed told_expr c.arguments.all.items _ c.in_ok-argument.argument _ c.in_ok-push.ensures.items refl) (map_pushed view_expr c.arguments.all.items _ c.in_ok-argument.argument _ c.in_ok-push.ensures.items refl)))
+    (map_pushed (inside told_expr) c.arguments.all.items _ c.in_ok-argument.argument _ c.in_ok-push.ensures.items refl) (map_pushed (inside view_expr) c.arguments.all.items _ c.in_ok-argument.argument _ c.in_ok-push.ensures.items refl)))
     (row_sign c.in_ok-expect.ensures.takes row_end)
 
 pub arguments-returns-clause-placed : goal.arguments-returns-clause-placed
@@ -114,8 +115,8 @@ arguments-returns-clause-placed t c = row_list c.arguments.invariant.closed (row
 pub call-returns-clause-placed : goal.call-returns-clause-placed
 call-returns-clause-placed t c = record {
   on = λ w z s l bracket.
-      call_placed c.span_to-span.result c.in_ok-new.field-0 c.in_ok-all.all c.args.callee c.in_ok-new.ensures.ok l bracket c.in_ok-all.ensures.placed
-      (spans_from c.span_to-span.ensures refl (c.start_of.ensures.on _ _ s) refl);
+      placed_as c.in_ok-call.ensures.told c.in_ok-call.ensures.view (call_row l bracket c.in_ok-all.ensures.placed
+      (spans_from c.span_to-span.ensures refl (c.start_of.ensures.on _ _ (subst (λ e. Spans (expr_at e) (next_of w) (end_of z)) (sym c.deref.ensures) s)) refl));
 }
 
 pub expression-returns-else-take-2-clause-placed : goal.expression-returns-else-take-2-clause-placed

@@ -3,12 +3,13 @@ use Rattle.jsx_tree.specs.Kinds.{Call, expression}
 use Rattle.jsx_tree.specs.Nonterminals.{Expr}
 use Rattle.jsx_tree.specs.Grammar.{Commas}
 use Rattle.jsx_tree.specs.Told.{tales, told_expr}
-use Rattle.jsx_tree.specs.View.{forest, view_expr}
+use Rattle.jsx_tree.specs.View.{forest, inside, view_expr}
 use Rattle.jsx_tree.specs.Walk.{tail}
 use Rattle.jsx_tree.specs.Grows.{Follows}
 use Rattle.jsx_tree.specs.SoFar.{in_module, row_so_far, so_far}
 use Rattle.jsx_syntax.specs.Here.{place_of, left}
-use Rattle.jsx_syntax.specs.Spans.{IsPlaced, IsPlacedList, Spans, end_of, expr_at, next_of}
+use Rattle.jsx_syntax.specs.NodeSpans.{expr_at}
+use Rattle.jsx_syntax.specs.Spans.{IsPlaced, IsPlacedList, Spans, end_of, next_of}
 use Rattle.jsx_tree.proofs.Rows.Turns.{Turn, prepend}
 use Rattle.jsx_syntax.proofs.Placing.{PlacedFront}
 use Rattle.jsx_syntax.proofs.expression.+expression.Given as goal
@@ -24,9 +25,9 @@ decreases-arguments l = 3 * left l.lexer.now + 1
 
 abbrev pub invariant-arguments-arguments : goal.invariant-arguments-arguments
 invariant-arguments-arguments l = record {
-  so_far : Turn so_far in_module (tail (tail (row_so_far (expression Call)))) (tail (tail (row_so_far (expression Call)))) (place_of l.fn.lexer) (place_of l.lexer) (prepend (forest (map view_expr l.all.items)));
-  placed : PlacedFront Commas (map told_expr l.all.items) (map view_expr l.all.items) l.fn.lexer l.lexer;
-  closed : IsPlacedList Commas (tales (map told_expr l.all.items)) (forest (map view_expr l.all.items)) l.fn.lexer l.lexer;
+  so_far : Turn so_far in_module (tail (tail (row_so_far (expression Call)))) (tail (tail (row_so_far (expression Call)))) (place_of l.fn.lexer) (place_of l.lexer) (prepend (forest (map (inside view_expr) l.all.items)));
+  placed : PlacedFront Commas (map (inside told_expr) l.all.items) (map (inside view_expr) l.all.items) l.fn.lexer l.lexer;
+  closed : IsPlacedList Commas (tales (map (inside told_expr) l.all.items)) (forest (map (inside view_expr) l.all.items)) l.fn.lexer l.lexer;
   within : left l.lexer ≤ left l.fn.lexer;
 }
 
@@ -35,9 +36,9 @@ decreases-arguments-arguments l = left l.lexer
 
 abbrev pub invariant-expression-steps : goal.invariant-expression-steps
 invariant-expression-steps l = record {
-  so_far : Follows so_far in_module (Expr 1) (place_of l.fn.lexer) (view_expr l.expr) (place_of l.lexer);
-  span : Spans (expr_at l.expr) (next_of l.fn.lexer) (end_of l.lexer);
-  placed : IsPlaced (told_expr l.expr) (view_expr l.expr) l.fn.lexer l.lexer;
+  so_far : Follows so_far in_module (Expr 1) (place_of l.fn.lexer) (view_expr l.expr.value) (place_of l.lexer);
+  span : Spans (expr_at l.expr.value) (next_of l.fn.lexer) (end_of l.lexer);
+  placed : IsPlaced (told_expr l.expr.value) (view_expr l.expr.value) l.fn.lexer l.lexer;
   within : left l.lexer < left l.fn.lexer;
 }
 

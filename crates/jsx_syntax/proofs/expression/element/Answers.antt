@@ -12,7 +12,9 @@ use Rattle.jsx_tree.proofs.Rows.Lists.{only_none}
 use Rattle.jsx_syntax.proofs.Homes.{no_attributes}
 use Rattle.jsx_syntax.proofs.Steps.{fails_2, fails_4, fails_5}
 use Rattle.jsx_syntax.proofs.Places.{spans_from}
-use Rattle.jsx_syntax.proofs.PlacedNodes.{element_placed}
+use Rattle.jsx_syntax.proofs.Trees.{element_is}
+use Rattle.jsx_syntax.proofs.Placing.{placed_as}
+use Rattle.jsx_syntax.proofs.PlacedNodes.{element_row, element_told}
 use Rattle.jsx_syntax.proofs.expression.element.Goals as goal
 
 without : {x : Place} → IsTrue (is_found x) → Only so_far in_module (Many Spaced Attributes) x (one (list none)) x
@@ -28,9 +30,10 @@ pub returns-in_err-expect-3-clause-refused : goal.returns-in_err-expect-3-clause
 returns-in_err-expect-3-clause-refused c = fails_5 _ _ c.in_err-expect-3.ensures.refused c.in_ok-expect.ensures.read c.in_ok-name.ensures.read (without refl) c.in_ok-expect-2.ensures.read c.from_residual-in_err-expect-3.ensures.1
 
 pub returns-clause-read : goal.returns-clause-read
-returns-clause-read c = built_5 refl c.in_ok-expect.ensures.read c.in_ok-name.ensures.read (without refl) c.in_ok-expect-2.ensures.read c.in_ok-expect-3.ensures.read refl
+returns-clause-read c = built_5 refl c.in_ok-expect.ensures.read c.in_ok-name.ensures.read (without refl) c.in_ok-expect-2.ensures.read c.in_ok-expect-3.ensures.read (element_is c.in_ok-name.name c.new.result c.new.ensures.items c.in_ok-element.ensures.view)
 
 pub returns-clause-placed : goal.returns-clause-placed
 returns-clause-placed c =
-    element_placed c.in_ok-expect.ensures.takes c.in_ok-name.ensures.takes c.in_ok-name.ensures.place c.in_ok-expect-2.ensures.takes c.in_ok-expect-3.ensures.takes
-    (spans_from c.span_to.ensures refl (c.last_place-lo.ensures ∙ c.in_ok-expect.ensures.begins) refl)
+    placed_as (element_told c.span_to-span.result c.in_ok-name.name c.new.result c.new.ensures.items c.in_ok-element.ensures.told) (element_is c.in_ok-name.name c.new.result c.new.ensures.items c.in_ok-element.ensures.view)
+    (element_row c.in_ok-expect.ensures.takes c.in_ok-name.ensures.takes c.in_ok-name.ensures.place c.in_ok-expect-2.ensures.takes c.in_ok-expect-3.ensures.takes
+    (spans_from c.span_to-span.ensures refl (c.last_place-lo.ensures ∙ c.in_ok-expect.ensures.begins) refl))

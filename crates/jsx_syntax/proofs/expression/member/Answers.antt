@@ -1,28 +1,31 @@
-use Rattle.std.proofs.Common.{refl, sym, ◌∙◌}
-use Rattle.jsx_tree.specs.declared.text.Text.TheVariants.{Read}
+use Rattle.std.proofs.Common.{refl, sym, ◌∙◌, ap, subst}
+use Rattle.jsx_tree.specs.SoFar.{is_number}
+use Rattle.jsx_tree.specs.View.{view_expr}
+use Rattle.jsx_syntax.specs.NodeSpans.{expr_at}
+use Rattle.jsx_syntax.specs.Spans.{Spans, end_of, next_of}
 use Rattle.jsx_tree.proofs.Apart.{clash}
 use Rattle.jsx_tree.proofs.Rows.Steps.{bar, built_1}
 use Rattle.jsx_syntax.proofs.Steps.{passed}
-use Rattle.jsx_syntax.proofs.Trees.{member_is}
 use Rattle.jsx_syntax.proofs.Places.{spans_from}
-use Rattle.jsx_syntax.proofs.PlacedNodes.{member_placed}
+use Rattle.jsx_syntax.proofs.Placing.{placed_as}
+use Rattle.jsx_syntax.proofs.PlacedNodes.{member_row}
 use Rattle.jsx_syntax.proofs.expression.member.Goals as goal
 
 pub returns-then-is_number-clause-refused : goal.returns-then-is_number-clause-refused
-returns-then-is_number-clause-refused c = record { bars = λ _ _ n. absurd (clash _ (sym c.is_number.ensures ∙ c.if-is_number.true) n) }
+returns-then-is_number-clause-refused c = record { bars = λ _ _ n. absurd (clash _ (ap (λ e. is_number (view_expr e)) (sym c.deref.ensures) ∙ (sym c.is_number.ensures ∙ c.if-is_number.true)) n) }
 
 pub returns-in_err-raw-clause-refused : goal.returns-in_err-raw-clause-refused
 returns-in_err-raw-clause-refused c = passed _ c.in_err-raw.ensures.refused c.from_residual.ensures.1 (λ b n. bar b)
 
 pub returns-clause-fits : goal.returns-clause-fits
-returns-clause-fits c = sym c.is_number.ensures ∙ c.if-is_number.false
+returns-clause-fits c = ap (λ e. is_number (view_expr e)) (sym c.deref.ensures) ∙ (sym c.is_number.ensures ∙ c.if-is_number.false)
 
 pub returns-clause-read : goal.returns-clause-read
-returns-clause-read c = built_1 refl c.in_ok-raw.ensures.read (member_is c.span_to-span.result c.in_ok-new.field-0 (Read c.in_ok-raw.raw c.last_place.result) c.in_ok-new.ensures.ok)
+returns-clause-read c = built_1 refl c.in_ok-raw.ensures.read c.in_ok-member.ensures.view
 
 pub returns-clause-placed : goal.returns-clause-placed
 returns-clause-placed c = record {
   on = λ w z s l dot.
-      member_placed c.span_to-span.result c.in_ok-new.field-0 (Read c.in_ok-raw.raw c.last_place.result) c.args.object c.in_ok-new.ensures.ok l dot c.in_ok-raw.ensures.takes (c.last_place.ensures ∙ c.in_ok-raw.ensures.begins)
-      (spans_from c.span_to-span.ensures refl (c.start_of.ensures.on _ _ s) refl);
+      placed_as c.in_ok-member.ensures.told c.in_ok-member.ensures.view (member_row l dot c.in_ok-raw.ensures.takes (c.last_place.ensures ∙ c.in_ok-raw.ensures.begins)
+      (spans_from c.span_to-span.ensures refl (c.start_of.ensures.on _ _ (subst (λ e. Spans (expr_at e) (next_of w) (end_of z)) (sym c.deref-2.ensures) s)) refl));
 }

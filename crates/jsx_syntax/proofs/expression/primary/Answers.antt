@@ -5,9 +5,7 @@ use Rattle.jsx_tree.specs.Kinds.{Element, Tree, jsx}
 use Rattle.jsx_tree.specs.Nonterminals.{Expr}
 use Rattle.jsx_tree.specs.Signs.{Tok}
 use Rattle.jsx_tree.specs.Reading.{Place, forth}
-use Rattle.jsx_tree.specs.View.{view_jsx}
-use Rattle.jsx_tree.specs.declared.text.LiteralKind.TheVariants as kind
-use Rattle.jsx_tree.specs.declared.text.Text.TheVariants.{Read}
+use Rattle.jsx_tree.specs.View.{view_expr}
 use Rattle.jsx_tree.specs.Answers.{NoRow, Built}
 use Rattle.jsx_tree.specs.Grows.{Follows}
 use Rattle.jsx_tree.specs.SoFar.{in_module, row_so_far, so_far}
@@ -15,7 +13,6 @@ use Rattle.jsx_syntax.specs.Here.{place_of}
 use Rattle.jsx_syntax.proofs.Homes.{IsName, IsNumber, IsString}
 use Rattle.jsx_syntax.proofs.Values.{literal_follows, element_follows, unfit_literal, no_value}
 use Rattle.jsx_syntax.proofs.Steps.{passed}
-use Rattle.jsx_syntax.proofs.Trees.{name_is, literal_is, jsx_is}
 use Rattle.jsx_syntax.proofs.expression.primary.Goals as goal
 
 -- the same tree in the code
@@ -26,13 +23,13 @@ pub returns-then-is_reserved-clause-refused : goal.returns-then-is_reserved-clau
 returns-then-is_reserved-clause-refused c = record { bars = λ _ _. unfit_literal IsName (chars c.in-Some.raw.now) c.in-Some.ensures.taken refl (ap not (sym c.is_reserved.ensures ∙ c.if-is_reserved.true)) }
 
 pub returns-in-Some-clause-read : goal.returns-in-Some-clause-read
-returns-in-Some-clause-read c = seen (name_is c.span_to.result (record { text = Read c.in-Some.raw c.last_place-lo.result }))
+returns-in-Some-clause-read c = seen c.in_ok-name.ensures.view
     (literal_follows IsName (chars c.in-Some.raw.now) (ap not (sym c.is_reserved.ensures ∙ c.if-is_reserved.false)) c.in-Some.ensures.whole c.in-Some.ensures.taken refl)
 
 pub returns-in-Some-leaf-clause-read : goal.returns-in-Some-leaf-clause-read
 returns-in-Some-leaf-clause-read c =
     let stays : place_of c.leaf.new.self ≡ place_of c.args.lexer.now = ap place_of c.in_default.ensures.stays in
-    seen (literal_is c.span_to-in-Some-leaf.result kind.Str (Read c.in-Some-leaf.raw c.last_place-lo-in-Some-leaf.result))
+    seen c.in_ok-literal.ensures.view
     (literal_follows IsString (chars c.in-Some-leaf.raw.now) refl c.in-Some-leaf.ensures.whole (c.in-Some-leaf.ensures.taken ∙ ap (forth (Tok Operator StringLiteral (chars c.in-Some-leaf.raw.now))) stays) refl)
 
 pub returns-then-not-is_all_digits-clause-refused : goal.returns-then-not-is_all_digits-clause-refused
@@ -43,20 +40,20 @@ returns-then-not-is_all_digits-clause-refused c =
 pub returns-in-Some-leaf-2-clause-read : goal.returns-in-Some-leaf-2-clause-read
 returns-in-Some-leaf-2-clause-read c =
     let stays : place_of c.leaf-2.new.self ≡ place_of c.args.lexer.now = ap place_of c.in_default-leaf.ensures.stays ∙ ap place_of c.in_default.ensures.stays in
-    seen (literal_is c.span_to-in-Some-leaf-2.result kind.Num (Read c.in-Some-leaf-2.raw c.last_place-lo-in-Some-leaf-2.result))
+    seen c.in_ok-literal-2.ensures.view
     (literal_follows IsNumber (chars c.in-Some-leaf-2.raw.now) (sym c.is_all_digits.ensures ∙ c.if-not-is_all_digits.false) c.in-Some-leaf-2.ensures.whole (c.in-Some-leaf-2.ensures.taken ∙ ap (forth (Tok Operator NumericLiteral (chars c.in-Some-leaf-2.raw.now))) stays) refl)
 
 pub returns-clause-read : goal.returns-clause-read
 returns-clause-read c =
     let stays : c.leaf-3.new.self ≡ c.args.lexer.now = c.in_default-leaf-2.ensures.stays ∙ (c.in_default-leaf.ensures.stays ∙ c.in_default.ensures.stays) in
-    seen (jsx_is c.in_ok-element.field-0) (element_follows (subst (λ p. Built so_far in_module (row_so_far (jsx Element)) (jsx Element) (λ ts. ts) (view_jsx c.in_ok-element.field-0) p (place_of c.element.new.lexer)) (ap place_of stays) c.in_ok-element.ensures.read))
+    element_follows (subst (λ p. Built so_far in_module (row_so_far (jsx Element)) (jsx Element) (λ ts. ts) (view_expr c.in_ok-element.field-0.value) p (place_of c.element.new.lexer)) (ap place_of stays) c.in_ok-element.ensures.read)
 
 pub returns-in_err-element-clause-refused : goal.returns-in_err-element-clause-refused
 returns-in_err-element-clause-refused c =
     let stays : place_of c.leaf.new.self ≡ place_of c.args.lexer.now = ap place_of c.in_default.ensures.stays in
     let stays' : place_of c.leaf-2.new.self ≡ place_of c.args.lexer.now = ap place_of c.in_default-leaf.ensures.stays ∙ stays in
     let stays'' : place_of c.leaf-3.new.self ≡ place_of c.args.lexer.now = ap place_of c.in_default-leaf-2.ensures.stays ∙ stays' in
-    passed _ c.in_err-element.ensures.refused c.from_residual.ensures.1
+    passed _ c.in_err-element.ensures.refused c.from_residual-in_err-element.ensures.1
     (λ n. no_value c.in_default.ensures.missing
     (λ t. ap (forth (Tok Operator NumericLiteral t)) (sym stays') ∙ c.in_default-leaf-2.ensures.missing t)
     (λ t. ap (forth (Tok Operator StringLiteral t)) (sym stays) ∙ c.in_default-leaf.ensures.missing t)

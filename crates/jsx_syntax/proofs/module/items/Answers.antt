@@ -1,15 +1,14 @@
 use Rattle.std.proofs.Common.{map, refl, sym, ◌∙◌, ap, subst}
-use Rattle.jsx_tree.specs.Kinds.{none, part}
 use Rattle.jsx_tree.specs.Nonterminals.{Item}
 use Rattle.jsx_tree.specs.Grammar.{Part, TopLines}
-use Rattle.jsx_tree.specs.Told.{tales, told_item, told_stmt}
-use Rattle.jsx_tree.specs.View.{forest, view_stmt, view_item}
+use Rattle.jsx_tree.specs.Told.{tales, told_item}
+use Rattle.jsx_tree.specs.View.{forest, view_stmt}
+use Rattle.jsx_tree.specs.ViewProgram.{view_item}
 use Rattle.jsx_tree.specs.Walk.{one}
 use Rattle.jsx_tree.specs.Answers.{Only, Barred}
 use Rattle.jsx_tree.specs.SoFar.{in_module, so_far}
 use Rattle.jsx_syntax.specs.Here.{place_of}
 use Rattle.jsx_syntax.specs.Spans.{IsPlacedList}
-use Rattle.jsx_tree.proofs.Rows.Steps.{both}
 use Rattle.jsx_tree.proofs.Rows.Lines.{Onto, onto_none, onto_more, onto_end, onto_barred}
 use Rattle.jsx_tree.proofs.Rows.SoFar.{of_so_far}
 use Rattle.jsx_syntax.proofs.Modules.{none_at_end}
@@ -32,11 +31,11 @@ returns-in_err-statement-clause-refused c = passed _ c.in_err-statement.ensures.
 pub statements-preserved : goal.statements-preserved
 statements-preserved c =
     let next = placed_from c.is_at_end.ensures.stays c.in_ok-statement.ensures.placed in
-    let told_all = map_pushed told_item c.statements.items.items _ _ _ c.in_ok-push.ensures.items (ap told_stmt c.in_ok-new.ensures.ok) in
-    let view_all = map_pushed view_item c.statements.items.items _ _ _ c.in_ok-push.ensures.items (ap view_stmt c.in_ok-new.ensures.ok) in
+    let told_all = map_pushed told_item c.statements.items.items _ _ _ c.in_ok-push.ensures.items refl in
+    let view_all = map_pushed view_item c.statements.items.items _ _ _ c.in_ok-push.ensures.items refl in
     record {
       so_far = onto_more _ _ of_so_far refl c.statements.invariant.so_far (sym c.is_at_end.ensures.ends ∙ c.statements-test.true)
-          (subst (λ p. Only so_far in_module (Part Item) p (one (view_stmt c.in_ok-statement.statement)) (place_of c.statement.new.lexer)) (ap place_of c.is_at_end.ensures.stays) c.in_ok-statement.ensures.read) (pushed view_item _ _ _ c.in_ok-push.ensures.items ∙ ap (λ s. both (forest (map view_item c.statements.items.items)) (part (view_stmt s) none)) c.in_ok-new.ensures.ok);
+          (subst (λ p. Only so_far in_module (Part Item) p (one (view_stmt c.in_ok-statement.statement.value)) (place_of c.statement.new.lexer)) (ap place_of c.is_at_end.ensures.stays) c.in_ok-statement.ensures.read) (pushed view_item _ _ _ c.in_ok-push.ensures.items);
       placed = front_more plain_top_lines c.statements.invariant.placed next refl refl told_all view_all;
       closed = front_last plain_top_lines c.statements.invariant.placed next refl refl told_all view_all;
     }

@@ -1,7 +1,8 @@
 use Rattle.std.proofs.Common.{map}
 use Rattle.jsx_tree.specs.Nonterminals.{Item}
 use Rattle.jsx_tree.specs.Grammar.{TopLines}
-use Rattle.jsx_tree.specs.View.{forest, view_item}
+use Rattle.jsx_tree.specs.View.{forest}
+use Rattle.jsx_tree.specs.ViewProgram.{view_item}
 use Rattle.jsx_tree.specs.Told.{tales, told_item}
 use Rattle.jsx_syntax.specs.Spans.{IsPlacedList}
 use Rattle.jsx_syntax.proofs.Placing.{PlacedFront}

@@ -1,6 +1,6 @@
-use Rattle.std.proofs.Common.{None, refl, sym, ◌∙◌, ap, subst}
+use Rattle.std.proofs.Common.{refl, sym, ◌∙◌, ap, subst}
 use Rattle.jsx_tree.specs.View.{view_pat}
-use Rattle.jsx_tree.specs.declared.tree.Pat.TheVariants as pat
+use Rattle.jsx_tree.specs.Kinds.{Binds}
 use Rattle.jsx_tree.specs.Nonterminals.{Declarators}
 use Rattle.jsx_tree.specs.Grammar.{Part}
 use Rattle.jsx_tree.specs.Walk.{one}
@@ -10,18 +10,17 @@ use Rattle.jsx_syntax.specs.Here.{place_of}
 use Rattle.jsx_syntax.specs.Spans.{end_of}
 use Rattle.jsx_syntax.proofs.Items.{initialized, uninitialized, no_binding, no_initializer}
 use Rattle.jsx_syntax.proofs.Steps.{passed}
-use Rattle.jsx_syntax.proofs.Trees.{binding_is, plain_is}
 use Rattle.jsx_syntax.proofs.Places.{spans_from}
-use Rattle.jsx_syntax.proofs.Placing.{placed_to, takes_ends}
-use Rattle.jsx_syntax.proofs.PlacedNodes.{declarator_placed, plain_placed}
+use Rattle.jsx_syntax.proofs.Placing.{placed_as, placed_to, takes_ends}
+use Rattle.jsx_syntax.proofs.PlacedNodes.{declarator_row, plain_row}
 use Rattle.jsx_syntax.proofs.statement.declarator.Goals as goal
 
 pub returns-in_err-name-clause-refused : goal.returns-in_err-name-clause-refused
 returns-in_err-name-clause-refused c = passed _ c.in_err-name.ensures.refused c.from_residual.ensures.1 (λ b. no_binding b)
 
 pub returns-then-not-take-clause-read : goal.returns-then-not-take-clause-read
-returns-then-not-take-clause-read c = subst (λ p. Only so_far in_module (Part Declarators) (place_of c.args.lexer.now) (one (view_pat (pat.Binding c.span_to.result c.in_ok-name-2.name None))) p) (sym (ap place_of (c.take.ensures.stays c.if-not-take.true)))
-    (uninitialized c.in_ok-name.ensures.read (record { is = ap place_of c.ends.ensures; found = refl }) (record { is = c.take.ensures.missing c.if-not-take.true }) (plain_is c.span_to.result c.in_ok-name-2.name c.in_ok-name-2.ensures.ok))
+returns-then-not-take-clause-read c = subst (λ p. Only so_far in_module (Part Declarators) (place_of c.args.lexer.now) (one (view_pat c.in_ok-declarator.field-0.value)) p) (sym (ap place_of (c.take.ensures.stays c.if-not-take.true)))
+    (uninitialized c.in_ok-name.ensures.read (record { is = ap place_of c.ends.ensures; found = refl }) (record { is = c.take.ensures.missing c.if-not-take.true }) (c.in_ok-declarator.ensures.view Binds))
 
 pub returns-in_err-value-clause-refused : goal.returns-in_err-value-clause-refused
 returns-in_err-value-clause-refused c = passed _ c.in_err-value.ensures.refused c.from_residual-in_err-value.ensures.1
@@ -29,14 +28,14 @@ returns-in_err-value-clause-refused c = passed _ c.in_err-value.ensures.refused 
 
 pub returns-clause-read : goal.returns-clause-read
 returns-clause-read c = initialized c.in_ok-name.ensures.read (record { is = ap place_of c.ends.ensures; found = refl }) (record { is = c.take.ensures.taken c.if-not-take.false; found = refl }) c.in_ok-value.ensures.read
-    (binding_is c.span_to-2.result c.in_ok-name-2.name c.in_ok-new.field-0 c.in_ok-name-2.ensures.ok c.in_ok-new.ensures.ok)
+    (c.in_ok-declarator-2.ensures.view Binds)
 
 pub returns-then-not-take-clause-placed : goal.returns-then-not-take-clause-placed
 returns-then-not-take-clause-placed c =
-    placed_to (c.take.ensures.stays c.if-not-take.true) (plain_placed c.span_to.result c.in_ok-name-2.name c.in_ok-name.name c.in_ok-name-2.ensures.ok c.in_ok-name.ensures.placed (takes_ends c.ends.ensures)
-    (spans_from c.span_to.ensures refl (c.last_place-lo.ensures ∙ c.in_ok-name.ensures.begins) (ap end_of (c.take.ensures.stays c.if-not-take.true))))
+    placed_to (c.take.ensures.stays c.if-not-take.true) (placed_as c.in_ok-declarator.ensures.told (c.in_ok-declarator.ensures.view Binds) (plain_row c.in_ok-name.ensures.placed (takes_ends c.ends.ensures)
+    (spans_from c.span_to.ensures refl (c.last_place-lo.ensures ∙ c.in_ok-name.ensures.begins) (ap end_of (c.take.ensures.stays c.if-not-take.true)))))
 
 pub returns-clause-placed : goal.returns-clause-placed
 returns-clause-placed c =
-    declarator_placed c.span_to-2.result c.in_ok-name-2.name c.in_ok-new.field-0 c.in_ok-name.name c.in_ok-value.value c.in_ok-name-2.ensures.ok c.in_ok-new.ensures.ok c.in_ok-name.ensures.placed (takes_ends c.ends.ensures)
-    (c.take.ensures.takes c.if-not-take.false) c.in_ok-value.ensures.placed (spans_from c.span_to-2.ensures refl (c.last_place-lo.ensures ∙ c.in_ok-name.ensures.begins) refl)
+    placed_as c.in_ok-declarator-2.ensures.told (c.in_ok-declarator-2.ensures.view Binds) (declarator_row c.in_ok-name.ensures.placed (takes_ends c.ends.ensures)
+    (c.take.ensures.takes c.if-not-take.false) c.in_ok-value.ensures.placed (spans_from c.span_to-2.ensures refl (c.last_place-lo.ensures ∙ c.in_ok-name.ensures.begins) refl))

@@ -1,7 +1,7 @@
 use Rattle.std.proofs.Common.{map, ◌≤◌}
 use Rattle.std.specs.Prelude.{IsTrue}
 use Rattle.jsx_tree.specs.Grammar.{NoTrailing}
-use Rattle.jsx_tree.specs.View.{forest, view_pat}
+use Rattle.jsx_tree.specs.View.{forest, inside, view_pat}
 use Rattle.jsx_tree.specs.Told.{told_pat}
 use Rattle.jsx_tree.specs.SoFar.{behind_const, in_module, so_far}
 use Rattle.jsx_syntax.specs.Here.{place_of, left}
@@ -12,9 +12,9 @@ use Rattle.jsx_syntax.proofs.statement.declarators.Given as goal
 
 abbrev pub invariant-declarators : goal.invariant-declarators
 invariant-declarators l = record {
-  so_far : Turn so_far in_module behind_const behind_const (place_of l.fn.lexer) (place_of l.lexer) (prepend (forest (map view_pat l.all.items)));
-  initialized : IsTrue (inits (forest (map view_pat l.all.items)));
-  placed : PlacedFront NoTrailing (map told_pat l.all.items) (map view_pat l.all.items) l.fn.lexer l.lexer;
+  so_far : Turn so_far in_module behind_const behind_const (place_of l.fn.lexer) (place_of l.lexer) (prepend (forest (map (inside view_pat) l.all.items)));
+  initialized : IsTrue (inits (forest (map (inside view_pat) l.all.items)));
+  placed : PlacedFront NoTrailing (map (inside told_pat) l.all.items) (map (inside view_pat) l.all.items) l.fn.lexer l.lexer;
   within : left l.lexer ≤ left l.fn.lexer;
 }
 

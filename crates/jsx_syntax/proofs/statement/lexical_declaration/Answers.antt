@@ -1,13 +1,14 @@
 use Rattle.std.proofs.Common.{refl, ◌∙◌, map}
-use Rattle.jsx_tree.specs.View.{forest, view_pat}
+use Rattle.jsx_tree.specs.View.{forest, inside, view_pat}
 use Rattle.jsx_tree.specs.SoFar.{in_module}
 use Rattle.jsx_syntax.proofs.Items.{const_keeps}
+use Rattle.jsx_syntax.proofs.Placing.{placed_as}
 use Rattle.jsx_syntax.proofs.Places.{spans_from}
 use Rattle.jsx_syntax.proofs.PlacedNodes.{constant_placed}
 use Rattle.jsx_syntax.proofs.statement.lexical_declaration.Goals as goal
 
 pub returns-clause-read : goal.returns-clause-read
-returns-clause-read c = record { parts = _; is = refl; row = c.in_ok-all.ensures.read; keeps = const_keeps in_module (forest (map view_pat c.in_ok-all.all.items)) c.in_ok-all.ensures.initialized }
+returns-clause-read c = record { parts = _; is = c.in_ok-variables.ensures.view; row = c.in_ok-all.ensures.read; keeps = const_keeps in_module (forest (map (inside view_pat) c.in_ok-all.all.items)) c.in_ok-all.ensures.initialized }
 
 pub returns-clause-placed : goal.returns-clause-placed
-returns-clause-placed c = record { on = λ w word begins. constant_placed word c.in_ok-all.ensures.placed (spans_from c.span_to.ensures refl (c.last_place-lo.ensures ∙ begins) refl) }
+returns-clause-placed c = record { on = λ w word begins. placed_as c.in_ok-variables.ensures.told c.in_ok-variables.ensures.view (constant_placed word c.in_ok-all.ensures.placed (spans_from c.span_to.ensures refl (c.last_place-lo.ensures ∙ begins) refl)) }

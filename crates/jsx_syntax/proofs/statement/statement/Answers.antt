@@ -16,7 +16,7 @@ returns-in_err-lexical_declaration-clause-refused c = passed _ c.in_err-lexical_
 
 pub returns-in_ok-expression_statement-clause-read : goal.returns-in_ok-expression_statement-clause-read
 returns-in_ok-expression_statement-clause-read c = statement_only (c.take.ensures.missing c.if-take.false)
-    (subst (λ p. BuiltNode so_far in_module (row_so_far (statement ExprStmt)) (statement ExprStmt) (view_stmt c.in_ok-expression_statement.field-0) p (place_of c.expression_statement.new.lexer)) (ap place_of (c.take.ensures.stays c.if-take.false)) c.in_ok-expression_statement.ensures.read)
+    (subst (λ p. BuiltNode so_far in_module (row_so_far (statement ExprStmt)) (statement ExprStmt) (view_stmt c.in_ok-expression_statement.field-0.value) p (place_of c.expression_statement.new.lexer)) (ap place_of (c.take.ensures.stays c.if-take.false)) c.in_ok-expression_statement.ensures.read)
 
 pub returns-in_err-expression_statement-clause-refused : goal.returns-in_err-expression_statement-clause-refused
 returns-in_err-expression_statement-clause-refused c = passed _ c.in_err-expression_statement.ensures.refused c.from_residual-in_err-expression_statement.ensures.1
