@@ -1,24 +1,60 @@
 -- What is written, then what is left, is the whole.
-use Rattle.std.proofs.Common.{◌≡◌, ℕ, zero, suc, ◌+◌, ◌<◌, ◌≤◌, List, ◌∷◌, ◌++◌, map, codes, length, drop, get_or, refl, sym, ap, ◌∙◌, arith, add-one, drop-cons, append_assoc, append-nil}
+use Rattle.std.proofs.Common.{◌≡◌, ℕ, zero, suc, ◌+◌, ◌<◌, ◌≤◌, List, [], ◌∷◌, ◌++◌, map, codes, Bool, Option, Some, None, Box, Global, length, drop, get_or, refl, sym, ap, ◌∙◌, arith, add-one, drop-cons, append_assoc, append-nil}
 use Rattle.std.proofs.lemmas.Str.{chars-nil}
 use Rattle.jsx_base.specs.Token.{Text}
-use Rattle.jsx_tree.specs.Kinds.{Tree, Forest, part}
-use Rattle.jsx_tree.specs.View.{forest, view_jsx, view}
-use Rattle.jsx_tree.specs.declared.tree.Tag.TheVariants as tag
-use Rattle.jsx_tree.specs.declared.tree.Jsx.{Jsx}
-use Rattle.jsx_tree.specs.declared.tree.Jsx.TheVariants as jsxs
-use Rattle.jsx_tree.specs.declared.tree.Program.{Program}
-use Rattle.jsx_tree.specs.declared.tree.Program.TheVariants as programs
-use Rattle.jsx_tree.proofs.Views.{views}
-use Rattle.react_compile.specs.Printed.{tree_code, jsx_code, program_code, listed, further, lines}
-
-pub tree_code_jsx : (j : Jsx) → tree_code (view_jsx j) ≡ jsx_code j
-tree_code_jsx (jsxs.Element at (tag.Name a)) = refl
+use Rattle.jsx_tree.specs.Kinds.{Role, Tree, Forest, part}
+use Rattle.jsx_tree.specs.declared.text.Text.{Text as TreeText}
+use Rattle.jsx_tree.specs.declared.program.Program.{Program}
+use Rattle.jsx_tree.specs.declared.program.Program.TheVariants as programs
+use Rattle.jsx_tree.specs.declared.operator.UpdateSide.TheVariants as side
+use Rattle.jsx_tree.specs.declared.tree.Operation.{Operation}
+use Rattle.jsx_tree.specs.declared.tree.Control.{Control}
+use Rattle.jsx_tree.specs.declared.tree.Access.TheOpen.{Control-F, Operation-F}
+use Rattle.jsx_tree.specs.declared.tree.Access.TheFolds.{fold_out-Control, fold_out-Operation}
+use Rattle.jsx_tree.specs.View.{forest, container_of, shorthand_of, template, Owner, access_step, control_step, expr_step, jsx_step, key_step, link_step, operation_step, pat_step, prop_step, stmt_step, view_operation, view_control}
+use Rattle.jsx_tree.specs.ViewProgram.{view}
+use Rattle.jsx_tree.proofs.Views.{views, bound_forest}
+use Rattle.react_compile.specs.Printed.{tree_code, program_code, listed, further, lines}
 
 pub tree_code_program : (p : Program) → tree_code (view p) ≡ program_code p
 tree_code_program (programs.Module m) = refl
+tree_code_program (programs.Script s) = refl
 
-pub ruleset printing = (append_assoc, append-nil, views, tree_code_jsx, tree_code_program)
+-- ---- what isn't printed yet
+
+pub template_code : (b : Bool) (ps : List TreeText) (ts : List Tree) → tree_code (template b ps ts) ≡ []
+template_code b [] ts = refl
+template_code b (p ∷ []) [] = refl
+template_code b (p ∷ q ∷ ps) [] = refl
+template_code b (p ∷ ps) (t ∷ ts) = refl
+
+pub container_code : {A : Type 0} (f : A → Tree) (e : Option (Box A Global)) → tree_code (container_of f e) ≡ []
+container_code f None = refl
+container_code f (Some e) = refl
+
+pub shorthand_code : {A : Type 0} (f : A → Tree) (r : Role) (a : Tree) (e : Option (Box A Global)) → tree_code (shorthand_of f r a e) ≡ []
+shorthand_code f r a None = refl
+shorthand_code f r a (Some e) = refl
+
+operation_step_code : (x : Operation-F Tree Tree Tree Tree Tree Tree Tree (Role → Tree) (Owner → Tree) Tree) → tree_code (operation_step x) ≡ []
+operation_step_code (Operation-F.Seq at xs) = refl
+operation_step_code (Operation-F.Update at o side.Before a) = refl
+operation_step_code (Operation-F.Update at o side.After a) = refl
+operation_step_code _ = refl
+
+pub operation_code : (a : Operation) → tree_code (view_operation a) ≡ []
+operation_code a = ap tree_code (fold_out-Operation Tree Tree Tree Tree Tree Tree Tree (Role → Tree) (Owner → Tree) Tree access_step control_step expr_step jsx_step key_step link_step operation_step pat_step prop_step stmt_step a) ∙ operation_step_code _
+
+control_step_code : (x : Control-F Tree Tree Tree Tree Tree Tree Tree (Role → Tree) (Owner → Tree) Tree) → tree_code (control_step x) ≡ []
+control_step_code (Control-F.Case at None ss) = refl
+control_step_code (Control-F.Case at (Some e) ss) = refl
+control_step_code (Control-F.If at e s o) = refl
+control_step_code _ = refl
+
+pub control_code : (a : Control) → tree_code (view_control a) ≡ []
+control_code a = ap tree_code (fold_out-Control Tree Tree Tree Tree Tree Tree Tree (Role → Tree) (Owner → Tree) Tree access_step control_step expr_step jsx_step key_step link_step operation_step pat_step prop_step stmt_step a) ∙ control_step_code _
+
+pub ruleset printing = (append_assoc, append-nil, views, bound_forest, tree_code_program, template_code, container_code, shorthand_code, operation_code, control_code)
 
 -- what is left of a list behind i of its trees
 abbrev pub left : ℕ → Forest → Text

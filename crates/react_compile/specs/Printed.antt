@@ -4,14 +4,11 @@ use Rattle.jsx_base.specs.Token.{Text, IdentifierName, StringLiteral, JsxName, s
 use Rattle.jsx_tree.specs.Kinds.{Module, Directive, Var, Declarator, ExprStmt, Call, Member, Element, program, statement, expression, jsx, Tree, leaf, node, list, Forest, none, part}
 use Rattle.jsx_tree.specs.Nonterminals.{has_dash}
 use Rattle.jsx_tree.specs.Grammar.{vars}
-use Rattle.jsx_tree.specs.declared.tree.Tag.{Tag}
-use Rattle.jsx_tree.specs.declared.tree.Tag.TheVariants as tag
-use Rattle.jsx_tree.specs.declared.tree.Jsx.{Jsx}
-use Rattle.jsx_tree.specs.declared.tree.Jsx.TheVariants as jsxs
-use Rattle.jsx_tree.specs.declared.tree.Module as declared
-use Rattle.jsx_tree.specs.declared.tree.Program.{Program}
-use Rattle.jsx_tree.specs.declared.tree.Program.TheVariants as programs
-use Rattle.jsx_tree.specs.View.{text_of, forest, directive, view_item}
+use Rattle.jsx_tree.specs.declared.program.Module as declared
+use Rattle.jsx_tree.specs.declared.program.Program.{Program}
+use Rattle.jsx_tree.specs.declared.program.Program.TheVariants as programs
+use Rattle.jsx_tree.specs.View.{forest, directive}
+use Rattle.jsx_tree.specs.ViewProgram.{view_item}
 use Rattle.react_compile.specs.Made.{quoted}
 use Rattle.react_compile.specs.Element.{is_lower}
 
@@ -29,14 +26,8 @@ is_string_tag t = not (same t (codes "this")) && (first_is is_lower t || has_das
 abbrev pub tag_code : Text → Text
 tag_code t = cond (is_string_tag t) (34 ∷ (t ++ 34 ∷ [])) t
 
-abbrev pub tag_text : Tag → Text
-tag_text (tag.Name a) = text_of a
-
 abbrev pub element_code : Text → Text
 element_code t = codes "/*#__PURE__*/ React.createElement(" ++ (tag_code t ++ codes ", null)")
-
-abbrev pub jsx_code : Jsx → Text
-jsx_code (jsxs.Element at a) = element_code (tag_text a)
 
 abbrev mutual
   pub tree_code : Tree → Text
@@ -73,6 +64,7 @@ module_code m = lines (forest (map directive m.directives.items)) ++ lines (fore
 
 abbrev pub program_code : Program → Text
 program_code (programs.Module m) = module_code m
+program_code (programs.Script s) = []
 
 -- ---- the tree
 

@@ -8,12 +8,13 @@ ghost use Rattle.jsx_tree.specs.Stage.{ReadsSoFar};
 ghost use Rattle.react_compile.specs.Compiles.{IsCodeFor};
 ghost use Rattle.jsx_tree.specs.Nonterminals.{has_dash};
 ghost use Rattle.jsx_tree.specs.Grammar.{vars};
-ghost use Rattle.jsx_tree.specs.View.{text_of, forest, optional_of, word_of, view_expr, view_access, view_pat, view_stmt, view_item, directive, view};
+ghost use Rattle.jsx_tree.specs.View.{text_of, inside, forest, optional_of, word_of, view_word, view_expr, view_access, view_jsx, view_pat, view_stmt, directive};
+ghost use Rattle.jsx_tree.specs.ViewProgram.{view_item, view};
 ghost use Rattle.react_compile.specs.Element.{is_lower};
-ghost use Rattle.react_compile.specs.Printed.{is_ascii, is_string_tag, tag_code, tag_text, element_code, jsx_code, tree_code, initializer, listed, lines, module_code};
+ghost use Rattle.react_compile.specs.Printed.{is_ascii, is_string_tag, tag_code, element_code, tree_code, initializer, listed, lines, module_code};
 
 use jsx_tree::{
-    Access, DeclareWord, Expr, Ident, Item, Jsx, Module, Pat, Program, Stmt, Tag, Text,
+    Access, DeclareWord, Expr, Ident, Item, Jsx, Module, Pat, Program, Stmt, Tag, Text, Word,
 };
 use std::alloc::{AllocError, Global};
 use std::marker::Model;
@@ -58,11 +59,9 @@ impl Code {
     }
 
     #[tactic(auto, using(crate::proofs::Printing::printing))]
-    fn tag(&mut self, tag: &Tag<'_>) -> Result<(), AllocError>
-        ensures { OnOk result (self.new ≡ self.old ++ tag_code (tag_text tag.now)) }
+    fn tag(&mut self, name: &str) -> Result<(), AllocError>
+        ensures { OnOk result (self.new ≡ self.old ++ tag_code (chars name.now)) }
     {
-        let Tag::Name(name) = tag;
-        let name = piece(name);
         if is_string_tag(name) {
             self.sign("\"")?;
             self.put(name)?;
@@ -74,19 +73,37 @@ impl Code {
 
     /// The call that makes an element: `<div/>` is `React.createElement("div", null)`, with the mark that it has no effects.
     #[tactic(auto, using(crate::proofs::Printing::printing))]
-    fn element(&mut self, tag: &Tag<'_>) -> Result<(), AllocError>
-        ensures { OnOk result (self.new ≡ self.old ++ element_code (tag_text tag.now)) }
+    fn element(&mut self, tag: &str) -> Result<(), AllocError>
+        ensures { OnOk result (self.new ≡ self.old ++ element_code (chars tag.now)) }
     {
         self.sign("/*#__PURE__*/ React.createElement(")?;
         self.tag(tag)?;
         self.sign(", null)")
     }
 
+    #[tactic(auto, using(crate::proofs::Printing::printing))]
     fn jsx(&mut self, jsx: &Jsx<'_>) -> Result<(), AllocError>
-        ensures { OnOk result (self.new ≡ self.old ++ jsx_code jsx.now) }
+        ensures { OnOk result (self.new ≡ self.old ++ tree_code (view_jsx jsx.now)) }
     {
         match jsx {
-            Jsx::Element(_, tag) => self.element(tag),
+            Jsx::Element(_, Tag::Name(name), _) => self.element(piece(name)),
+            Jsx::Text(_, text) => self.put(piece(text)),
+            Jsx::Str(_, text) => self.put(piece(text)),
+            _ => Ok(()),
+        }
+    }
+
+    #[tactic(auto, using(crate::proofs::Printing::printing))]
+    fn word(&mut self, word: Word) -> Result<(), AllocError>
+        ensures { OnOk result (self.new ≡ self.old ++ tree_code (view_word word)) }
+    {
+        match word {
+            Word::This => self.sign("this"),
+            Word::Null => self.sign("null"),
+            Word::True => self.sign("true"),
+            Word::False => self.sign("false"),
+            Word::ImportMeta => Ok(()),
+            Word::NewTarget => Ok(()),
         }
     }
 
@@ -100,6 +117,8 @@ impl Code {
             Expr::Literal(_, _, text) => self.put(piece(text)),
             Expr::Access(access) => self.access(access),
             Expr::Jsx(jsx) => self.jsx(jsx),
+            Expr::Word(_, word) => self.word(*word),
+            _ => Ok(()),
         }
     }
 
@@ -120,13 +139,14 @@ impl Code {
                 self.sign(".")?;
                 self.put(piece(name))
             }
+            _ => Ok(()),
         }
     }
 
     #[cycle(print)]
     #[tactic(auto, using(crate::proofs::Printing::listing))]
-    fn list(&mut self, exprs: &[Expr<'_>]) -> Result<(), AllocError>
-        ensures { OnOk result (self.new ≡ self.old ++ listed (forest (map view_expr exprs.now))) }
+    fn list(&mut self, exprs: &[Box<Expr<'_>>]) -> Result<(), AllocError>
+        ensures { OnOk result (self.new ≡ self.old ++ listed (forest (map (inside view_expr) exprs.now))) }
     {
         for (i, expr) in exprs.iter().enumerate() {
             if i > 0 {
@@ -147,6 +167,8 @@ impl Code {
                 self.pat(target)?;
                 self.initializer(init)
             }
+            Pat::Target(expr) => self.expr(expr),
+            _ => Ok(()),
         }
     }
 
@@ -164,8 +186,8 @@ impl Code {
     }
 
     #[tactic(auto, using(crate::proofs::Printing::listing))]
-    fn declarators(&mut self, declarators: &[Pat<'_>]) -> Result<(), AllocError>
-        ensures { OnOk result (self.new ≡ self.old ++ listed (forest (map view_pat declarators.now))) }
+    fn declarators(&mut self, declarators: &[Box<Pat<'_>>]) -> Result<(), AllocError>
+        ensures { OnOk result (self.new ≡ self.old ++ listed (forest (map (inside view_pat) declarators.now))) }
     {
         for (i, declarator) in declarators.iter().enumerate() {
             if i > 0 {
@@ -201,6 +223,7 @@ impl Code {
                 self.expr(expr)?;
                 self.sign(";")
             }
+            _ => Ok(()),
         }
     }
 
@@ -216,13 +239,22 @@ impl Code {
         Ok(())
     }
 
+    #[tactic(auto, using(crate::proofs::Printing::printing))]
+    fn item(&mut self, item: &Item<'_>) -> Result<(), AllocError>
+        ensures { OnOk result (self.new ≡ self.old ++ tree_code (view_item item.now)) }
+    {
+        match item {
+            Item::Stmt(stmt) => self.stmt(stmt),
+            _ => Ok(()),
+        }
+    }
+
     #[tactic(auto, using(crate::proofs::Printing::lining))]
     fn items(&mut self, items: &[Item<'_>]) -> Result<(), AllocError>
         ensures { OnOk result (self.new ≡ self.old ++ lines (forest (map view_item items.now))) }
     {
         for item in items {
-            let Item::Stmt(stmt) = item;
-            self.stmt(stmt)?;
+            self.item(item)?;
             self.sign("\n")?;
         }
         Ok(())
@@ -296,5 +328,6 @@ fn program_text(alloc: Global, program: &Program<'_>) -> Result<String, AllocErr
             code.module(module)?;
             Ok(code.text)
         }
+        Program::Script(_) => Ok(String::new(alloc)),
     }
 }

@@ -1,5 +1,6 @@
 use Rattle.std.proofs.Common.{◌≡◌, ◌++◌, drop, map}
-use Rattle.jsx_tree.specs.View.{forest, view_item}
+use Rattle.jsx_tree.specs.View.{forest}
+use Rattle.jsx_tree.specs.ViewProgram.{view_item}
 use Rattle.react_compile.specs.Printed.{lines}
 use Rattle.react_compile.proofs.print.Code.items.Given as goal
 
