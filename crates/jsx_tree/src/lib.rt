@@ -10,7 +10,7 @@ pub use one_reading::one_decided_tree;
 pub use reading_back::{
     comments_read_back, laying_says_nothing, layout_reads_back, marks_read_back,
     normal_form_is_normal, parentheses_are_needed, parentheses_fit, parentheses_say_nothing,
-    sound_programs_read_back,
+    sound_programs_read_back, what_reads_is_sound,
 };
 pub use text::{DeclareWord, Goal, Ident, LiteralKind, Text};
 pub use tree::{Access, Expr, Item, Jsx, Module, Pat, Program, Stmt, Tag};
