@@ -27,3 +27,9 @@ pub mod Idempotent
 pub mod LaidForms
 pub mod Unneeded
 pub mod Programs
+pub mod UnwrapTable
+pub mod Unwrapped
+pub mod Formed
+pub mod SeenLaid
+pub mod RulesLaid
+pub mod FromReading

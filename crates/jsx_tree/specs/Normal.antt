@@ -86,3 +86,12 @@ nf t = made plain_node t
 
 abbrev pub laid_tree : Tree → Tree
 laid_tree t = made laid_node t
+
+-- parentheses off, and nothing else changed
+abbrev pub unwrapped_node : Kind → Forest → Tree
+unwrapped_node (expression Parenthesized) (part e none) = e
+unwrapped_node (function ParenTarget) (part e none) = e
+unwrapped_node k cs = node k cs
+
+abbrev pub without_parentheses : Tree → Tree
+without_parentheses t = remade unwrapped_node t

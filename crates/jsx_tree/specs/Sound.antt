@@ -80,3 +80,14 @@ abbrev mutual
 -- a program that is sound: formed, but for pairs, and lawful as it is laid, which has no empty statements in lists
 abbrev pub is_sound : Tree → Bool
 is_sound t = formed t && lawful outside (laid_tree t)
+
+-- a tree in which no node is JSX
+abbrev mutual
+  pub has_no_jsx : Tree → Bool
+  has_no_jsx (leaf s x) = true
+  has_no_jsx (node k cs) = is_no_jsx k && have_no_jsx cs
+  has_no_jsx (list ts) = have_no_jsx ts
+
+  pub have_no_jsx : Forest → Bool
+  have_no_jsx none = true
+  have_no_jsx (part t ts) = has_no_jsx t && have_no_jsx ts

@@ -17,7 +17,7 @@ pub use program::{ImportClause, ImportNames, Item, Module, Program, Script, Spec
 pub use reading_back::{
     comments_read_back, laying_says_nothing, layout_reads_back, marks_read_back,
     normal_form_is_normal, parentheses_are_needed, parentheses_fit, parentheses_say_nothing,
-    sound_programs_read_back,
+    sound_programs_read_back, what_reads_is_sound,
 };
 pub use text::{DeclareWord, Goal, Ident, LinkForm, LiteralKind, Placement, Text, Word};
 pub use tree::{Access, AttrName, Control, Expr, Jsx, Key, Link, Operation, Pat, Prop, Stmt, Tag};

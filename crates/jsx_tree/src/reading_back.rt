@@ -1,18 +1,19 @@
 //! Laws of the definitions: a layout reads back, parentheses are put where they are needed, and a normal form is normal.
 
 ghost use Rattle.std.specs.Prelude.{◌≡◌, ℕ, List, Bool, IsTrue};
+ghost use Rattle.jsx_base.specs.Token.{Text};
 ghost use Rattle.jsx_tree.specs.declared.text.Goal.{Goal};
 ghost use Rattle.jsx_tree.specs.Kinds.{Tree};
 ghost use Rattle.jsx_tree.specs.Nonterminals.{Nonterminal};
 ghost use Rattle.jsx_tree.specs.Form.{is};
 ghost use Rattle.jsx_tree.specs.Spelling.{spelled};
 ghost use Rattle.jsx_tree.specs.Program.{is_goal, Reads};
-ghost use Rattle.jsx_tree.specs.Normal.{nf, laid_tree};
+ghost use Rattle.jsx_tree.specs.Normal.{nf, laid_tree, without_parentheses};
 ghost use Rattle.jsx_tree.specs.Layout.{Note, printed};
 ghost use Rattle.jsx_tree.specs.Notes.{noted, all_notes, at_code, marks, noted_layout};
 ghost use Rattle.jsx_tree.specs.Parentheses.{parenthesise};
 ghost use Rattle.jsx_tree.specs.Fits.{fits};
-ghost use Rattle.jsx_tree.specs.Sound.{formed, is_sound};
+ghost use Rattle.jsx_tree.specs.Sound.{formed, is_sound, has_no_jsx};
 
 /// The layout of a module or script that fits reads as that program: each token is read as that token again, no two join, and
 /// no semicolon, directive or `else` changes its meaning.
@@ -67,4 +68,12 @@ pub fn laying_says_nothing()
 pub fn normal_form_is_normal()
     ensures of_the_grammar { (c : Nonterminal) (t : Tree) → IsTrue (is c t) → nf (nf t) ≡ nf t }
     ensures but_for_parentheses { (t : Tree) → IsTrue (formed t) → nf (nf t) ≡ nf t }
+{}
+
+/// A program that is read and has no JSX is sound with its parentheses off. It says the same then, as a module or a script as
+/// before.
+pub fn what_reads_is_sound()
+    ensures sound { (goal : Goal) (text : Text) (t : Tree) → IsTrue (has_no_jsx t) → Reads goal text t → IsTrue (is_sound (without_parentheses t)) }
+    ensures goal { (goal : Goal) (t : Tree) → IsTrue (is_goal goal t) → IsTrue (is_goal goal (without_parentheses t)) }
+    ensures same { (t : Tree) → nf (without_parentheses t) ≡ nf t }
 {}
