@@ -7,6 +7,7 @@ mod Checks
 mod Facts
 mod Quotes
 mod Slashes
+mod Angles
 mod Starting
 mod Growths
 mod Pairs
