@@ -16,7 +16,7 @@ abbrev pub opening_words : List Text
 opening_words = codes "new" ∷ codes "super" ∷ codes "import" ∷ codes "delete" ∷ codes "void" ∷ codes "typeof" ∷ codes "function" ∷ codes "class" ∷ []
 
 abbrev pub opening_marks : List Text
-opening_marks = codes "/" ∷ codes "/=" ∷ codes "{" ∷ codes "(" ∷ codes "[" ∷ codes "..." ∷ codes "+" ∷ codes "-" ∷ codes "~" ∷ codes "!" ∷ codes "++" ∷ codes "--" ∷ []
+opening_marks = codes "/" ∷ codes "/=" ∷ codes "<" ∷ codes "<=" ∷ codes "<<" ∷ codes "<<=" ∷ codes "{" ∷ codes "(" ∷ codes "[" ∷ codes "..." ∷ codes "+" ∷ codes "-" ∷ codes "~" ∷ codes "!" ∷ codes "++" ∷ codes "--" ∷ []
 
 -- what an expression or a pattern may begin with: a token's kind, by its number, and text
 abbrev pub starts : ℕ → Text → Bool
