@@ -1,6 +1,9 @@
 -- Where an element may be read, a `<`, `<=`, `<<` or `<<=` stands elsewhere.
-use Rattle.std.proofs.Common.{◌≡◌, ℕ, Bool, true, false, cond, [], ◌∷◌, refl, sym, ap, subst}
-use Rattle.std.specs.Prelude.{IsTrue, ◌&&◌, ◌||◌, nat_eq, codes}
+use Rattle.jsx_tree.proofs.Tokens.{same_is}
+use Rattle.jsx_tree.proofs.OneTree.Facts.{or_else}
+use Rattle.jsx_tree.proofs.OneTree.Readings.{is_angle}
+use Rattle.std.proofs.Common.{◌≡◌, Bool, true, false, cond, [], ◌∷◌, refl, sym, subst}
+use Rattle.std.specs.Prelude.{IsTrue, ◌||◌, nat_eq, codes}
 use Rattle.jsx_base.specs.Token.{Text, Operand, Operator, Punctuator, Lexeme, kind_number, is_token, same, begins, skip, breaks, token, at_front, punct, longer, no_token, lexed, Done}
 use Rattle.jsx_tree.specs.Signs.{Tok}
 use Rattle.jsx_tree.specs.Reading.{Place, Lost, At, forth}
@@ -9,9 +12,6 @@ use Rattle.jsx_base.proofs.Fronts.{other_ahead}
 use Rattle.jsx_tree.proofs.OneTree.Readings.{kind_at, text_at}
 use Rattle.jsx_tree.proofs.OneTree.Facts.{never, Test, yes', no', test, eq_nat}
 use Rattle.jsx_tree.proofs.OneTree.Quotes.{if_found}
-
-abbrev pub is_angle : Text → Bool
-is_angle t = same t (codes "<") || (same t (codes "<=") || (same t (codes "<<") || same t (codes "<<=")))
 
 pub record Angle (x : Place) : Type 0 where
   pub kind : kind_at x ≡ 1
@@ -62,3 +62,22 @@ angle_here Lost f = cc
 angle_here (At p e text) f =
     let s = angle_at (same p [] || breaks text) (skip text) (if_found (is_token (token Operand (same p []) text) Punctuator (codes "<")) _ f) in
     record { kind = s.kind; text = s.text }
+
+-- what is so of these four
+pub angle_case : (p : Text → Bool) → p (codes "<") ≡ true → p (codes "<=") ≡ true → p (codes "<<") ≡ true → p (codes "<<=") ≡ true → (t : Text) → is_angle t ≡ true → p t ≡ true
+angle_case p a b c d t h = by_first (test (same t (codes "<")))
+  where
+    moved : (u : Text) → same t u ≡ true → p u ≡ true → p t ≡ true
+    moved u e q = subst (λ v. p v ≡ true) (sym (same_is t u e)) q
+
+    by_third : Test (same t (codes "<<")) → (same t (codes "<<") || same t (codes "<<=")) ≡ true → p t ≡ true
+    by_third (yes' e) o = moved (codes "<<") e c
+    by_third (no' n) o = moved (codes "<<=") (or_else (same t (codes "<<")) (same t (codes "<<=")) o n) d
+
+    by_second : Test (same t (codes "<=")) → (same t (codes "<=") || (same t (codes "<<") || same t (codes "<<="))) ≡ true → p t ≡ true
+    by_second (yes' e) o = moved (codes "<=") e b
+    by_second (no' n) o = by_third (test (same t (codes "<<"))) (or_else (same t (codes "<=")) (same t (codes "<<") || same t (codes "<<=")) o n)
+
+    by_first : Test (same t (codes "<")) → p t ≡ true
+    by_first (yes' e) = moved (codes "<") e a
+    by_first (no' n) = by_second (test (same t (codes "<="))) (or_else (same t (codes "<")) (same t (codes "<=") || (same t (codes "<<") || same t (codes "<<="))) h n)

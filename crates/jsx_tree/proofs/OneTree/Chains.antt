@@ -26,7 +26,7 @@ use Rattle.jsx_tree.proofs.OneTree.Pairs.{link_reach}
 use Rattle.jsx_tree.proofs.OneTree.Places.{ending, first_of, kin, is_prop, is_brace, place_at, ends_by, is_chain, link_rows, link_home, link_props, row_ok}
 use Rattle.jsx_tree.proofs.Rows.Bridge.{node_walk}
 use Rattle.jsx_tree.proofs.OneTree.Fine.{at_sign, at_many, at_end}
-use Rattle.jsx_tree.proofs.OneTree.Sealed.{is_sealed, is_member, Closed, Opener, of_function, of_class, Sealed}
+use Rattle.jsx_tree.proofs.OneTree.Sealed.{is_sealed, is_member, Closed, Opener, of_function, of_class, by_word, Sealed}
 use Rattle.jsx_tree.proofs.OneTree.Evidence.{Kept, Kepts, kept_left, kept_right, kept_listed, kept_parts, Tame}
 use Rattle.jsx_tree.proofs.OneTree.Fine.{tame, tames, tames_of, first_tame, Tamed, of_sealed, of_member, of_open, tamed, spine_ok, first_ok, Good, Fine, fine_leaf, fine_regexp, fine_piece, fine_node, fine_prop, fine_seq, Seals, fine_sealed, Closes, fine_member, fine_list, Fines, fine_none, fine_part, calm_more, in_is, no_piece, re_home}
 use Rattle.jsx_tree.proofs.OneTree.Spines.{no_sealed, no_member, home_of, at_kind, taken_scope, lead_facts, head_row, no_seq_here}
@@ -209,7 +209,7 @@ seals k cs s e = record { seals = λ {v} {c} {x} {y} r. sealed_at v c x y r }
     sealed_at v c x y r =
         let w = first_word k cs s r in
         let r' = re_home c (Expr 18) (node k cs) (at_primary k cs s) r in
-        record { closed = record { kind' = s; bound = e.bound; small = e.small; good = e.good; surroundings = v; read = r'; law = λ l ds t m g q. e.law.of_sealed.one k l cs ds s t e.small m e.good g r' q }; word = w.text; opener = w.opener; begins = w.begins' }
+        record { closed = record { kind' = s; bound = e.bound; small = e.small; good = e.good; surroundings = v; read = r'; law = λ l ds t m g q. e.law.of_sealed.one k l cs ds s t e.small m e.good g r' q }; opener = by_word w.text w.opener w.begins' }
 
 closes : (k : Kind) (cs : Forest) → is_member k ≡ true → Kept (node k cs) → Closes k cs
 closes k cs s e = record { closes' = λ {v} {x} {y} r. closed_at v x y r }

@@ -288,6 +288,9 @@ brace = Tok Operator Punctuator (codes "}")
 abbrev pub is_slash : Text → Bool
 is_slash t = same t (codes "/") || same t (codes "/=")
 
+abbrev pub is_angle : Text → Bool
+is_angle t = same t (codes "<") || (same t (codes "<=") || (same t (codes "<<") || same t (codes "<<=")))
+
 -- the first tokens of templates
 abbrev pub is_quote : TokenKind → Bool
 is_quote NoSubstitution = true

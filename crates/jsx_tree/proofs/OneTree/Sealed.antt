@@ -1,4 +1,5 @@
 -- Functions and the like inside of expressions: two of them that begin at one place are one, up to a size.
+use Rattle.jsx_base.specs.Token.{Operand}
 use Rattle.std.proofs.Common.{◌≡◌, ℕ, ◌≤◌, Bool, true, false, refl, sym, arith}
 use Rattle.std.specs.Prelude.{IsTrue, nat_le, codes}
 use Rattle.std.proofs.lemmas.Bool.{leb-true, leb-false}
@@ -73,11 +74,14 @@ pub data Opener : Text → Type 0 where
   of_function : Opener (codes "function")
   of_class : Opener (codes "class")
 
+-- such a word, or the bracket of a tag
+pub data Opens (x : Place) : Type 0 where
+  by_word : (w : Text) → Opener w → IsTrue (is_found (forth (Tok Operator IdentifierName w) x)) → Opens x
+  by_tag : IsTrue (is_found (forth (Tok Operand Punctuator (codes "<")) x)) → Opens x
+
 pub record Sealed (x : Place) (k : Kind) (cs : Forest) (y : Place) : Type 0 where
   pub closed : Closed is_sealed (Expr 18) x k cs y
-  pub word : Text
-  pub opener : Opener word
-  pub begins : IsTrue (is_found (forth (Tok Operator IdentifierName word) x))
+  pub opener : Opens x
 
 pub sealed_same : {x y z : Place} {k l : Kind} {cs ds : Forest} → Sealed x k cs y → Sealed x l ds z → (node k cs ≡ node l ds) × (y ≡ z)
 sealed_same a b = closed_same a.closed b.closed
