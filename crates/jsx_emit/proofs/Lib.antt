@@ -1,4 +1,6 @@
 pub mod Grids
+pub mod Pages
+pub mod Places
 mod GridExamples
 mod PageExamples
 mod LayoutExamples

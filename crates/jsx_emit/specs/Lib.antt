@@ -3,3 +3,4 @@ pub mod Grid
 pub mod Page
 pub mod Layout
 pub mod Shows
+pub mod Texts

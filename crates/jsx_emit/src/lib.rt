@@ -4,6 +4,7 @@
 mod annotation;
 mod lock;
 mod output;
+mod page;
 mod styled_buffer;
 
 pub use annotation::{Annotation, AnnotationType, Line, MultilineAnnotation};

@@ -126,7 +126,7 @@ fn compile_to<O: Sink, E: Sink>(alloc: Global, source: &[u8], out: &mut O, err: 
 
     ensures done { result ≡ Status.Done → GainsCode source.now (O.holds out.old) (O.holds out.new) }
     ensures done_says { result ≡ Status.Done → err.new ≡ err.old }
-    ensures unwritten { result ≡ Status.Done → KeepsTold (O.holds out.old) (O.holds out.new) → out.new ≡ out.old }
+    ensures done_out { result ≡ Status.Done → KeepsTold (O.holds out.old) (O.holds out.new) → out.new ≡ out.old }
 
     ensures fault { result ≡ Status.Fault → (tree : Tree) → IsSource source.now tree → ⊥ }
     ensures fault_out { result ≡ Status.Fault → out.new ≡ out.old }

@@ -1,0 +1,6 @@
+//! The page of a report.
+
+mod header;
+mod notes;
+mod places;
+mod rows;
