@@ -14,6 +14,7 @@ mod Pairs
 mod Agreeing
 mod Places
 mod Fine
+mod Tags
 mod Evidence
 mod Spines
 mod Next
@@ -39,5 +40,6 @@ mod Lists
 mod Kinds
 mod Same
 mod Prefixes
+mod Elements
 mod Trees
-pub mod Decided
+pub mod Whole

@@ -1,6 +1,6 @@
--- The trees of which a text is proved to have one at most: all but those with a kind that is named here.
-use Rattle.std.specs.Prelude.{Bool, true, false, ◌&&◌}
-use Rattle.jsx_base.specs.Token.{TokenKind, JsxName, JsxString, JsxText}
+-- The trees of which a text is proved to have one at most: all.
+use Rattle.std.specs.Prelude.{Bool, true, ◌&&◌}
+use Rattle.jsx_base.specs.Token.{TokenKind}
 use Rattle.jsx_tree.specs.Kinds.{Kind, program, statement, function, expression, jsx, Tree, leaf, node, list, Forest, none, part}
 
 abbrev pub decides : Kind → Bool
@@ -8,14 +8,9 @@ decides (program k) = true
 decides (statement k) = true
 decides (function k) = true
 decides (expression k) = true
--- not yet
-decides (jsx k) = false
+decides (jsx k) = true
 
--- not yet: those of JSX
 abbrev pub decides_leaf : TokenKind → Bool
-decides_leaf JsxName = false
-decides_leaf JsxString = false
-decides_leaf JsxText = false
 decides_leaf s = true
 
 abbrev mutual

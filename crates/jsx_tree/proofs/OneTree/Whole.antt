@@ -1,13 +1,12 @@
--- The trees that are decided are of the kinds that the law is proved over.
+-- The trees that the definitions read are of the kinds that the law is proved over: so it is of all trees.
 use Rattle.std.proofs.Common.{◌≡◌, true, false, List, [], ◌∷◌, refl}
-use Rattle.jsx_base.specs.Token.{TokenKind, Punctuator, NoToken, IdentifierName, NumericLiteral, BigIntLiteral, StringLiteral, RegExpLiteral, NoSubstitution, TemplateHead, TemplateMiddle, TemplateTail, Elision}
+use Rattle.jsx_base.specs.Token.{TokenKind, Punctuator, NoToken}
 use Rattle.jsx_tree.specs.declared.text.Goal.{Goal}
 use Rattle.jsx_base.specs.Token.{Text}
 use Rattle.jsx_tree.specs.Kinds.{InObject, InClass, Static, Imported, Exported, From, ProgramKind, StatementKind, FunctionKind, ExpressionKind, Kind, program, statement, function, expression, jsx, Tree, leaf, node, list, Forest, none, part, Add, And, Array, ArrayPat, Arrow, ArrowBlock, Assign, Assigns, AtLeast, AtMost, BareArrow, BareArrowBlock, Binary, Binds, BitAnd, BitOr, BitXor, Block, Break, Call, CallLink, Case, Catch, Chain, ClassDecl, ClassExpr, Complement, ComputedKey, Cond, ConstWord, Continue, Debugger, Declarator, Decrement, Default, Delete, Directive, Divide, Do, Empty, Equal, Exponentiate, ExportAll, ExportAllAs, ExportDecl, ExportDefaultClass, ExportDefaultExpr, ExportDefaultFn, ExportFrom, ExportNames, ExprStmt, Field, For, ForBinding, ForDeclaration, ForIn, ForOf, FunctionBody, FunctionDecl, FunctionExpr, Getter, Greater, If, Import, ImportAll, ImportBare, ImportBoth, ImportCall, ImportList, ImportMeta, InOp, Increment, Index, IndexLink, InstanceOf, Label, Less, LetWord, Member, Method, Module, Multiply, NameLink, Negative, New, NewTarget, NewWithoutArguments, Not, Nullish, Object, ObjectPat, OpAssign, Or, ParenTarget, Parenthesized, PlainTemplate, Positive, PostfixUpdate, PrefixUpdate, Property, PropertyPat, Remainder, RestPat, RestProperty, Return, Script, Seq, Setter, ShiftLeft, ShiftOut, ShiftRight, Shorthand, ShorthandInit, ShorthandPat, Specifier, SpecifierAs, Spread, StrictEqual, StrictUnequal, SubstitutedTemplate, Subtract, SuperCall, SuperIndex, SuperMember, Switch, Tagged, TemplateSpan, Throw, Try, TypeOf, Unary, Unequal, Var, VarWord, Void, While, WithInit}
 use Rattle.jsx_tree.specs.Nonterminals.{Nonterminal, NullishLeft, NewCallee, DotObject, ForOfHead, WholeProgram, homes, in_homes}
 use Rattle.jsx_tree.specs.Form.{Form, Single, Position, position, positions, shaped, admits, is, fits_below, fit_slots, fit_each}
 use Rattle.jsx_tree.specs.Program.{Reads}
-use Rattle.jsx_tree.specs.Decided.{decides, decides_leaf, is_decided, are_decided}
 use Rattle.jsx_tree.proofs.Tokens.{and_left, and_right, and_both}
 use Rattle.jsx_tree.proofs.OneTree.Known.{known, kept, kepts}
 use Rattle.jsx_tree.proofs.OneTree.Parts.{node_admits}
@@ -217,54 +216,45 @@ known_expression (SubstitutedTemplate false) c i = refl
 known_expression (TemplateSpan true) c i = refl
 known_expression (TemplateSpan false) c i = refl
 
-known_kind : (k : Kind) (c : Nonterminal) → decides k ≡ true → in_homes c (homes k) ≡ true → known k ≡ true
-known_kind (program k) c h i = known_program k
-known_kind (statement k) c h i = known_statement k
-known_kind (function k) c h i = known_function k c i
-known_kind (expression k) c h i = known_expression k c i
-known_kind (jsx k) c h i = cc
+known_kind : (k : Kind) (c : Nonterminal) → in_homes c (homes k) ≡ true → known k ≡ true
+known_kind (program k) c i = known_program k
+known_kind (statement k) c i = known_statement k
+known_kind (function k) c i = known_function k c i
+known_kind (expression k) c i = known_expression k c i
+known_kind (jsx k) c i = refl
 
-kept_leaf : (s : TokenKind) (t : Text) (o : Form) (c : Nonterminal) → decides_leaf s ≡ true → shaped o c (leaf s t) ≡ true → kept (leaf s t) ≡ true
-kept_leaf IdentifierName t o c h i = refl
-kept_leaf NumericLiteral t o c h i = refl
-kept_leaf BigIntLiteral t o c h i = refl
-kept_leaf StringLiteral t o c h i = refl
-kept_leaf RegExpLiteral t o c h i = refl
-kept_leaf NoSubstitution t o c h i = refl
-kept_leaf TemplateHead t o c h i = refl
-kept_leaf TemplateMiddle t o c h i = refl
-kept_leaf TemplateTail t o c h i = refl
-kept_leaf Elision t o c h i = refl
-kept_leaf Punctuator t Single c h i = absurd (never (in_homes c []) i (no_home c))
-kept_leaf NoToken t Single c h i = absurd (never (in_homes c []) i (no_home c))
-kept_leaf _ t _ c h i = cc
+kept_leaf : (s : TokenKind) (t : Text) (o : Form) (c : Nonterminal) → shaped o c (leaf s t) ≡ true → kept (leaf s t) ≡ true
+kept_leaf Punctuator t Single c i = absurd (never (in_homes c []) i (no_home c))
+kept_leaf NoToken t Single c i = absurd (never (in_homes c []) i (no_home c))
+kept_leaf Punctuator t _ c i = cc
+kept_leaf NoToken t _ c i = cc
+kept_leaf _ t o c i = refl
 
--- a tree that is decided, at its place
+-- a tree at its place
 mutual
-  kept_tree : (t : Tree) (o : Form) (c : Nonterminal) → is_decided t ≡ true → shaped o c t ≡ true → fits_below c t ≡ true → kept t ≡ true
-  kept_tree (leaf s t) o c h a f = kept_leaf s t o c h a
-  kept_tree (list ts) o c h a f = kept_each ts c h f
-  kept_tree (node k cs) o c h a f =
-      and_both (known k) (kepts cs) (known_kind k c (and_left (decides k) (are_decided cs) h) (home_of c k cs (node_admits o c k cs a))) (kept_slots cs (positions k) (and_right (decides k) (are_decided cs) h) f)
+  kept_tree : (t : Tree) (o : Form) (c : Nonterminal) → shaped o c t ≡ true → fits_below c t ≡ true → kept t ≡ true
+  kept_tree (leaf s t) o c a f = kept_leaf s t o c a
+  kept_tree (list ts) o c a f = kept_each ts c f
+  kept_tree (node k cs) o c a f = and_both (known k) (kepts cs) (known_kind k c (home_of c k cs (node_admits o c k cs a))) (kept_slots cs (positions k) f)
 
-  kept_slots : (ts : Forest) (ss : List Position) → are_decided ts ≡ true → fit_slots ss ts ≡ true → kepts ts ≡ true
-  kept_slots none ss h f = refl
-  kept_slots (part t ts) [] h f = cc
-  kept_slots (part t ts) (position o c g b a ∷ ss) h f =
+  kept_slots : (ts : Forest) (ss : List Position) → fit_slots ss ts ≡ true → kepts ts ≡ true
+  kept_slots none ss f = refl
+  kept_slots (part t ts) [] f = cc
+  kept_slots (part t ts) (position o c g b a ∷ ss) f =
       let r = and_right (shaped o c t) _ f in
-      and_both (kept t) (kepts ts) (kept_tree t o c (and_left (is_decided t) (are_decided ts) h) (and_left (shaped o c t) _ f) (and_left (fits_below c t) _ r)) (kept_slots ts ss (and_right (is_decided t) (are_decided ts) h) (and_right (fits_below c t) (fit_slots ss ts) r))
+      and_both (kept t) (kepts ts) (kept_tree t o c (and_left (shaped o c t) _ f) (and_left (fits_below c t) _ r)) (kept_slots ts ss (and_right (fits_below c t) (fit_slots ss ts) r))
 
-  kept_each : (ts : Forest) (c : Nonterminal) → are_decided ts ≡ true → fit_each c ts ≡ true → kepts ts ≡ true
-  kept_each none c h f = refl
-  kept_each (part t ts) c h f =
+  kept_each : (ts : Forest) (c : Nonterminal) → fit_each c ts ≡ true → kepts ts ≡ true
+  kept_each none c f = refl
+  kept_each (part t ts) c f =
       let r = and_right (admits c t) _ f in
-      and_both (kept t) (kepts ts) (kept_tree t Single c (and_left (is_decided t) (are_decided ts) h) (and_left (admits c t) _ f) (and_left (fits_below c t) _ r)) (kept_each ts c (and_right (is_decided t) (are_decided ts) h) (and_right (fits_below c t) (fit_each c ts) r))
+      and_both (kept t) (kepts ts) (kept_tree t Single c (and_left (admits c t) _ f) (and_left (fits_below c t) _ r)) (kept_each ts c (and_right (fits_below c t) (fit_each c ts) r))
 
-kept_whole : {goal : Goal} {text : Text} (t : Tree) → is_decided t ≡ true → Reads goal text t → kept t ≡ true
-kept_whole t h r =
+kept_whole : {goal : Goal} {text : Text} (t : Tree) → Reads goal text t → kept t ≡ true
+kept_whole t r =
     let i = and_left (is WholeProgram t) _ r.read in
-    kept_tree t Single WholeProgram h (and_left (admits WholeProgram t) (fits_below WholeProgram t) i) (and_right (admits WholeProgram t) (fits_below WholeProgram t) i)
+    kept_tree t Single WholeProgram (and_left (admits WholeProgram t) (fits_below WholeProgram t) i) (and_right (admits WholeProgram t) (fits_below WholeProgram t) i)
 
--- a text has one tree at most that is decided
-pub one_decided : (goal : Goal) (text : Text) (t u : Tree) → is_decided t ≡ true → is_decided u ≡ true → Reads goal text t → Reads goal text u → t ≡ u
-one_decided goal text t u h k r s = one_reading goal text t u (kept_whole t h r) (kept_whole u k s) r s
+-- a text has one tree at most
+pub one_tree : (goal : Goal) (text : Text) (t u : Tree) → Reads goal text t → Reads goal text u → t ≡ u
+one_tree goal text t u r s = one_reading goal text t u (kept_whole t r) (kept_whole u s) r s
