@@ -6,7 +6,7 @@ mod reading_back;
 mod text;
 mod tree;
 
-pub use one_reading::one_decided_tree;
+pub use one_reading::one_tree;
 pub use reading_back::{
     comments_read_back, laying_says_nothing, layout_reads_back, marks_read_back,
     normal_form_is_normal, parentheses_are_needed, parentheses_fit, parentheses_say_nothing,
