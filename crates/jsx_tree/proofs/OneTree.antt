@@ -40,6 +40,11 @@ mod Lists
 mod Kinds
 mod Same
 mod Prefixes
+mod Ahead
+mod TagNames
+mod InBraces
+mod TagAttributes
+mod Children
 mod Elements
 mod Trees
 pub mod Whole

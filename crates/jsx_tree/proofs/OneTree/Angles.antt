@@ -2,11 +2,12 @@
 use Rattle.jsx_tree.proofs.Tokens.{same_is}
 use Rattle.jsx_tree.proofs.OneTree.Facts.{or_else}
 use Rattle.jsx_tree.proofs.OneTree.Readings.{is_angle}
-use Rattle.std.proofs.Common.{◌≡◌, Bool, true, false, cond, [], ◌∷◌, refl, sym, subst}
+use Rattle.std.proofs.Common.{◌≡◌, Bool, true, false, cond, [], ◌∷◌, refl, sym, ap, subst}
 use Rattle.std.specs.Prelude.{IsTrue, ◌||◌, nat_eq, codes}
-use Rattle.jsx_base.specs.Token.{Text, Operand, Operator, Punctuator, Lexeme, kind_number, is_token, same, begins, skip, breaks, token, at_front, punct, longer, no_token, lexed, Done}
-use Rattle.jsx_tree.specs.Signs.{Tok}
-use Rattle.jsx_tree.specs.Reading.{Place, Lost, At, forth}
+use Rattle.jsx_base.specs.Token.{Text, Operand, Operator, Tag, Punctuator, Lexeme, kind_number, is_token, same, begins, skip, breaks, token, at_front, punct, longer, no_token, lexed, Done}
+use Rattle.jsx_tree.specs.Signs.{AfterExpr, Tok}
+use Rattle.jsx_tree.specs.Grammar.{tag}
+use Rattle.jsx_tree.specs.Reading.{Place, Lost, At, forth, go_if}
 use Rattle.jsx_tree.specs.Walk.{is_found}
 use Rattle.jsx_base.proofs.Fronts.{other_ahead}
 use Rattle.jsx_tree.proofs.OneTree.Readings.{kind_at, text_at}
@@ -81,3 +82,23 @@ angle_case p a b c d t h = by_first (test (same t (codes "<")))
     by_first : Test (same t (codes "<")) → p t ≡ true
     by_first (yes' e) = moved (codes "<") e a
     by_first (no' n) = by_second (test (same t (codes "<="))) (or_else (same t (codes "<")) (same t (codes "<=") || (same t (codes "<<") || same t (codes "<<="))) h n)
+
+-- ---- the bracket of a tag, in the mode of tags
+
+tag_front : (f : Bool) (s : Text) → is_token (at_front Tag f (60 ∷ s)) Punctuator (codes "<") ≡ true
+tag_front f [] = refl
+tag_front f (c ∷ s) = refl
+
+tag_here : (f : Bool) (s : Text) → is_token (at_front Operand f s) Punctuator (codes "<") ≡ true → is_token (at_front Tag f s) Punctuator (codes "<") ≡ true
+tag_here f [] h = cc
+tag_here f (c ∷ s) h = by_case (test (nat_eq 60 c))
+  where
+    by_case : Test (nat_eq 60 c) → is_token (at_front Tag f (c ∷ s)) Punctuator (codes "<") ≡ true
+    by_case (no' e) = absurd (never _ h ((other_ahead Punctuator 60 [] Operand (c ∷ s) e).not_it f))
+    by_case (yes' e) = subst (λ c. is_token (at_front Tag f (c ∷ s)) Punctuator (codes "<") ≡ true) (eq_nat e) (tag_front f s)
+
+pub angle_in_tag : (x : Place) → IsTrue (is_found (forth (Tok Operand Punctuator (codes "<")) x)) → IsTrue (is_found (forth (tag "<") x))
+angle_in_tag Lost f = cc
+angle_in_tag (At q e text) f =
+    let s = tag_here (same q [] || breaks text) (skip text) (if_found (is_token (token Operand (same q []) text) Punctuator (codes "<")) _ f) in
+    ap (λ b. is_found (go_if b (At (codes "<") AfterExpr (token Tag (same q []) text).rest))) s

@@ -6,7 +6,7 @@ use Rattle.jsx_tree.proofs.OneTree.Known.{is_seq, taken, plain_leaf, is_piece, i
 use Rattle.std.proofs.Common.{◌≡◌, ℕ, suc, Bool, true, false, not, List, [], ◌∷◌, refl, sym, ◌∙◌, ap, subst, arith}
 use Rattle.std.specs.Prelude.{IsTrue, ◌&&◌, ◌||◌, nat_le, codes}
 use Rattle.std.proofs.lemmas.Bool.{le-leb}
-use Rattle.jsx_base.specs.Token.{Text, Operator, TokenKind, IdentifierName, Punctuator, NumericLiteral, BigIntLiteral, StringLiteral, RegExpLiteral, Elision}
+use Rattle.jsx_base.specs.Token.{Text, Operand, Operator, TokenKind, IdentifierName, Punctuator, NumericLiteral, BigIntLiteral, StringLiteral, RegExpLiteral, Elision}
 use Rattle.jsx_tree.specs.Signs.{Tok}
 use Rattle.jsx_tree.specs.Kinds.{FunctionExpr, ClassExpr, Element, ElementWithChildren, Fragment, jsx, TemplateSpan, Chain, NameLink, IndexLink, CallLink, Kind, function, expression, Tree, leaf, node, list, Forest, none, part}
 use Rattle.jsx_tree.specs.Nonterminals.{Nonterminal, Expr, ObjectMember, ChainLink}
@@ -26,7 +26,7 @@ use Rattle.jsx_tree.proofs.OneTree.Pairs.{link_reach}
 use Rattle.jsx_tree.proofs.OneTree.Places.{ending, first_of, kin, is_prop, is_brace, place_at, ends_by, is_chain, link_rows, link_home, link_props, row_ok}
 use Rattle.jsx_tree.proofs.Rows.Bridge.{node_walk}
 use Rattle.jsx_tree.proofs.OneTree.Fine.{at_sign, at_many, at_end}
-use Rattle.jsx_tree.proofs.OneTree.Sealed.{is_sealed, is_member, Closed, of_function, of_class, Opens, by_word, by_tag, Sealed}
+use Rattle.jsx_tree.proofs.OneTree.Sealed.{is_worded, is_element, is_sealed, is_member, Closed, of_function, of_class, Opens, by_word, by_tag, Sealed}
 use Rattle.jsx_tree.proofs.OneTree.Evidence.{Kept, Kepts, kept_left, kept_right, kept_listed, kept_parts, Tame}
 use Rattle.jsx_tree.proofs.OneTree.Fine.{tame, tames, tames_of, first_tame, Tamed, of_sealed, of_member, of_open, tamed, spine_ok, first_ok, Good, Fine, fine_leaf, fine_regexp, fine_piece, fine_node, fine_prop, fine_seq, Seals, fine_sealed, Closes, fine_member, fine_list, Fines, fine_none, fine_part, calm_more, in_is, no_piece, re_home}
 use Rattle.jsx_tree.proofs.OneTree.Spines.{no_sealed, no_member, home_of, at_kind, taken_scope, lead_facts, head_row, no_seq_here}
@@ -185,15 +185,25 @@ leaf_fine s t h (no' p) (no' q) = subst (λ s. Fine (leaf s t)) (sym (regexp_is 
 
 -- ---- what is sealed
 
+first_word : (k : Kind) (cs : Forest) {v : Surroundings} {c : Nonterminal} {x y : Place} → is_worded k ≡ true → IsRead v false c x (node k cs) y → Opens x
+first_word (function FunctionExpr) cs s r = let p = at_sign (node_walk false (function FunctionExpr) refl r).walk in by_word (codes "function") of_function (found_at p.moves p.found)
+first_word (function ClassExpr) cs s r = let p = at_sign (node_walk false (function ClassExpr) refl r).walk in by_word (codes "class") of_class (found_at p.moves p.found)
+first_word (function _) cs s r = cc
+first_word _ cs s r = cc
+
+pub element_first : (k : Kind) (cs : Forest) {v : Surroundings} {c : Nonterminal} {x y : Place} → is_element k ≡ true → IsRead v false c x (node k cs) y → IsTrue (is_found (forth (Tok Operand Punctuator (codes "<")) x))
+element_first (jsx Element) cs s r = let p = at_sign (node_walk false (jsx Element) refl r).walk in found_at p.moves p.found
+element_first (jsx ElementWithChildren) cs s r = let p = at_sign (node_walk false (jsx ElementWithChildren) refl r).walk in found_at p.moves p.found
+element_first (jsx Fragment) cs s r = let p = at_sign (node_walk false (jsx Fragment) refl r).walk in found_at p.moves p.found
+element_first (jsx _) cs s r = cc
+element_first _ cs s r = cc
+
 first_opens : (k : Kind) (cs : Forest) {v : Surroundings} {c : Nonterminal} {x y : Place} → is_sealed k ≡ true → IsRead v false c x (node k cs) y → Opens x
-first_opens (function FunctionExpr) cs s r = let p = at_sign (node_walk false (function FunctionExpr) refl r).walk in by_word (codes "function") of_function (found_at p.moves p.found)
-first_opens (function ClassExpr) cs s r = let p = at_sign (node_walk false (function ClassExpr) refl r).walk in by_word (codes "class") of_class (found_at p.moves p.found)
-first_opens (jsx Element) cs s r = let p = at_sign (node_walk false (jsx Element) refl r).walk in by_tag (found_at p.moves p.found)
-first_opens (jsx ElementWithChildren) cs s r = let p = at_sign (node_walk false (jsx ElementWithChildren) refl r).walk in by_tag (found_at p.moves p.found)
-first_opens (jsx Fragment) cs s r = let p = at_sign (node_walk false (jsx Fragment) refl r).walk in by_tag (found_at p.moves p.found)
-first_opens (function _) cs s r = cc
-first_opens (jsx _) cs s r = cc
-first_opens _ cs s r = cc
+first_opens k cs {x = x} s r = by_case (test (is_worded k))
+  where
+    by_case : Test (is_worded k) → Opens x
+    by_case (yes' w) = first_word k cs w r
+    by_case (no' w) = by_tag (element_first k cs (or_else (is_worded k) (is_element k) s w) r)
 
 at_primary : (k : Kind) (cs : Forest) → is_sealed k ≡ true → admits (Expr 18) (node k cs) ≡ true
 at_primary (function FunctionExpr) cs s = refl

@@ -3,13 +3,21 @@ use Rattle.std.proofs.Common.{◌≡◌, ℕ, zero, suc, Bool, true, false, not,
 use Rattle.std.specs.Prelude.{◌&&◌, ◌||◌, nat_eq}
 use Rattle.std.proofs.lemmas.Bool.{eq-eqb}
 use Rattle.jsx_base.specs.Token.{Text, TokenKind, JsxName, JsxString, JsxText}
-use Rattle.jsx_tree.specs.Kinds.{Element, ElementWithChildren, Fragment, NamespacedName, MemberName, Attribute, Container, EmptyContainer, JsxSpread, Kind, jsx}
-use Rattle.jsx_tree.specs.Nonterminals.{Nonterminal, MemberRoot, MemberPart, homes, in_homes, leaf_in, literal_homes}
+use Rattle.jsx_tree.specs.Kinds.{Element, ElementWithChildren, Fragment, NamespacedName, MemberName, Attribute, Container, EmptyContainer, JsxSpread, Kind, jsx, Seq, Arrow, expression, node, Forest}
+use Rattle.jsx_tree.specs.Nonterminals.{Nonterminal, MemberRoot, MemberPart, homes, in_homes, leaf_in, literal_homes, TagName, Attributes, AttributeName, AttributeValue, Child, JsxWord}
 use Rattle.jsx_tree.proofs.Tokens.{and_left, and_right}
-use Rattle.jsx_tree.proofs.OneTree.Known.{is_jsx, jsx_leaf}
-use Rattle.jsx_tree.proofs.OneTree.Table.{code}
+use Rattle.jsx_tree.proofs.OneTree.Known.{is_jsx, jsx_leaf, known}
+use Rattle.jsx_tree.proofs.OneTree.Table.{code, kinds}
 use Rattle.jsx_tree.proofs.OneTree.Checks.{every}
-use Rattle.jsx_tree.proofs.OneTree.Facts.{never, or_else, not_is, eq_nat}
+use Rattle.jsx_tree.proofs.OneTree.Facts.{never, or_else, not_is, eq_nat, for_kind}
+use Rattle.jsx_tree.specs.Form.{admits, fits_below}
+use Rattle.jsx_tree.specs.StaticRules.{Surroundings}
+use Rattle.jsx_tree.specs.Reading.{Place}
+use Rattle.jsx_tree.specs.Walk.{IsRead}
+use Rattle.jsx_tree.proofs.OneTree.Statements.{stated_kinds, for_stated}
+use Rattle.jsx_tree.proofs.OneTree.Evidence.{Kept, kept_kind}
+use Rattle.jsx_tree.proofs.OneTree.Kept.{Which, a_statement, a_taken, a_blocked, a_jsx, a_seq, which}
+use Rattle.jsx_tree.proofs.OneTree.Spines.{home_of, blocked_home}
 
 abbrev pub jsx_kinds : List Kind
 jsx_kinds = jsx Element ∷ jsx ElementWithChildren ∷ jsx Fragment ∷ jsx NamespacedName ∷ jsx MemberName ∷ jsx Attribute ∷ jsx Container ∷ jsx EmptyContainer ∷ jsx JsxSpread ∷ []
@@ -102,3 +110,54 @@ no_jsx_leaf c JsxName t j f i = never (in_homes c (literal_homes JsxName)) i (no
 no_jsx_leaf c JsxString t j f i = never (in_homes c (literal_homes JsxString)) i (no_leaves c f).strings
 no_jsx_leaf c JsxText t j f i = never (in_homes c (literal_homes JsxText)) i (no_leaves c f).texts
 no_jsx_leaf c _ t j f i = cc
+
+-- ---- the kinds at the places of tags
+
+abbrev pub in_tag : Nonterminal → Bool
+in_tag TagName = true
+in_tag Attributes = true
+in_tag AttributeName = true
+in_tag AttributeValue = true
+in_tag Child = true
+in_tag MemberRoot = true
+in_tag MemberPart = true
+in_tag JsxWord = true
+in_tag c = false
+
+abbrev other_kinds : Nonterminal → Bool
+other_kinds c = not (in_homes c (homes (expression Seq))) && (every (λ k. not (in_homes c (homes k))) kinds && every (λ k. not (in_homes c (homes k))) stated_kinds)
+
+no_others : (c : Nonterminal) → in_tag c ≡ true → other_kinds c ≡ true
+no_others TagName o = refl
+no_others Attributes o = refl
+no_others AttributeName o = refl
+no_others AttributeValue o = refl
+no_others Child o = refl
+no_others MemberRoot o = refl
+no_others MemberPart o = refl
+no_others JsxWord o = refl
+no_others _ o = cc
+
+tag_kind : (c : Nonterminal) (k : Kind) → in_tag c ≡ true → known k ≡ true → in_homes c (homes k) ≡ true → is_jsx k ≡ true
+tag_kind c k o h i = by_which (which k h)
+  where
+    rest : (every (λ k. not (in_homes c (homes k))) kinds && every (λ k. not (in_homes c (homes k))) stated_kinds) ≡ true
+    rest = and_right (not (in_homes c (homes (expression Seq)))) _ (no_others c o)
+
+    taken_clean : every (λ k. not (in_homes c (homes k))) kinds ≡ true
+    taken_clean = and_left (every (λ k. not (in_homes c (homes k))) kinds) _ rest
+
+    by_which : Which k → is_jsx k ≡ true
+    by_which (a_jsx j) = j
+    by_which (a_statement t) = absurd (never (in_homes c (homes k)) i (not_is _ (for_stated (λ k. not (in_homes c (homes k))) (and_right (every (λ k. not (in_homes c (homes k))) kinds) _ rest) k t)))
+    by_which (a_taken t) = absurd (never (in_homes c (homes k)) i (not_is _ (for_kind (λ k. not (in_homes c (homes k))) taken_clean k t)))
+    by_which (a_blocked b) = absurd (never (in_homes c (homes (expression Arrow))) (blocked_home c k b i) (not_is _ (for_kind (λ k. not (in_homes c (homes k))) taken_clean (expression Arrow) refl)))
+    by_which (a_seq e) = absurd (never (in_homes c (homes k)) i (ap (λ k. in_homes c (homes k)) e ∙ not_is _ (and_left (not (in_homes c (homes (expression Seq)))) _ (no_others c o))))
+
+-- a kind that is read at such a place
+pub record TagKind (c : Nonterminal) (k : Kind) : Type 0 where
+  pub of_jsx : is_jsx k ≡ true
+  pub at_home : in_homes c (homes k) ≡ true
+
+pub tag_kind_at : (c : Nonterminal) (b : Bool) (k : Kind) (cs : Forest) {v : Surroundings} {x y : Place} → in_tag c ≡ true → Kept (node k cs) → IsRead v b c x (node k cs) y → TagKind c k
+tag_kind_at c b k cs o h r = let i = home_of c k cs (and_left (admits c (node k cs)) (fits_below c (node k cs)) r.is) in record { of_jsx = tag_kind c k o (kept_kind h) i; at_home = i }

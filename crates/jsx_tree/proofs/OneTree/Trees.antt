@@ -34,7 +34,7 @@ use Rattle.jsx_tree.proofs.OneTree.Fine.{at_sign, at_part}
 use Rattle.jsx_tree.proofs.OneTree.Fine.{calm_more}
 use Rattle.jsx_tree.proofs.OneTree.Spines.{home_of}
 use Rattle.jsx_tree.proofs.OneTree.Placed.{whole_reads}
-use Rattle.jsx_tree.proofs.OneTree.Chains.{fine}
+use Rattle.jsx_tree.proofs.OneTree.Chains.{fine, element_first}
 use Rattle.jsx_tree.proofs.OneTree.Statements.{stated_nth, for_stated}
 use Rattle.jsx_tree.proofs.OneTree.Endings.{after}
 use Rattle.jsx_tree.proofs.OneTree.Missing.{at_semi}
@@ -44,7 +44,7 @@ use Rattle.jsx_tree.proofs.OneTree.Afters.{after_tok, after_tree}
 use Rattle.jsx_tree.proofs.OneTree.Known.{stated, known, kept, kepts, size, sizes}
 use Rattle.jsx_tree.proofs.OneTree.Sealed.{is_sealed, is_worded, is_element, is_member}
 use Rattle.jsx_tree.proofs.OneTree.Angles.{angle_here}
-use Rattle.jsx_tree.proofs.OneTree.Elements.{element_first, elements_same}
+use Rattle.jsx_tree.proofs.OneTree.Elements.{elements_same}
 use Rattle.jsx_tree.proofs.OneTree.Evidence.{Law, Kept, Kepts, kept_left, kept_kind, kept_parts}
 use Rattle.jsx_tree.proofs.OneTree.Parts.{tame_of, SameAt, word_read}
 use Rattle.jsx_tree.proofs.OneTree.Wants.{anything, parted, idle, shutting, idle_at, meets, seen_met, implied, mark, look_same}

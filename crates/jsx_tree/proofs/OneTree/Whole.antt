@@ -3,7 +3,7 @@ use Rattle.std.proofs.Common.{◌≡◌, true, false, cond, List, [], ◌∷◌,
 use Rattle.jsx_base.specs.Token.{TokenKind, Punctuator, NoToken}
 use Rattle.jsx_tree.specs.declared.text.Goal.{Goal}
 use Rattle.jsx_base.specs.Token.{Text}
-use Rattle.jsx_tree.specs.Kinds.{BinaryOp, InObject, InClass, Static, Imported, Exported, From, ProgramKind, StatementKind, FunctionKind, ExpressionKind, Kind, program, statement, function, expression, jsx, Tree, leaf, node, list, Forest, none, part, Add, And, Array, ArrayPat, Arrow, ArrowBlock, Assign, Assigns, AtLeast, AtMost, BareArrow, BareArrowBlock, Binary, Binds, BitAnd, BitOr, BitXor, Block, Break, Call, CallLink, Case, Catch, Chain, ClassDecl, ClassExpr, Complement, ComputedKey, Cond, ConstWord, Continue, Debugger, Declarator, Decrement, Default, Delete, Directive, Divide, Do, Empty, Equal, Exponentiate, ExportAll, ExportAllAs, ExportDecl, ExportDefaultClass, ExportDefaultExpr, ExportDefaultFn, ExportFrom, ExportNames, ExprStmt, Field, For, ForBinding, ForDeclaration, ForIn, ForOf, FunctionBody, FunctionDecl, FunctionExpr, Getter, Greater, If, Import, ImportAll, ImportBare, ImportBoth, ImportCall, ImportList, ImportMeta, InOp, Increment, Index, IndexLink, InstanceOf, Label, Less, LetWord, Member, Method, Module, Multiply, NameLink, Negative, New, NewTarget, NewWithoutArguments, Not, Nullish, Object, ObjectPat, OpAssign, Or, ParenTarget, Parenthesized, PlainTemplate, Positive, PostfixUpdate, PrefixUpdate, Property, PropertyPat, Remainder, RestPat, RestProperty, Return, Script, Seq, Setter, ShiftLeft, ShiftOut, ShiftRight, Shorthand, ShorthandInit, ShorthandPat, Specifier, SpecifierAs, Spread, StrictEqual, StrictUnequal, SubstitutedTemplate, Subtract, SuperCall, SuperIndex, SuperMember, Switch, Tagged, TemplateSpan, Throw, Try, TypeOf, Unary, Unequal, Var, VarWord, Void, While, WithInit}
+use Rattle.jsx_tree.specs.Kinds.{BinaryOp, InObject, Imported, ProgramKind, StatementKind, FunctionKind, ExpressionKind, Kind, program, statement, function, expression, jsx, Tree, leaf, node, list, Forest, none, part, ArrayPat, Binary, Binds, CallLink, Delete, Field, ForBinding, ForDeclaration, Getter, Increment, IndexLink, Method, NameLink, Nullish, ObjectPat, OpAssign, PlainTemplate, PostfixUpdate, PrefixUpdate, PropertyPat, RestPat, RestProperty, Setter, ShorthandInit, ShorthandPat, Specifier, SpecifierAs, SubstitutedTemplate, TemplateSpan, Unary, Var, VarWord, WithInit}
 use Rattle.jsx_tree.specs.Nonterminals.{Nonterminal, expr, assigns, NullishLeft, NewCallee, DotObject, ForOfHead, WholeProgram, homes, in_homes}
 use Rattle.jsx_tree.specs.Form.{Form, Single, Position, position, positions, shaped, admits, is, fits_below, fit_slots, fit_each}
 use Rattle.jsx_tree.specs.Program.{Reads}
