@@ -7,12 +7,14 @@ mod Checks
 mod Facts
 mod Quotes
 mod Slashes
+mod Angles
 mod Starting
 mod Growths
 mod Pairs
 mod Agreeing
 mod Places
 mod Fine
+mod Tags
 mod Evidence
 mod Spines
 mod Next
@@ -38,5 +40,11 @@ mod Lists
 mod Kinds
 mod Same
 mod Prefixes
+mod Ahead
+mod TagNames
+mod InBraces
+mod TagAttributes
+mod Children
+mod Elements
 mod Trees
-pub mod Decided
+pub mod Whole

@@ -27,4 +27,3 @@ pub mod SoFar
 pub mod Answers
 pub mod Texts
 pub mod Grows
-pub mod Decided

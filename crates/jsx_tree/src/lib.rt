@@ -8,7 +8,7 @@ mod reading_back;
 mod text;
 mod tree;
 
-pub use one_reading::one_decided_tree;
+pub use one_reading::one_tree;
 pub use operator::{
     AssignOp, BinaryOp, BitOp, EqualityOp, ProductOp, RelationOp, ShiftOp, SumOp, UnaryOp,
     UpdateOp, UpdateSide,

@@ -1,6 +1,7 @@
 -- What the definitions read as an arrow with a block: its parameters, and a body before a brace.
 use Rattle.jsx_tree.proofs.OneTree.Spines.{blocked_home}
-use Rattle.jsx_tree.proofs.OneTree.Kept.{a_blocked}
+use Rattle.jsx_tree.proofs.OneTree.Kept.{a_blocked, a_jsx}
+use Rattle.jsx_tree.proofs.OneTree.Tags.{no_jsx}
 use Rattle.jsx_tree.specs.Kinds.{Arrow}
 use Rattle.std.proofs.Common.{◌≡◌, ℕ, ◌≤◌, true, false, not, List, [], ◌∷◌, refl, sym, ◌∙◌, ap, subst}
 use Rattle.std.specs.Prelude.{◌&&◌, ◌||◌, nat_eq, codes}
@@ -57,6 +58,7 @@ body_kind k s h = by_which (which k s)
         let e = or_else (not (in_homes Body (homes k))) _ (for_stated (λ k. not (in_homes Body (homes k)) || nat_eq (place k) (place (program FunctionBody))) body_kinds k t) (ap not h) in
         sym (stated_nth k t) ∙ ap (nth stated_kinds) (eq_nat {a = place k} {b = place (program FunctionBody)} e)
     by_which (a_blocked b) = absurd (never (in_homes Body (homes (expression Arrow))) (blocked_home Body k b h) refl)
+    by_which (a_jsx j) = absurd (no_jsx Body k j refl h)
     by_which (a_taken t) = absurd (never (in_homes Body (homes k)) h (not_is _ (for_kind (λ k. not (in_homes Body (homes k))) body_clean k t)))
     by_which (a_seq e) = absurd (never (in_homes Body (homes k)) h (ap (λ k. in_homes Body (homes k)) e))
 

@@ -6,9 +6,9 @@ use Rattle.jsx_tree.proofs.OneTree.Known.{is_seq, taken, plain_leaf, is_piece, i
 use Rattle.std.proofs.Common.{◌≡◌, ℕ, suc, Bool, true, false, not, List, [], ◌∷◌, refl, sym, ◌∙◌, ap, subst, arith}
 use Rattle.std.specs.Prelude.{IsTrue, ◌&&◌, ◌||◌, nat_le, codes}
 use Rattle.std.proofs.lemmas.Bool.{le-leb}
-use Rattle.jsx_base.specs.Token.{Text, Operator, TokenKind, IdentifierName, Punctuator, NumericLiteral, BigIntLiteral, StringLiteral, RegExpLiteral, Elision}
+use Rattle.jsx_base.specs.Token.{Text, Operand, Operator, TokenKind, IdentifierName, Punctuator, NumericLiteral, BigIntLiteral, StringLiteral, RegExpLiteral, Elision}
 use Rattle.jsx_tree.specs.Signs.{Tok}
-use Rattle.jsx_tree.specs.Kinds.{FunctionExpr, ClassExpr, TemplateSpan, Chain, NameLink, IndexLink, CallLink, Kind, function, expression, Tree, leaf, node, list, Forest, none, part}
+use Rattle.jsx_tree.specs.Kinds.{FunctionExpr, ClassExpr, Element, ElementWithChildren, Fragment, jsx, TemplateSpan, Chain, NameLink, IndexLink, CallLink, Kind, function, expression, Tree, leaf, node, list, Forest, none, part}
 use Rattle.jsx_tree.specs.Nonterminals.{Nonterminal, Expr, ObjectMember, ChainLink}
 use Rattle.jsx_tree.specs.Grammar.{OneOrMore, Context, Many, production}
 use Rattle.jsx_tree.specs.Form.{leads, admits, fits_below}
@@ -26,7 +26,7 @@ use Rattle.jsx_tree.proofs.OneTree.Pairs.{link_reach}
 use Rattle.jsx_tree.proofs.OneTree.Places.{ending, first_of, kin, is_prop, is_brace, place_at, ends_by, is_chain, link_rows, link_home, link_props, row_ok}
 use Rattle.jsx_tree.proofs.Rows.Bridge.{node_walk}
 use Rattle.jsx_tree.proofs.OneTree.Fine.{at_sign, at_many, at_end}
-use Rattle.jsx_tree.proofs.OneTree.Sealed.{is_sealed, is_member, Closed, Opener, of_function, of_class, Sealed}
+use Rattle.jsx_tree.proofs.OneTree.Sealed.{is_worded, is_element, is_sealed, is_member, Closed, of_function, of_class, Opens, by_word, by_tag, Sealed}
 use Rattle.jsx_tree.proofs.OneTree.Evidence.{Kept, Kepts, kept_left, kept_right, kept_listed, kept_parts, Tame}
 use Rattle.jsx_tree.proofs.OneTree.Fine.{tame, tames, tames_of, first_tame, Tamed, of_sealed, of_member, of_open, tamed, spine_ok, first_ok, Good, Fine, fine_leaf, fine_regexp, fine_piece, fine_node, fine_prop, fine_seq, Seals, fine_sealed, Closes, fine_member, fine_list, Fines, fine_none, fine_part, calm_more, in_is, no_piece, re_home}
 use Rattle.jsx_tree.proofs.OneTree.Spines.{no_sealed, no_member, home_of, at_kind, taken_scope, lead_facts, head_row, no_seq_here}
@@ -185,21 +185,34 @@ leaf_fine s t h (no' p) (no' q) = subst (λ s. Fine (leaf s t)) (sym (regexp_is 
 
 -- ---- what is sealed
 
-record Word (x : Place) : Type 0 where
-  text : Text
-  opener : Opener text
-  begins' : IsTrue (is_found (forth (Tok Operator IdentifierName text) x))
-
-first_word : (k : Kind) (cs : Forest) {v : Surroundings} {c : Nonterminal} {x y : Place} → is_sealed k ≡ true → IsRead v false c x (node k cs) y → Word x
-first_word (function FunctionExpr) cs s r = let p = at_sign (node_walk false (function FunctionExpr) refl r).walk in record { text = codes "function"; opener = of_function; begins' = subst (λ z. IsTrue (is_found z)) (sym p.moves) p.found }
-first_word (function ClassExpr) cs s r = let p = at_sign (node_walk false (function ClassExpr) refl r).walk in record { text = codes "class"; opener = of_class; begins' = subst (λ z. IsTrue (is_found z)) (sym p.moves) p.found }
+first_word : (k : Kind) (cs : Forest) {v : Surroundings} {c : Nonterminal} {x y : Place} → is_worded k ≡ true → IsRead v false c x (node k cs) y → Opens x
+first_word (function FunctionExpr) cs s r = let p = at_sign (node_walk false (function FunctionExpr) refl r).walk in by_word (codes "function") of_function (found_at p.moves p.found)
+first_word (function ClassExpr) cs s r = let p = at_sign (node_walk false (function ClassExpr) refl r).walk in by_word (codes "class") of_class (found_at p.moves p.found)
 first_word (function _) cs s r = cc
 first_word _ cs s r = cc
+
+pub element_first : (k : Kind) (cs : Forest) {v : Surroundings} {c : Nonterminal} {x y : Place} → is_element k ≡ true → IsRead v false c x (node k cs) y → IsTrue (is_found (forth (Tok Operand Punctuator (codes "<")) x))
+element_first (jsx Element) cs s r = let p = at_sign (node_walk false (jsx Element) refl r).walk in found_at p.moves p.found
+element_first (jsx ElementWithChildren) cs s r = let p = at_sign (node_walk false (jsx ElementWithChildren) refl r).walk in found_at p.moves p.found
+element_first (jsx Fragment) cs s r = let p = at_sign (node_walk false (jsx Fragment) refl r).walk in found_at p.moves p.found
+element_first (jsx _) cs s r = cc
+element_first _ cs s r = cc
+
+first_opens : (k : Kind) (cs : Forest) {v : Surroundings} {c : Nonterminal} {x y : Place} → is_sealed k ≡ true → IsRead v false c x (node k cs) y → Opens x
+first_opens k cs {x = x} s r = by_case (test (is_worded k))
+  where
+    by_case : Test (is_worded k) → Opens x
+    by_case (yes' w) = first_word k cs w r
+    by_case (no' w) = by_tag (element_first k cs (or_else (is_worded k) (is_element k) s w) r)
 
 at_primary : (k : Kind) (cs : Forest) → is_sealed k ≡ true → admits (Expr 18) (node k cs) ≡ true
 at_primary (function FunctionExpr) cs s = refl
 at_primary (function ClassExpr) cs s = refl
+at_primary (jsx Element) cs s = refl
+at_primary (jsx ElementWithChildren) cs s = refl
+at_primary (jsx Fragment) cs s = refl
 at_primary (function _) cs s = cc
+at_primary (jsx _) cs s = cc
 at_primary _ cs s = cc
 
 pub seals : (k : Kind) (cs : Forest) → is_sealed k ≡ true → Kept (node k cs) → Seals k cs
@@ -207,14 +220,13 @@ seals k cs s e = record { seals = λ {v} {c} {x} {y} r. sealed_at v c x y r }
   where
     sealed_at : (v : Surroundings) (c : Nonterminal) (x y : Place) → IsRead v false c x (node k cs) y → Sealed x k cs y
     sealed_at v c x y r =
-        let w = first_word k cs s r in
         let r' = re_home c (Expr 18) (node k cs) (at_primary k cs s) r in
-        record { closed = record { kind' = s; bound = e.bound; small = e.small; good = e.good; surroundings = v; read = r'; law = λ l ds t m g q. e.law.of_sealed.one k l cs ds s t e.small m e.good g r' q }; word = w.text; opener = w.opener; begins = w.begins' }
+        record { closed = record { kind' = s; bound = e.bound; small = e.small; good = e.good; surroundings = v; read = r'; law = λ l ds t m g q. e.law.of_sealed.one k l cs ds s t e.small m e.good g r' q }; opener = first_opens k cs s r }
 
 closes : (k : Kind) (cs : Forest) → is_member k ≡ true → Kept (node k cs) → Closes k cs
 closes k cs s e = record { closes' = λ {v} {x} {y} r. closed_at v x y r }
   where
-    closed_at : (v : Surroundings) (x y : Place) → IsRead v false ObjectMember x (node k cs) y → Closed is_member ObjectMember x k cs y
+    closed_at : (v : Surroundings) (x y : Place) → IsRead v false ObjectMember x (node k cs) y → Closed is_member false ObjectMember x k cs y
     closed_at v x y r = record { kind' = s; bound = e.bound; small = e.small; good = e.good; surroundings = v; read = r; law = λ l ds t m g q. e.law.of_members.one k l cs ds s t e.small m e.good g r q }
 
 member_fine : (k : Kind) (cs : Forest) → is_member k ≡ true → first_tame cs ≡ true → Kept (node k cs) → FirstFine cs → Fine (node k cs)

@@ -1,4 +1,5 @@
 -- What is computed of the tables, once for all rows.
+use Rattle.jsx_tree.proofs.OneTree.Readings.{is_angle}
 use Rattle.std.specs.Prelude.{◌≡◌, ℕ, suc, List, [], ◌∷◌, codes, Bool, true, false, cond, nat_eq, nat_le, not, ◌&&◌, ◌||◌, refl}
 use Rattle.jsx_base.specs.Token.{Text, Mode, Operator, TokenKind, IdentifierName, Punctuator, kind_number, same, among}
 use Rattle.jsx_tree.specs.Signs.{Sign, Unless, SameLine}
@@ -16,7 +17,7 @@ abbrev pub opening_words : List Text
 opening_words = codes "new" ∷ codes "super" ∷ codes "import" ∷ codes "delete" ∷ codes "void" ∷ codes "typeof" ∷ codes "function" ∷ codes "class" ∷ []
 
 abbrev pub opening_marks : List Text
-opening_marks = codes "/" ∷ codes "/=" ∷ codes "{" ∷ codes "(" ∷ codes "[" ∷ codes "..." ∷ codes "+" ∷ codes "-" ∷ codes "~" ∷ codes "!" ∷ codes "++" ∷ codes "--" ∷ []
+opening_marks = codes "/" ∷ codes "/=" ∷ codes "<" ∷ codes "<=" ∷ codes "<<" ∷ codes "<<=" ∷ codes "{" ∷ codes "(" ∷ codes "[" ∷ codes "..." ∷ codes "+" ∷ codes "-" ∷ codes "~" ∷ codes "!" ∷ codes "++" ∷ codes "--" ∷ []
 
 -- what an expression or a pattern may begin with: a token's kind, by its number, and text
 abbrev pub starts : ℕ → Text → Bool
@@ -192,6 +193,18 @@ opener_ones = refl
 
 abbrev pub slash_ok : Kind → Bool
 slash_ok k = grows k || (is_arrow k || (is_paren k || no_slash (row k)))
+
+-- nor with the bracket of a tag
+abbrev pub no_tag : List Step → Bool
+no_tag (tok Operator k t ∷ ps) = not (is_angle t)
+no_tag (lit s ∷ ps) = is_op (mode_of s) && is_quote s
+no_tag ps = false
+
+abbrev pub tag_ok : Kind → Bool
+tag_ok k = grows k || (is_arrow k || (is_paren k || no_tag (row k)))
+
+pub tag_ones : every tag_ok kinds ≡ true
+tag_ones = refl
 
 pub slash_ones : every slash_ok kinds ≡ true
 slash_ones = refl

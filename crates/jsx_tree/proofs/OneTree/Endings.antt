@@ -6,7 +6,7 @@ use Rattle.std.proofs.Common.{◌≡◌, Bool, true, false, cond, List, [], ◌�
 use Rattle.std.specs.Prelude.{IsTrue, ◌&&◌, ◌||◌}
 use Rattle.jsx_base.specs.Token.{Text, Operator, TokenKind, Elision, Punctuator, is_token, same, token, at_front, kind_number, skip, breaks}
 use Rattle.jsx_tree.specs.Signs.{Ending, Sign, AfterExpr, AfterBlock, Tok, Semicolon, TrailingComma, Unless, SameLine, Ends}
-use Rattle.jsx_tree.specs.Kinds.{FunctionExpr, ClassExpr, InObject, Method, Getter, Setter, Kind, function, Tree, leaf, node, list, Forest, none, part}
+use Rattle.jsx_tree.specs.Kinds.{FunctionExpr, ClassExpr, Element, ElementWithChildren, Fragment, jsx, InObject, Method, Getter, Setter, Kind, function, Tree, leaf, node, list, Forest, none, part}
 use Rattle.jsx_tree.specs.Grammar.{ListShape, Commas, Elisions, TwoOrMore, OneOrMore, Adjacent, Context, Fixed, Part, Optional, Many, Within, Production, production}
 use Rattle.jsx_tree.specs.Spelling.{leaf_signs, maybe, before, between, behind, gathered, joined, walk, said, saids, each_said}
 use Rattle.jsx_tree.specs.Form.{Single, Maybe, Several, inside, is_piece, shaped, fits_below, fit_slots, slots, positions}
@@ -208,7 +208,7 @@ walk_ok (Many s c ∷ ps) [] h g = refl
 walk_ok (Many s c ∷ ps) (x ∷ xs) h g = keeps_both (gathered s x) (walk ps xs) (gathered_ok s x (and_left (plain_shape s) (row_ends ps) h) (and_left (each_ok x) (all_ok xs) g)) (walk_ok ps xs (and_right (plain_shape s) (row_ends ps) h) (and_right (each_ok x) (all_ok xs) g))
 walk_ok (Optional a c b r ∷ ps) xs h g = cc
 
--- a function or a class ends with a token
+-- a function, a class or an element ends with a token
 abbrev pub shuts_row : (Ending → Bool) → Bool → Production → Bool
 shuts_row o b [] = b
 shuts_row o b (Fixed (Tok m k t) ∷ ps) = shuts_row o true ps
@@ -265,7 +265,11 @@ member_settled o b _ cs s f = cc
 pub sealed_settled : (o : Ending → Bool) (b : Bool) (k : Kind) (cs : Forest) → is_sealed k ≡ true → fit_slots (positions k) cs ≡ true → settle o b (walk (production k) (saids cs)) ≡ true
 sealed_settled o b (function FunctionExpr) cs s f = row_settled o (production (function FunctionExpr)) cs [] false [] false b refl no_flag f
 sealed_settled o b (function ClassExpr) cs s f = row_settled o (production (function ClassExpr)) cs [] false [] false b refl no_flag f
+sealed_settled o b (jsx Element) cs s f = row_settled o (production (jsx Element)) cs [] false [] false b refl no_flag f
+sealed_settled o b (jsx ElementWithChildren) cs s f = row_settled o (production (jsx ElementWithChildren)) cs [] false [] false b refl no_flag f
+sealed_settled o b (jsx Fragment) cs s f = row_settled o (production (jsx Fragment)) cs [] false [] false b refl no_flag f
 sealed_settled o b (function _) cs s f = cc
+sealed_settled o b (jsx _) cs s f = cc
 sealed_settled o b _ cs s f = cc
 
 -- an arrow's block ends as itself

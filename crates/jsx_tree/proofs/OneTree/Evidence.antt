@@ -4,19 +4,19 @@ use Rattle.std.specs.Prelude.{IsTrue, suc, ◌+◌, codes}
 use Rattle.jsx_base.specs.Token.{Operator, Punctuator}
 use Rattle.jsx_tree.specs.Signs.{Tok}
 use Rattle.jsx_tree.specs.Kinds.{FunctionBody, Kind, program, Tree, node, list, Forest, part}
-use Rattle.jsx_tree.specs.Nonterminals.{Nonterminal, Expr, ObjectMember, Body}
+use Rattle.jsx_tree.specs.Nonterminals.{Nonterminal, Expr, ObjectMember, Body, Child}
 use Rattle.jsx_tree.specs.StaticRules.{Surroundings}
 use Rattle.jsx_tree.specs.Reading.{Place, forth}
 use Rattle.jsx_tree.specs.Walk.{is_found, IsRead}
 use Rattle.jsx_tree.proofs.Tokens.{and_left, and_right}
 use Rattle.jsx_tree.proofs.OneTree.Known.{known, kept, kepts, size, sizes}
-use Rattle.jsx_tree.proofs.OneTree.Sealed.{is_sealed, is_member}
+use Rattle.jsx_tree.proofs.OneTree.Sealed.{is_sealed, is_element, is_member}
 use Rattle.jsx_tree.proofs.OneTree.Fine.{tame}
 
--- two of such kinds, of this size or less, that begin at one place are one
-pub record Single (p : Kind → Bool) (c : Nonterminal) (n : ℕ) : Type 0 where
+-- two of such kinds, of this size or less, that begin at one place are one, among text or not
+pub record Single (p : Kind → Bool) (b : Bool) (c : Nonterminal) (n : ℕ) : Type 0 where
   pub one : (k l : Kind) (cs ds : Forest) {v w : Surroundings} {x y z : Place} → p k ≡ true → p l ≡ true → size (node k cs) ≤ n → size (node l ds) ≤ n → kept (node k cs) ≡ true → kept (node l ds) ≡ true
-      → IsRead v false c x (node k cs) y → IsRead w false c x (node l ds) z → (node k cs ≡ node l ds) × (y ≡ z)
+      → IsRead v b c x (node k cs) y → IsRead w b c x (node l ds) z → (node k cs ≡ node l ds) × (y ≡ z)
 
 -- the same of the bodies of functions, before the brace that ends them
 pub record Bodies (n : ℕ) : Type 0 where
@@ -24,8 +24,9 @@ pub record Bodies (n : ℕ) : Type 0 where
       → IsRead v false Body x (node (program FunctionBody) cs) y → IsRead w false Body x (node (program FunctionBody) ds) z → IsTrue (is_found (forth (Tok Operator Punctuator (codes "}")) y)) → IsTrue (is_found (forth (Tok Operator Punctuator (codes "}")) z)) → (cs ≡ ds) × (y ≡ z)
 
 pub record Law (n : ℕ) : Type 0 where
-  pub of_sealed : Single is_sealed (Expr 18) n
-  pub of_members : Single is_member ObjectMember n
+  pub of_sealed : Single is_sealed false (Expr 18) n
+  pub of_members : Single is_member false ObjectMember n
+  pub of_children : Single is_element true Child n
   pub of_bodies : Bodies n
 
 pub record Kept (t : Tree) : Type 0 where

@@ -154,7 +154,7 @@ pub record Seals (k : Kind) (cs : Forest) : Type 0 where
   pub seals : {v : Surroundings} {c : Nonterminal} {x y : Place} → IsRead v false c x (node k cs) y → Sealed x k cs y
 
 pub record Closes (k : Kind) (cs : Forest) : Type 0 where
-  pub closes' : {v : Surroundings} {x y : Place} → IsRead v false ObjectMember x (node k cs) y → Closed is_member ObjectMember x k cs y
+  pub closes' : {v : Surroundings} {x y : Place} → IsRead v false ObjectMember x (node k cs) y → Closed is_member false ObjectMember x k cs y
 
 -- an arrow with a block, wherever it is read
 pub record Blocks (k : Kind) (cs : Forest) : Type 0 where

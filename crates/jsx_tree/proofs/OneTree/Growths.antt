@@ -4,7 +4,7 @@ use Rattle.std.specs.Prelude.{IsTrue, nat_eq, codes}
 use Rattle.std.proofs.lemmas.Bool.{le-leb}
 use Rattle.jsx_base.specs.Token.{Text, Operand, Operator, TokenKind, Punctuator, RegExpLiteral, IdentifierName}
 use Rattle.jsx_tree.specs.Signs.{Tok, Ends, AfterBlock}
-use Rattle.jsx_tree.specs.Kinds.{FunctionExpr, ClassExpr, BareArrow, Kind, function, expression, Tree, node, Forest, none, part, FunctionBody, program}
+use Rattle.jsx_tree.specs.Kinds.{FunctionExpr, ClassExpr, Element, ElementWithChildren, Fragment, BareArrow, Kind, function, expression, jsx, Tree, node, Forest, none, part, FunctionBody, program}
 use Rattle.jsx_tree.specs.Reading.{Place, forth, Lost, At}
 use Rattle.jsx_tree.specs.Walk.{is_found}
 use Rattle.jsx_tree.proofs.OneTree.Table.{code, scope}
@@ -78,7 +78,11 @@ made_arrow k ts a = (λ i. cond (a i) (arrow_of (code k) ts) (cond (nat_eq (code
 sealed_plain : (k : Kind) → is_sealed k ≡ true → (is_arrow k ≡ false) × (nat_eq (code k) 19 ≡ false)
 sealed_plain (function FunctionExpr) h = (refl, refl)
 sealed_plain (function ClassExpr) h = (refl, refl)
+sealed_plain (jsx Element) h = (refl, refl)
+sealed_plain (jsx ElementWithChildren) h = (refl, refl)
+sealed_plain (jsx Fragment) h = (refl, refl)
 sealed_plain (function _) h = cc
+sealed_plain (jsx _) h = cc
 sealed_plain _ h = cc
 
 pub unseq_one : {n : ℕ} {x y : Place} {t : Tree} → Reads n x t y → unseq (flat t) ≡ cons (flat t) nil

@@ -1,8 +1,8 @@
 -- The trees that the law is proved of, and how large they are.
 use Rattle.jsx_tree.specs.Kinds.{ArrowBlock, BareArrowBlock}
 use Rattle.std.specs.Prelude.{ℕ, suc, ◌+◌, nat_eq, Bool, true, false, ◌&&◌, ◌||◌}
-use Rattle.jsx_base.specs.Token.{TokenKind, NoSubstitution, TemplateHead, TemplateMiddle, TemplateTail, RegExpLiteral, kind_number}
-use Rattle.jsx_tree.specs.Kinds.{Seq, Script, Module, FunctionBody, Directive, ImportBare, Import, ImportAll, ImportList, ImportBoth, ExportAll, ExportAllAs, ExportDecl, ExportDefaultFn, ExportDefaultClass, ExportDefaultExpr, ExportNames, ExportFrom, Specifier, SpecifierAs, Imported, Exported, From, Var, VarWord, LetWord, ConstWord, Block, Declarator, Empty, ExprStmt, If, Do, While, For, ForDeclaration, ForIn, ForOf, ForBinding, Continue, Break, Return, Throw, Debugger, Label, Switch, Case, Default, Try, Catch, FunctionDecl, ClassDecl, FunctionExpr, ClassExpr, InObject, InClass, Static, Method, Getter, Setter, Field, Kind, program, statement, function, expression, Tree, leaf, node, list, Forest, none, part}
+use Rattle.jsx_base.specs.Token.{TokenKind, NoSubstitution, TemplateHead, TemplateMiddle, TemplateTail, RegExpLiteral, JsxName, JsxString, JsxText, kind_number}
+use Rattle.jsx_tree.specs.Kinds.{Seq, Script, Module, FunctionBody, Directive, ImportBare, Import, ImportAll, ImportList, ImportBoth, ExportAll, ExportAllAs, ExportDecl, ExportDefaultFn, ExportDefaultClass, ExportDefaultExpr, ExportNames, ExportFrom, Specifier, SpecifierAs, Imported, Exported, From, Var, VarWord, LetWord, ConstWord, Block, Declarator, Empty, ExprStmt, If, Do, While, For, ForDeclaration, ForIn, ForOf, ForBinding, Continue, Break, Return, Throw, Debugger, Label, Switch, Case, Default, Try, Catch, FunctionDecl, ClassDecl, FunctionExpr, ClassExpr, InObject, InClass, Static, Method, Getter, Setter, Field, Kind, program, statement, function, expression, jsx, Tree, leaf, node, list, Forest, none, part}
 use Rattle.jsx_tree.proofs.OneTree.Table.{scope}
 
 abbrev pub is_seq : Kind → Bool
@@ -14,6 +14,18 @@ abbrev pub is_blocked : Kind → Bool
 is_blocked (expression ArrowBlock) = true
 is_blocked (expression BareArrowBlock) = true
 is_blocked k = false
+
+-- elements, and what stands in them
+abbrev pub is_jsx : Kind → Bool
+is_jsx (jsx k) = true
+is_jsx k = false
+
+-- the leaves that stand in elements alone
+abbrev pub jsx_leaf : TokenKind → Bool
+jsx_leaf JsxName = true
+jsx_leaf JsxString = true
+jsx_leaf JsxText = true
+jsx_leaf s = false
 
 -- the kinds whose rows are read here
 abbrev pub taken : Kind → Bool
@@ -107,11 +119,11 @@ stated k = false
 
 -- the kinds that are taken
 abbrev pub known : Kind → Bool
-known k = (taken k || is_seq k) || (stated k || is_blocked k)
+known k = (taken k || is_seq k) || (stated k || (is_blocked k || is_jsx k))
 
 abbrev mutual
   pub kept : Tree → Bool
-  kept (leaf s t) = plain_leaf s || (is_piece s || is_regexp s)
+  kept (leaf s t) = (plain_leaf s || (is_piece s || is_regexp s)) || jsx_leaf s
   kept (node k cs) = known k && kepts cs
   kept (list ts) = kepts ts
 

@@ -1,4 +1,7 @@
 -- Two readings from one place, one step after another.
+use Rattle.jsx_tree.proofs.OneTree.Checks.{no_tag, tag_ok, tag_ones}
+use Rattle.jsx_tree.proofs.OneTree.Readings.{is_angle}
+use Rattle.jsx_tree.proofs.OneTree.Angles.{Angle, angle_case}
 use Rattle.jsx_tree.proofs.OneTree.Readings.{Blocked, brace, pass, linked, tagged}
 use Rattle.std.proofs.Common.{◌≡◌, ℕ, ◌≤◌, Bool, true, false, not, cond, List, [], refl, sym, ◌∙◌, ap, subst, arith}
 use Rattle.std.specs.Prelude.{IsTrue, ◌&&◌, ◌||◌, nat_eq, codes}
@@ -16,7 +19,7 @@ use Rattle.jsx_tree.proofs.OneTree.Readings.{is_block, block_reach, ahead, Step,
 use Rattle.jsx_tree.proofs.OneTree.Checks.{is_op, starts, blocks, same_token, apart, twin, bare, no_line, no_open, goes_by, every, heads_pair, tails_pair, no_opener, opener_ok, opener_ones, no_slash, slash_ok, slash_ones, tagged_pair, all_tagged, links_pair, link_ok, links, link_ones, heads, tails, past_arrow, no_block, unblocked, block_ones}
 use Rattle.jsx_tree.proofs.OneTree.Slashes.{Slash, regexp_slash}
 use Rattle.jsx_tree.proofs.OneTree.Facts.{never, or_else, not_is, Test, yes', no', test, eq_nat, le_nat, op_is, kind_is, Seen, seen, found_at, took, took_in, same_seen, for_kind}
-use Rattle.jsx_tree.proofs.OneTree.Starting.{opener_seen, opener_value, strip, strip_line, or_other, not_mark, of_head, no_start, word_mark, word_apart, Quoted, tagged_facts, goes_on, no_growth, tagged_start}
+use Rattle.jsx_tree.proofs.OneTree.Starting.{Opened, a_word, a_tag, opened_at, opener_value, strip, strip_line, or_other, not_mark, of_head, no_start, word_mark, word_apart, Quoted, tagged_facts, goes_on, no_growth, tagged_start}
 use Rattle.jsx_tree.proofs.OneTree.Growths.{s_sealed, s_braces, Through, here, step, Start, s_word, s_regexp, s_head, s_paren, made_plain, head_code, block}
 
 -- ---- the one reading
@@ -235,13 +238,32 @@ one_token m k l t u (At q e text) f g =
     (sym (eq_nat {a = kind_number (token m (same q []) text).kind} (and_left _ _ a)) ∙ eq_nat {a = kind_number (token m (same q []) text).kind} (and_left _ _ b), sym (same_is (token m (same q []) text).raw t (and_right _ _ a)) ∙ same_is (token m (same q []) text).raw u (and_right _ _ b))
 
 sealed_slash : {x y : Place} {k : Kind} {cs : Forest} → Sealed x k cs y → Slash x → ⊥
-sealed_slash {x} s h = never (nat_eq 0 1) (ap (λ n. nat_eq n 1) (sym (opener_seen x s).kind ∙ h.kind)) refl
+sealed_slash {x} s h = by_opened (opened_at x s.opener)
+  where
+    by_opened : Opened x → ⊥
+    by_opened (a_word w o v) = never (nat_eq 0 1) (ap (λ n. nat_eq n 1) (sym v.kind ∙ h.kind)) refl
+    by_opened (a_tag a) = never (is_slash (text_at x)) h.text (not_is _ (angle_case (λ t. not (is_slash t)) refl refl refl refl (text_at x) a.text))
 
 sealed_word : {s : TokenKind} {t : Text} {x y : Place} {k : Kind} {cs : Forest} → may_be s t ≡ true → Seen x s t → Sealed x k cs y → ⊥
-sealed_word {x = x} a r q = word_mark a r (opener_seen x q) (ap not (opener_value q.opener))
+sealed_word {s} {t} {x} a r q = by_opened (opened_at x q.opener)
+  where
+    by_opened : Opened x → ⊥
+    by_opened (a_word w o v) = word_mark a r v (ap not (opener_value o))
+    by_opened (a_tag b) = never (nat_eq (kind_number s) 1) (eq-eqb (kind_number s) 1 (sym r.kind ∙ b.kind)) (not_mark s t a).0
 
-sealed_mark : {t : Text} {x y : Place} {k : Kind} {cs : Forest} → Sealed x k cs y → Seen x Punctuator t → ⊥
-sealed_mark {x = x} q s = two_tokens (opener_seen x q) s refl
+sealed_mark : {t : Text} {x y : Place} {k : Kind} {cs : Forest} → is_angle t ≡ false → Sealed x k cs y → Seen x Punctuator t → ⊥
+sealed_mark {t} {x} n q s = by_opened (opened_at x q.opener)
+  where
+    by_opened : Opened x → ⊥
+    by_opened (a_word w o v) = two_tokens v s refl
+    by_opened (a_tag a) = never (is_angle t) (subst (λ u. is_angle u ≡ true) s.text a.text) n
+
+not_tag : {ps : List Step} {x y : Place} {ts : Forest} → Walk ps x ts y → no_tag ps ≡ true → Angle x → ⊥
+not_tag (take {m = Operator} {k = k} {t = t} {x = x} e f w) h s = never (is_angle t) (subst (λ t. is_angle t ≡ true) (took k t x e f).text s.text) (not_is _ h)
+not_tag (literal {s = k} {t = t} {x = x} e f w) h s =
+    let v = took_in (mode_of k) k t x (and_left (is_op (mode_of k)) (is_quote k) h) e f in
+    never (is_quote Punctuator) (subst (λ n. is_quote n ≡ true) (kind_is k Punctuator (sym v.kind ∙ s.kind)) (and_right (is_op (mode_of k)) (is_quote k) h)) refl
+not_tag _ h s = cc
 
 opener_row : {w : Text} {ps : List Step} {x y : Place} {ts : Forest} → Opener w → Seen x IdentifierName w → Walk ps x ts y → no_opener ps ≡ true → ⊥
 opener_row of_function s (take {m = Operator} {k = k} {t = t} {x = x} e f w) h = two_tokens (took k t x e f) s (not_is _ (and_left (not (same_token k t IdentifierName (codes "function"))) _ h))
@@ -252,14 +274,18 @@ opener_row o s (literal {s = k} {t = t} {x = x} e f w) h =
 opener_row o s _ h = cc
 
 sealed_head : (l : Kind) {x y z : Place} {k : Kind} {cs ts : Forest} → scope l ≡ true → is_arrow l ≡ false → grows l ≡ false → is_paren l ≡ false → Walk (row l) x ts z → Sealed x k cs y → ⊥
-sealed_head l {x = x} s a d p w q = opener_row q.opener (opener_seen x q) w (or_else (is_paren l) _ (or_else (is_arrow l) _ (or_else (grows l) _ (for_kind opener_ok opener_ones l s) d) a) p)
+sealed_head l {x = x} s a d p w q = by_opened (opened_at x q.opener)
+  where
+    by_opened : Opened x → ⊥
+    by_opened (a_word u o v) = opener_row o v w (or_else (is_paren l) _ (or_else (is_arrow l) _ (or_else (grows l) _ (for_kind opener_ok opener_ones l s) d) a) p)
+    by_opened (a_tag b) = not_tag w (or_else (is_paren l) _ (or_else (is_arrow l) _ (or_else (grows l) _ (for_kind tag_ok tag_ones l s) d) a) p) b
 
 pub sealed_start : {x y q : Place} {k : Kind} {cs : Forest} {f : Flat} → Sealed x k cs y → Start x f q → SameOne (flat (node k cs)) f y q
 sealed_start a (s_word {s = r} {t = u} {x = x} b e f) = absurd (sealed_word b (took r u x e f) a)
 sealed_start a (s_regexp {t = u} {x = x} e f) = absurd (sealed_slash a (slash_here u x e f))
 sealed_start a (s_head l s b d p w) = absurd (sealed_head l s b d p w a)
-sealed_start a (s_paren {x = x} e f i) = absurd (sealed_mark a (open_seen {x = x} e f))
-sealed_start a (s_braces {x = x} e f i) = absurd (sealed_mark a (brace_seen {x = x} e f))
+sealed_start a (s_paren {x = x} e f i) = absurd (sealed_mark refl a (open_seen {x = x} e f))
+sealed_start a (s_braces {x = x} e f i) = absurd (sealed_mark refl a (brace_seen {x = x} e f))
 sealed_start a (s_sealed b) = let r = sealed_same a b in record { tree = ap flat r.0; place = r.1 }
 
 pub start_regexp : {t : Text} {x y q : Place} {f : Flat} → forth (Tok Operand RegExpLiteral t) x ≡ y → IsTrue (is_found y) → Start x f q → SameOne (one RegExpLiteral t) f y q
@@ -317,7 +343,7 @@ pub parens_same : {x p y q : Place} {es : Flats} {f : Flat} → forth (Tok Opera
 parens_same e f only (s_word {s = r} {t = u} {x = x} a' e' f') = absurd (word_mark a' (took r u x e' f') (open_seen e f) refl)
 parens_same {x = x} e f only (s_regexp {t = u} e' f') = absurd (mark_slash refl (open_seen {x = x} e f) (slash_here u x e' f'))
 parens_same e f only (s_head l s' a' d' p' v) = absurd (not_open v (or_else (is_paren l) (no_open (row l)) (of_head l s' a' d' p').open' p') (open_seen e f))
-parens_same {x = x} e f only (s_sealed q) = absurd (sealed_mark q (open_seen {x = x} e f))
+parens_same {x = x} e f only (s_sealed q) = absurd (sealed_mark refl q (open_seen {x = x} e f))
 parens_same {x = x} e f only (s_braces e' f' i) = absurd (two_tokens (open_seen {x = x} e f) (brace_seen {x = x} e' f') refl)
 parens_same e f only (s_paren {y = q} {ts = us} e' f' i) =
     let o = only us q (move_items (sym e ∙ e') i) in
@@ -329,7 +355,7 @@ pub braces_same : {x p y q : Place} {es : Flats} {f : Flat} → forth (Tok Opera
 braces_same e f only (s_word {s = r} {t = u} {x = x} a' e' f') = absurd (word_mark a' (took r u x e' f') (brace_seen e f) refl)
 braces_same {x = x} e f only (s_regexp {t = u} e' f') = absurd (mark_slash refl (brace_seen {x = x} e f) (slash_here u x e' f'))
 braces_same e f only (s_head l s' a' d' p' v) = absurd (not_brace v (or_else (is_paren l) (no_open (row l)) (of_head l s' a' d' p').open' p') (brace_seen e f))
-braces_same {x = x} e f only (s_sealed q) = absurd (sealed_mark q (brace_seen {x = x} e f))
+braces_same {x = x} e f only (s_sealed q) = absurd (sealed_mark refl q (brace_seen {x = x} e f))
 braces_same {x = x} e f only (s_paren e' f' i) = absurd (two_tokens (open_seen {x = x} e' f') (brace_seen {x = x} e f) refl)
 braces_same e f only (s_braces {y = q} {ts = us} e' f' i) =
     let o = only us q (subst (λ p. Props p us q) (sym (sym e ∙ e')) i) in

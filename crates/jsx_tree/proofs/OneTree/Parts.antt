@@ -2,7 +2,9 @@
 use Rattle.jsx_tree.specs.Kinds.{Arrow, ArrowBlock, BareArrowBlock, expression}
 use Rattle.jsx_tree.proofs.OneTree.Spines.{blockless, blocked_home}
 use Rattle.jsx_tree.proofs.OneTree.Known.{is_blocked}
-use Rattle.jsx_tree.proofs.OneTree.Known.{stated, taken, is_seq, known, kept, kepts}
+use Rattle.jsx_tree.proofs.OneTree.Kept.{Which, a_statement, a_taken, a_blocked, a_jsx, a_seq, which}
+use Rattle.jsx_tree.proofs.OneTree.Tags.{jsx_kinds, for_jsx, tagless, no_jsx, no_tag_leaves, no_jsx_leaf}
+use Rattle.jsx_tree.proofs.OneTree.Known.{stated, taken, is_seq, known, plain_leaf, is_piece, is_regexp, jsx_leaf, kept, kepts}
 use Rattle.std.proofs.Common.{subst}
 use Rattle.std.proofs.Common.{◌≡◌, ℕ, ◌≤◌, Bool, true, false, not, cond, List, [], ◌∷◌, refl, sym, ◌∙◌, ap}
 use Rattle.std.specs.Prelude.{IsTrue, ◌&&◌, ◌||◌, nat_eq, nat_le, codes}
@@ -39,10 +41,10 @@ use Rattle.jsx_tree.proofs.OneTree.Endings.{whole_begins}
 -- ---- no statement stands in an expression but in what is sealed
 
 abbrev pub bare : Nonterminal → Bool
-bare c = every (λ l. not (in_homes c (homes l))) stated_kinds && blockless c
+bare c = every (λ l. not (in_homes c (homes l))) stated_kinds && (blockless c && tagless c)
 
 abbrev pub clean : Nonterminal → Bool
-clean c = every (λ l. (is_sealed l || is_member l) || not (in_homes c (homes l))) stated_kinds
+clean c = every (λ l. (is_sealed l || is_member l) || not (in_homes c (homes l))) stated_kinds && (every (λ l. is_sealed l || not (in_homes c (homes l))) jsx_kinds && no_tag_leaves c)
 
 abbrev pub clean_slots : List Position → Bool
 clean_slots [] = true
@@ -59,18 +61,28 @@ clean_kind k h = by_taken (test (taken k))
     by_taken (no' n) = ap (λ k. clean_slots (positions k)) (seq_is k (or_else (taken k) (is_seq k) h n))
 
 pub stated_home : (c : Nonterminal) (k : Kind) → bare c ≡ true → stated k ≡ true → in_homes c (homes k) ≡ true → ⊥
-stated_home c k h s i = never (in_homes c (homes k)) i (not_is _ (for_stated (λ l. not (in_homes c (homes l))) (and_left (every (λ l. not (in_homes c (homes l))) stated_kinds) (blockless c) h) k s))
+stated_home c k h s i = never (in_homes c (homes k)) i (not_is _ (for_stated (λ l. not (in_homes c (homes l))) (and_left (every (λ l. not (in_homes c (homes l))) stated_kinds) _ h) k s))
+
+or_left : (a b : Bool) → a ≡ true → (a || b) ≡ true
+or_left true b h = refl
+or_left false b h = cc
 
 bare_known : (c : Nonterminal) (k : Kind) (cs : Forest) → bare c ≡ true → known k ≡ true → admits c (node k cs) ≡ true → (taken k || is_seq k) ≡ true
 bare_known c k cs h s i = by_taken (test (taken k || is_seq k))
   where
     by_taken : Test (taken k || is_seq k) → (taken k || is_seq k) ≡ true
     by_taken (yes' t) = t
-    by_taken (no' n) = by_stated (test (stated k)) (or_else (taken k || is_seq k) (stated k || is_blocked k) s n)
+    by_taken (no' n) = absurd (by_which (which k s))
       where
-        by_stated : Test (stated k) → (stated k || is_blocked k) ≡ true → (taken k || is_seq k) ≡ true
-        by_stated (yes' t) o = absurd (stated_home c k h t (home_of c k cs i))
-        by_stated (no' t) o = absurd (never (in_homes c (homes (expression Arrow))) (blocked_home c k (or_else (stated k) (is_blocked k) o t) (home_of c k cs i)) (not_is _ (and_right (every (λ l. not (in_homes c (homes l))) stated_kinds) (blockless c) h)))
+        rest : (blockless c && tagless c) ≡ true
+        rest = and_right (every (λ l. not (in_homes c (homes l))) stated_kinds) _ h
+
+        by_which : Which k → ⊥
+        by_which (a_statement t) = stated_home c k h t (home_of c k cs i)
+        by_which (a_blocked b) = never (in_homes c (homes (expression Arrow))) (blocked_home c k b (home_of c k cs i)) (not_is _ (and_left (blockless c) _ rest))
+        by_which (a_jsx j) = no_jsx c k j (and_right (blockless c) _ rest) (home_of c k cs i)
+        by_which (a_taken t) = never (taken k || is_seq k) (or_left (taken k) (is_seq k) t) n
+        by_which (a_seq e) = never (taken k || is_seq k) (ap (λ k. taken k || is_seq k) e) n
 
 -- what a kind is at such a place
 data Fair (k : Kind) : Type 0 where
@@ -90,18 +102,19 @@ fair c k cs h s i = by_taken (test (taken k || is_seq k)) (test (is_sealed k)) (
     by_taken (yes' t) q m = is_open t
     by_taken (no' n) (yes' q) m = is_shut q
     by_taken (no' n) (no' q) (yes' m) = is_keyed m
-    by_taken (no' n) (no' q) (no' m) =
-        by_stated (test (stated k)) (or_else (taken k || is_seq k) (stated k || is_blocked k) s n)
+    by_taken (no' n) (no' q) (no' m) = by_which (which k s)
       where
-        by_stated : Test (stated k) → (stated k || is_blocked k) ≡ true → Fair k
-        by_stated (no' t) o = is_arrowed (or_else (stated k) (is_blocked k) o t)
-        by_stated (yes' t) o =
-            let g = for_stated (λ l. (is_sealed l || is_member l) || not (in_homes c (homes l))) h k t in
+        by_which : Which k → Fair k
+        by_which (a_blocked b) = is_arrowed b
+        by_which (a_taken t) = is_open (or_left (taken k) (is_seq k) t)
+        by_which (a_seq e) = is_open (ap (λ k. taken k || is_seq k) e)
+        by_which (a_statement t) =
+            let g = for_stated (λ l. (is_sealed l || is_member l) || not (in_homes c (homes l))) (and_left (every (λ l. (is_sealed l || is_member l) || not (in_homes c (homes l))) stated_kinds) _ h) k t in
             absurd (never (in_homes c (homes k)) (home_of c k cs i) (not_is _ (or_else (is_sealed k || is_member k) (not (in_homes c (homes k))) g (or_false (is_sealed k) (is_member k) q m))))
-
-or_left : (a b : Bool) → a ≡ true → (a || b) ≡ true
-or_left true b h = refl
-or_left false b h = cc
+        by_which (a_jsx j) =
+            let r = and_right (every (λ l. (is_sealed l || is_member l) || not (in_homes c (homes l))) stated_kinds) _ h in
+            let g = for_jsx (λ l. is_sealed l || not (in_homes c (homes l))) (and_left (every (λ l. is_sealed l || not (in_homes c (homes l))) jsx_kinds) _ r) k j in
+            absurd (never (in_homes c (homes k)) (home_of c k cs i) (not_is _ (or_else (is_sealed k) (not (in_homes c (homes k))) g q)))
 
 or_right : (a b : Bool) → b ≡ true → (a || b) ≡ true
 or_right true b h = refl
@@ -142,9 +155,24 @@ node_admits Single c k cs h = h
 node_admits Maybe c k cs h = cc
 node_admits (Several s) c k cs h = cc
 
+leaf_admits : (o : Form) (c : Nonterminal) (s : TokenKind) (t : Text) → shaped o c (leaf s t) ≡ true → leaf_in c s t ≡ true
+leaf_admits Single c s t h = h
+leaf_admits Maybe c s t h = cc
+leaf_admits (Several l) c s t h = cc
+
+leaf_tame : (s : TokenKind) (t : Text) (o : Form) (c : Nonterminal) → clean c ≡ true → kept (leaf s t) ≡ true → shaped o c (leaf s t) ≡ true → tame (leaf s t) ≡ true
+leaf_tame s t o c h k a = by_plain (test (plain_leaf s || (is_piece s || is_regexp s)))
+  where
+    free : no_tag_leaves c ≡ true
+    free = and_right (every (λ l. is_sealed l || not (in_homes c (homes l))) jsx_kinds) _ (and_right (every (λ l. (is_sealed l || is_member l) || not (in_homes c (homes l))) stated_kinds) _ h)
+
+    by_plain : Test (plain_leaf s || (is_piece s || is_regexp s)) → (plain_leaf s || (is_piece s || is_regexp s)) ≡ true
+    by_plain (yes' p) = p
+    by_plain (no' p) = absurd (no_jsx_leaf c s t (or_else (plain_leaf s || (is_piece s || is_regexp s)) (jsx_leaf s) k p) free (leaf_admits o c s t a))
+
 mutual
   tame_at : (t : Tree) (o : Form) (c : Nonterminal) → clean c ≡ true → kept t ≡ true → shaped o c t ≡ true → fits_below c t ≡ true → tame t ≡ true
-  tame_at (leaf s t) o c h k a f = k
+  tame_at (leaf s t) o c h k a f = leaf_tame s t o c h k a
   tame_at (list ts) o c h k a f = tame_each ts c h k f
   tame_at (node k cs) o c h g a f =
       node_tame k cs (fair c k cs h (and_left (known k) (kepts cs) g) (node_admits o c k cs a)) f (λ q. tame_slots cs (positions k) (clean_kind k q) (and_right (known k) (kepts cs) g) f) (λ q. tame_first cs (positions k) q (and_right (known k) (kepts cs) g) f)

@@ -288,6 +288,9 @@ brace = Tok Operator Punctuator (codes "}")
 abbrev pub is_slash : Text → Bool
 is_slash t = same t (codes "/") || same t (codes "/=")
 
+abbrev pub is_angle : Text → Bool
+is_angle t = same t (codes "<") || (same t (codes "<=") || (same t (codes "<<") || same t (codes "<<=")))
+
 -- the first tokens of templates
 abbrev pub is_quote : TokenKind → Bool
 is_quote NoSubstitution = true
@@ -351,7 +354,7 @@ mutual
     short : {k : Kind} {t : Text} {x y : Place} → code k ≡ 51 → is_arrow k ≡ false → forth (Tok Operator IdentifierName t) x ≡ y → IsTrue (is_found y) → Prop x (node k (part (leaf IdentifierName t) none)) y
     preset : {k : Kind} {t : Text} {x p q y : Place} {v : Tree} → code k ≡ 52 → is_arrow k ≡ false → forth (Tok Operator IdentifierName t) x ≡ p → IsTrue (is_found p) → forth (Tok Operator Punctuator (codes "=")) p ≡ q → IsTrue (is_found q) → Reads 1 q v y → IsTrue (calm 1 y) → Prop x (node k (part (leaf IdentifierName t) (part v none))) y
     rest : {k : Kind} {x p y : Place} {v : Tree} → code k ≡ 2 → is_arrow k ≡ false → forth (Tok Operator Punctuator (codes "...")) x ≡ p → IsTrue (is_found p) → Reads 1 p v y → IsTrue (calm 1 y) → Prop x (node k (part v none)) y
-    member : {k : Kind} {x y : Place} {cs : Forest} → Closed is_member ObjectMember x k cs y → Opening x → Prop x (node k cs) y
+    member : {k : Kind} {x y : Place} {cs : Forest} → Closed is_member false ObjectMember x k cs y → Opening x → Prop x (node k cs) y
 
   -- what a method begins with: a key before its parentheses, or a word before a key
   pub data Opening : Place → Type 0 where

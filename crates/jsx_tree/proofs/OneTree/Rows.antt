@@ -1,6 +1,7 @@
 -- Two readings of one row from one place are one: once for all rows of statements.
 use Rattle.jsx_tree.proofs.OneTree.Spines.{blocked_home}
-use Rattle.jsx_tree.proofs.OneTree.Kept.{Which, a_statement, a_taken, a_blocked, a_seq, which}
+use Rattle.jsx_tree.proofs.OneTree.Kept.{Which, a_statement, a_taken, a_blocked, a_seq, which, a_jsx}
+use Rattle.jsx_tree.proofs.OneTree.Tags.{tagless, no_jsx}
 use Rattle.jsx_tree.specs.Kinds.{Arrow}
 use Rattle.std.proofs.Common.{sym}
 use Rattle.jsx_tree.proofs.OneTree.Facts.{eq_nat}
@@ -71,7 +72,7 @@ each_all (each_node e a) = a
 
 -- ---- own places
 
-own_clean : (c : Nonterminal) → is_own c ≡ true → every (λ k. not (in_homes c (homes k))) kinds ≡ true
+own_clean : (c : Nonterminal) → is_own c ≡ true → (every (λ k. not (in_homes c (homes k))) kinds && tagless c) ≡ true
 own_clean Stmt o = refl
 own_clean SubStmt o = refl
 own_clean Item o = refl
@@ -151,10 +152,14 @@ own_leaf _ s t o h = cc
 pub own_kind : (c : Nonterminal) (k : Kind) → is_own c ≡ true → known k ≡ true → in_homes c (homes k) ≡ true → stated k ≡ true
 own_kind c k o h i = by_which (which k h)
   where
+    kinds_clean : every (λ k. not (in_homes c (homes k))) kinds ≡ true
+    kinds_clean = and_left (every (λ k. not (in_homes c (homes k))) kinds) (tagless c) (own_clean c o)
+
     by_which : Which k → stated k ≡ true
     by_which (a_statement t) = t
-    by_which (a_taken t) = absurd (never (in_homes c (homes k)) i (not_is _ (for_kind (λ k. not (in_homes c (homes k))) (own_clean c o) k t)))
-    by_which (a_blocked b) = absurd (never (in_homes c (homes (expression Arrow))) (blocked_home c k b i) (not_is _ (for_kind (λ k. not (in_homes c (homes k))) (own_clean c o) (expression Arrow) refl)))
+    by_which (a_taken t) = absurd (never (in_homes c (homes k)) i (not_is _ (for_kind (λ k. not (in_homes c (homes k))) kinds_clean k t)))
+    by_which (a_blocked b) = absurd (never (in_homes c (homes (expression Arrow))) (blocked_home c k b i) (not_is _ (for_kind (λ k. not (in_homes c (homes k))) kinds_clean (expression Arrow) refl)))
+    by_which (a_jsx j) = absurd (no_jsx c k j (and_right (every (λ k. not (in_homes c (homes k))) kinds) (tagless c) (own_clean c o)) i)
     by_which (a_seq e) = absurd (never (in_homes c (homes k)) i (ap (λ k. in_homes c (homes k)) e ∙ own_seq c o))
 
 -- what is imported is a name alone, or begins otherwise

@@ -7,7 +7,7 @@ use Rattle.jsx_tree.proofs.OneTree.Known.{is_seq, taken}
 use Rattle.std.proofs.Common.{◌≡◌, ℕ, ◌≤◌, suc, Bool, true, false, not, cond, [], ◌∷◌, refl, sym, ◌∙◌, ap, subst, arith}
 use Rattle.std.specs.Prelude.{◌&&◌, ◌||◌, nat_le}
 use Rattle.std.proofs.lemmas.Bool.{le-leb}
-use Rattle.jsx_tree.specs.Kinds.{SubstitutedTemplate, Seq, Array, ObjectPat, Object, Binds, Assigns, FunctionExpr, ClassExpr, InObject, Method, Getter, Setter, Kind, program, statement, function, expression, jsx, Tree, leaf, node, list, Forest, none, part}
+use Rattle.jsx_tree.specs.Kinds.{SubstitutedTemplate, Seq, Array, ObjectPat, Object, Binds, Assigns, FunctionExpr, ClassExpr, Element, ElementWithChildren, Fragment, InObject, Method, Getter, Setter, Kind, function, expression, jsx, Tree, leaf, node, list, Forest, none, part}
 use Rattle.jsx_tree.specs.Nonterminals.{Nonterminal, Expr, MemberObject, SimpleTarget, Ident, BindingIdent, Pat, Slot, PatElement, Param, Argument, ArrayItem, NullishLeft, NewCallee, DotObject, homes, in_homes}
 use Rattle.jsx_tree.specs.Grammar.{Part, Production, production}
 use Rattle.jsx_tree.specs.Form.{leads, admits, is, fits_below, fit_slots, slots, calls, spine_calls, first_calls}
@@ -109,52 +109,48 @@ by_taken k cs c m n le p q h i (yes' t) rec = node_spine k cs c m n le p t i rec
 by_taken k cs c m n le p q h i (no' t) rec = absurd (no_seq_here c k cs (or_else (taken k) (is_seq k) h t) q i)
 
 -- what is sealed stands where a literal of an array does
-sealed_home : (c : Nonterminal) (k : Kind) → kin c ≡ true → is_sealed k ≡ true → in_homes c (homes k) ≡ true → in_homes c (homes (expression Array)) ≡ true
-sealed_home (Expr n) (function FunctionExpr) l s i = i
-sealed_home (Expr n) (function ClassExpr) l s i = i
-sealed_home MemberObject (function FunctionExpr) l s i = i
-sealed_home MemberObject (function ClassExpr) l s i = i
-sealed_home DotObject (function FunctionExpr) l s i = i
-sealed_home DotObject (function ClassExpr) l s i = i
-sealed_home NullishLeft (function FunctionExpr) l s i = i
-sealed_home NullishLeft (function ClassExpr) l s i = i
-sealed_home SimpleTarget (function FunctionExpr) l s i = i
-sealed_home SimpleTarget (function ClassExpr) l s i = i
-sealed_home NewCallee (function FunctionExpr) l s i = i
-sealed_home NewCallee (function ClassExpr) l s i = i
-sealed_home Ident (function FunctionExpr) l s i = i
-sealed_home Ident (function ClassExpr) l s i = i
-sealed_home BindingIdent (function FunctionExpr) l s i = i
-sealed_home BindingIdent (function ClassExpr) l s i = i
-sealed_home (Pat Binds) (function FunctionExpr) l s i = i
-sealed_home (Pat Binds) (function ClassExpr) l s i = i
-sealed_home (Pat Assigns) (function FunctionExpr) l s i = i
-sealed_home (Pat Assigns) (function ClassExpr) l s i = i
-sealed_home (PatElement Binds) (function FunctionExpr) l s i = i
-sealed_home (PatElement Binds) (function ClassExpr) l s i = i
-sealed_home (PatElement Assigns) (function FunctionExpr) l s i = i
-sealed_home (PatElement Assigns) (function ClassExpr) l s i = i
-sealed_home (Slot Binds) (function FunctionExpr) l s i = i
-sealed_home (Slot Binds) (function ClassExpr) l s i = i
-sealed_home (Slot Assigns) (function FunctionExpr) l s i = i
-sealed_home (Slot Assigns) (function ClassExpr) l s i = i
-sealed_home Param (function FunctionExpr) l s i = i
-sealed_home Param (function ClassExpr) l s i = i
-sealed_home Argument (function FunctionExpr) l s i = i
-sealed_home Argument (function ClassExpr) l s i = i
-sealed_home ArrayItem (function FunctionExpr) l s i = i
-sealed_home ArrayItem (function ClassExpr) l s i = i
-sealed_home _ (function FunctionExpr) l s i = cc
-sealed_home _ (function ClassExpr) l s i = cc
-sealed_home c (function _) l s i = cc
-sealed_home c (program _) l s i = cc
-sealed_home c (statement _) l s i = cc
-sealed_home c (expression _) l s i = cc
-sealed_home c (jsx _) l s i = cc
+record SealedHomes (c : Nonterminal) : Type 0 where
+  of_functions : in_homes c (homes (function FunctionExpr)) ≡ in_homes c (homes (expression Array))
+  of_classes : in_homes c (homes (function ClassExpr)) ≡ in_homes c (homes (expression Array))
+  of_elements : in_homes c (homes (jsx Element)) ≡ in_homes c (homes (expression Array))
 
--- places where none stands
+sealed_homes : (c : Nonterminal) → kin c ≡ true → SealedHomes c
+sealed_homes (Expr n) l = record { of_functions = refl; of_classes = refl; of_elements = refl }
+sealed_homes MemberObject l = record { of_functions = refl; of_classes = refl; of_elements = refl }
+sealed_homes DotObject l = record { of_functions = refl; of_classes = refl; of_elements = refl }
+sealed_homes NullishLeft l = record { of_functions = refl; of_classes = refl; of_elements = refl }
+sealed_homes SimpleTarget l = record { of_functions = refl; of_classes = refl; of_elements = refl }
+sealed_homes NewCallee l = record { of_functions = refl; of_classes = refl; of_elements = refl }
+sealed_homes Ident l = record { of_functions = refl; of_classes = refl; of_elements = refl }
+sealed_homes BindingIdent l = record { of_functions = refl; of_classes = refl; of_elements = refl }
+sealed_homes (Pat Binds) l = record { of_functions = refl; of_classes = refl; of_elements = refl }
+sealed_homes (Pat Assigns) l = record { of_functions = refl; of_classes = refl; of_elements = refl }
+sealed_homes (PatElement Binds) l = record { of_functions = refl; of_classes = refl; of_elements = refl }
+sealed_homes (PatElement Assigns) l = record { of_functions = refl; of_classes = refl; of_elements = refl }
+sealed_homes (Slot Binds) l = record { of_functions = refl; of_classes = refl; of_elements = refl }
+sealed_homes (Slot Assigns) l = record { of_functions = refl; of_classes = refl; of_elements = refl }
+sealed_homes Param l = record { of_functions = refl; of_classes = refl; of_elements = refl }
+sealed_homes Argument l = record { of_functions = refl; of_classes = refl; of_elements = refl }
+sealed_homes ArrayItem l = record { of_functions = refl; of_classes = refl; of_elements = refl }
+sealed_homes _ l = cc
+
+sealed_home : (c : Nonterminal) (k : Kind) → kin c ≡ true → is_sealed k ≡ true → in_homes c (homes k) ≡ true → in_homes c (homes (expression Array)) ≡ true
+sealed_home c (function FunctionExpr) l s i = sym (sealed_homes c l).of_functions ∙ i
+sealed_home c (function ClassExpr) l s i = sym (sealed_homes c l).of_classes ∙ i
+sealed_home c (jsx Element) l s i = sym (sealed_homes c l).of_elements ∙ i
+sealed_home c (jsx ElementWithChildren) l s i = sym (sealed_homes c l).of_elements ∙ i
+sealed_home c (jsx Fragment) l s i = sym (sealed_homes c l).of_elements ∙ i
+sealed_home c (function _) l s i = cc
+sealed_home c (jsx _) l s i = cc
+sealed_home c _ l s i = cc
+
+-- places where no element stands
+abbrev pub elementless : Nonterminal → Bool
+elementless c = not (in_homes c (homes (jsx Element)))
+
+-- places where nothing that is sealed stands
 abbrev pub sealless : Nonterminal → Bool
-sealless c = not (in_homes c (homes (function FunctionExpr))) && not (in_homes c (homes (function ClassExpr)))
+sealless c = not (in_homes c (homes (function FunctionExpr))) && (not (in_homes c (homes (function ClassExpr))) && elementless c)
 
 abbrev pub memberless : Nonterminal → Bool
 memberless c = not (in_homes c (homes (function (Method InObject))))
@@ -198,10 +194,17 @@ absent c = sealless c && memberless c
 pub no_sealed : (c : Nonterminal) (k : Kind) (cs : Forest) → is_sealed k ≡ true → sealless c ≡ true → is c (node k cs) ≡ true → ⊥
 no_sealed c k cs s a i = by_kind k s (home_of c k cs (and_left (admits c (node k cs)) (fits_below c (node k cs)) i))
   where
+    no_element : elementless c ≡ true
+    no_element = and_right (not (in_homes c (homes (function ClassExpr)))) _ (and_right (not (in_homes c (homes (function FunctionExpr)))) _ a)
+
     by_kind : (k : Kind) → is_sealed k ≡ true → in_homes c (homes k) ≡ true → ⊥
     by_kind (function FunctionExpr) s h = never _ h (not_is _ (and_left (not (in_homes c (homes (function FunctionExpr)))) _ a))
-    by_kind (function ClassExpr) s h = never _ h (not_is _ (and_right (not (in_homes c (homes (function FunctionExpr)))) _ a))
+    by_kind (function ClassExpr) s h = never _ h (not_is _ (and_left (not (in_homes c (homes (function ClassExpr)))) _ (and_right (not (in_homes c (homes (function FunctionExpr)))) _ a)))
+    by_kind (jsx Element) s h = never _ h (not_is _ no_element)
+    by_kind (jsx ElementWithChildren) s h = never _ h (not_is _ no_element)
+    by_kind (jsx Fragment) s h = never _ h (not_is _ no_element)
     by_kind (function _) s h = cc
+    by_kind (jsx _) s h = cc
     by_kind _ s h = cc
 
 -- arrows with a block stand where other arrows do
@@ -247,11 +250,15 @@ sealed_level n c k cs s p i =
     let q = at_kind c (spine_check n) (expression Array) (and_right (kin c) _ p) refl h in
     le_nat (and_left (nat_le n 19) _ (and_right true _ q))
 
--- it is at the highest level, and begins with a word
+-- it is at the highest level, and begins with a word or a bracket
 level_spine : (k : Kind) (cs : Forest) (m : ℕ) → is_sealed k ≡ true → nat_le m 19 ≡ true → spine_ok m (node k cs) ≡ true
 level_spine (function FunctionExpr) cs m s h = and_both (nat_le m 19) true h refl
 level_spine (function ClassExpr) cs m s h = and_both (nat_le m 19) true h refl
+level_spine (jsx Element) cs m s h = and_both (nat_le m 19) true h refl
+level_spine (jsx ElementWithChildren) cs m s h = and_both (nat_le m 19) true h refl
+level_spine (jsx Fragment) cs m s h = and_both (nat_le m 19) true h refl
 level_spine (function _) cs m s h = cc
+level_spine (jsx _) cs m s h = cc
 level_spine _ cs m s h = cc
 
 member_spine : (k : Kind) (cs : Forest) → is_member k ≡ true → spine_ok 18 (node k cs) ≡ true
@@ -267,7 +274,11 @@ member_spine _ cs s = cc
 pub spine_level : (k : Kind) (cs : Forest) (m : ℕ) → is_sealed k ≡ true → spine_ok m (node k cs) ≡ true → m ≤ 19
 spine_level (function FunctionExpr) cs m s h = le_nat (and_left (nat_le m 19) _ h)
 spine_level (function ClassExpr) cs m s h = le_nat (and_left (nat_le m 19) _ h)
+spine_level (jsx Element) cs m s h = le_nat (and_left (nat_le m 19) _ h)
+spine_level (jsx ElementWithChildren) cs m s h = le_nat (and_left (nat_le m 19) _ h)
+spine_level (jsx Fragment) cs m s h = le_nat (and_left (nat_le m 19) _ h)
 spine_level (function _) cs m s h = cc
+spine_level (jsx _) cs m s h = cc
 spine_level _ cs m s h = cc
 
 by_tamed : (k : Kind) (cs : Forest) (c : Nonterminal) (m n : ℕ) → m ≤ n → place_at n c ≡ true → no_seq c ≡ true → Tamed k cs → is c (node k cs) ≡ true

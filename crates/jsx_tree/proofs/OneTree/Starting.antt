@@ -1,4 +1,5 @@
 -- What an expression begins with, and what goes on with one.
+use Rattle.jsx_tree.proofs.OneTree.Angles.{Angle, angle_here, angle_case}
 use Rattle.std.proofs.Common.{[], ◌≡◌, ℕ, ◌≤◌, suc, Bool, true, false, not, cond, List, refl, sym, ◌∙◌, ap, subst, arith}
 use Rattle.std.specs.Prelude.{IsTrue, ◌&&◌, ◌||◌, nat_eq, codes}
 use Rattle.jsx_base.specs.Token.{Text, Mode, is_token, token, Operator, TokenKind, IdentifierName, Punctuator, NumericLiteral, BigIntLiteral, StringLiteral, NoSubstitution, TemplateHead, kind_number, same}
@@ -11,7 +12,7 @@ use Rattle.jsx_tree.specs.Walk.{is_found}
 use Rattle.jsx_tree.proofs.Tokens.{and_left, and_right}
 use Rattle.jsx_tree.proofs.OneTree.Table.{code, scope}
 use Rattle.jsx_tree.proofs.OneTree.Readings.{is_block, block_reach, ahead, Items, shut, gap, last, more, Step, row, tail, level, grows, lookup, entries, is_step, reach_of, reach, calm, kind_at, text_at, broken, is_arrow, is_paren, may_be, Reads, word, head, paren, target, grow, arrow, Walk, done, take, pass, literal, under, all, each, is_tagged, is_quote, is_slash, regexp}
-use Rattle.jsx_tree.proofs.OneTree.Sealed.{Opener, of_function, of_class, Sealed}
+use Rattle.jsx_tree.proofs.OneTree.Sealed.{Opener, of_function, of_class, Opens, by_word, by_tag}
 use Rattle.jsx_tree.proofs.OneTree.Readings.{sealed, braces, linked, filled, tagged, blocked, bare_blocked}
 use Rattle.jsx_tree.proofs.OneTree.Checks.{is_op, starts, bare, no_line, opens, no_word, no_open, reaches, on_line, goes_by, one_ok, tagged_ok, tagged_ones, opens_quote, ones}
 use Rattle.jsx_tree.proofs.OneTree.Slashes.{regexp_slash}
@@ -155,8 +156,13 @@ of_grow k s d =
     record { goes = and_left (goes_by (tail k) (suc (level k))) _ g; not_paren = not_is _ (and_left (not (nat_eq (code k) 3)) _ r); not_seq = not_is _ (and_right (not (nat_eq (code k) 3)) _ r) }
 
 -- the word that a function or a class begins with
-pub opener_seen : {k : Kind} {cs : Forest} {y : Place} (x : Place) (s : Sealed x k cs y) → Seen x IdentifierName s.word
-opener_seen x s = seen IdentifierName s.word x s.begins
+pub data Opened (x : Place) : Type 0 where
+  a_word : (w : Text) → Opener w → Seen x IdentifierName w → Opened x
+  a_tag : Angle x → Opened x
+
+pub opened_at : (x : Place) → Opens x → Opened x
+opened_at x (by_word w o f) = a_word w o (seen IdentifierName w x f)
+opened_at x (by_tag f) = a_tag (angle_here x f)
 
 pub opener_value : {w : Text} → Opener w → is_value_word w ≡ false
 opener_value of_function = refl
@@ -165,6 +171,10 @@ opener_value of_class = refl
 opener_starts : {w : Text} → Opener w → starts 0 w ≡ true
 opener_starts of_function = refl
 opener_starts of_class = refl
+
+opened_starts : {x : Place} → Opened x → starts (kind_at x) (text_at x) ≡ true
+opened_starts (a_word w o s) = at_kind starts s (opener_starts o)
+opened_starts {x} (a_tag a) = (λ i. starts (a.kind i) (text_at x)) ∙ angle_case (starts 1) refl refl refl refl (text_at x) a.text
 
 two_first : (a b c : Bool) → (a || b) ≡ true → (a || (b || c)) ≡ true
 two_first true b c h = refl
@@ -177,7 +187,7 @@ pub begins : {n : ℕ} {x y : Place} {t : Tree} → Reads n x t y → starts (ki
 begins (word {s = s} {t = t} {x = x} a e f) = at_kind starts (took s t x e f) (may_start s t a)
 begins (regexp {t = t} {x = x} e f) = let s = regexp_slash t x (found_at e f) in (λ i. starts (s.kind i) (text_at x)) ∙ slash_mark (text_at x) s.text
 begins (head {k = k} s a i l d w) = begins_row w (of_head k s a d i).opens'
-begins (sealed {x = x} l s) = at_kind starts (opener_seen x s) (opener_starts s.opener)
+begins (sealed {x = x} l s) = opened_starts (opened_at x s.opener)
 begins (braces {x = x} l c a e f p) = at_kind starts (took Punctuator (codes "{") x e f) refl
 begins (paren {x = x} l e f a g h) = at_kind starts (took Punctuator (codes "(") x e f) refl
 begins (target {x = x} l e f r c g h) = at_kind starts (took Punctuator (codes "(") x e f) refl

@@ -1,6 +1,6 @@
 -- The kinds that are read alike have one number. Each kind of expression or pattern has its position in their list.
 use Rattle.std.specs.Prelude.{ℕ, zero, suc, List, [], ◌∷◌, Bool, true, false, IsTrue}
-use Rattle.jsx_tree.specs.Kinds.{Script, Module, FunctionBody, Directive, ImportBare, Import, ImportAll, ImportList, ImportBoth, ExportAll, ExportAllAs, ExportDecl, ExportDefaultFn, ExportDefaultClass, ExportDefaultExpr, ExportNames, ExportFrom, Specifier, SpecifierAs, Imported, Exported, From, Var, VarWord, LetWord, ConstWord, Block, Declarator, Empty, ExprStmt, If, Do, While, For, ForDeclaration, ForIn, ForOf, ForBinding, Continue, Break, Return, Throw, Debugger, Label, Switch, Case, Default, Try, Catch, FunctionDecl, ClassDecl, FunctionExpr, ClassExpr, InObject, InClass, Static, Method, Getter, Setter, Field, program, statement, Binds, Assigns, ArrayPat, WithInit, RestPat, ObjectPat, PropertyPat, ShorthandPat, ShorthandInit, RestProperty, ParenTarget, ComputedKey, Nullish, Or, And, BitOr, BitXor, BitAnd, Equal, Unequal, StrictEqual, StrictUnequal, Less, Greater, AtMost, AtLeast, InOp, InstanceOf, ShiftLeft, ShiftRight, ShiftOut, Add, Subtract, Multiply, Divide, Remainder, Exponentiate, Delete, Void, TypeOf, Positive, Negative, Complement, Not, Increment, Decrement, Seq, Assign, OpAssign, Arrow, BareArrow, Cond, Binary, Unary, PrefixUpdate, PostfixUpdate, Call, Member, Index, New, NewWithoutArguments, SuperCall, SuperMember, SuperIndex, ImportCall, ImportMeta, NewTarget, Chain, NameLink, IndexLink, CallLink, Array, Object, Property, Shorthand, Spread, Parenthesized, Tagged, PlainTemplate, SubstitutedTemplate, TemplateSpan, Kind, function, expression, ArrowBlock, BareArrowBlock}
+use Rattle.jsx_tree.specs.Kinds.{Script, Module, FunctionBody, Directive, ImportBare, Import, ImportAll, ImportList, ImportBoth, ExportAll, ExportAllAs, ExportDecl, ExportDefaultFn, ExportDefaultClass, ExportDefaultExpr, ExportNames, ExportFrom, Specifier, SpecifierAs, Imported, Exported, From, Var, VarWord, LetWord, ConstWord, Block, Declarator, Empty, ExprStmt, If, Do, While, For, ForDeclaration, ForIn, ForOf, ForBinding, Continue, Break, Return, Throw, Debugger, Label, Switch, Case, Default, Try, Catch, FunctionDecl, ClassDecl, FunctionExpr, ClassExpr, InObject, InClass, Static, Method, Getter, Setter, Field, program, statement, Binds, Assigns, ArrayPat, WithInit, RestPat, ObjectPat, PropertyPat, ShorthandPat, ShorthandInit, RestProperty, ParenTarget, ComputedKey, Nullish, Or, And, BitOr, BitXor, BitAnd, Equal, Unequal, StrictEqual, StrictUnequal, Less, Greater, AtMost, AtLeast, InOp, InstanceOf, ShiftLeft, ShiftRight, ShiftOut, Add, Subtract, Multiply, Divide, Remainder, Exponentiate, Delete, Void, TypeOf, Positive, Negative, Complement, Not, Increment, Decrement, Seq, Assign, OpAssign, Arrow, BareArrow, Cond, Binary, Unary, PrefixUpdate, PostfixUpdate, Call, Member, Index, New, NewWithoutArguments, SuperCall, SuperMember, SuperIndex, ImportCall, ImportMeta, NewTarget, Chain, NameLink, IndexLink, CallLink, Array, Object, Property, Shorthand, Spread, Parenthesized, Tagged, PlainTemplate, SubstitutedTemplate, TemplateSpan, Kind, function, expression, ArrowBlock, BareArrowBlock, Element, ElementWithChildren, Fragment, NamespacedName, MemberName, Attribute, Container, EmptyContainer, JsxSpread, jsx}
 use Rattle.std.proofs.Common.{◌≡◌, refl}
 
 abbrev pub code : Kind → ℕ
@@ -179,6 +179,15 @@ code (program ExportDefaultClass) = 364
 code (function (Method InObject)) = 365
 code (function (Getter InObject)) = 366
 code (function (Setter InObject)) = 367
+code (jsx Element) = 71
+code (jsx ElementWithChildren) = 72
+code (jsx Fragment) = 73
+code (jsx NamespacedName) = 74
+code (jsx MemberName) = 75
+code (jsx Attribute) = 76
+code (jsx Container) = 77
+code (jsx EmptyContainer) = 78
+code (jsx JsxSpread) = 79
 code k = 0
 
 abbrev pub position : Kind → ℕ

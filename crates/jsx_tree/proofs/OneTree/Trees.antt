@@ -34,7 +34,7 @@ use Rattle.jsx_tree.proofs.OneTree.Fine.{at_sign, at_part}
 use Rattle.jsx_tree.proofs.OneTree.Fine.{calm_more}
 use Rattle.jsx_tree.proofs.OneTree.Spines.{home_of}
 use Rattle.jsx_tree.proofs.OneTree.Placed.{whole_reads}
-use Rattle.jsx_tree.proofs.OneTree.Chains.{fine}
+use Rattle.jsx_tree.proofs.OneTree.Chains.{fine, element_first}
 use Rattle.jsx_tree.proofs.OneTree.Statements.{stated_nth, for_stated}
 use Rattle.jsx_tree.proofs.OneTree.Endings.{after}
 use Rattle.jsx_tree.proofs.OneTree.Missing.{at_semi}
@@ -42,7 +42,9 @@ use Rattle.jsx_tree.proofs.OneTree.Endings.{end_kind}
 use Rattle.jsx_tree.proofs.OneTree.Missing.{Behind, a_mark, a_brace, a_line, behind}
 use Rattle.jsx_tree.proofs.OneTree.Afters.{after_tok, after_tree}
 use Rattle.jsx_tree.proofs.OneTree.Known.{stated, known, kept, kepts, size, sizes}
-use Rattle.jsx_tree.proofs.OneTree.Sealed.{is_sealed, is_member}
+use Rattle.jsx_tree.proofs.OneTree.Sealed.{is_sealed, is_worded, is_element, is_member}
+use Rattle.jsx_tree.proofs.OneTree.Angles.{angle_here}
+use Rattle.jsx_tree.proofs.OneTree.Elements.{elements_same}
 use Rattle.jsx_tree.proofs.OneTree.Evidence.{Law, Kept, Kepts, kept_left, kept_kind, kept_parts}
 use Rattle.jsx_tree.proofs.OneTree.Parts.{tame_of, SameAt, word_read}
 use Rattle.jsx_tree.proofs.OneTree.Wants.{anything, parted, idle, shutting, idle_at, meets, seen_met, implied, mark, look_same}
@@ -358,17 +360,36 @@ function_word {x = x} r = let p = at_sign (node_walk false (function FunctionExp
 class_word : {v : Surroundings} {x y : Place} {cs : Forest} → IsRead v false (Expr 18) x (node (function ClassExpr) cs) y → Seen x IdentifierName (codes "class")
 class_word {x = x} r = let p = at_sign (node_walk false (function ClassExpr) refl r).walk in took IdentifierName (codes "class") x p.moves p.found
 
+worded_one : (k l : Kind) (cs ds : Forest) {v w : Surroundings} {x y z : Place} → is_worded k ≡ true → is_worded l ≡ true → Kepts cs → Kepts ds → IsRead v false (Expr 18) x (node k cs) y → IsRead w false (Expr 18) x (node l ds) z → (node k cs ≡ node l ds) × (y ≡ z)
+worded_one (function FunctionExpr) (function FunctionExpr) cs ds a b h h' r s = rows_one (Expr 18) (function FunctionExpr) cs ds refl h h' r s
+worded_one (function ClassExpr) (function ClassExpr) cs ds a b h h' r s = rows_one (Expr 18) (function ClassExpr) cs ds refl h h' r s
+worded_one (function FunctionExpr) (function ClassExpr) cs ds a b h h' r s = absurd (two_tokens (function_word r) (class_word s) refl)
+worded_one (function ClassExpr) (function FunctionExpr) cs ds a b h h' r s = absurd (two_tokens (function_word s) (class_word r) refl)
+worded_one (function FunctionExpr) (function _) cs ds a b h h' r s = cc
+worded_one (function FunctionExpr) _ cs ds a b h h' r s = cc
+worded_one (function ClassExpr) (function _) cs ds a b h h' r s = cc
+worded_one (function ClassExpr) _ cs ds a b h h' r s = cc
+worded_one (function _) l cs ds a b h h' r s = cc
+worded_one _ l cs ds a b h h' r s = cc
+
+worded_kind : (k : Kind) (cs : Forest) {v : Surroundings} {x y : Place} → is_worded k ≡ true → IsRead v false (Expr 18) x (node k cs) y → kind_at x ≡ 0
+worded_kind (function FunctionExpr) cs s r = (function_word r).kind
+worded_kind (function ClassExpr) cs s r = (class_word r).kind
+worded_kind (function _) cs s r = cc
+worded_kind _ cs s r = cc
+
+-- no element begins with a word
+worded_apart : (k l : Kind) (cs ds : Forest) {v w : Surroundings} {x y z : Place} → is_worded k ≡ true → is_element l ≡ true → IsRead v false (Expr 18) x (node k cs) y → IsRead w false (Expr 18) x (node l ds) z → ⊥
+worded_apart k l cs ds {x = x} a b r s = never (nat_eq (kind_at x) 1) (ap (λ n. nat_eq n 1) (angle_here x (element_first l ds b s)).kind) (ap (λ n. nat_eq n 1) (worded_kind k cs a r))
+
 sealed_one : (k l : Kind) (cs ds : Forest) {v w : Surroundings} {x y z : Place} → is_sealed k ≡ true → is_sealed l ≡ true → Kepts cs → Kepts ds → IsRead v false (Expr 18) x (node k cs) y → IsRead w false (Expr 18) x (node l ds) z → (node k cs ≡ node l ds) × (y ≡ z)
-sealed_one (function FunctionExpr) (function FunctionExpr) cs ds a b h h' r s = rows_one (Expr 18) (function FunctionExpr) cs ds refl h h' r s
-sealed_one (function ClassExpr) (function ClassExpr) cs ds a b h h' r s = rows_one (Expr 18) (function ClassExpr) cs ds refl h h' r s
-sealed_one (function FunctionExpr) (function ClassExpr) cs ds a b h h' r s = absurd (two_tokens (function_word r) (class_word s) refl)
-sealed_one (function ClassExpr) (function FunctionExpr) cs ds a b h h' r s = absurd (two_tokens (function_word s) (class_word r) refl)
-sealed_one (function FunctionExpr) (function _) cs ds a b h h' r s = cc
-sealed_one (function FunctionExpr) _ cs ds a b h h' r s = cc
-sealed_one (function ClassExpr) (function _) cs ds a b h h' r s = cc
-sealed_one (function ClassExpr) _ cs ds a b h h' r s = cc
-sealed_one (function _) l cs ds a b h h' r s = cc
-sealed_one _ l cs ds a b h h' r s = cc
+sealed_one k l cs ds {v} {w} {x} {y} {z} a b h h' r s = by_word (test (is_worded k)) (test (is_worded l))
+  where
+    by_word : Test (is_worded k) → Test (is_worded l) → (node k cs ≡ node l ds) × (y ≡ z)
+    by_word (yes' p) (yes' q) = worded_one k l cs ds p q h h' r s
+    by_word (yes' p) (no' q) = absurd (worded_apart k l cs ds p (or_else (is_worded l) (is_element l) b q) r s)
+    by_word (no' p) (yes' q) = absurd (worded_apart l k ds cs q (or_else (is_worded k) (is_element k) a p) s r)
+    by_word (no' p) (no' q) = elements_same false k l cs ds (or_else (is_worded k) (is_element k) a p) (or_else (is_worded l) (is_element l) b q) h h' r s
 
 -- two methods of objects
 two_members : {v w : Surroundings} {x y z : Place} (k l : Kind) (cs ds : Forest) → members_apart (W.row false k) (W.row false l) ≡ true → Kepts cs → Kepts ds → IsRead v false ObjectMember x (node k cs) y → IsRead w false ObjectMember x (node l ds) z → ⊥
@@ -413,13 +434,14 @@ body_one cs ds {y = y} {z} h h' r s f g =
 
 -- by size: the parts of what is sealed are smaller
 law : (n : ℕ) → Law n
-law zero = record { of_sealed = record { one = λ k l cs ds s t le lf h g r q. absurd (no_size (sizes cs) le) }; of_members = record { one = λ k l cs ds s t le lf h g r q. absurd (no_size (sizes cs) le) }; of_bodies = record { one_body = λ cs ds le lf h g r q a b. absurd (no_size (sizes cs) le) } }
+law zero = record { of_sealed = record { one = λ k l cs ds s t le lf h g r q. absurd (no_size (sizes cs) le) }; of_members = record { one = λ k l cs ds s t le lf h g r q. absurd (no_size (sizes cs) le) }; of_children = record { one = λ k l cs ds s t le lf h g r q. absurd (no_size (sizes cs) le) }; of_bodies = record { one_body = λ cs ds le lf h g r q a b. absurd (no_size (sizes cs) le) } }
   where
     no_size : (m : ℕ) → suc m ≤ 0 → ⊥
     no_size m le = omega (arith, le)
 law (suc n) = record {
   of_sealed = record { one = λ k l cs ds s t le lf h g r q. sealed_one k l cs ds s t (smaller k cs (law n) le h) (smaller l ds (law n) lf g) r q };
   of_members = record { one = λ k l cs ds s t le lf h g r q. member_one k l cs ds s t (smaller k cs (law n) le h) (smaller l ds (law n) lf g) r q };
+  of_children = record { one = λ k l cs ds s t le lf h g r q. elements_same true k l cs ds s t (smaller k cs (law n) le h) (smaller l ds (law n) lf g) r q };
   of_bodies = record { one_body = λ cs ds le lf h g r q a b. body_one cs ds (smaller (program FunctionBody) cs (law n) le h) (smaller (program FunctionBody) ds (law n) lf g) r q a b };
 }
   where

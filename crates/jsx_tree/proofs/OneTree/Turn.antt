@@ -1,15 +1,16 @@
 -- Two trees at one place that are the same up to patterns and literals are one tree.
-use Rattle.jsx_tree.proofs.OneTree.Known.{is_blocked}
+use Rattle.jsx_tree.proofs.OneTree.Known.{is_blocked, is_jsx}
 use Rattle.jsx_tree.proofs.OneTree.Spines.{blocked_home}
-use Rattle.jsx_tree.proofs.OneTree.Kept.{a_blocked}
+use Rattle.jsx_tree.proofs.OneTree.Kept.{a_blocked, a_jsx}
+use Rattle.jsx_tree.proofs.OneTree.Tags.{jsx_kinds, for_jsx, two_jsx, no_jsx}
 use Rattle.jsx_tree.specs.Kinds.{BareArrowBlock}
 use Rattle.jsx_tree.proofs.OneTree.Known.{stated, known, kept, kepts}
-use Rattle.std.proofs.Common.{◌≡◌, ℕ, Bool, true, false, not, List, [], ◌∷◌, refl, sym, ◌∙◌, ap, subst, arith}
+use Rattle.std.proofs.Common.{◌≡◌, ℕ, ◌≤◌, Bool, true, false, not, List, [], ◌∷◌, refl, sym, ◌∙◌, ap, subst, arith}
 use Rattle.std.specs.Prelude.{◌&&◌, ◌||◌, nat_eq, nat_le}
 use Rattle.jsx_base.specs.Token.{Text, TokenKind}
-use Rattle.jsx_tree.specs.Kinds.{Seq, Arrow, ArrowBlock, BareArrow, Parenthesized, ParenTarget, Kind, function, expression, Tree, leaf, node, list, Forest, none, part}
+use Rattle.jsx_tree.specs.Kinds.{Seq, Arrow, ArrowBlock, BareArrow, Spread, Parenthesized, ParenTarget, Kind, function, expression, Tree, leaf, node, list, Forest, none, part}
 use Rattle.jsx_tree.specs.Nonterminals.{Nonterminal, Expr, SimpleTarget, BindingIdent, NullishLeft, NullishOnly, NewCallee, DotObject, MemberObject, ForOfHead, ForHead, number, floor, takes, in_list, homes, in_homes}
-use Rattle.std.proofs.lemmas.Bool.{eq-eqb}
+use Rattle.std.proofs.lemmas.Bool.{eq-eqb, le-leb}
 use Rattle.jsx_tree.specs.Grammar.{TwoOrMore}
 use Rattle.jsx_tree.specs.Form.{Form, Single, Maybe, Several, Position, position, positions, shaped, admits, is, fits_below, fit_slots, fit_each}
 use Rattle.jsx_tree.proofs.Tokens.{and_left, and_right, and_both}
@@ -17,7 +18,7 @@ use Rattle.jsx_tree.proofs.OneTree.Table.{code, position as index, scope, kinds,
 use Rattle.jsx_tree.proofs.OneTree.Readings.{Flat, Flats, one, some, row_of, nil, cons, unseq, paren_of, in_parens, arrow_of, is_arrow, made, flat, flats}
 use Rattle.jsx_tree.proofs.OneTree.Table.{listed}
 use Rattle.jsx_tree.proofs.OneTree.Checks.{every}
-use Rattle.jsx_tree.proofs.OneTree.Facts.{never, or_else, not_is, Test, yes', no', test, eq_nat, for_kind}
+use Rattle.jsx_tree.proofs.OneTree.Facts.{never, or_else, not_is, Test, yes', no', test, eq_nat, le_nat, for_kind}
 use Rattle.jsx_tree.proofs.OneTree.Growths.{made_plain, made_paren, made_arrow, unseq_some, unseq_made}
 use Rattle.jsx_tree.proofs.OneTree.Statements.{place, stated_kinds, stated_nth, for_stated}
 use Rattle.jsx_tree.proofs.OneTree.Statements as S
@@ -54,6 +55,13 @@ no_seq_code = refl
 
 no_names' : every (λ l. not (in_homes BindingIdent (homes l))) kinds ≡ true
 no_names' = refl
+
+not_equal : (n m : ℕ) → (n ≡ m → ⊥) → nat_eq n m ≡ false
+not_equal n m h = by_case (test (nat_eq n m))
+  where
+    by_case : Test (nat_eq n m) → nat_eq n m ≡ false
+    by_case (yes' e) = absurd (h (eq_nat e))
+    by_case (no' e) = e
 
 -- ---- the kinds of statements have numbers of their own
 
@@ -122,6 +130,50 @@ of_block (expression BareArrowBlock) h = bare_block refl
 of_block (expression _) h = cc
 of_block _ h = cc
 
+-- ---- and so have those of JSX
+
+abbrev pub jsx_code : Kind → Bool
+jsx_code k = nat_le 71 (code k) && (nat_le (code k) 79 && not (is_arrow k))
+
+jsx_codes : every jsx_code jsx_kinds ≡ true
+jsx_codes = refl
+
+record JsxFacts (k : Kind) : Type 0 where
+  least : 71 ≤ code k
+  most : code k ≤ 79
+  no_arrow : is_arrow k ≡ false
+
+jsx_facts : (k : Kind) → is_jsx k ≡ true → JsxFacts k
+jsx_facts k j =
+    let h = for_jsx jsx_code jsx_codes k j in
+    let r = and_right (nat_le 71 (code k)) _ h in
+    record { least = le_nat (and_left (nat_le 71 (code k)) _ h); most = le_nat (and_left (nat_le (code k) 79) _ r); no_arrow = not_is _ (and_right (nat_le (code k) 79) _ r) }
+
+-- the number is another
+not_jsx : (n : ℕ) (k : Kind) → is_jsx k ≡ true → code k ≡ n → (nat_le 71 n && nat_le n 79) ≡ false → ⊥
+not_jsx n k j e h =
+    let f = jsx_facts k j in
+    let a : 71 ≤ code k = f.least in
+    let b : code k ≤ 79 = f.most in
+    never (nat_le 71 n && nat_le n 79) (and_both (nat_le 71 n) (nat_le n 79) (le-leb 71 n (omega (arith, a, e))) (le-leb n 79 (omega (arith, b, e)))) h
+
+abbrev pub outside_jsx : Kind → Bool
+outside_jsx k = not (nat_le 71 (code k) && nat_le (code k) 79)
+
+outside_kinds : every outside_jsx kinds ≡ true
+outside_kinds = refl
+
+outside_stated : every outside_jsx stated_kinds ≡ true
+outside_stated = refl
+
+-- a kind with the number of one of JSX is one
+jsx_by_code : (k l : Kind) → Which k → is_jsx l ≡ true → code k ≡ code l → is_jsx k ≡ true
+jsx_by_code k l (a_jsx j) i e = j
+jsx_by_code k l (a_statement t) i e = absurd (not_jsx (code k) l i (sym e) (not_is _ (for_stated outside_jsx outside_stated k t)))
+jsx_by_code k l (a_taken t) i e = absurd (not_jsx (code k) l i (sym e) (not_is _ (for_kind outside_jsx outside_kinds k t)))
+jsx_by_code k l (a_blocked t) i e = absurd (not_jsx 70 l i (sym e ∙ blocked_code k t) refl)
+jsx_by_code k l (a_seq p) i e = absurd (not_jsx 19 l i (sym e ∙ ap code p) refl)
+
 no_seventy : every (λ k. not (nat_eq (code k) 70)) kinds ≡ true
 no_seventy = refl
 
@@ -130,6 +182,7 @@ stated_seventy = refl
 
 seventy : (k : Kind) → Which k → code k ≡ 70 → is_blocked k ≡ true
 seventy k (a_blocked b) e = b
+seventy k (a_jsx j) e = absurd (not_jsx 70 k j e refl)
 seventy k (a_statement t) e = absurd (never (nat_eq (code k) 70) (eq-eqb (code k) 70 e) (not_is _ (for_stated (λ k. not (nat_eq (code k) 70)) stated_seventy k t)))
 seventy k (a_taken t) e = absurd (never (nat_eq (code k) 70) (eq-eqb (code k) 70 e) (not_is _ (for_kind (λ k. not (nat_eq (code k) 70)) no_seventy k t)))
 seventy k (a_seq p) e = let q : code k ≡ 19 = ap code p in absurd (omega (arith, e, q))
@@ -341,6 +394,7 @@ un c (node k cs) h i = by_which (which k (and_left (known k) (kepts cs) h))
     by_which (a_statement s) = let f = stated_facts k s in alone (unseq_made k (flats cs) f.no_arrow f.no_row)
     by_which (a_taken s) = by_arrow (not_is _ (for_kind (λ k. not (nat_eq (code k) 19)) no_seq_code k s)) (test (is_arrow k))
     by_which (a_blocked s) = by_arrow (ap (λ n. nat_eq n 19) (blocked_code k s)) (test (is_arrow k))
+    by_which (a_jsx j) = alone (unseq_made k (flats cs) ((jsx_facts k j).no_arrow) (not_equal (code k) 19 (λ e. not_jsx 19 k j e refl)))
     by_which (a_seq e) = subst (λ k. Un (made k (flats cs))) (sym e) (seq_un cs (subst (λ k. fit_slots (positions k) cs ≡ true) e (and_right (admits c (node k cs)) (fits_below c (node k cs)) i)))
 
 abbrev pub parens_only : Kind → Bool
@@ -399,6 +453,7 @@ parts_same k cs ds s m n f g e = by_paren (test (nat_eq (code k) 3))
         by_which : Which k → flats cs ≡ flats ds
         by_which (a_statement t) = absurd (never (nat_eq (code k) 3) c ((stated_facts k t).no_paren))
         by_which (a_blocked t) = absurd (never (nat_eq (code k) 3) c (ap (λ n. nat_eq n 3) (blocked_code k t)))
+        by_which (a_jsx j) = absurd (not_jsx 3 k j (eq_nat c) refl)
         by_which (a_seq p) = absurd (never (nat_eq (code k) 3) c (ap (λ k. nat_eq (code k) 3) p))
         by_which (a_taken t) =
             let a = paren_held k cs t c m f in
@@ -430,6 +485,7 @@ code_some k s e = by_which (which k s)
     by_which (a_taken t) = never (nat_eq (code k) 0) (eq-eqb (code k) 0 e) (not_is _ (for_kind (λ k. not (nat_eq (code k) 0)) no_zero k t))
     by_which (a_seq p) = let q : code k ≡ 19 = ap code p in omega (arith, e, q)
     by_which (a_blocked p) = let q : code k ≡ 70 = blocked_code k p in omega (arith, e, q)
+    by_which (a_jsx j) = not_jsx 0 k j e refl
 
 leaf_node : (s : TokenKind) (t : Text) (k : Kind) (cs : Forest) → known k ≡ true → one s t ≡ made k (flats cs) → ⊥
 leaf_node s t k cs h e = code_some k h (sym (top_made k (flats cs)) ∙ (ap top (sym e) ∙ top_one s t))
@@ -448,6 +504,7 @@ bare_leaf ss m (part (node k ks) cs) h g fs d n f e =
     by_which i (a_statement t) = never (in_homes BindingIdent (homes k)) i ((stated_facts k t).no_name)
     by_which i (a_taken t) = never (in_homes BindingIdent (homes k)) i (not_is _ (for_kind (λ l. not (in_homes BindingIdent (homes l))) no_names' k t))
     by_which i (a_blocked t) = never (in_homes BindingIdent (homes (expression Arrow))) (blocked_home BindingIdent k t i) refl
+    by_which i (a_jsx j) = no_jsx BindingIdent k j refl i
     by_which i (a_seq p) = never (in_homes BindingIdent (homes k)) i (ap (λ k. in_homes BindingIdent (homes k)) p)
 
 no_bare : (ss : List Position) (m n : ℕ) (cs ds : Forest) → kepts cs ≡ true → fit_slots (position Single BindingIdent [] false [] ∷ ss) cs ≡ true → some m (flats cs) ≡ arrow_of n (flats ds) → ⊥
@@ -482,6 +539,8 @@ kind_same c k l cs ds s t m n i j e = by_which (which k s) (which l t)
     two_blocked (bare_block a) (listed_block b) = absurd (no_bare _ 70 70 cs ds m (fits cs (expression BareArrowBlock) a i) ((λ i. made (sym a i) (flats cs)) ∙ (e ∙ (λ i. made (b i) (flats ds)))))
 
     by_which : Which k → Which l → k ≡ l
+    by_which (a_jsx p) q = two_jsx k l p (jsx_by_code l k q p (sym codes')) codes'
+    by_which p (a_jsx q) = two_jsx k l (jsx_by_code k l p q codes') q codes'
     by_which (a_blocked p) q = two_blocked (of_block k p) (of_block l (seventy l q (sym codes' ∙ blocked_code k p)))
     by_which p (a_blocked q) = two_blocked (of_block k (seventy k p (codes' ∙ blocked_code l q))) (of_block l q)
     by_which (a_statement p) (a_statement q) = two_stated k l p q codes'
@@ -557,3 +616,27 @@ mutual
 
 pub tree_same : (t u : Tree) (c : Nonterminal) → kept t ≡ true → kept u ≡ true → is c t ≡ true → is c u ≡ true → flat t ≡ flat u → t ≡ u
 tree_same t u c h g i j e = place_same t u Single c h g (and_left (admits c t) (fits_below c t) i) (and_left (admits c u) (fits_below c u) j) (and_right (admits c t) (fits_below c t) i) (and_right (admits c u) (fits_below c u) j) e
+
+-- ---- no expression is a spread, by its number
+
+abbrev pub no_spread_code : Kind → Bool
+no_spread_code k = not (nat_eq (code k) 2) || not (in_homes (Expr 0) (homes k))
+
+no_spread_kinds : every no_spread_code kinds ≡ true
+no_spread_kinds = refl
+
+no_spread_stated : every no_spread_code stated_kinds ≡ true
+no_spread_stated = refl
+
+spread_node : (k : Kind) → Which k → in_homes (Expr 0) (homes k) ≡ true → code k ≡ 2 → ⊥
+spread_node k (a_taken t) i e = never (in_homes (Expr 0) (homes k)) i (not_is _ (or_else (not (nat_eq (code k) 2)) _ (for_kind no_spread_code no_spread_kinds k t) (ap not (eq-eqb (code k) 2 e))))
+spread_node k (a_statement t) i e = never (in_homes (Expr 0) (homes k)) i (not_is _ (or_else (not (nat_eq (code k) 2)) _ (for_stated no_spread_code no_spread_stated k t) (ap not (eq-eqb (code k) 2 e))))
+spread_node k (a_blocked t) i e = let q : code k ≡ 70 = blocked_code k t in omega (arith, e, q)
+spread_node k (a_seq p) i e = let q : code k ≡ 19 = ap code p in omega (arith, e, q)
+spread_node k (a_jsx j) i e = not_jsx 2 k j e refl
+
+pub not_spread : (t u : Tree) → kept t ≡ true → is (Expr 0) t ≡ true → flat t ≡ flat (node (expression Spread) (part u none)) → ⊥
+not_spread (leaf s t) u h i e = let bad = sym (top_one s t) ∙ (ap top e ∙ top_some 2 (cons (flat u) nil)) in cc
+not_spread (list ts) u h i e = cc
+not_spread (node k cs) u h i e =
+    spread_node k (which k (and_left (known k) (kepts cs) h)) (home_of (Expr 0) k cs (and_left (admits (Expr 0) (node k cs)) (fits_below (Expr 0) (node k cs)) i)) (sym (top_made k (flats cs)) ∙ (ap top e ∙ top_some 2 (cons (flat u) nil)))

@@ -1,6 +1,7 @@
 -- What is known of a place behind a part, by what its row reads next.
 use Rattle.jsx_tree.proofs.OneTree.Spines.{blocked_home}
-use Rattle.jsx_tree.proofs.OneTree.Kept.{Which, a_statement, a_taken, a_blocked, a_seq, which}
+use Rattle.jsx_tree.proofs.OneTree.Kept.{Which, a_statement, a_taken, a_blocked, a_seq, which, a_jsx}
+use Rattle.jsx_tree.proofs.OneTree.Tags.{no_jsx}
 use Rattle.jsx_tree.specs.Kinds.{Arrow, expression}
 use Rattle.std.proofs.Common.{◌≡◌, ℕ, Bool, true, false, not, List, [], ◌∷◌, refl, sym, ◌∙◌, ap, subst, arith}
 use Rattle.std.specs.Prelude.{IsTrue, ◌&&◌, ◌||◌, nat_eq, nat_le, codes}
@@ -394,6 +395,7 @@ block_kind k s h = by_which (which k s)
     by_which (a_statement t) =
         let e = or_else (not (in_homes BlockOnly (homes k))) _ (for_stated (λ k. not (in_homes BlockOnly (homes k)) || nat_eq (place k) (place (statement Block))) block_kinds k t) (ap not h) in
         sym (stated_nth k t) ∙ ap (nth stated_kinds) (eq_nat {a = place k} {b = place (statement Block)} e)
+    by_which (a_jsx j) = absurd (no_jsx BlockOnly k j refl h)
     by_which (a_taken t) = absurd (never (in_homes BlockOnly (homes k)) h (not_is _ (for_kind (λ k. not (in_homes BlockOnly (homes k))) block_clean k t)))
     by_which (a_blocked b) = absurd (never (in_homes BlockOnly (homes (expression Arrow))) (blocked_home BlockOnly k b h) refl)
     by_which (a_seq e) = absurd (never (in_homes BlockOnly (homes k)) h (ap (λ k. in_homes BlockOnly (homes k)) e))

@@ -1,6 +1,7 @@
 -- A class alone: what stands behind `export default` is read as in an expression.
 use Rattle.jsx_tree.proofs.OneTree.Spines.{blocked_home}
-use Rattle.jsx_tree.proofs.OneTree.Kept.{a_blocked}
+use Rattle.jsx_tree.proofs.OneTree.Kept.{a_blocked, a_jsx}
+use Rattle.jsx_tree.proofs.OneTree.Tags.{no_jsx}
 use Rattle.jsx_tree.specs.Kinds.{Arrow}
 use Rattle.std.proofs.Common.{◌≡◌, Bool, true, false, not, refl, sym, ◌∙◌, ap, subst}
 use Rattle.std.specs.Prelude.{◌||◌, codes}
@@ -66,6 +67,7 @@ class_view {v} {x} {y} (node k cs) h r = by_which (which k (kept_kind h))
         let e = class_is k (or_else (not (in_homes ClassOnly (homes k))) _ (for_stated (λ k. not (in_homes ClassOnly (homes k)) || is_class k) class_stated k s) (ap not i)) in
         record { parts = cs; is_node = ap (λ k. node k cs) e; good = subst (λ k. Kept (node k cs)) e h; read = subst (λ k. IsRead v false ClassOnly x (node k cs) y) e r }
     by_which (a_blocked s) = absurd (never (in_homes ClassOnly (homes (expression Arrow))) (blocked_home ClassOnly k s i) refl)
+    by_which (a_jsx j) = absurd (no_jsx ClassOnly k j refl i)
     by_which (a_taken s) = absurd (never (in_homes ClassOnly (homes k)) i (not_is _ (for_kind (λ k. not (in_homes ClassOnly (homes k))) class_taken k s)))
     by_which (a_seq e) = absurd (never (in_homes ClassOnly (homes k)) i (ap (λ k. in_homes ClassOnly (homes k)) e ∙ class_seq))
 

@@ -17,7 +17,7 @@ use Rattle.jsx_tree.specs.Walk.{is_found, IsRead, IsNode}
 use Rattle.jsx_tree.proofs.OneTree.Table.{kinds}
 use Rattle.jsx_tree.proofs.OneTree.Readings.{Step, tok, lit, row, grows, is_arrow, is_paren, is_quote, may_be, kind_at, text_at, Reads, word, regexp, head, paren, target, grow, arrow, sealed, braces, Walk, take, literal, Whole, single, several}
 use Rattle.jsx_tree.proofs.OneTree.Sealed.{Opener, of_function, of_class}
-use Rattle.jsx_tree.proofs.OneTree.Starting.{opener_seen}
+use Rattle.jsx_tree.proofs.OneTree.Starting.{Opened, a_word, a_tag, opened_at}
 use Rattle.jsx_tree.proofs.OneTree.Checks.{every, is_op, same_token}
 use Rattle.jsx_tree.proofs.OneTree.Facts.{never, or_else, eq_nat, kind_is, Seen, took, took_in, same_seen, for_kind, found_at}
 use Rattle.jsx_tree.proofs.OneTree.Slashes.{regexp_slash}
@@ -93,7 +93,11 @@ reads_calls (word {s = s} {t = t} {x = x} a e f) i =
     absurd (word_import s t a (sym r.kind ∙ (import_seen i).kind) (sym r.text ∙ (import_seen i).text))
 reads_calls (regexp {t = t} {x = x} e f) i = absurd (never (nat_eq 1 0) (ap (λ n. nat_eq n 0) (sym (regexp_slash t x (found_at e f)).kind ∙ (import_seen i).kind)) refl)
 reads_calls (head {k = k} s a q l d w) i = row_calls w (or_else (is_paren k) _ (or_else (is_arrow k) _ (or_else (grows k) _ (for_kind imports_ok import_rows k s) d) a) q) i
-reads_calls (sealed {x = x} l s) i = absurd (opener_import s.opener (opener_seen x s) i)
+reads_calls (sealed {x = x} l s) i = absurd (by_opened (opened_at x s.opener))
+  where
+    by_opened : Opened x → ⊥
+    by_opened (a_word w o v) = opener_import o v i
+    by_opened (a_tag a) = never (nat_eq 1 0) (ap (λ n. nat_eq n 0) (sym a.kind ∙ (import_seen i).kind)) refl
 reads_calls (braces {x = x} l c a e f p) i = absurd (no_import (took Punctuator (codes "{") x e f) refl i)
 reads_calls (paren {x = x} l e f a g h) i = absurd (no_import (took Punctuator (codes "(") x e f) refl i)
 reads_calls (target {x = x} l e f r c g h) i = absurd (no_import (took Punctuator (codes "(") x e f) refl i)

@@ -1,7 +1,8 @@
 -- What a `for` begins with: declarations, or an expression; a name that is bound, or a target.
 use Rattle.jsx_tree.proofs.OneTree.Known.{is_blocked}
 use Rattle.jsx_tree.proofs.OneTree.Spines.{blocked_home, blockless}
-use Rattle.jsx_tree.proofs.OneTree.Kept.{a_blocked}
+use Rattle.jsx_tree.proofs.OneTree.Kept.{a_blocked, a_jsx}
+use Rattle.jsx_tree.proofs.OneTree.Tags.{jsx_kinds, for_jsx, tagless, no_jsx}
 use Rattle.jsx_tree.specs.Kinds.{Arrow, ArrowBlock, BareArrowBlock}
 use Rattle.jsx_tree.proofs.OneTree.Evidence.{Kept, Kepts, kept_left, kept_list, kept_kind, kept_parts}
 use Rattle.std.proofs.Common.{◌≡◌, Bool, true, false, not, List, [], ◌∷◌, refl, sym, ◌∙◌, ap, subst, arith}
@@ -125,6 +126,9 @@ init_stated = refl
 init_taken : every init_taken_ok kinds ≡ true
 init_taken = refl
 
+init_jsx : every init_taken_ok jsx_kinds ≡ true
+init_jsx = refl
+
 blocked_zero : (k : Kind) → is_blocked k ≡ true → in_homes (Expr 0) (homes k) ≡ true
 blocked_zero (expression ArrowBlock) s = refl
 blocked_zero (expression BareArrowBlock) s = refl
@@ -148,6 +152,7 @@ init_view {v} {x} {y} (node k cs) h r = by_which (which k (kept_kind h))
     by_which : Which k → Init v x (node k cs) y
     by_which (a_statement s) = by_declaration (test (is_declaration k)) (or_else (not (in_homes ForInit (homes k))) _ (for_stated init_stated_ok init_stated k s) (ap not i))
     by_which (a_blocked s) = expresses (re_home ForInit (Expr 0) (node k cs) (blocked_zero k s) r)
+    by_which (a_jsx j) = expresses (re_home ForInit (Expr 0) (node k cs) (or_else (not (in_homes ForInit (homes k))) _ (for_jsx init_taken_ok init_jsx k j) (ap not i)) r)
     by_which (a_taken s) = expresses (re_home ForInit (Expr 0) (node k cs) (or_else (not (in_homes ForInit (homes k))) _ (for_kind init_taken_ok init_taken k s) (ap not i)) r)
     by_which (a_seq e) = expresses (re_home ForInit (Expr 0) (node k cs) (ap (λ k. in_homes (Expr 0) (homes k)) e) r)
 
@@ -179,6 +184,11 @@ head_seq ForHead o = refl
 head_seq ForOfHead o = refl
 head_seq _ o = cc
 
+head_tagless : (c : Nonterminal) → is_head c ≡ true → tagless c ≡ true
+head_tagless ForHead o = refl
+head_tagless ForOfHead o = refl
+head_tagless _ o = cc
+
 head_blockless : (c : Nonterminal) → is_head c ≡ true → blockless c ≡ true
 head_blockless ForHead o = refl
 head_blockless ForOfHead o = refl
@@ -196,6 +206,7 @@ head_view c {v} {x} {y} (node k cs) o h r = by_which (which k (kept_kind h))
     by_which (a_statement s) =
         let e = binding_is k (or_else (not (in_homes c (homes k))) _ (for_stated (head_stated_ok c) (head_stated c o) k s) (ap not i)) in
         subst (λ k. Head v x (node k cs) y) (sym e) (binds (word_of k) (kept_parts h) (node_walk false (statement (ForBinding (word_of k))) refl (subst (λ k. IsRead v false c x (node k cs) y) e r)))
+    by_which (a_jsx j) = absurd (no_jsx c k j (head_tagless c o) i)
     by_which (a_blocked s) = absurd (never (in_homes c (homes (expression Arrow))) (blocked_home c k s i) (not_is _ (head_blockless c o)))
     by_which (a_taken s) = targets (re_home c (Pat Assigns) (node k cs) (or_else (not (in_homes c (homes k))) _ (for_kind (head_taken_ok c) (head_taken c o) k s) (ap not i)) r)
     by_which (a_seq e) = absurd (never (in_homes c (homes k)) i (ap (λ k. in_homes c (homes k)) e ∙ head_seq c o))

@@ -1,6 +1,7 @@
 -- Two readings of one key from one place are one.
 use Rattle.jsx_tree.proofs.OneTree.Spines.{blocked_home}
-use Rattle.jsx_tree.proofs.OneTree.Kept.{a_blocked}
+use Rattle.jsx_tree.proofs.OneTree.Kept.{a_blocked, a_jsx}
+use Rattle.jsx_tree.proofs.OneTree.Tags.{no_jsx}
 use Rattle.jsx_tree.specs.Kinds.{Arrow}
 use Rattle.jsx_tree.proofs.OneTree.Next.{reach_seen}
 use Rattle.jsx_tree.proofs.OneTree.Evidence.{Kept, Kepts, kept_left, kept_kind, kept_parts}
@@ -73,6 +74,7 @@ key_view {v} {x} {y} (node k cs) h r = by_which (which k (kept_kind h))
     by_which : Which k → Keyed v x (node k cs) y
     by_which (a_statement s) = absurd (stated_home Key k refl s i)
     by_which (a_seq e) = absurd (never (in_homes Key (homes k)) i (ap (λ k. in_homes Key (homes k)) e ∙ key_seq))
+    by_which (a_jsx j) = absurd (no_jsx Key k j refl i)
     by_which (a_blocked s) = absurd (never (in_homes Key (homes (expression Arrow))) (blocked_home Key k s i) refl)
     by_which (a_taken s) =
         let e = key_is k (or_else (not (in_homes Key (homes k))) _ (for_kind (λ k. not (in_homes Key (homes k)) || is_key k) key_taken k s) (ap not i)) in

@@ -1,6 +1,7 @@
 -- Members of a class: the words `static`, `get` and `set` stand before a key, or are one.
 use Rattle.jsx_tree.proofs.OneTree.Spines.{blocked_home}
-use Rattle.jsx_tree.proofs.OneTree.Kept.{a_blocked}
+use Rattle.jsx_tree.proofs.OneTree.Kept.{a_blocked, a_jsx}
+use Rattle.jsx_tree.proofs.OneTree.Tags.{no_jsx}
 use Rattle.jsx_tree.specs.Kinds.{Arrow}
 use Rattle.jsx_tree.proofs.OneTree.Evidence.{Kept, Kepts, kept_left, kept_kind}
 use Rattle.std.proofs.Common.{◌≡◌, ℕ, Bool, true, false, not, List, [], ◌∷◌, refl, sym, ◌∙◌, ap, subst, arith}
@@ -82,6 +83,7 @@ setter_param {v} {x} {y} (node k cs) h r = by_which (which k (kept_kind h))
     by_which : Which k → IsRead v false Param x (node k cs) y
     by_which (a_statement s) = absurd (stated_home SetterParam k refl s i)
     by_which (a_seq e) = absurd (never (in_homes SetterParam (homes k)) i (ap (λ k. in_homes SetterParam (homes k)) e ∙ setter_seq))
+    by_which (a_jsx j) = absurd (no_jsx SetterParam k j refl i)
     by_which (a_blocked s) = absurd (never (in_homes SetterParam (homes (expression Arrow))) (blocked_home SetterParam k s i) refl)
     by_which (a_taken s) = re_home SetterParam Param (node k cs) (or_else (not (in_homes SetterParam (homes k))) _ (for_kind (λ k. not (in_homes SetterParam (homes k)) || in_homes Param (homes k)) setter_taken k s) (ap not i)) r
 
