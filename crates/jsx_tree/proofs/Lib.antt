@@ -23,5 +23,6 @@ mod SoFar
 mod Programs
 mod Corners
 mod Places
+mod Names
 pub mod ReadBack
 pub mod Parentheses

@@ -27,3 +27,5 @@ pub mod SoFar
 pub mod Answers
 pub mod Texts
 pub mod Grows
+pub mod Scopes
+pub mod Clashes
