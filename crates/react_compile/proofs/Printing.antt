@@ -25,8 +25,9 @@ tree_code_program (programs.Script s) = refl
 pub template_code : (b : Bool) (ps : List TreeText) (ts : List Tree) → tree_code (template b ps ts) ≡ []
 template_code b [] ts = refl
 template_code b (p ∷ []) [] = refl
+template_code b (p ∷ []) (t ∷ ts) = refl
 template_code b (p ∷ q ∷ ps) [] = refl
-template_code b (p ∷ ps) (t ∷ ts) = refl
+template_code b (p ∷ q ∷ ps) (t ∷ ts) = refl
 
 pub container_code : {A : Type 0} (f : A → Tree) (e : Option (Box A Global)) → tree_code (container_of f e) ≡ []
 container_code f None = refl
