@@ -202,7 +202,7 @@ piece_more n done piece old text new before is =
     ∙ append_assoc old (hanging n (message_text done)) (hanging n piece.text)
     ∙ ap (λ z. old ++ z) (sym (hanging-append n (message_text done) piece.text) ∙ ap (hanging n) (sym (flat_map-append (λ (it : Piece). it.text) done (piece ∷ []) ∙ ap (λ z. message_text done ++ z) (append-nil piece.text))))
 
-spaced-blanks : (n : ℕ) → spaced (blanks n) ≡ blanks n
+pub spaced-blanks : (n : ℕ) → spaced (blanks n) ≡ blanks n
 spaced-blanks zero = refl
 spaced-blanks (suc n) = ap (λ z. 32 ∷ z) (spaced-blanks n)
 

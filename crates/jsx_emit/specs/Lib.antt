@@ -4,3 +4,6 @@ pub mod Page
 pub mod Layout
 pub mod Shows
 pub mod Texts
+pub mod Drawn
+pub mod Views
+pub mod Parts

@@ -1,16 +1,23 @@
 -- Texts that a page is made of.
-use Rattle.std.specs.Prelude.{◌≡◌, ◌<◌, ◌+◌, ℕ, List, [], ◌∷◌, ◌++◌, cond, nat_eq, codes, decimal, length, map}
+use Rattle.std.specs.Prelude.{◌≡◌, ◌<◌, ◌+◌, ℕ, List, [], ◌∷◌, ◌++◌, Option, Some, None, false, cond, nat_eq, codes, decimal, length, map, string_bytes}
+use Rattle.std.specs.declared.alloc.Global.{Global}
+use Rattle.std.specs.declared.string.String.{String}
+use Rattle.std.specs.declared.vec.Vec.{Vec}
 use Rattle.std.specs.List.{flat_map}
-use Rattle.std.specs.Str.{IsUtf8}
+use Rattle.std.specs.Str.{IsUtf8, chars}
 use Rattle.jsx_base.specs.declared.place.Span.{Span}
 use Rattle.jsx_base.specs.Files.{File, Place, place_in}
+use Rattle.jsx_base.specs.Lines.{lines}
+use Rattle.jsx_base.specs.MultiSpan.{Spans}
 use Rattle.jsx_base.specs.SpanPlaces.{high, low, shown}
+use Rattle.jsx_diag.specs.declared.suggestion.SubstitutionPart.{SubstitutionPart}
 use Rattle.jsx_diag.specs.declared.level.Level.{Level}
 use Rattle.jsx_diag.specs.Level.{shown_text}
-use Rattle.jsx_diag.specs.Data.{Text}
+use Rattle.jsx_diag.specs.Data.{Text, Child, Edit, Report, edit_of}
 use Rattle.jsx_emit.specs.Grid.{Cell, Grid, Run}
-use Rattle.jsx_emit.specs.Layout.{colon}
-use Rattle.jsx_emit.specs.Page.{blanks, spaced}
+use Rattle.jsx_emit.specs.Layout.{apart, colon, last_line_of, pointed, primary_place}
+use Rattle.jsx_emit.specs.Page.{Look, blanks, spaced}
+use Rattle.jsx_emit.specs.Shows.{EndWith, Map, first_of, id_line, rows_text, short_text}
 
 -- a text with a tab, what stands before the first, and behind it
 pub record Tabbed (text front behind : Text) : Type 0 where
@@ -55,3 +62,72 @@ place_text offset_line place = shown place.file.name ++ (codes ":" ++ (decimal (
 -- the ends of a span in a file
 abbrev pub ends_in : Span → File → Place × Place
 ends_in sp file = (place_in (low sp) file, place_in (high sp) file)
+
+-- a place before a header, if there is one
+abbrev pub before_place : (ℕ → ℕ) → Option Place → Text
+before_place offset_line None = []
+before_place offset_line (Some place) = place_text offset_line place ++ codes ": "
+
+-- what stands before the header of a report that points at these spans
+abbrev pub before_header : Option Map → List Span → Text
+before_header None primary = []
+before_header (Some map) primary = before_place map.offset_line (primary_place map.files primary)
+
+-- nothing is left out
+abbrev pub whole_look : (ℕ → ℕ) → Look
+whole_look offset_line = record { ui_testing = false; skip_filename = false; offset_line = offset_line }
+
+-- the short page of a report over these files, if there are any
+abbrev pub short_page : Option Map → Report → Text
+short_page None report = short_text (whole_look id_line) None report
+short_page (Some map) report = short_text (whole_look map.offset_line) (primary_place map.files report.span.primary) report
+
+-- a text's first character, and the text behind it
+pub record Follows (text : Text) (c : ℕ) (rest : Text) : Type 0 where
+  pub chars_are : chars text ≡ c ∷ chars rest
+  pub shorter : length rest < length text
+  pub is_text : IsUtf8 rest
+
+-- no span stands for another
+abbrev pub MovesNone : (Span → Span) → Type 0
+MovesNone call_span = (sp : Span) → call_span sp ≡ sp
+
+abbrev pub MovesNoneOf : Option Map → Type 0
+MovesNoneOf None = Unit {0}
+MovesNoneOf (Some map) = MovesNone map.call_span
+
+-- where P holds the two are the same
+pub record SameIf {X : Type 0} (P : Type 0) (x y : X) : Type 0 where
+  pub same : P → x ≡ y
+
+-- a report with the label that its suggestion becomes, or the suggestions that stand apart
+abbrev pub shown_report : Report → Report
+shown_report report = record report { span = pointed report; suggestions = apart report }
+
+-- the line in which a span ends in a file
+abbrev pub end_in : Span → Option File → ℕ
+end_in sp None = 0
+end_in sp (Some file) = (place_in (high sp) file).line
+
+-- rows more, which end with these lines in order; of other rows nothing is said
+pub record AddsRows (source : List (List ℕ)) (old new : Text) : Type 0 where
+  pub rows : List (List ℕ)
+  pub is : new ≡ old ++ rows_text rows
+  pub ends : EndWith source rows
+
+-- a message behind `help: `, and rows of which nothing is said
+pub record Helps (msg : List ℕ) (old new : Text) : Type 0 where
+  pub rows : List (List ℕ)
+  pub is : new ≡ old ++ rows_text ((codes "help: " ++ first_of (lines msg)) ∷ rows)
+
+-- the characters of what is written in one way, and its parts
+abbrev pub way_text : String Global × Vec SubstitutionPart Global → List ℕ
+way_text way = chars (string_bytes way.0)
+
+abbrev pub way_edits : String Global × Vec SubstitutionPart Global → List Edit
+way_edits way = map edit_of way.1.items
+
+-- the greatest line in which a span of a report or its notes ends, or 0 without files
+abbrev pub last_line_over : Option (List File) → Spans → List Child → ℕ
+last_line_over None spans children = 0
+last_line_over (Some files) spans children = last_line_of files spans children

@@ -1,0 +1,132 @@
+//! A report as it is shown: a suggestion that becomes a label, and spans that stand for those of macros.
+
+ghost use Rattle.std.specs.Prelude.{◌≡◌, IfOk, OnOk, false, map};
+ghost use Rattle.std.specs.Option.{option_map};
+ghost use Rattle.jsx_base.specs.MultiSpan.{spans_of};
+ghost use Rattle.jsx_diag.specs.Data.{child_of, report_of};
+ghost use Rattle.jsx_emit.specs.Texts.{MovesNone, MovesNoneOf, SameIf, shown_report};
+
+use crate::page::labels::label_in;
+use jsx_base::{MultiSpan, SourceMapper, Span};
+use jsx_report::{Diagnostic, HandlerFlags, Level, Message, Style, SubDiagnostic};
+use std::alloc::{AllocError, Global};
+
+const MACRO: &str =
+    "this error originates in a macro outside of the current crate (in Nightly builds, run with -Z external-macro-backtrace for more info)";
+
+/// A copy of the report as it is shown.
+pub(super) fn prepared<M: SourceMapper>(
+    alloc: Global,
+    map: Option<&M>,
+    db: &Diagnostic,
+    flags: &HandlerFlags,
+) -> Result<Diagnostic, AllocError>
+    ensures { IfOk result (λ it. SameIf (MovesNoneOf (option_map (λ map. record { files = M.files map.now; call_span = M.call_span map.now; offset_line = M.offset_line map.now }) map.entry)) (report_of it) (shown_report (report_of db.now))) }
+{
+    let mut report = labelled(alloc, db)?;
+    show_calls(alloc, map, &mut report, flags)?;
+    Ok(report)
+}
+
+// A copy of the report, where a suggestion may have become a label.
+fn labelled(alloc: Global, db: &Diagnostic) -> Result<Diagnostic, AllocError>
+    ensures { IfOk result (λ it. report_of it ≡ shown_report (report_of db.now)) }
+{
+    let mut report = db.try_clone(alloc)?;
+    if let Some((span, label)) = label_in(alloc, &report.suggestions)? {
+        report.span.push_span_label(span, label)?;
+        report.suggestions.clear();
+    }
+    Ok(report)
+}
+
+// Puts the spans that are shown in place of those that macros made, with a note if there are some.
+fn show_calls<M: SourceMapper>(
+    alloc: Global,
+    map: Option<&M>,
+    report: &mut Diagnostic,
+    flags: &HandlerFlags,
+) -> Result<(), AllocError>
+    ensures { OnOk result (SameIf (MovesNoneOf (option_map (λ map. record { files = M.files map.now; call_span = M.call_span map.now; offset_line = M.offset_line map.now }) map.entry)) (report_of report.new) (report_of report.old)) }
+{
+    let Some(map) = map else {
+        return Ok(());
+    };
+    if flags.external_macro_backtrace {
+        return Ok(());
+    }
+    if move_report(alloc, map, report)? {
+        report.children.push(macro_note(alloc)?)?;
+    }
+    Ok(())
+}
+
+// Moves the spans of a report and its notes, and answers whether one moved.
+fn move_report<M: SourceMapper>(
+    alloc: Global,
+    map: &M,
+    report: &mut Diagnostic,
+) -> Result<bool, AllocError>
+    ensures moved { IfOk result (λ moved. SameIf (MovesNone (M.call_span map.now)) moved false) }
+    ensures report { OnOk result (SameIf (MovesNone (M.call_span map.now)) (report_of report.new) (report_of report.old)) }
+{
+    let own = move_spans(alloc, map, &mut report.span)?;
+    let notes = move_notes(alloc, map, &mut report.children)?;
+    Ok(own || notes)
+}
+
+// Moves the spans of notes, and answers whether one moved.
+fn move_notes<M: SourceMapper>(
+    alloc: Global,
+    cm: &M,
+    notes: &mut [SubDiagnostic],
+) -> Result<bool, AllocError>
+    ensures moved { IfOk result (λ moved. SameIf (MovesNone (M.call_span cm.now)) moved false) }
+    ensures notes { OnOk result (SameIf (MovesNone (M.call_span cm.now)) (map child_of notes.new) (map child_of notes.old)) }
+{
+    let mut moved = false;
+    for note in notes.iter_mut() {
+        moved |= move_spans(alloc, cm, &mut note.span)?;
+    }
+    Ok(moved)
+}
+
+// Puts the span that is shown in place of each primary one, and answers whether one changed.
+fn move_spans<M: SourceMapper>(
+    alloc: Global,
+    map: &M,
+    spans: &mut MultiSpan,
+) -> Result<bool, AllocError>
+    ensures moved { IfOk result (λ moved. SameIf (MovesNone (M.call_span map.now)) moved false) }
+    ensures spans { OnOk result (SameIf (MovesNone (M.call_span map.now)) (spans_of spans.new) (spans_of spans.old)) }
+{
+    let primary = Vec::from_slice(alloc, spans.primary_spans())?;
+    let mut moved = false;
+    for span in &primary {
+        moved |= move_span(map, spans, *span);
+    }
+    Ok(moved)
+}
+
+// Puts the span that is shown in place of this one, and answers whether it is another.
+fn move_span<M: SourceMapper>(map: &M, spans: &mut MultiSpan, span: Span) -> bool
+    ensures moved { SameIf (MovesNone (M.call_span map.now)) result false }
+    ensures spans { SameIf (MovesNone (M.call_span map.now)) (spans_of spans.new) (spans_of spans.old) }
+{
+    let after = map.call_span_if_macro(span);
+    if after == span {
+        return false;
+    }
+    spans.replace(span, after);
+    true
+}
+
+fn macro_note(alloc: Global) -> Result<SubDiagnostic, AllocError> {
+    let message = Message(String::from_str(alloc, MACRO)?, Style::NoStyle);
+    Ok(SubDiagnostic {
+        level: Level::Note,
+        message: vec![in alloc; message]?,
+        span: MultiSpan::new(alloc),
+        render_span: None,
+    })
+}

@@ -1,0 +1,205 @@
+//! The suggestions that stand apart.
+
+ghost use Rattle.std.specs.Prelude.{◌≡◌, [], ◌∷◌, ◌++◌, false, cond, map, IfOk, OnOk, MatchOption, string_bytes};
+ghost use Rattle.std.specs.List.{list_all};
+ghost use Rattle.std.specs.Option.{is_none, option_map};
+ghost use Rattle.std.specs.Str.{chars};
+ghost use Rattle.jsx_base.specs.LineStarts.{Split};
+ghost use Rattle.jsx_base.specs.Lines.{lines};
+ghost use Rattle.jsx_base.specs.SpanPlaces.{high, low};
+ghost use Rattle.jsx_diag.specs.Data.{edit_of, suggestion_of};
+ghost use Rattle.jsx_diag.specs.Splice.{fault};
+ghost use Rattle.jsx_emit.specs.Parts.{SuggestionsOver};
+ghost use Rattle.jsx_emit.specs.Shows.{Each, SuggestionPart, in_turn, rows_text, shown_texts};
+ghost use Rattle.jsx_emit.specs.Texts.{AddsRows, Helps, way_edits, way_text};
+
+use crate::page::Look;
+use crate::page::header::push_spaced;
+use crate::page::rows::push_blanks;
+use crate::page::ways::push_ways;
+use jsx_base::{SourceMapper, Span};
+use jsx_diag::SpliceError;
+use jsx_report::{CodeSuggestion, SubstitutionPart};
+use std::alloc::{AllocError, Global};
+
+/// The texts of suggestions, one after another.
+pub(super) fn suggestions_text<M: SourceMapper>(
+    alloc: Global,
+    cm: Option<&M>,
+    look: Look,
+    width: usize,
+    suggestions: &[CodeSuggestion],
+) -> Result<String, AllocError>
+    ensures { IfOk result (λ text. SuggestionsOver (option_map (λ cm. record { files = M.files cm.now; call_span = M.call_span cm.now; offset_line = M.offset_line cm.now }) cm.entry) (map suggestion_of suggestions.now) (string_bytes text)) }
+{
+    let Some(cm) = cm else {
+        return Ok(String::new(alloc));
+    };
+    all_texts(alloc, cm, look, width, suggestions)
+}
+
+// The same over these files.
+fn all_texts<M: SourceMapper>(
+    alloc: Global,
+    cm: &M,
+    look: Look,
+    width: usize,
+    suggestions: &[CodeSuggestion],
+) -> Result<String, AllocError>
+    ensures { IfOk result (λ text. Each (SuggestionPart (M.files cm.now)) (map suggestion_of suggestions.now) (string_bytes text)) }
+{
+    let mut text = String::new(alloc);
+    for it in suggestions {
+        let part = suggestion_text(alloc, cm, look, width, it)?;
+        text.push_str(part.as_str())?;
+    }
+    Ok(text)
+}
+
+// The text of a suggestion: its message, and the lines that it writes.
+fn suggestion_text<M: SourceMapper>(
+    alloc: Global,
+    cm: &M,
+    look: Look,
+    width: usize,
+    it: &CodeSuggestion,
+) -> Result<String, AllocError>
+    ensures { IfOk result (λ text. SuggestionPart (M.files cm.now) (suggestion_of it.now) (string_bytes text)) }
+{
+    let mut text = String::new(alloc);
+    push_help(&mut text, width, it.msg.as_str())?;
+    let ways = ways_of(alloc, cm, it)?;
+    push_ways(alloc, &mut text, cm, look, width, &ways)?;
+    Ok(text)
+}
+
+// Adds `help: message`, whose further lines stand behind blanks.
+fn push_help(text: &mut String, width: usize, msg: &str) -> Result<(), AllocError>
+    ensures { OnOk result (Helps (chars msg.now) (string_bytes text.old) (string_bytes text.new)) }
+{
+    let Some((line, rest)) = split_line(msg) else {
+        return push_row(text, "help: ", msg);
+    };
+    push_row(text, "help: ", line)?;
+    push_further(text, width, rest)
+}
+
+// Adds a row of two texts.
+fn push_row(text: &mut String, before: &str, line: &str) -> Result<(), AllocError>
+    ensures { OnOk result (string_bytes text.new ≡ string_bytes text.old ++ rows_text ((chars before.now ++ chars line.now) ∷ [])) }
+{
+    push_spaced(text, before)?;
+    push_spaced(text, line)?;
+    text.push('\n')
+}
+
+// Adds the further lines of a message.
+fn push_further(text: &mut String, width: usize, more: &str) -> Result<(), AllocError>
+    ensures { OnOk result (AddsRows [] (string_bytes text.old) (string_bytes text.new)) }
+{
+    let mut rest = more;
+    while let Some((line, behind)) = split_line(rest) {
+        push_indented(text, width, line)?;
+        rest = behind;
+    }
+    push_indented(text, width, rest)
+}
+
+// Adds a row behind blanks.
+fn push_indented(text: &mut String, width: usize, line: &str) -> Result<(), AllocError>
+    ensures { OnOk result (AddsRows [] (string_bytes text.old) (string_bytes text.new)) }
+{
+    push_blanks(text, width)?;
+    push_row(text, "               ", line)
+}
+
+/// The first line of a text and what stands behind it, if there is another line.
+pub(super) fn split_line(text: &str) -> Option<(&str, &str)>
+    ensures { MatchOption result (lines (chars text.now) ≡ chars text.now ∷ []) (λ it. Split text.now it.0.now it.1.now) }
+{
+    text.split_once('\n')
+}
+
+// The lines that a suggestion writes in each way: in none where they are refused or parts overlap.
+fn ways_of<M: SourceMapper>(
+    alloc: Global,
+    cm: &M,
+    it: &CodeSuggestion,
+) -> Result<Vec<(String, Vec<SubstitutionPart>)>, AllocError>
+    ensures { IfOk result (λ ways. map way_text ways.items ≡ shown_texts (M.files cm.now) (suggestion_of it.now)) }
+{
+    match it.splice_lines(alloc, cm) {
+        Ok(ways) => Ok(unless_overlapping(alloc, ways)),
+        Err(error) => none_for(alloc, error),
+    }
+}
+
+// No way where the lines are refused, but for want of memory.
+fn none_for(
+    alloc: Global,
+    error: SpliceError,
+) -> Result<Vec<(String, Vec<SubstitutionPart>)>, AllocError>
+    ensures none { IfOk result (λ ways. ways.items ≡ []) }
+    ensures refused { IfOk result (λ _. is_none (fault error) ≡ false) }
+{
+    match error {
+        SpliceError::NoSubstitutions => Ok(Vec::new(alloc)),
+        SpliceError::NoParts => Ok(Vec::new(alloc)),
+        SpliceError::OtherFile => Ok(Vec::new(alloc)),
+        SpliceError::Memory => Err(AllocError),
+    }
+}
+
+// All ways, or none where parts of one overlap.
+fn unless_overlapping(
+    alloc: Global,
+    ways: Vec<(String, Vec<SubstitutionPart>)>,
+) -> Vec<(String, Vec<SubstitutionPart>)>
+    ensures { result.items ≡ cond (list_all (λ way. in_turn (way_edits way)) ways.items) ways.items [] }
+{
+    if all_in_turn(&ways) {
+        ways
+    } else {
+        Vec::new(alloc)
+    }
+}
+
+// Whether the parts of no way overlap.
+fn all_in_turn(ways: &[(String, Vec<SubstitutionPart>)]) -> bool
+    ensures { result ≡ list_all (λ way. in_turn (way_edits way)) ways.now }
+{
+    for way in ways {
+        if !in_turn(&way.1) {
+            return false;
+        }
+    }
+    true
+}
+
+// Whether no part begins before the one before it ends.
+fn in_turn(parts: &[SubstitutionPart]) -> bool
+    ensures { result ≡ in_turn (map edit_of parts.now) }
+{
+    let mut end = 0;
+    for part in parts {
+        if low(part.span) < end {
+            return false;
+        }
+        end = high(part.span);
+    }
+    true
+}
+
+/// The lower end of a span.
+pub(super) fn low(span: Span) -> u32
+    ensures { result ≡ low span }
+{
+    span.lo.0.min(span.hi.0)
+}
+
+/// The higher end of a span.
+pub(super) fn high(span: Span) -> u32
+    ensures { result ≡ high span }
+{
+    span.lo.0.max(span.hi.0)
+}
