@@ -11,7 +11,6 @@ pub mod Homes
 pub mod Values
 pub mod Items
 pub mod Modules
-pub mod OneTree
 pub mod Steps
 pub mod Making
 pub mod Trees

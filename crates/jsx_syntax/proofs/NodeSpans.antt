@@ -58,13 +58,13 @@ at-Expr-Object at xs = ap expr_at (sym (expr.rolls-Object at xs)) ∙ fold-roll-
 pub at-Expr-Template : (at : Option Span) (ps : Vec Text Global) (xs : Vec (Box Expr Global) Global) → expr_at (expr.Template at ps xs) ≡ at
 at-Expr-Template at ps xs = ap expr_at (sym (expr.rolls-Template at ps xs)) ∙ fold-roll-Expr At At At At At At At At At At access_at_step control_at_step expr_at_step jsx_at_step key_at_step link_at_step operation_at_step pat_at_step member_at_step stmt_at_step (Expr-F.Template at ps xs)
 
-pub at-Expr-Function : (at : Option Span) (a : Option Ident) (ps : Vec (Box Pat Global) Global) (ds : Vec Text Global) (ss : Vec (Box Stmt Global) Global) → expr_at (expr.Function at a ps ds ss) ≡ at
+pub at-Expr-Function : (at : Option Span) (a : Option (Box Ident Global)) (ps : Vec (Box Pat Global) Global) (ds : Vec Text Global) (ss : Vec (Box Stmt Global) Global) → expr_at (expr.Function at a ps ds ss) ≡ at
 at-Expr-Function at a ps ds ss = ap expr_at (sym (expr.rolls-Function at a ps ds ss)) ∙ fold-roll-Expr At At At At At At At At At At access_at_step control_at_step expr_at_step jsx_at_step key_at_step link_at_step operation_at_step pat_at_step member_at_step stmt_at_step (Expr-F.«Expr::Function» at a ps ds ss)
 
-pub at-Expr-Class : (at : Option Span) (a : Option Ident) (e : Option (Box Expr Global)) (ms : Vec (Box Prop Global) Global) → expr_at (expr.Class at a e ms) ≡ at
+pub at-Expr-Class : (at : Option Span) (a : Option (Box Ident Global)) (e : Option (Box Expr Global)) (ms : Vec (Box Prop Global) Global) → expr_at (expr.Class at a e ms) ≡ at
 at-Expr-Class at a e ms = ap expr_at (sym (expr.rolls-Class at a e ms)) ∙ fold-roll-Expr At At At At At At At At At At access_at_step control_at_step expr_at_step jsx_at_step key_at_step link_at_step operation_at_step pat_at_step member_at_step stmt_at_step (Expr-F.«Expr::Class» at a e ms)
 
-pub at-Expr-Jsx : (a : Jsx) → expr_at (expr.Jsx a) ≡ jsx_at a
+pub at-Expr-Jsx : (a : Box Jsx Global) → expr_at (expr.Jsx a) ≡ jsx_at a.value
 at-Expr-Jsx a = ap expr_at (sym (expr.rolls-Jsx a)) ∙ fold-roll-Expr At At At At At At At At At At access_at_step control_at_step expr_at_step jsx_at_step key_at_step link_at_step operation_at_step pat_at_step member_at_step stmt_at_step (Expr-F.Jsx a)
 
 pub at-Expr-Paren : (at : Option Span) (a : Box Expr Global) → expr_at (expr.Paren at a) ≡ at
@@ -328,49 +328,25 @@ at-Control-Catch at p s = ap control_at (sym (control.rolls-Catch at p s)) ∙ f
 pub at-Jsx-Element : (at : Option Span) (t : Tag) (as' : Vec (Box Jsx Global) Global) → jsx_at (jsx.Element at t as') ≡ at
 at-Jsx-Element at t as' = ap jsx_at (sym (jsx.rolls-Element at t as')) ∙ fold-roll-Jsx At At At At At At At At At At access_at_step control_at_step expr_at_step jsx_at_step key_at_step link_at_step operation_at_step pat_at_step member_at_step stmt_at_step (Jsx-F.Element at t as')
 
-pub at-Expr-Jsx-Element : (at : Option Span) (t : Tag) (as' : Vec (Box Jsx Global) Global) → expr_at (expr.Jsx (jsx.Element at t as')) ≡ at
-at-Expr-Jsx-Element at t as' = at-Expr-Jsx (jsx.Element at t as') ∙ at-Jsx-Element at t as'
-
-pub at-Jsx-ElementWithChildren : (at : Option Span) (t : Tag) (as' : Vec (Box Jsx Global) Global) (xs : Vec (Box Jsx Global) Global) (u : Tag) → jsx_at (jsx.ElementWithChildren at t as' xs u) ≡ at
+pub at-Jsx-ElementWithChildren : (at : Option Span) (t : Tag) (as' : Vec (Box Jsx Global) Global) (xs : Vec (Box Jsx Global) Global) (u : Box Tag Global) → jsx_at (jsx.ElementWithChildren at t as' xs u) ≡ at
 at-Jsx-ElementWithChildren at t as' xs u = ap jsx_at (sym (jsx.rolls-ElementWithChildren at t as' xs u)) ∙ fold-roll-Jsx At At At At At At At At At At access_at_step control_at_step expr_at_step jsx_at_step key_at_step link_at_step operation_at_step pat_at_step member_at_step stmt_at_step (Jsx-F.ElementWithChildren at t as' xs u)
-
-pub at-Expr-Jsx-ElementWithChildren : (at : Option Span) (t : Tag) (as' : Vec (Box Jsx Global) Global) (xs : Vec (Box Jsx Global) Global) (u : Tag) → expr_at (expr.Jsx (jsx.ElementWithChildren at t as' xs u)) ≡ at
-at-Expr-Jsx-ElementWithChildren at t as' xs u = at-Expr-Jsx (jsx.ElementWithChildren at t as' xs u) ∙ at-Jsx-ElementWithChildren at t as' xs u
 
 pub at-Jsx-Fragment : (at : Option Span) (xs : Vec (Box Jsx Global) Global) → jsx_at (jsx.Fragment at xs) ≡ at
 at-Jsx-Fragment at xs = ap jsx_at (sym (jsx.rolls-Fragment at xs)) ∙ fold-roll-Jsx At At At At At At At At At At access_at_step control_at_step expr_at_step jsx_at_step key_at_step link_at_step operation_at_step pat_at_step member_at_step stmt_at_step (Jsx-F.Fragment at xs)
 
-pub at-Expr-Jsx-Fragment : (at : Option Span) (xs : Vec (Box Jsx Global) Global) → expr_at (expr.Jsx (jsx.Fragment at xs)) ≡ at
-at-Expr-Jsx-Fragment at xs = at-Expr-Jsx (jsx.Fragment at xs) ∙ at-Jsx-Fragment at xs
-
 pub at-Jsx-Text : (at : Option Span) (a : Text) → jsx_at (jsx.Text at a) ≡ at
 at-Jsx-Text at a = ap jsx_at (sym (jsx.rolls-Text at a)) ∙ fold-roll-Jsx At At At At At At At At At At access_at_step control_at_step expr_at_step jsx_at_step key_at_step link_at_step operation_at_step pat_at_step member_at_step stmt_at_step (Jsx-F.Text at a)
-
-pub at-Expr-Jsx-Text : (at : Option Span) (a : Text) → expr_at (expr.Jsx (jsx.Text at a)) ≡ at
-at-Expr-Jsx-Text at a = at-Expr-Jsx (jsx.Text at a) ∙ at-Jsx-Text at a
 
 pub at-Jsx-Str : (at : Option Span) (a : Text) → jsx_at (jsx.Str at a) ≡ at
 at-Jsx-Str at a = ap jsx_at (sym (jsx.rolls-Str at a)) ∙ fold-roll-Jsx At At At At At At At At At At access_at_step control_at_step expr_at_step jsx_at_step key_at_step link_at_step operation_at_step pat_at_step member_at_step stmt_at_step (Jsx-F.Str at a)
 
-pub at-Expr-Jsx-Str : (at : Option Span) (a : Text) → expr_at (expr.Jsx (jsx.Str at a)) ≡ at
-at-Expr-Jsx-Str at a = at-Expr-Jsx (jsx.Str at a) ∙ at-Jsx-Str at a
-
 pub at-Jsx-Container : (at : Option Span) (e : Option (Box Expr Global)) → jsx_at (jsx.Container at e) ≡ at
 at-Jsx-Container at e = ap jsx_at (sym (jsx.rolls-Container at e)) ∙ fold-roll-Jsx At At At At At At At At At At access_at_step control_at_step expr_at_step jsx_at_step key_at_step link_at_step operation_at_step pat_at_step member_at_step stmt_at_step (Jsx-F.Container at e)
-
-pub at-Expr-Jsx-Container : (at : Option Span) (e : Option (Box Expr Global)) → expr_at (expr.Jsx (jsx.Container at e)) ≡ at
-at-Expr-Jsx-Container at e = at-Expr-Jsx (jsx.Container at e) ∙ at-Jsx-Container at e
 
 pub at-Jsx-Spread : (at : Option Span) (e : Box Expr Global) → jsx_at (jsx.Spread at e) ≡ at
 at-Jsx-Spread at e = ap jsx_at (sym (jsx.rolls-Spread at e)) ∙ fold-roll-Jsx At At At At At At At At At At access_at_step control_at_step expr_at_step jsx_at_step key_at_step link_at_step operation_at_step pat_at_step member_at_step stmt_at_step (Jsx-F.«Jsx::Spread» at e)
 
-pub at-Expr-Jsx-Spread : (at : Option Span) (e : Box Expr Global) → expr_at (expr.Jsx (jsx.Spread at e)) ≡ at
-at-Expr-Jsx-Spread at e = at-Expr-Jsx (jsx.Spread at e) ∙ at-Jsx-Spread at e
-
 pub at-Jsx-Attribute : (at : Option Span) (a : AttrName) (v : Option (Box Jsx Global)) → jsx_at (jsx.Attribute at a v) ≡ at
 at-Jsx-Attribute at a v = ap jsx_at (sym (jsx.rolls-Attribute at a v)) ∙ fold-roll-Jsx At At At At At At At At At At access_at_step control_at_step expr_at_step jsx_at_step key_at_step link_at_step operation_at_step pat_at_step member_at_step stmt_at_step (Jsx-F.Attribute at a v)
 
-pub at-Expr-Jsx-Attribute : (at : Option Span) (a : AttrName) (v : Option (Box Jsx Global)) → expr_at (expr.Jsx (jsx.Attribute at a v)) ≡ at
-at-Expr-Jsx-Attribute at a v = at-Expr-Jsx (jsx.Attribute at a v) ∙ at-Jsx-Attribute at a v
-
-pub ruleset node_spans = (at-Expr-Ident, at-Expr-Literal, at-Expr-Word, at-Expr-Operation, at-Expr-Access, at-Expr-Array, at-Expr-Object, at-Expr-Template, at-Expr-Function, at-Expr-Class, at-Expr-Jsx, at-Expr-Paren, at-Operation-Seq, at-Expr-Operation-Seq, at-Operation-Assign, at-Expr-Operation-Assign, at-Operation-OpAssign, at-Expr-Operation-OpAssign, at-Operation-Arrow, at-Expr-Operation-Arrow, at-Operation-ArrowBlock, at-Expr-Operation-ArrowBlock, at-Operation-BareArrow, at-Expr-Operation-BareArrow, at-Operation-BareArrowBlock, at-Expr-Operation-BareArrowBlock, at-Operation-Cond, at-Expr-Operation-Cond, at-Operation-Binary, at-Expr-Operation-Binary, at-Operation-Unary, at-Expr-Operation-Unary, at-Operation-Update, at-Expr-Operation-Update, at-Operation-Spread, at-Expr-Operation-Spread, at-Operation-Hole, at-Expr-Operation-Hole, at-Access-Call, at-Expr-Access-Call, at-Access-Member, at-Expr-Access-Member, at-Access-Index, at-Expr-Access-Index, at-Access-Tagged, at-Expr-Access-Tagged, at-Access-New, at-Expr-Access-New, at-Access-NewWithoutArguments, at-Expr-Access-NewWithoutArguments, at-Access-SuperCall, at-Expr-Access-SuperCall, at-Access-SuperMember, at-Expr-Access-SuperMember, at-Access-SuperIndex, at-Expr-Access-SuperIndex, at-Access-ImportCall, at-Expr-Access-ImportCall, at-Access-Chain, at-Expr-Access-Chain, at-Pat-Ident, at-Pat-Array, at-Pat-Object, at-Pat-Target, at-Pat-Paren, at-Pat-Binding, at-Pat-WithInit, at-Pat-Rest, at-Pat-Hole, at-Pat-Pair, at-Pat-Shorthand, at-Pat-RestProperty, at-Pat-Declaration, at-Pat-Head, at-Stmt-Block, at-Stmt-Var, at-Stmt-Empty, at-Stmt-Expr, at-Stmt-Control, at-Stmt-Continue, at-Stmt-Break, at-Stmt-Return, at-Stmt-Throw, at-Stmt-Debugger, at-Stmt-Function, at-Stmt-Class, at-Control-If, at-Control-Do, at-Control-While, at-Control-For, at-Control-ForIn, at-Control-ForOf, at-Control-Label, at-Control-Switch, at-Control-Case, at-Control-Try, at-Control-Catch, at-Jsx-Element, at-Expr-Jsx-Element, at-Jsx-ElementWithChildren, at-Expr-Jsx-ElementWithChildren, at-Jsx-Fragment, at-Expr-Jsx-Fragment, at-Jsx-Text, at-Expr-Jsx-Text, at-Jsx-Str, at-Expr-Jsx-Str, at-Jsx-Container, at-Expr-Jsx-Container, at-Jsx-Spread, at-Expr-Jsx-Spread, at-Jsx-Attribute, at-Expr-Jsx-Attribute)
+pub ruleset node_spans = (at-Expr-Ident, at-Expr-Literal, at-Expr-Word, at-Expr-Operation, at-Expr-Access, at-Expr-Array, at-Expr-Object, at-Expr-Template, at-Expr-Function, at-Expr-Class, at-Expr-Jsx, at-Expr-Paren, at-Operation-Seq, at-Expr-Operation-Seq, at-Operation-Assign, at-Expr-Operation-Assign, at-Operation-OpAssign, at-Expr-Operation-OpAssign, at-Operation-Arrow, at-Expr-Operation-Arrow, at-Operation-ArrowBlock, at-Expr-Operation-ArrowBlock, at-Operation-BareArrow, at-Expr-Operation-BareArrow, at-Operation-BareArrowBlock, at-Expr-Operation-BareArrowBlock, at-Operation-Cond, at-Expr-Operation-Cond, at-Operation-Binary, at-Expr-Operation-Binary, at-Operation-Unary, at-Expr-Operation-Unary, at-Operation-Update, at-Expr-Operation-Update, at-Operation-Spread, at-Expr-Operation-Spread, at-Operation-Hole, at-Expr-Operation-Hole, at-Access-Call, at-Expr-Access-Call, at-Access-Member, at-Expr-Access-Member, at-Access-Index, at-Expr-Access-Index, at-Access-Tagged, at-Expr-Access-Tagged, at-Access-New, at-Expr-Access-New, at-Access-NewWithoutArguments, at-Expr-Access-NewWithoutArguments, at-Access-SuperCall, at-Expr-Access-SuperCall, at-Access-SuperMember, at-Expr-Access-SuperMember, at-Access-SuperIndex, at-Expr-Access-SuperIndex, at-Access-ImportCall, at-Expr-Access-ImportCall, at-Access-Chain, at-Expr-Access-Chain, at-Pat-Ident, at-Pat-Array, at-Pat-Object, at-Pat-Target, at-Pat-Paren, at-Pat-Binding, at-Pat-WithInit, at-Pat-Rest, at-Pat-Hole, at-Pat-Pair, at-Pat-Shorthand, at-Pat-RestProperty, at-Pat-Declaration, at-Pat-Head, at-Stmt-Block, at-Stmt-Var, at-Stmt-Empty, at-Stmt-Expr, at-Stmt-Control, at-Stmt-Continue, at-Stmt-Break, at-Stmt-Return, at-Stmt-Throw, at-Stmt-Debugger, at-Stmt-Function, at-Stmt-Class, at-Control-If, at-Control-Do, at-Control-While, at-Control-For, at-Control-ForIn, at-Control-ForOf, at-Control-Label, at-Control-Switch, at-Control-Case, at-Control-Try, at-Control-Catch, at-Jsx-Element, at-Jsx-ElementWithChildren, at-Jsx-Fragment, at-Jsx-Text, at-Jsx-Str, at-Jsx-Container, at-Jsx-Spread, at-Jsx-Attribute)

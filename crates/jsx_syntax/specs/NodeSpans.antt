@@ -28,7 +28,7 @@ expr_at_step (Expr-F.«Expr::Object» at _) = at
 expr_at_step (Expr-F.Template at _ _) = at
 expr_at_step (Expr-F.«Expr::Function» at _ _ _ _) = at
 expr_at_step (Expr-F.«Expr::Class» at _ _ _) = at
-expr_at_step (Expr-F.Jsx a) = a
+expr_at_step (Expr-F.Jsx a) = a.value
 expr_at_step (Expr-F.«Expr::Paren» at _) = at
 
 abbrev pub operation_at_step : Operation-F At At At At At At At At At At → At

@@ -13,4 +13,4 @@ mod seen;
 mod statement;
 
 pub use error::ParseError;
-pub use module::{one_tree, parse};
+pub use module::parse;

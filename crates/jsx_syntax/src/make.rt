@@ -87,7 +87,8 @@ pub fn element<'s>(
     ensures told { IfOk result (λ e. told_expr e.value ≡ told_node at (told_tag tag.entry ∷ told_list (map (inside told_jsx) attributes.entry.items) ∷ [])) }
     ensures span { IfOk result (λ e. expr_at e.value ≡ at) }
 {
-    boxed(alloc, Expr::Jsx(Jsx::Element(at, tag, attributes)))
+    let element = boxed(alloc, Jsx::Element(at, tag, attributes))?;
+    boxed(alloc, Expr::Jsx(element))
 }
 
 /// A name that is bound, or assigned to.

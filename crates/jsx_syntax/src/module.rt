@@ -2,14 +2,12 @@
 
 ghost use Rattle.std.specs.Prelude.{◌≡◌, ◌<◌, ◌≤◌, IfOk, IfErr, Some, length, map, ℕ};
 ghost use Rattle.std.specs.Str.{chars};
-ghost use Rattle.jsx_tree.specs.Kinds.{Tree};
 ghost use Rattle.jsx_tree.specs.Stage.{ReadsSoFar};
 ghost use Rattle.jsx_tree.specs.Grammar.{TopLines};
 ghost use Rattle.jsx_tree.specs.View.{forest};
 ghost use Rattle.jsx_tree.specs.ViewProgram.{view, view_item};
 ghost use Rattle.jsx_tree.specs.Spans.{IsTold, placed_in};
 ghost use Rattle.jsx_tree.specs.Told.{tales, told, told_item};
-ghost use Rattle.jsx_base.specs.Token.{Text};
 ghost use Rattle.jsx_syntax.specs.Here.{place_of};
 ghost use Rattle.jsx_tree.specs.Nonterminals as grammar;
 ghost use Rattle.jsx_tree.specs.Answers.{OnlyToEnd, NoneToEnd};
@@ -65,11 +63,6 @@ pub fn parse<'s>(alloc: Global, text: &'s str) -> Result<Program<'s>, ParseError
         Err(ParseError::Memory) => Err(ParseError::Memory),
     }
 }
-
-/// A text has one tree at most.
-pub fn one_tree()
-    ensures { (text : Text) (t u : Tree) → ReadsSoFar text t → ReadsSoFar text u → t ≡ u }
-{}
 
 #[cfg(test)]
 mod tests {

@@ -1,7 +1,7 @@
 -- Names and what they refer to, and declarations that clash, on examples. A path numbers the parts: of a program 0 its directives and 1 its statements.
-use Rattle.std.specs.Prelude.{◌≡◌, [], ◌∷◌, codes, true, false, refl, Some, None}
+use Rattle.std.specs.Prelude.{◌≡◌, [], ◌∷◌, codes, true, false, refl, Some}
 use Rattle.jsx_base.specs.Token.{IdentifierName, JsxName, NumericLiteral}
-use Rattle.jsx_tree.specs.Kinds.{VarWord, LetWord, Exported, Module, Script, FunctionBody, SpecifierAs, ExportNames, ExportDefaultExpr, Block, Var, Declarator, ExprStmt, Try, Catch, FunctionDecl, InClass, Binds, ClassExpr, Method, ComputedKey, ObjectPat, ShorthandInit, WithInit, Call, Chain, CallLink, Parenthesized, Element, program, statement, function, expression, jsx, Tree, leaf, node, list, none, part}
+use Rattle.jsx_tree.specs.Kinds.{VarWord, LetWord, Exported, Module, Script, FunctionBody, SpecifierAs, ExportNames, ExportDefaultExpr, Block, Var, Declarator, ExprStmt, Try, Catch, FunctionDecl, InClass, Binds, ClassExpr, Method, ComputedKey, ObjectPat, ShorthandInit, WithInit, Call, Chain, CallLink, Parenthesized, Element, program, statement, function, expression, jsx, Tree, leaf}
 use Rattle.jsx_tree.specs.Scopes.{Bound, Free, refers}
 use Rattle.jsx_tree.specs.Clashes.{AtName, AtDefault, clashes, direct_evals}
 use Rattle.jsx_tree.proofs.Samples.{l0, l1, l2, l3, n1, n2, n3}

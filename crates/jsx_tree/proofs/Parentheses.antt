@@ -29,6 +29,7 @@ pub mod Unneeded
 pub mod Programs
 pub mod UnwrapTable
 pub mod Unwrapped
+pub mod Replaced
 pub mod Formed
 pub mod SeenLaid
 pub mod RulesLaid

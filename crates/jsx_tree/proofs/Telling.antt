@@ -40,7 +40,7 @@ use Rattle.jsx_tree.specs.declared.tree.Access.TheOpen.{Access-F, Control-F, Exp
 use Rattle.jsx_tree.specs.declared.tree.Access.TheFolds.{fold-roll-Access, fold-roll-Control, fold-roll-Expr, fold-roll-Jsx, fold-roll-Key, fold-roll-Link, fold-roll-Operation, fold-roll-Pat, fold-roll-Prop, fold-roll-Stmt}
 use Rattle.jsx_tree.specs.View.{inside}
 use Rattle.jsx_tree.proofs.Views.{ap_2, held}
-use Rattle.jsx_tree.specs.Told.{told_list, told_optional, led_by, told_text, told_leaf, told_node, told_name, told_body, told_template, told_tag, told_attr_name, told_access_step, told_control_step, told_expr_step, told_jsx_step, told_key_step, told_link_step, told_operation_step, told_pat_step, told_prop_step, told_stmt_step, told_expr, told_operation, told_access, told_link, told_prop, told_key, told_pat, told_stmt, told_control, told_jsx}
+use Rattle.jsx_tree.specs.Told.{told_list, told_optional, led_by, told_text, told_leaf, told_node, told_ident, told_name, told_body, told_template, told_tag, told_attr_name, told_access_step, told_control_step, told_expr_step, told_jsx_step, told_key_step, told_link_step, told_operation_step, told_pat_step, told_prop_step, told_stmt_step, told_expr, told_operation, told_access, told_link, told_prop, told_key, told_pat, told_stmt, told_control, told_jsx}
 
 pub told-Expr-Ident : (at : Option Span) (a : Ident) → told_expr (expr.Ident at a) ≡ told_leaf at a.text
 told-Expr-Ident at a = ap told_expr (sym (expr.rolls-Ident at a)) ∙ fold-roll-Expr Told Told Told Told Told Told Told Told Told Told told_access_step told_control_step told_expr_step told_jsx_step told_key_step told_link_step told_operation_step told_pat_step told_prop_step told_stmt_step (Expr-F.«Expr::Ident» at a)
@@ -66,14 +66,14 @@ told-Expr-Object at xs = ap told_expr (sym (expr.rolls-Object at xs)) ∙ fold-r
 pub told-Expr-Template : (at : Option Span) (ps : Vec Text Global) (xs : Vec (Box Expr Global) Global) → told_expr (expr.Template at ps xs) ≡ told_template at ps.items (map (inside told_expr) xs.items)
 told-Expr-Template at ps xs = ap told_expr (sym (expr.rolls-Template at ps xs)) ∙ fold-roll-Expr Told Told Told Told Told Told Told Told Told Told told_access_step told_control_step told_expr_step told_jsx_step told_key_step told_link_step told_operation_step told_pat_step told_prop_step told_stmt_step (Expr-F.Template at ps xs) ∙ ap (λ us. told_template at ps.items us) (held _ told_expr (λ b. refl) xs.items)
 
-pub told-Expr-Function : (at : Option Span) (a : Option Ident) (ps : Vec (Box Pat Global) Global) (ds : Vec Text Global) (ss : Vec (Box Stmt Global) Global) → told_expr (expr.Function at a ps ds ss) ≡ told_node at (told_name a ∷ told_list (map (inside told_pat) ps.items) ∷ told_body ds.items (map (inside told_stmt) ss.items) ∷ [])
-told-Expr-Function at a ps ds ss = ap told_expr (sym (expr.rolls-Function at a ps ds ss)) ∙ fold-roll-Expr Told Told Told Told Told Told Told Told Told Told told_access_step told_control_step told_expr_step told_jsx_step told_key_step told_link_step told_operation_step told_pat_step told_prop_step told_stmt_step (Expr-F.«Expr::Function» at a ps ds ss) ∙ ap_2 (λ us vs. told_node at (told_name a ∷ told_list us ∷ told_body ds.items vs ∷ [])) (held _ told_pat (λ b. refl) ps.items) (held _ told_stmt (λ b. refl) ss.items)
+pub told-Expr-Function : (at : Option Span) (a : Option (Box Ident Global)) (ps : Vec (Box Pat Global) Global) (ds : Vec Text Global) (ss : Vec (Box Stmt Global) Global) → told_expr (expr.Function at a ps ds ss) ≡ told_node at (told_optional told_ident a ∷ told_list (map (inside told_pat) ps.items) ∷ told_body ds.items (map (inside told_stmt) ss.items) ∷ [])
+told-Expr-Function at a ps ds ss = ap told_expr (sym (expr.rolls-Function at a ps ds ss)) ∙ fold-roll-Expr Told Told Told Told Told Told Told Told Told Told told_access_step told_control_step told_expr_step told_jsx_step told_key_step told_link_step told_operation_step told_pat_step told_prop_step told_stmt_step (Expr-F.«Expr::Function» at a ps ds ss) ∙ ap_2 (λ us vs. told_node at (told_optional told_ident a ∷ told_list us ∷ told_body ds.items vs ∷ [])) (held _ told_pat (λ b. refl) ps.items) (held _ told_stmt (λ b. refl) ss.items)
 
-pub told-Expr-Class : (at : Option Span) (a : Option Ident) (e : Option (Box Expr Global)) (ms : Vec (Box Prop Global) Global) → told_expr (expr.Class at a e ms) ≡ told_node at (told_name a ∷ told_optional told_expr e ∷ told_list (map (inside told_prop) ms.items) ∷ [])
-told-Expr-Class at a None ms = ap told_expr (sym (expr.rolls-Class at a None ms)) ∙ fold-roll-Expr Told Told Told Told Told Told Told Told Told Told told_access_step told_control_step told_expr_step told_jsx_step told_key_step told_link_step told_operation_step told_pat_step told_prop_step told_stmt_step (Expr-F.«Expr::Class» at a None ms) ∙ ap (λ us. told_node at (told_name a ∷ told_optional told_expr None ∷ told_list us ∷ [])) (held _ told_prop (λ b. refl) ms.items)
-told-Expr-Class at a (Some e) ms = ap told_expr (sym (expr.rolls-Class at a (Some e) ms)) ∙ fold-roll-Expr Told Told Told Told Told Told Told Told Told Told told_access_step told_control_step told_expr_step told_jsx_step told_key_step told_link_step told_operation_step told_pat_step told_prop_step told_stmt_step (Expr-F.«Expr::Class» at a (Some e) ms) ∙ ap (λ us. told_node at (told_name a ∷ told_optional told_expr (Some e) ∷ told_list us ∷ [])) (held _ told_prop (λ b. refl) ms.items)
+pub told-Expr-Class : (at : Option Span) (a : Option (Box Ident Global)) (e : Option (Box Expr Global)) (ms : Vec (Box Prop Global) Global) → told_expr (expr.Class at a e ms) ≡ told_node at (told_optional told_ident a ∷ told_optional told_expr e ∷ told_list (map (inside told_prop) ms.items) ∷ [])
+told-Expr-Class at a None ms = ap told_expr (sym (expr.rolls-Class at a None ms)) ∙ fold-roll-Expr Told Told Told Told Told Told Told Told Told Told told_access_step told_control_step told_expr_step told_jsx_step told_key_step told_link_step told_operation_step told_pat_step told_prop_step told_stmt_step (Expr-F.«Expr::Class» at a None ms) ∙ ap (λ us. told_node at (told_optional told_ident a ∷ told_optional told_expr None ∷ told_list us ∷ [])) (held _ told_prop (λ b. refl) ms.items)
+told-Expr-Class at a (Some e) ms = ap told_expr (sym (expr.rolls-Class at a (Some e) ms)) ∙ fold-roll-Expr Told Told Told Told Told Told Told Told Told Told told_access_step told_control_step told_expr_step told_jsx_step told_key_step told_link_step told_operation_step told_pat_step told_prop_step told_stmt_step (Expr-F.«Expr::Class» at a (Some e) ms) ∙ ap (λ us. told_node at (told_optional told_ident a ∷ told_optional told_expr (Some e) ∷ told_list us ∷ [])) (held _ told_prop (λ b. refl) ms.items)
 
-pub told-Expr-Jsx : (a : Jsx) → told_expr (expr.Jsx a) ≡ told_jsx a
+pub told-Expr-Jsx : (a : Box Jsx Global) → told_expr (expr.Jsx a) ≡ told_jsx a.value
 told-Expr-Jsx a = ap told_expr (sym (expr.rolls-Jsx a)) ∙ fold-roll-Expr Told Told Told Told Told Told Told Told Told Told told_access_step told_control_step told_expr_step told_jsx_step told_key_step told_link_step told_operation_step told_pat_step told_prop_step told_stmt_step (Expr-F.Jsx a)
 
 pub told-Expr-Paren : (at : Option Span) (a : Box Expr Global) → told_expr (expr.Paren at a) ≡ told_expr a.value
@@ -322,8 +322,8 @@ told-Control-Catch at (Some p) s = ap told_control (sym (control.rolls-Catch at 
 pub told-Jsx-Element : (at : Option Span) (t : Tag) (as' : Vec (Box Jsx Global) Global) → told_jsx (jsx.Element at t as') ≡ told_node at (told_tag t ∷ told_list (map (inside told_jsx) as'.items) ∷ [])
 told-Jsx-Element at t as' = ap told_jsx (sym (jsx.rolls-Element at t as')) ∙ fold-roll-Jsx Told Told Told Told Told Told Told Told Told Told told_access_step told_control_step told_expr_step told_jsx_step told_key_step told_link_step told_operation_step told_pat_step told_prop_step told_stmt_step (Jsx-F.Element at t as') ∙ ap (λ us. told_node at (told_tag t ∷ told_list us ∷ [])) (held _ told_jsx (λ b. refl) as'.items)
 
-pub told-Jsx-ElementWithChildren : (at : Option Span) (t : Tag) (as' : Vec (Box Jsx Global) Global) (xs : Vec (Box Jsx Global) Global) (u : Tag) → told_jsx (jsx.ElementWithChildren at t as' xs u) ≡ told_node at (told_tag t ∷ told_list (map (inside told_jsx) as'.items) ∷ told_list (map (inside told_jsx) xs.items) ∷ told_tag u ∷ [])
-told-Jsx-ElementWithChildren at t as' xs u = ap told_jsx (sym (jsx.rolls-ElementWithChildren at t as' xs u)) ∙ fold-roll-Jsx Told Told Told Told Told Told Told Told Told Told told_access_step told_control_step told_expr_step told_jsx_step told_key_step told_link_step told_operation_step told_pat_step told_prop_step told_stmt_step (Jsx-F.ElementWithChildren at t as' xs u) ∙ ap_2 (λ us vs. told_node at (told_tag t ∷ told_list us ∷ told_list vs ∷ told_tag u ∷ [])) (held _ told_jsx (λ b. refl) as'.items) (held _ told_jsx (λ b. refl) xs.items)
+pub told-Jsx-ElementWithChildren : (at : Option Span) (t : Tag) (as' : Vec (Box Jsx Global) Global) (xs : Vec (Box Jsx Global) Global) (u : Box Tag Global) → told_jsx (jsx.ElementWithChildren at t as' xs u) ≡ told_node at (told_tag t ∷ told_list (map (inside told_jsx) as'.items) ∷ told_list (map (inside told_jsx) xs.items) ∷ told_tag u.value ∷ [])
+told-Jsx-ElementWithChildren at t as' xs u = ap told_jsx (sym (jsx.rolls-ElementWithChildren at t as' xs u)) ∙ fold-roll-Jsx Told Told Told Told Told Told Told Told Told Told told_access_step told_control_step told_expr_step told_jsx_step told_key_step told_link_step told_operation_step told_pat_step told_prop_step told_stmt_step (Jsx-F.ElementWithChildren at t as' xs u) ∙ ap_2 (λ us vs. told_node at (told_tag t ∷ told_list us ∷ told_list vs ∷ told_tag u.value ∷ [])) (held _ told_jsx (λ b. refl) as'.items) (held _ told_jsx (λ b. refl) xs.items)
 
 pub told-Jsx-Fragment : (at : Option Span) (xs : Vec (Box Jsx Global) Global) → told_jsx (jsx.Fragment at xs) ≡ told_node at (told_list (map (inside told_jsx) xs.items) ∷ [])
 told-Jsx-Fragment at xs = ap told_jsx (sym (jsx.rolls-Fragment at xs)) ∙ fold-roll-Jsx Told Told Told Told Told Told Told Told Told Told told_access_step told_control_step told_expr_step told_jsx_step told_key_step told_link_step told_operation_step told_pat_step told_prop_step told_stmt_step (Jsx-F.Fragment at xs) ∙ ap (λ us. told_node at (told_list us ∷ [])) (held _ told_jsx (λ b. refl) xs.items)

@@ -74,14 +74,14 @@ view-Expr-Object at xs = ap view_expr (sym (expr.rolls-Object at xs)) ∙ fold-r
 pub view-Expr-Template : (at : Option Span) (ps : Vec Text Global) (xs : Vec (Box Expr Global) Global) → view_expr (expr.Template at ps xs) ≡ template false ps.items (map (inside view_expr) xs.items)
 view-Expr-Template at ps xs = ap view_expr (sym (expr.rolls-Template at ps xs)) ∙ fold-roll-Expr Tree Tree Tree Tree Tree Tree Tree (Role → Tree) (Owner → Tree) Tree access_step control_step expr_step jsx_step key_step link_step operation_step pat_step prop_step stmt_step (Expr-F.Template at ps xs) ∙ ap (λ us. template false ps.items us) (held _ view_expr (λ b. refl) xs.items)
 
-pub view-Expr-Function : (at : Option Span) (a : Option Ident) (ps : Vec (Box Pat Global) Global) (ds : Vec Text Global) (ss : Vec (Box Stmt Global) Global) → view_expr (expr.Function at a ps ds ss) ≡ node (function FunctionExpr) (part (optional_name a) (part (list (forest_at Binds (map (inside view_pattern) ps.items))) (part (body ds.items (map (inside view_stmt) ss.items)) none)))
-view-Expr-Function at a ps ds ss = ap view_expr (sym (expr.rolls-Function at a ps ds ss)) ∙ fold-roll-Expr Tree Tree Tree Tree Tree Tree Tree (Role → Tree) (Owner → Tree) Tree access_step control_step expr_step jsx_step key_step link_step operation_step pat_step prop_step stmt_step (Expr-F.«Expr::Function» at a ps ds ss) ∙ ap_2 (λ us vs. node (function FunctionExpr) (part (optional_name a) (part (list (forest_at Binds us)) (part (body ds.items vs) none)))) (held _ view_pattern (λ b. refl) ps.items) (held _ view_stmt (λ b. refl) ss.items)
+pub view-Expr-Function : (at : Option Span) (a : Option (Box Ident Global)) (ps : Vec (Box Pat Global) Global) (ds : Vec Text Global) (ss : Vec (Box Stmt Global) Global) → view_expr (expr.Function at a ps ds ss) ≡ node (function FunctionExpr) (part (optional_of name_of a) (part (list (forest_at Binds (map (inside view_pattern) ps.items))) (part (body ds.items (map (inside view_stmt) ss.items)) none)))
+view-Expr-Function at a ps ds ss = ap view_expr (sym (expr.rolls-Function at a ps ds ss)) ∙ fold-roll-Expr Tree Tree Tree Tree Tree Tree Tree (Role → Tree) (Owner → Tree) Tree access_step control_step expr_step jsx_step key_step link_step operation_step pat_step prop_step stmt_step (Expr-F.«Expr::Function» at a ps ds ss) ∙ ap_2 (λ us vs. node (function FunctionExpr) (part (optional_of name_of a) (part (list (forest_at Binds us)) (part (body ds.items vs) none)))) (held _ view_pattern (λ b. refl) ps.items) (held _ view_stmt (λ b. refl) ss.items)
 
-pub view-Expr-Class : (at : Option Span) (a : Option Ident) (e : Option (Box Expr Global)) (ms : Vec (Box Prop Global) Global) → view_expr (expr.Class at a e ms) ≡ node (function ClassExpr) (part (optional_name a) (part (optional_of view_expr e) (part (list (members_of_class (map (inside view_member) ms.items))) none)))
-view-Expr-Class at a None ms = ap view_expr (sym (expr.rolls-Class at a None ms)) ∙ fold-roll-Expr Tree Tree Tree Tree Tree Tree Tree (Role → Tree) (Owner → Tree) Tree access_step control_step expr_step jsx_step key_step link_step operation_step pat_step prop_step stmt_step (Expr-F.«Expr::Class» at a None ms) ∙ ap (λ us. node (function ClassExpr) (part (optional_name a) (part (optional_of view_expr None) (part (list (members_of_class us)) none)))) (held _ view_member (λ b. refl) ms.items)
-view-Expr-Class at a (Some e) ms = ap view_expr (sym (expr.rolls-Class at a (Some e) ms)) ∙ fold-roll-Expr Tree Tree Tree Tree Tree Tree Tree (Role → Tree) (Owner → Tree) Tree access_step control_step expr_step jsx_step key_step link_step operation_step pat_step prop_step stmt_step (Expr-F.«Expr::Class» at a (Some e) ms) ∙ ap (λ us. node (function ClassExpr) (part (optional_name a) (part (optional_of view_expr (Some e)) (part (list (members_of_class us)) none)))) (held _ view_member (λ b. refl) ms.items)
+pub view-Expr-Class : (at : Option Span) (a : Option (Box Ident Global)) (e : Option (Box Expr Global)) (ms : Vec (Box Prop Global) Global) → view_expr (expr.Class at a e ms) ≡ node (function ClassExpr) (part (optional_of name_of a) (part (optional_of view_expr e) (part (list (members_of_class (map (inside view_member) ms.items))) none)))
+view-Expr-Class at a None ms = ap view_expr (sym (expr.rolls-Class at a None ms)) ∙ fold-roll-Expr Tree Tree Tree Tree Tree Tree Tree (Role → Tree) (Owner → Tree) Tree access_step control_step expr_step jsx_step key_step link_step operation_step pat_step prop_step stmt_step (Expr-F.«Expr::Class» at a None ms) ∙ ap (λ us. node (function ClassExpr) (part (optional_of name_of a) (part (optional_of view_expr None) (part (list (members_of_class us)) none)))) (held _ view_member (λ b. refl) ms.items)
+view-Expr-Class at a (Some e) ms = ap view_expr (sym (expr.rolls-Class at a (Some e) ms)) ∙ fold-roll-Expr Tree Tree Tree Tree Tree Tree Tree (Role → Tree) (Owner → Tree) Tree access_step control_step expr_step jsx_step key_step link_step operation_step pat_step prop_step stmt_step (Expr-F.«Expr::Class» at a (Some e) ms) ∙ ap (λ us. node (function ClassExpr) (part (optional_of name_of a) (part (optional_of view_expr (Some e)) (part (list (members_of_class us)) none)))) (held _ view_member (λ b. refl) ms.items)
 
-pub view-Expr-Jsx : (a : Jsx) → view_expr (expr.Jsx a) ≡ (view_jsx a)
+pub view-Expr-Jsx : (a : Box Jsx Global) → view_expr (expr.Jsx a) ≡ view_jsx a.value
 view-Expr-Jsx a = ap view_expr (sym (expr.rolls-Jsx a)) ∙ fold-roll-Expr Tree Tree Tree Tree Tree Tree Tree (Role → Tree) (Owner → Tree) Tree access_step control_step expr_step jsx_step key_step link_step operation_step pat_step prop_step stmt_step (Expr-F.Jsx a)
 
 pub view-Expr-Paren : (at : Option Span) (a : Box Expr Global) → view_expr (expr.Paren at a) ≡ node (expression Parenthesized) (part (view_expr a.value) none)
@@ -330,8 +330,8 @@ view-Control-Catch at (Some p) s = ap view_control (sym (control.rolls-Catch at 
 pub view-Jsx-Element : (at : Option Span) (t : Tag) (as' : Vec (Box Jsx Global) Global) → view_jsx (jsx.Element at t as') ≡ node (jsx Element) (part (view_tag t) (part (list (forest (map (inside view_jsx) as'.items))) none))
 view-Jsx-Element at t as' = ap view_jsx (sym (jsx.rolls-Element at t as')) ∙ fold-roll-Jsx Tree Tree Tree Tree Tree Tree Tree (Role → Tree) (Owner → Tree) Tree access_step control_step expr_step jsx_step key_step link_step operation_step pat_step prop_step stmt_step (Jsx-F.Element at t as') ∙ ap (λ us. node (jsx Element) (part (view_tag t) (part (list (forest us)) none))) (held _ view_jsx (λ b. refl) as'.items)
 
-pub view-Jsx-ElementWithChildren : (at : Option Span) (t : Tag) (as' : Vec (Box Jsx Global) Global) (xs : Vec (Box Jsx Global) Global) (u : Tag) → view_jsx (jsx.ElementWithChildren at t as' xs u) ≡ node (jsx ElementWithChildren) (part (view_tag t) (part (list (forest (map (inside view_jsx) as'.items))) (part (list (forest (map (inside view_jsx) xs.items))) (part (view_tag u) none))))
-view-Jsx-ElementWithChildren at t as' xs u = ap view_jsx (sym (jsx.rolls-ElementWithChildren at t as' xs u)) ∙ fold-roll-Jsx Tree Tree Tree Tree Tree Tree Tree (Role → Tree) (Owner → Tree) Tree access_step control_step expr_step jsx_step key_step link_step operation_step pat_step prop_step stmt_step (Jsx-F.ElementWithChildren at t as' xs u) ∙ ap_2 (λ us vs. node (jsx ElementWithChildren) (part (view_tag t) (part (list (forest us)) (part (list (forest vs)) (part (view_tag u) none))))) (held _ view_jsx (λ b. refl) as'.items) (held _ view_jsx (λ b. refl) xs.items)
+pub view-Jsx-ElementWithChildren : (at : Option Span) (t : Tag) (as' : Vec (Box Jsx Global) Global) (xs : Vec (Box Jsx Global) Global) (u : Box Tag Global) → view_jsx (jsx.ElementWithChildren at t as' xs u) ≡ node (jsx ElementWithChildren) (part (view_tag t) (part (list (forest (map (inside view_jsx) as'.items))) (part (list (forest (map (inside view_jsx) xs.items))) (part (view_tag u.value) none))))
+view-Jsx-ElementWithChildren at t as' xs u = ap view_jsx (sym (jsx.rolls-ElementWithChildren at t as' xs u)) ∙ fold-roll-Jsx Tree Tree Tree Tree Tree Tree Tree (Role → Tree) (Owner → Tree) Tree access_step control_step expr_step jsx_step key_step link_step operation_step pat_step prop_step stmt_step (Jsx-F.ElementWithChildren at t as' xs u) ∙ ap_2 (λ us vs. node (jsx ElementWithChildren) (part (view_tag t) (part (list (forest us)) (part (list (forest vs)) (part (view_tag u.value) none))))) (held _ view_jsx (λ b. refl) as'.items) (held _ view_jsx (λ b. refl) xs.items)
 
 pub view-Jsx-Fragment : (at : Option Span) (xs : Vec (Box Jsx Global) Global) → view_jsx (jsx.Fragment at xs) ≡ node (jsx Fragment) (part (list (forest (map (inside view_jsx) xs.items))) none)
 view-Jsx-Fragment at xs = ap view_jsx (sym (jsx.rolls-Fragment at xs)) ∙ fold-roll-Jsx Tree Tree Tree Tree Tree Tree Tree (Role → Tree) (Owner → Tree) Tree access_step control_step expr_step jsx_step key_step link_step operation_step pat_step prop_step stmt_step (Jsx-F.Fragment at xs) ∙ ap (λ us. node (jsx Fragment) (part (list (forest us)) none)) (held _ view_jsx (λ b. refl) xs.items)

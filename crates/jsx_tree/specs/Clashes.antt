@@ -1,9 +1,8 @@
 -- Early errors on names: declarations that clash (ECMA-262 sections 14.2.1, 14.7, 14.12.1, 14.15.1, 15.1.1, 15.2.1, 16.1.1 and 16.2.1), and direct calls of `eval` (section 13.3.6.1).
-use Rattle.std.specs.Prelude.{ℕ, suc, List, [], ◌∷◌, ◌++◌, codes, Bool, true, false, cond, not, ◌&&◌, ◌||◌, nat_eq, nat_le, Option, Some, None}
+use Rattle.std.specs.Prelude.{ℕ, suc, List, [], ◌∷◌, ◌++◌, codes, Bool, true, false, cond, ◌&&◌, ◌||◌, nat_eq, nat_le, Option, Some, None}
 use Rattle.jsx_base.specs.Token.{Text, IdentifierName, same}
-use Rattle.jsx_tree.specs.Kinds.{Exported, From, Module, Script, Specifier, SpecifierAs, ExportNames, ExportFrom, ExportAllAs, ExportDecl, ExportDefaultFn, ExportDefaultClass, ExportDefaultExpr, Call, Parenthesized, Kind, program, expression, Tree, leaf, node, list, Forest, none, part}
-use Rattle.jsx_tree.specs.Form.{positions}
-use Rattle.jsx_tree.specs.Scopes.{Path, below, Sort, AsVar, AsParameter, AsFunction, AsLexical, Declaration, declares, declared, listed, is_declared, is_function}
+use Rattle.jsx_tree.specs.Kinds.{Exported, Module, Script, Specifier, SpecifierAs, ExportNames, ExportFrom, ExportAllAs, ExportDecl, ExportDefaultFn, ExportDefaultClass, ExportDefaultExpr, Call, Parenthesized, Kind, program, expression, Tree, leaf, node, list, Forest, none, part}
+use Rattle.jsx_tree.specs.Scopes.{Path, below, Sort, AsVar, AsParameter, AsFunction, Declaration, declares, declared, is_declared, is_function}
 
 -- where an early error is: at a name, or at the `default` of an export
 pub data Place : Type 0 where

@@ -81,13 +81,20 @@ abbrev mutual
 abbrev pub is_sound : Tree → Bool
 is_sound t = formed t && lawful outside (laid_tree t)
 
--- a tree in which no node is JSX
 abbrev mutual
-  pub has_no_jsx : Tree → Bool
-  has_no_jsx (leaf s x) = true
-  has_no_jsx (node k cs) = is_no_jsx k && have_no_jsx cs
-  has_no_jsx (list ts) = have_no_jsx ts
+  -- whether each node of a tree passes a test
+  pub each_node : (Kind → Forest → Bool) → Tree → Bool
+  each_node f (leaf s x) = true
+  each_node f (node k cs) = f k cs && each_nodes f cs
+  each_node f (list ts) = each_nodes f ts
 
-  pub have_no_jsx : Forest → Bool
-  have_no_jsx none = true
-  have_no_jsx (part t ts) = has_no_jsx t && have_no_jsx ts
+  pub each_nodes : (Kind → Forest → Bool) → Forest → Bool
+  each_nodes f none = true
+  each_nodes f (part t ts) = each_node f t && each_nodes f ts
+
+abbrev pub no_jsx_node : Kind → Forest → Bool
+no_jsx_node k cs = is_no_jsx k
+
+-- a tree in which no node is JSX
+abbrev pub has_no_jsx : Tree → Bool
+has_no_jsx t = each_node no_jsx_node t

@@ -67,6 +67,9 @@ abbrev pub told_name : Option Ident → Told
 told_name None = told_list []
 told_name (Some a) = told_list (told_text a.text ∷ [])
 
+abbrev pub told_ident : Ident → Told
+told_ident a = told_text a.text
+
 abbrev pub told_directive : Text → Told
 told_directive a = tells [] (tale (told_text a) no_tales)
 
@@ -107,9 +110,9 @@ told_expr_step (Expr-F.Access a) = a
 told_expr_step (Expr-F.«Expr::Array» at xs) = told_node at (told_list (contents xs.items) ∷ [])
 told_expr_step (Expr-F.«Expr::Object» at xs) = told_node at (told_list (contents xs.items) ∷ [])
 told_expr_step (Expr-F.Template at ps xs) = told_template at ps.items (contents xs.items)
-told_expr_step (Expr-F.«Expr::Function» at a ps ds ss) = told_node at (told_name a ∷ told_list (contents ps.items) ∷ told_body ds.items (contents ss.items) ∷ [])
-told_expr_step (Expr-F.«Expr::Class» at a e ms) = told_node at (told_name a ∷ told_optional own e ∷ told_list (contents ms.items) ∷ [])
-told_expr_step (Expr-F.Jsx a) = a
+told_expr_step (Expr-F.«Expr::Function» at a ps ds ss) = told_node at (told_optional told_ident a ∷ told_list (contents ps.items) ∷ told_body ds.items (contents ss.items) ∷ [])
+told_expr_step (Expr-F.«Expr::Class» at a e ms) = told_node at (told_optional told_ident a ∷ told_optional own e ∷ told_list (contents ms.items) ∷ [])
+told_expr_step (Expr-F.Jsx a) = a.value
 told_expr_step (Expr-F.«Expr::Paren» at a) = a.value
 
 abbrev pub told_operation_step : Operation-F Told Told Told Told Told Told Told Told Told Told → Told
@@ -204,7 +207,7 @@ told_control_step (Control-F.Catch at p s) = told_node at (told_optional own p �
 
 abbrev pub told_jsx_step : Jsx-F Told Told Told Told Told Told Told Told Told Told → Told
 told_jsx_step (Jsx-F.Element at t as') = told_node at (told_tag t ∷ told_list (contents as'.items) ∷ [])
-told_jsx_step (Jsx-F.ElementWithChildren at t as' xs u) = told_node at (told_tag t ∷ told_list (contents as'.items) ∷ told_list (contents xs.items) ∷ told_tag u ∷ [])
+told_jsx_step (Jsx-F.ElementWithChildren at t as' xs u) = told_node at (told_tag t ∷ told_list (contents as'.items) ∷ told_list (contents xs.items) ∷ told_tag u.value ∷ [])
 told_jsx_step (Jsx-F.Fragment at xs) = told_node at (told_list (contents xs.items) ∷ [])
 told_jsx_step (Jsx-F.Text at a) = told_leaf at a
 told_jsx_step (Jsx-F.Str at a) = told_leaf at a

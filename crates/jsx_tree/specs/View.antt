@@ -198,9 +198,9 @@ expr_step (Expr-F.Access a) = a
 expr_step (Expr-F.«Expr::Array» at xs) = node (expression Array) (part (list (forest (contents xs.items))) none)
 expr_step (Expr-F.«Expr::Object» at xs) = node (expression Object) (part (list (members_of_object (contents xs.items))) none)
 expr_step (Expr-F.Template at ps xs) = template false ps.items (contents xs.items)
-expr_step (Expr-F.«Expr::Function» at a ps ds ss) = node (function FunctionExpr) (part (optional_name a) (part (list (forest_at Binds (contents ps.items))) (part (body ds.items (contents ss.items)) none)))
-expr_step (Expr-F.«Expr::Class» at a e ms) = node (function ClassExpr) (part (optional_name a) (part (optional e) (part (list (members_of_class (contents ms.items))) none)))
-expr_step (Expr-F.Jsx a) = a
+expr_step (Expr-F.«Expr::Function» at a ps ds ss) = node (function FunctionExpr) (part (optional_of name_of a) (part (list (forest_at Binds (contents ps.items))) (part (body ds.items (contents ss.items)) none)))
+expr_step (Expr-F.«Expr::Class» at a e ms) = node (function ClassExpr) (part (optional_of name_of a) (part (optional e) (part (list (members_of_class (contents ms.items))) none)))
+expr_step (Expr-F.Jsx a) = a.value
 expr_step (Expr-F.«Expr::Paren» at a) = node (expression Parenthesized) (part a.value none)
 
 abbrev pub operation_step : Operation-F Tree Tree Tree Tree Tree Tree Tree (Role → Tree) (Owner → Tree) Tree → Tree
@@ -295,7 +295,7 @@ control_step (Control-F.Catch at p s) = node (statement Catch) (part (optional_a
 
 abbrev pub jsx_step : Jsx-F Tree Tree Tree Tree Tree Tree Tree (Role → Tree) (Owner → Tree) Tree → Tree
 jsx_step (Jsx-F.Element at t as') = node (jsx Element) (part (view_tag t) (part (list (forest (contents as'.items))) none))
-jsx_step (Jsx-F.ElementWithChildren at t as' xs u) = node (jsx ElementWithChildren) (part (view_tag t) (part (list (forest (contents as'.items))) (part (list (forest (contents xs.items))) (part (view_tag u) none))))
+jsx_step (Jsx-F.ElementWithChildren at t as' xs u) = node (jsx ElementWithChildren) (part (view_tag t) (part (list (forest (contents as'.items))) (part (list (forest (contents xs.items))) (part (view_tag u.value) none))))
 jsx_step (Jsx-F.Fragment at xs) = node (jsx Fragment) (part (list (forest (contents xs.items))) none)
 jsx_step (Jsx-F.Text at a) = leaf token.JsxText (text_of a)
 jsx_step (Jsx-F.Str at a) = leaf token.JsxString (text_of a)

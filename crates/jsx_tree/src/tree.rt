@@ -1,8 +1,8 @@
 //! The nodes of a tree. A node that was read has its span.
 //!
 //! The types of the circle are few, since what a check of a function costs grows fast with their number. Lists are of boxes,
-//! so that a function holds a box and not a node. How they are let go is written here: what is derived would be proved
-//! again in each crate that lets one go.
+//! so that a function holds a box and not a node; what makes an expression large is in a box too. How they are let go is
+//! written here: what is derived would be proved again in each crate that lets one go.
 
 use crate::operator::{AssignOp, BinaryOp, UnaryOp, UpdateOp, UpdateSide};
 use crate::text::{DeclareWord, Ident, LinkForm, LiteralKind, Placement, Text, Word};
@@ -25,10 +25,10 @@ pub enum Expr<'s> {
     /// The pieces of a template, and the expressions between them.
     Template(At, Vec<Text<'s>>, Vec<Box<Expr<'s>>>),
     /// `function f(a) {}`: its name, parameters, directives and statements
-    Function(At, Option<Ident<'s>>, Vec<Box<Pat<'s>>>, Vec<Text<'s>>, Vec<Box<Stmt<'s>>>),
+    Function(At, Option<Box<Ident<'s>>>, Vec<Box<Pat<'s>>>, Vec<Text<'s>>, Vec<Box<Stmt<'s>>>),
     /// `class A extends B {}`
-    Class(At, Option<Ident<'s>>, Option<Box<Expr<'s>>>, Vec<Box<Prop<'s>>>),
-    Jsx(Jsx<'s>),
+    Class(At, Option<Box<Ident<'s>>>, Option<Box<Expr<'s>>>, Vec<Box<Prop<'s>>>),
+    Jsx(Box<Jsx<'s>>),
     /// `(a)`
     Paren(At, Box<Expr<'s>>),
 }
@@ -217,7 +217,7 @@ pub enum Jsx<'s> {
     /// `<a b="c"/>`
     Element(At, Tag<'s>, Vec<Box<Jsx<'s>>>),
     /// `<a>b</a>`, with both tags
-    ElementWithChildren(At, Tag<'s>, Vec<Box<Jsx<'s>>>, Vec<Box<Jsx<'s>>>, Tag<'s>),
+    ElementWithChildren(At, Tag<'s>, Vec<Box<Jsx<'s>>>, Vec<Box<Jsx<'s>>>, Box<Tag<'s>>),
     /// `<>a</>`
     Fragment(At, Vec<Box<Jsx<'s>>>),
     Text(At, Text<'s>),

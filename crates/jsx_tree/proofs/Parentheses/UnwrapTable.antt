@@ -60,10 +60,11 @@ is_member_place MemberRoot = true
 is_member_place MemberPart = true
 is_member_place c = false
 
--- a place where no leaf of JSX stands, nor one that no production has
+-- a place where no leaf of JSX stands, nor one that no production has, and an element only as an expression
 abbrev pub is_code : Nonterminal → Bool
 is_code c =
-    not (is_member_place c) && (not (in_homes c (literal_homes JsxName)) && (not (in_homes c (literal_homes JsxString)) && (not (in_homes c (literal_homes JsxText)) && not (in_homes c (literal_homes Punctuator)))))
+    not (is_member_place c) && (not (in_homes c (literal_homes JsxName)) && (not (in_homes c (literal_homes JsxString)) && (not (in_homes c (literal_homes JsxText)) && (not (in_homes c (literal_homes Punctuator))
+    && (asks c || not (in_homes c (homes (jsx Element))))))))
 
 abbrev pub all_code : List Position → Bool
 all_code [] = true

@@ -96,8 +96,12 @@ loose_anywhere c d (leaf s x) a = a.below
 loose_anywhere c d (node k cs) a = a.below
 loose_anywhere c d (list ts) a = no_list d ts a.may
 
+-- an expression may stand where one is asked
+pub where_asked : (c : Nonterminal) (u : Tree) → asks c ≡ true → At (Expr 0) u → At c u
+where_asked c u h a = record { may = or_left (asks c && is_expression u) _ (and_from _ _ h (expression_of u a.may)); below = loose_anywhere c (Expr 0) u a }
+
 in_pair : (c : Nonterminal) (u : Tree) → may_stand c (node (expression Parenthesized) none) ≡ true → At (Expr 0) u → At c u
-in_pair c u m a = record { may = or_left (asks c && is_expression u) _ (and_from _ _ (asked (asks c) _ (place_facts c).expressions m) (expression_of u a.may)); below = loose_anywhere c (Expr 0) u a }
+in_pair c u m a = where_asked c u (asked (asks c) _ (place_facts c).expressions m) a
 
 -- and so for a target
 word_there : (c : Nonterminal) (x : Text) → is_target c ≡ true → word_in SimpleTarget x ≡ true → word_in (lax c) x ≡ true
@@ -170,17 +174,17 @@ last_node (expression Parenthesized) (part e none) h = expression_last (without_
 last_node (function ParenTarget) (part e none) h = target_last (without_parentheses e) (first_at SimpleTarget (without_parentheses e) true h).may
 last_node k cs h = refl
 
-one_same : (ts : Forest) → at_most_one (remades unwrapped_node ts) ≡ at_most_one ts
-one_same none = refl
-one_same (part t none) = refl
-one_same (part t (part u us)) = refl
+pub one_same : (f : Kind → Forest → Tree) (ts : Forest) → at_most_one (remades f ts) ≡ at_most_one ts
+one_same f none = refl
+one_same f (part t none) = refl
+one_same f (part t (part u us)) = refl
 
-enough_same : (s : ListShape) (ts : Forest) → enough s (remades unwrapped_node ts) ≡ enough s ts
-enough_same TwoOrMore none = refl
-enough_same TwoOrMore (part t none) = refl
-enough_same TwoOrMore (part t (part u us)) = refl
-enough_same _ none = refl
-enough_same _ (part t ts) = refl
+pub enough_same : (f : Kind → Forest → Tree) (s : ListShape) (ts : Forest) → enough s (remades f ts) ≡ enough s ts
+enough_same f TwoOrMore none = refl
+enough_same f TwoOrMore (part t none) = refl
+enough_same f TwoOrMore (part t (part u us)) = refl
+enough_same f _ none = refl
+enough_same f _ (part t ts) = refl
 
 mutual
   pub unwrapped_at : (c : Nonterminal) (t : Tree) → At c t → At c (without_parentheses t)
@@ -198,12 +202,12 @@ mutual
   slots_at (position Maybe c g b a ∷ ss) (part (list us) ts) h =
       let p = and_parts (at_most_one us) (loose_each c us && loose_slots ss ts) h in
       let q = and_parts (loose_each c us) (loose_slots ss ts) p.1 in
-      and_from _ _ (one_same us ∙ p.0) (and_from _ _ (items_at c us q.0) (slots_at ss ts q.1))
+      and_from _ _ (one_same unwrapped_node us ∙ p.0) (and_from _ _ (items_at c us q.0) (slots_at ss ts q.1))
   slots_at (position (Several s) c g b a ∷ ss) (part (list us) ts) h =
       let p = and_parts (enough s us && last_only us) (loose_each c us && loose_slots ss ts) h in
       let q = and_parts (loose_each c us) (loose_slots ss ts) p.1 in
       let r = and_parts (enough s us) (last_only us) p.0 in
-      and_from _ _ (and_from _ _ (enough_same s us ∙ r.0) (lasts_same c us q.0 ∙ r.1)) (and_from _ _ (items_at c us q.0) (slots_at ss ts q.1))
+      and_from _ _ (and_from _ _ (enough_same unwrapped_node s us ∙ r.0) (lasts_same c us q.0 ∙ r.1)) (and_from _ _ (items_at c us q.0) (slots_at ss ts q.1))
   slots_at (position Maybe c g b a ∷ ss) (part (leaf s x) ts) h = absurd (false≢true h)
   slots_at (position Maybe c g b a ∷ ss) (part (node k cs) ts) h = absurd (false≢true h)
   slots_at (position (Several s') c g b a ∷ ss) (part (leaf s x) ts) h = absurd (false≢true h)
