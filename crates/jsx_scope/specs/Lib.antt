@@ -1,0 +1,3 @@
+pub mod OneWalk
+pub mod Places
+pub mod Walk
