@@ -65,7 +65,7 @@ drawn_rest draw xs i old now all is = is ∙ ap (λ z. drawn draw z old) (take_a
 
 -- ---- rows of labels
 
-greatest_last : (xs : List ℕ) (x : ℕ) → greatest (xs ++ x ∷ []) ≡ max (greatest xs) x
+pub greatest_last : (xs : List ℕ) (x : ℕ) → greatest (xs ++ x ∷ []) ≡ max (greatest xs) x
 greatest_last [] x = omega arith
 greatest_last (y ∷ xs) x = ap (max y) (greatest_last xs x) ∙ (let e : max y (max (greatest xs) x) ≡ max (max y (greatest xs)) x = omega arith in e)
 

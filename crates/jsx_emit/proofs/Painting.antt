@@ -299,7 +299,7 @@ found_in at col (one ∷ lines) grid falls =
     (λ found. inr (found_more at col one lines grid falls.0 found))
     (found_in at col lines (draw_underline at one grid) falls.1)
 
-same_number : (n : ℕ) → nat_eq n n ≡ true
+pub same_number : (n : ℕ) → nat_eq n n ≡ true
 same_number n = grind (arith, nat_tests)
 
 -- the columns of a line whose spans all lie on one line

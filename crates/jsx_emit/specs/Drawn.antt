@@ -1,5 +1,5 @@
 -- What is drawn of a report's spans, row by row. These definitions are private: what clients see of a page is in Shows.
-use Rattle.std.specs.Prelude.{ℕ, zero, suc, ◌+◌, ◌-◌, List, [], ◌∷◌, ◌++◌, Bool, not, ◌&&◌, ◌||◌, cond, nat_eq, nat_le, nat_lt, length, map, max, take, codes, decimal}
+use Rattle.std.specs.Prelude.{◌≡◌, ℕ, zero, suc, ◌+◌, ◌-◌, List, [], ◌∷◌, ◌++◌, Option, Some, None, Bool, not, ◌&&◌, ◌||◌, cond, nat_eq, nat_le, nat_lt, length, map, filter, max, take, codes, decimal}
 use Rattle.std.specs.Char.{is_whitespace}
 use Rattle.std.specs.List.{flat_map, list_all, list_any}
 use Rattle.std.specs.Str.{chars}
@@ -11,8 +11,9 @@ use Rattle.jsx_diag.specs.Data.{Text}
 use Rattle.jsx_emit.specs.Annotation.{Kind, Single, Whole, First, Last, Side, Mark, Multi, first_mark, last_mark, side_mark, is_edge, is_side, has_text, distance}
 use Rattle.jsx_emit.specs.Grid.{Cell, Grid, in_style, put_cell, put_text}
 use Rattle.jsx_emit.specs.Page.{Look, blanks, left_in, line_chars, place_line, mark_end}
-use Rattle.jsx_emit.specs.Layout.{Spot, ShownFile, ShownLine, greatest, label_bytes, overlap, spot_lines}
-use Rattle.jsx_emit.specs.Shows.{at_line}
+use Rattle.jsx_emit.specs.Layout.{Spot, ShownFile, ShownLine, by_lines, greatest, primary_place, spots, is_single, label_bytes, overlap, primary_first, shown_files, spot_lines}
+use Rattle.jsx_base.specs.MultiSpan.{Spans}
+use Rattle.jsx_emit.specs.Shows.{at_line, rows_text}
 use Rattle.jsx_emit.specs.Texts.{grid_chars}
 
 -- ---- sorting
@@ -287,6 +288,10 @@ gap sheet file line next =
     cond (nat_lt (line + 2) next) (dots_row sheet (record { file = file; line = line + 1 }))
     (cond (nat_eq (line + 2) next) (line_row sheet.ui_testing sheet.width sheet.depth (bars_past sheet.wides (record { file = file; line = line + 1 })) 0 (record { file = file; line = line + 1 }) ∷ []) [])
 
+abbrev pub gap_before : Sheet → File → ℕ → List ℕ → List (List ℕ)
+gap_before sheet file line [] = []
+gap_before sheet file line (next ∷ more) = gap sheet file line next
+
 abbrev pub line_blocks : Sheet → File → List ℕ → List (List ℕ)
 line_blocks sheet file [] = []
 line_blocks sheet file (line ∷ []) = block sheet (record { file = file; line = line })
@@ -321,3 +326,23 @@ file_blocks look sheet (first ∷ more) = bar_row sheet.width ∷ (line_blocks s
 -- what stands behind the header where the first primary span is at this place
 abbrev pub place_blocks : Look → Sheet → Place → List ShownFile → List (List ℕ)
 place_blocks look sheet place files = chars (place_line look sheet.width place) ∷ file_blocks look sheet files
+
+-- what lines are drawn by, of these spans
+pub record SheetFor (look : Look) (w : ℕ) (spots : List Spot) (sheet : Sheet) : Type 0 where
+  pub ui_testing : sheet.ui_testing ≡ look.ui_testing
+  pub width : sheet.width ≡ w
+  pub singles : sheet.singles ≡ filter is_single spots
+  pub wides : map (λ it. it.spot) sheet.wides ≡ by_lines (filter (λ spot. not (is_single spot)) spots)
+  pub depth : sheet.depth ≡ greatest (map (λ it. it.depth) sheet.wides)
+  pub alone : length sheet.wides ≡ 1 → map (λ it. it.depth) sheet.wides ≡ 1 ∷ []
+
+abbrev pub RowsOf : Look → ℕ → List Spot → Option Place → List (List ℕ) → Type 0
+RowsOf look w spots None rows = rows ≡ []
+RowsOf look w spots (Some place) rows =
+    (sheet : Sheet) × SheetFor look w spots sheet × (rows ≡ place_blocks look sheet place (primary_first place.file.start (shown_files spots)))
+
+-- rows behind a header
+pub record SpanRows (look : Look) (files : List File) (w : ℕ) (spans : Spans) (old new : Text) : Type 0 where
+  pub rows : List (List ℕ)
+  pub is : new ≡ old ++ rows_text rows
+  pub are : RowsOf look w (spots files spans) (primary_place files spans.primary) rows

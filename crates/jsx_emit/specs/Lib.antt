@@ -6,4 +6,5 @@ pub mod Shows
 pub mod Texts
 pub mod Drawn
 pub mod Views
+pub mod Writer
 pub mod Parts

@@ -238,7 +238,10 @@ fn clone_annotations(
 }
 
 // An equal label.
-fn clone_label(alloc: Global, label: &Option<String>) -> Result<Option<String>, AllocError>
+pub(crate) fn clone_label(
+    alloc: Global,
+    label: &Option<String>,
+) -> Result<Option<String>, AllocError>
     ensures { IfOk result (λ copy. option_map string_bytes copy ≡ option_map string_bytes label.now) }
 {
     match label {

@@ -196,8 +196,8 @@ fn draw_underline(buffer: &mut StyledBuffer, at: Columns, it: Placed<'_>) -> Res
     across(buffer, 0, (from, to), underline(it.mark))
 }
 
-// The bars of open spans in so many rows.
-fn draw_open(
+/// The bars of open spans in so many rows.
+pub(super) fn draw_open(
     buffer: &mut StyledBuffer,
     bars: usize,
     rows: usize,

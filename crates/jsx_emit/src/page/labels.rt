@@ -123,8 +123,8 @@ fn begins_word(inside: bool, c: char) -> bool
     !inside && !c.is_whitespace()
 }
 
-// The first character and the text behind it.
-fn first(text: &str) -> Option<(char, &str)>
+/// The first character and the text behind it.
+pub(super) fn first(text: &str) -> Option<(char, &str)>
     ensures { MatchOption result (chars text.now ≡ []) (λ it. Follows text.now it.0 it.1.now) }
 {
     let mut chars = text.chars();

@@ -31,8 +31,8 @@ pub(super) fn push_place<M: SourceMapper>(
     push_spaced(text, shown.as_str())
 }
 
-// A name, a line and a column.
-fn shown_place(
+/// A name, a line and a column.
+pub(super) fn shown_place(
     alloc: Global,
     name: &FileName,
     line: usize,

@@ -84,8 +84,8 @@ fn push_help(text: &mut String, width: usize, msg: &str) -> Result<(), AllocErro
     push_further(text, width, rest)
 }
 
-// Adds a row of two texts.
-fn push_row(text: &mut String, before: &str, line: &str) -> Result<(), AllocError>
+/// Adds a row of two texts.
+pub(super) fn push_row(text: &mut String, before: &str, line: &str) -> Result<(), AllocError>
     ensures { OnOk result (string_bytes text.new ≡ string_bytes text.old ++ rows_text ((chars before.now ++ chars line.now) ∷ [])) }
 {
     push_spaced(text, before)?;

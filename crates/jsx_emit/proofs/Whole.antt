@@ -1,0 +1,102 @@
+-- From the page of a report as it is shown to that of the report.
+use Rattle.std.proofs.Common.{◌≡◌, ℕ, Bool, true, false, cond, List, [], ◌∷◌, ◌++◌, Option, Some, None, nat_eq, ◌&&◌, length, ◌<◌, arith, refl, ap, sym, subst, ◌∙◌}
+use Rattle.std.specs.Bool.{MatchBool}
+use Rattle.std.specs.Prelude.{MatchOption, Result, Ok, Err, IfOk, string_bytes}
+use Rattle.std.specs.declared.string.String.{String}
+use Rattle.std.specs.declared.alloc.Global.{Global}
+use Rattle.std.specs.Option.{is_none, option_map}
+use Rattle.std.proofs.lemmas.Bool.{ne_eqb}
+use Rattle.jsx_base.specs.declared.place.Span.{Span}
+use Rattle.jsx_base.specs.Files.{File}
+use Rattle.jsx_base.specs.MultiSpan.{Spans}
+use Rattle.jsx_diag.specs.Data.{Text, Report, Suggestion}
+use Rattle.jsx_emit.specs.Page.{Look, number_width, message_text, own_width, page_text, told}
+use Rattle.jsx_emit.specs.Layout.{apart, inline, labelled_with, last_line_of, pointed}
+use Rattle.jsx_emit.specs.Shows.{Map, Setting, Each, Headed, IsPage, Long, OwnPart, NotePart, ShowsOver, SuggestionPart, Whole, before_notes, look_of}
+use Rattle.jsx_emit.specs.Texts.{MovesNoneOf, SameIf, short_page, shown_report}
+use Rattle.jsx_emit.specs.Parts.{LongOver}
+
+when_true : (b : Bool) (A B : Type 0) → b ≡ true → A → MatchBool b A B
+when_true b A B e it = subst (λ z. MatchBool z A B) (sym e) it
+
+when_false : (b : Bool) (A B : Type 0) → b ≡ false → B → MatchBool b A B
+when_false b A B e it = subst (λ z. MatchBool z A B) (sym e) it
+
+-- ---- short pages
+
+pub shows_short : (set : Setting) (map : Option Map) (r p : Report) (text : Text) → set.short ≡ true → SameIf (MovesNoneOf map) p (shown_report r) → text ≡ short_page map p → ShowsOver set map r text
+shows_short set None r p text short same is = when_true set.short _ _ short (is ∙ ap (short_page None) (same.same tt))
+shows_short set (Some map) r p text short same is = λ stays. when_true set.short _ _ short (is ∙ ap (short_page (Some map)) (same.same stays))
+
+-- ---- whole pages
+
+-- what stands apart becomes no label
+inline_apart : (found : Option (Span × Text)) (all : List Suggestion) → inline all ≡ found → inline (cond (is_none found) all []) ≡ None
+inline_apart None all e = e
+inline_apart (Some label) all e = refl
+
+pub none_inline : (r : Report) → inline (apart r) ≡ None
+none_inline r = inline_apart (inline r.suggestions) r.suggestions refl
+
+pointed_again : (r : Report) → pointed (shown_report r) ≡ pointed r
+pointed_again r = ap (λ o. labelled_with o (pointed r)) (none_inline r)
+
+apart_again : (r : Report) → apart (shown_report r) ≡ apart r
+apart_again r = ap (λ o. cond (is_none o) (apart r) []) (none_inline r)
+
+whole_again : (look : Look) (files : List File) (r : Report) (text : Text) → Whole look files (shown_report r) text → Whole look files r text
+whole_again look files r text it =
+    let same = pointed_again r in
+    record {
+      own = it.own;
+      notes = it.notes;
+      suggestions = it.suggestions;
+      is = subst (λ (s : Spans). text ≡ it.own ++ (before_notes (number_width look (last_line_of files s r.children)) r.children ++ (it.notes ++ (it.suggestions ++ 10 ∷ [])))) same it.is;
+      own_part = subst (λ (s : Spans). OwnPart look files (number_width look (last_line_of files s r.children)) r.level r.code (message_text r.message) s it.own) same it.own_part;
+      note_parts = subst (λ (s : Spans). Each (NotePart look files (number_width look (last_line_of files s r.children))) r.children it.notes) same it.note_parts;
+      suggestion_parts = subst (λ (all : List Suggestion). Each (SuggestionPart files) all it.suggestions) (apart_again r) it.suggestion_parts;
+    }
+
+headed_again : (r : Report) (text : Text) → Headed (shown_report r) text → Headed r text
+headed_again r text it = record { rest = it.rest; is = it.is }
+
+-- the page that is told of spans, where nothing is suggested
+abbrev ToldWith : Look → List File → Report → Text → List Suggestion → Spans → Type 0
+ToldWith look files r text all spans =
+    MatchOption (cond (nat_eq (length r.children) 0 && nat_eq (length all) 0) (option_map (λ page. page_text (page ++ [] ∷ [])) (told look (own_width look) files r.level r.code (message_text r.message) spans)) None) (Unit {0}) (λ page. text ≡ page)
+
+not_zero : (n : ℕ) → 0 < n → nat_eq n 0 ≡ false
+not_zero n more = ne_eqb n 0 (λ (e : n ≡ 0). omega (arith, more, e))
+
+and_false : (b : Bool) → (b && false) ≡ false
+and_false true = refl
+and_false false = refl
+
+-- where there are suggestions no page is told
+told_again : (look : Look) (files : List File) (r : Report) (text : Text) (all : List Suggestion) → ToldWith look files r text (cond (is_none (inline all)) all []) (labelled_with (inline all) r.span) → ToldWith look files r text all r.span
+told_again look files r text [] it = it
+told_again look files r text (first ∷ more) it =
+    subst (λ b. MatchOption (cond b (option_map (λ page. page_text (page ++ [] ∷ [])) (told look (own_width look) files r.level r.code (message_text r.message) r.span)) None) (Unit {0}) (λ page. text ≡ page))
+    (sym (ap (λ z. nat_eq (length r.children) 0 && z) (not_zero (length (first ∷ more)) (omega arith)) ∙ and_false (nat_eq (length r.children) 0))) tt
+
+page_again : (look : Look) (files : List File) (r : Report) (text : Text) → IsPage look files (shown_report r) text → IsPage look files r text
+page_again look files r text it = told_again look files r text r.suggestions it
+
+pub shows_long : (set : Setting) (map : Option Map) (r p : Report) (text : Text) → set.short ≡ false → SameIf (MovesNoneOf map) p (shown_report r) → LongOver set map p text → ShowsOver set map r text
+shows_long set None r p text short same is = when_false set.short _ (Headed r text) short (headed_again r text (subst (λ z. Headed z text) (same.same tt) is))
+shows_long set (Some map) r p text short same is =
+    λ stays. when_false set.short _ (Long (look_of set map.offset_line) map.files r text) short (
+    let is_shown : p ≡ shown_report r = same.same stays in
+    let it : Long (look_of set map.offset_line) map.files (shown_report r) text = subst (λ z. LongOver set (Some map) z text) is_shown is (none_inline r) in
+    record { page = page_again (look_of set map.offset_line) map.files r text it.page; headed = headed_again r text it.headed; whole = λ whole. whole_again (look_of set map.offset_line) map.files r text (it.whole whole) }
+    )
+
+-- ---- what is answered
+
+pub shows_long_if : {X : Type 0} (set : Setting) (map : Option Map) (r p : Report) (result : Result (String Global) X) → set.short ≡ false → SameIf (MovesNoneOf map) p (shown_report r) → IfOk result (λ text. LongOver set map p (string_bytes text)) → IfOk result (λ text. ShowsOver set map r (string_bytes text))
+shows_long_if set map r p (Ok text) short same is = shows_long set map r p (string_bytes text) short same is
+shows_long_if set map r p (Err e) short same is = tt
+
+pub shows_short_if : {X : Type 0} (set : Setting) (map : Option Map) (r p : Report) (result : Result (String Global) X) → set.short ≡ true → SameIf (MovesNoneOf map) p (shown_report r) → IfOk result (λ text. string_bytes text ≡ short_page map p) → IfOk result (λ text. ShowsOver set map r (string_bytes text))
+shows_short_if set map r p (Ok text) short same is = shows_short set map r p (string_bytes text) short same is
+shows_short_if set map r p (Err e) short same is = tt
