@@ -6,11 +6,11 @@ use Rattle.std.proofs.lemmas.List.{length-map, take_all}
 use Rattle.jsx_base.specs.Files.{File}
 use Rattle.jsx_diag.specs.Data.{Text}
 use Rattle.jsx_emit.specs.Page.{Look}
-use Rattle.jsx_emit.specs.Layout.{ShownFile}
+use Rattle.jsx_draw.specs.Spots.{ShownFile}
 use Rattle.jsx_emit.specs.Shows.{rows_text}
-use Rattle.jsx_emit.specs.Drawn.{Sheet, bar_row, block, file_blocks, gap_before, line_blocks, other_file}
-use Rattle.jsx_emit.proofs.Loops.{flat_last}
-use Rattle.jsx_emit.proofs.Pages.{take_next}
+use Rattle.jsx_emit.specs.Sheets.{Sheet, bar_row, block, file_blocks, gap_before, line_blocks, other_file}
+use Rattle.jsx_draw.proofs.Loops.{flat_last}
+use Rattle.jsx_draw.proofs.Orders.{take_next}
 use Rattle.jsx_emit.proofs.Rows.{rows_text-append}
 
 pub blocks_are : (sheet : Sheet) (file : File) (line : ℕ) (more : List ℕ) → line_blocks sheet file (line ∷ more) ≡ block sheet (record { file = file; line = line }) ++ (gap_before sheet file line more ++ line_blocks sheet file more)

@@ -2,7 +2,7 @@
 use Rattle.std.proofs.Common.{◌≡◌, ℕ, ◌+◌, ◌<◌, List, [], ◌∷◌, ◌++◌, map, take, length, get_or, refl, ap, sym, subst, ◌∙◌, append_assoc, append-nil}
 use Rattle.jsx_diag.specs.Data.{Text}
 use Rattle.jsx_emit.specs.Shows.{Each}
-use Rattle.jsx_emit.proofs.Pages.{take_next}
+use Rattle.jsx_draw.proofs.Orders.{take_next}
 
 pub each_more : {X : Type 0} (P : X → Text → Type 0) (xs : List X) (x : X) (text part : Text) → Each P xs text → P x part → Each P (xs ++ x ∷ []) (text ++ part)
 each_more P [] x text part is stands = (part, [], ap (λ z. z ++ part) is ∙ sym (append-nil part), stands, refl)

@@ -7,7 +7,8 @@ use Rattle.jsx_base.specs.Files.{File, Place}
 use Rattle.jsx_diag.specs.declared.level.Level.TheVariants.{Bug, Error, Warning, Note, Cancelled, FailureNote}
 use Rattle.jsx_diag.specs.declared.level.Applicability.TheVariants.{Unspecified}
 use Rattle.jsx_diag.specs.Data.{Text, ErrorCode, LintCode, Suggestion}
-use Rattle.jsx_emit.specs.Layout.{header, Spot, spot_lines, shown_lines, placed, may_mark, note_lines, words_from, trimmed, inline}
+use Rattle.jsx_emit.specs.Layout.{header, placed, may_mark, note_lines, words_from, trimmed, inline}
+use Rattle.jsx_draw.specs.Spots.{Spot, spot_lines, shown_lines}
 
 -- ---- headers
 

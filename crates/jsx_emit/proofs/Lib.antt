@@ -1,16 +1,10 @@
-pub mod Grids
 pub mod Moves
-pub mod Orders
 pub mod Cells
 pub mod Painting
 pub mod Standing
-pub mod Drawing
-pub mod Grown
 pub mod Reaches
 pub mod Told
 pub mod ToldSingle
-pub mod Loops
-pub mod FilesPut
 pub mod Blocks
 pub mod Part
 pub mod LineRows
@@ -29,9 +23,9 @@ pub mod Short
 pub mod Rows
 pub mod Sources
 pub mod Whole
+pub mod Marks
 pub mod Ways
 pub mod Width
-mod GridExamples
 mod PageExamples
 mod LayoutExamples
 mod ShowsExamples

@@ -13,8 +13,9 @@ use Rattle.jsx_base.specs.SpanPlaces.{span_file}
 use Rattle.jsx_diag.specs.declared.level.Level.{Level}
 use Rattle.jsx_diag.specs.Level.{is_failure_level}
 use Rattle.jsx_diag.specs.Data.{Text, Code, Child, Report, Suggestion}
-use Rattle.jsx_emit.specs.Page.{Look, Reach, is_error, message_text, number_width, own_width, page_text, reach_in, sole_label, sole_span, spaced, told, told_at, told_in, told_of}
-use Rattle.jsx_emit.specs.Layout.{apart, end_line, greatest, header, held_in, inline, is_dummy, labelled_with, last_line_of, pointed, spot_in}
+use Rattle.jsx_emit.specs.Page.{Look, is_error, message_text, number_width, own_width, page_text, sole_label, sole_span, spaced, told, told_at, told_in, told_of}
+use Rattle.jsx_draw.specs.Spots.{Reach, reach_in, greatest, held_in, is_dummy, spot_in}
+use Rattle.jsx_emit.specs.Layout.{apart, end_line, header, inline, labelled_with, last_line_of, pointed}
 use Rattle.jsx_emit.specs.Shows.{Map, Setting, Each, Headed, IsTold, Long, NotePart, OwnPart, SuggestionPart, before_notes, look_of, report_width}
 use Rattle.jsx_diag.specs.declared.level.Level.TheVariants as level
 use Rattle.jsx_emit.specs.Texts.{last_line_over}

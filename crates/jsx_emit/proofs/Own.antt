@@ -11,10 +11,12 @@ use Rattle.jsx_diag.specs.declared.level.Level.{Level}
 use Rattle.jsx_diag.specs.declared.message.Message.{Message}
 use Rattle.jsx_diag.specs.Data.{Text, code_of, piece_of}
 use Rattle.jsx_emit.specs.Page.{Look, message_text, place_line, spaced}
-use Rattle.jsx_emit.specs.Layout.{ShownFile, Spot, by_lines, greatest, header, is_single, primary_first, primary_place, shown_files, spots, spots_put}
+use Rattle.jsx_draw.specs.Spots.{ShownFile, Spot, by_lines, greatest, is_single, primary_first, primary_place, shown_files, spots, spots_put}
+use Rattle.jsx_emit.specs.Layout.{header}
 use Rattle.jsx_emit.specs.Parts.{PlaceIsText}
 use Rattle.jsx_emit.specs.Shows.{OwnPart, rows_text}
-use Rattle.jsx_emit.specs.Drawn.{RowsOf, Sheet, SheetFor, SpanRows, Wide, file_blocks, place_blocks}
+use Rattle.jsx_emit.specs.Sheets.{RowsOf, Sheet, SheetFor, SpanRows, file_blocks, place_blocks}
+use Rattle.jsx_draw.specs.Drawn.{Wide}
 use Rattle.jsx_emit.proofs.Blocks.{added_both}
 use Rattle.jsx_emit.proofs.Part.{behind_of, header_is_text, headed_rows}
 use Rattle.jsx_emit.proofs.Sole.{AllText, rows_told}

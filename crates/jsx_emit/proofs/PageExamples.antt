@@ -10,7 +10,8 @@ use Rattle.jsx_diag.specs.declared.level.Level.TheVariants.{Error, Warning}
 use Rattle.jsx_diag.specs.declared.level.Style.TheVariants.{NoStyle}
 use Rattle.jsx_diag.specs.Data.{Text, Report, ErrorCode}
 use Rattle.std.specs.Option.{option_map}
-use Rattle.jsx_emit.specs.Page.{Look, Reach, page, page_text, told_of}
+use Rattle.jsx_emit.specs.Page.{Look, page, page_text, told_of}
+use Rattle.jsx_draw.specs.Spots.{Reach}
 
 plain : Look
 plain = record { ui_testing = false; skip_filename = false; offset_line = λ line. line }

@@ -1,5 +1,5 @@
 -- Texts that are added to a page.
-use Rattle.std.proofs.Common.{◌≡◌, ℕ, zero, suc, ◌<◌, ◌≤◌, ◌+◌, Bool, false, true, cond, nat_eq, List, [], ◌∷◌, ◌++◌, map, length, take, drop, get_or, refl, ap, sym, ◌∙◌, subst, arith, append_assoc, append-nil, add-one, take-suc, Option, Some, None}
+use Rattle.std.proofs.Common.{◌≡◌, ℕ, zero, suc, ◌<◌, ◌≤◌, ◌+◌, Bool, false, true, cond, nat_eq, List, [], ◌∷◌, ◌++◌, map, length, take, drop, get_or, refl, ap, sym, ◌∙◌, subst, arith, append_assoc, append-nil, Option, Some, None}
 use Rattle.std.specs.Prelude.{MatchOption, replicate, codes, string_bytes, Result, Ok, Err, OnOk, is_ok, if◌then◌else◌}
 use Rattle.std.specs.Borrow.{Bor}
 use Rattle.std.specs.declared.alloc.Global.{Global}
@@ -8,7 +8,7 @@ use Rattle.std.specs.List.{flat_map}
 use Rattle.std.specs.Str.{IsUtf8, chars, encode_utf8_all}
 use Rattle.std.proofs.lemmas.Bool.{ne_eqb}
 use Rattle.std.proofs.lemmas.Grind.{flat_map-append}
-use Rattle.std.proofs.lemmas.List.{length-append, map-append, length-drop, length-map, get_or-map, take_all}
+use Rattle.std.proofs.lemmas.List.{length-append, map-append, length-drop, length-map, take_all}
 use Rattle.std.proofs.lemmas.Str.{encode_ascii, encodes-append, encodes-chars, IsUtf8-past_char, IsUtf8-drop, IsCharBoundary-before_ascii}
 use Rattle.std.proofs.lemmas.Str.Pattern.{IsSplitOnceResult, split_parts, drop_at_char}
 use Rattle.jsx_base.specs.Lines.{before_first, lines}
@@ -16,8 +16,8 @@ use Rattle.jsx_diag.specs.declared.level.Level.{Level}
 use Rattle.jsx_diag.specs.declared.level.Level.TheVariants as level
 use Rattle.jsx_diag.specs.Level.{shown_text}
 use Rattle.jsx_diag.specs.Data.{Text, Piece}
-use Rattle.jsx_emit.specs.declared.styled_buffer.StyledString.{StyledString}
-use Rattle.jsx_emit.specs.Grid.{Cell, Grid, Run, add_cell, add_cells, run_of, run_of_cell, same_style, shown_cell, shown_row, shown_runs}
+use Rattle.jsx_draw.specs.declared.styled_buffer.StyledString.{StyledString}
+use Rattle.jsx_draw.specs.Grid.{Cell, Grid, Run, add_cell, add_cells, run_of, run_of_cell, same_style, shown_cell, shown_row, shown_runs}
 use Rattle.jsx_emit.specs.Page.{blanks, spaced, message_text, page_text}
 use Rattle.jsx_emit.specs.Layout.{before_all, colon, indented, note_lines}
 use Rattle.jsx_emit.specs.Shows.{rows_text}
@@ -105,10 +105,6 @@ message_more done piece old text new before is =
     ∙ ap (λ z. z ++ spaced piece.text) before
     ∙ append_assoc old (spaced (message_text done)) (spaced piece.text)
     ∙ ap (λ z. old ++ z) (sym (spaced-append (message_text done) piece.text) ∙ ap spaced (sym (flat_map-append (λ (it : Piece). it.text) done (piece ∷ []) ∙ ap (λ z. message_text done ++ z) (append-nil piece.text))))
-
--- one element more of what a loop has gone over
-pub take_next : {X Y : Type 0} (f : X → Y) (xs : List X) (i : ℕ) (x : X) → i < length xs → x ≡ get_or xs i x → take (i + 1) (map f xs) ≡ take i (map f xs) ++ f x ∷ []
-take_next f xs i x within at = rw add-one (take-suc (map f xs) i (f x) (rw (length-map xs f) within) ∙ ap (λ y. take i (map f xs) ++ y ∷ []) (get_or-map f xs i x (f x) within ∙ ap f (sym at)))
 
 -- ---- rows
 

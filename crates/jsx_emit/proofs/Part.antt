@@ -14,9 +14,11 @@ use Rattle.jsx_diag.specs.declared.message.Message.{Message}
 use Rattle.jsx_diag.specs.Level.{shown_text}
 use Rattle.jsx_diag.specs.Data.{Text, code_of, piece_of}
 use Rattle.jsx_emit.specs.Page.{Look, message_text, place_line, spaced}
-use Rattle.jsx_emit.specs.Layout.{ShownFile, Spot, by_lines, code_text, colon, greatest, header, is_single, primary_first, shown_files, spots}
+use Rattle.jsx_draw.specs.Spots.{ShownFile, Spot, by_lines, greatest, is_single, primary_first, shown_files, spots}
+use Rattle.jsx_emit.specs.Layout.{code_text, colon, header}
 use Rattle.jsx_emit.specs.Shows.{Behind, Stand, rows_text}
-use Rattle.jsx_emit.specs.Drawn.{RowsOf, Sheet, SheetFor, Wide, file_blocks}
+use Rattle.jsx_emit.specs.Sheets.{RowsOf, Sheet, SheetFor, file_blocks}
+use Rattle.jsx_draw.specs.Drawn.{Wide}
 use Rattle.jsx_emit.proofs.Rows.{spaced_text}
 use Rattle.jsx_emit.proofs.Standing.{PlainIf, lines_of_files, look_with, stand_files}
 

@@ -7,7 +7,7 @@ use Rattle.jsx_base.specs.Lines.{before_first, columns_of, display_col_of, last_
 use Rattle.jsx_base.specs.Files.{File, front_at}
 use Rattle.jsx_base.specs.SpanPlaces.{high, low}
 use Rattle.jsx_base.proofs.Between.{front_longer}
-use Rattle.jsx_emit.specs.Page.{reach_in}
+use Rattle.jsx_draw.specs.Spots.{reach_in}
 
 -- ---- lines of a longer text
 

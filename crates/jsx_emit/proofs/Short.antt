@@ -6,7 +6,8 @@ use Rattle.jsx_base.specs.Files.{Place}
 use Rattle.jsx_base.specs.SpanPlaces.{shown}
 use Rattle.jsx_diag.specs.Data.{Text, Report}
 use Rattle.jsx_emit.specs.Page.{spaced, message_text}
-use Rattle.jsx_emit.specs.Layout.{header, place_before, primary_place}
+use Rattle.jsx_emit.specs.Layout.{header, place_before}
+use Rattle.jsx_draw.specs.Spots.{primary_place}
 use Rattle.jsx_emit.specs.Shows.{Map}
 use Rattle.jsx_emit.specs.Texts.{before_header, before_place, short_page, whole_look}
 use Rattle.jsx_emit.proofs.Pages.{spaced-append}

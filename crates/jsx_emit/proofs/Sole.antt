@@ -14,10 +14,12 @@ use Rattle.jsx_base.specs.SpanPlaces.{low, span_file}
 use Rattle.jsx_diag.specs.declared.level.Level.{Level}
 use Rattle.jsx_diag.specs.declared.level.Level.TheVariants as level
 use Rattle.jsx_diag.specs.Data.{Text, Code}
-use Rattle.jsx_emit.specs.Page.{Look, Reach, blanks, error_lines, has_end, one_line, page_text, place_line, reach_in, several_lines, sole_label, sole_span, span_lines, told, told_at, told_in}
-use Rattle.jsx_emit.specs.Layout.{ShownFile, Spot, by_lines, greatest, header, held_in, is_dummy, is_single, lines_put, primary_first, primary_in, primary_place, shown_files, spot_in, spot_lines, spots, spots_put}
+use Rattle.jsx_emit.specs.Page.{Look, blanks, error_lines, has_end, one_line, page_text, place_line, several_lines, sole_label, sole_span, span_lines, told, told_at, told_in}
+use Rattle.jsx_draw.specs.Spots.{Reach, reach_in, ShownFile, Spot, by_lines, greatest, held_in, is_dummy, is_single, lines_put, primary_first, primary_in, primary_place, shown_files, spot_in, spot_lines, spots, spots_put}
+use Rattle.jsx_emit.specs.Layout.{header}
 use Rattle.jsx_emit.specs.Shows.{IsTold, rows_text}
-use Rattle.jsx_emit.specs.Drawn.{RowsOf, Sheet, SheetFor, Wide, bar_row, line_blocks, place_blocks}
+use Rattle.jsx_emit.specs.Sheets.{RowsOf, Sheet, SheetFor, bar_row, line_blocks, place_blocks}
+use Rattle.jsx_draw.specs.Drawn.{Wide}
 use Rattle.jsx_emit.specs.Parts.{PlaceIsText}
 use Rattle.jsx_emit.proofs.Part.{plain}
 use Rattle.jsx_emit.proofs.Reaches.{columns_rise, lines_rise}

@@ -4,10 +4,10 @@ use Rattle.std.specs.Prelude.{Result, Ok, Err, OnOk}
 use Rattle.std.proofs.lemmas.List.{map-append}
 use Rattle.jsx_diag.specs.declared.level.Style.{Style}
 use Rattle.jsx_diag.specs.Data.{Text}
-use Rattle.jsx_emit.specs.Grid.{Cell, Grid, change_at, change_row, in_style, padded, put, put_all, put_behind, put_cell, put_text}
+use Rattle.jsx_draw.specs.Grid.{Cell, Grid, change_at, change_row, in_style, padded, put, put_all, put_behind, put_cell, put_text}
 use Rattle.jsx_emit.specs.Shows.{rows_text}
 use Rattle.jsx_emit.specs.Texts.{AddsRows, grid_chars, row_chars}
-use Rattle.jsx_emit.proofs.Grids.{extended_none, put_behind_end}
+use Rattle.jsx_draw.proofs.Grids.{extended_none, put_behind_end}
 
 pub put_end : (row : List Cell) (cell : Cell) → put (length row) cell row ≡ row ++ cell ∷ []
 put_end row cell =

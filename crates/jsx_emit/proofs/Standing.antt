@@ -3,12 +3,13 @@ use Rattle.std.proofs.Common.{◌≡◌, ℕ, Bool, not, ◌||◌, cond, nat_eq,
 use Rattle.std.specs.Prelude.{IsTrue}
 use Rattle.std.specs.List.{flat_map, list_all}
 use Rattle.jsx_base.specs.Files.{File}
-use Rattle.jsx_emit.specs.Annotation.{Mark, is_side}
+use Rattle.jsx_draw.specs.Annotation.{Mark, is_side}
 use Rattle.jsx_emit.specs.Page.{Look, line_chars}
-use Rattle.jsx_emit.specs.Layout.{ShownFile, ShownLine, Spot, is_single}
-use Rattle.jsx_emit.specs.Shows.{Marked, MarkedAt, Stand, at_line}
+use Rattle.jsx_draw.specs.Spots.{ShownFile, ShownLine, Spot, is_single, at_line}
+use Rattle.jsx_emit.specs.Shows.{Marked, MarkedAt, Stand}
 use Rattle.jsx_emit.specs.Texts.{grid_chars}
-use Rattle.jsx_emit.specs.Drawn.{Sheet, bar_row, bars_to, block, file_blocks, first_place, gap, gutter, line_blocks, line_row, marks_in, other_file, single_mark, slash_in, under_rows}
+use Rattle.jsx_emit.specs.Sheets.{Sheet, bar_row, block, file_blocks, first_place, gap, gutter, line_blocks, line_row, other_file, slash_in, under_rows}
+use Rattle.jsx_draw.specs.Drawn.{bars_to, marks_in, single_mark}
 use Rattle.jsx_emit.proofs.Painting.{marked, plain_under}
 
 -- what all lines are drawn by where each span lies on one line

@@ -6,13 +6,13 @@ use Rattle.std.proofs.lemmas.Bool.Decides.{nat_tests}
 use Rattle.std.proofs.lemmas.Str.{chars-nil, encodes-append, encodes-chars}
 use Rattle.jsx_diag.specs.declared.level.Style.{Style}
 use Rattle.jsx_diag.specs.Data.{Text}
-use Rattle.jsx_emit.specs.Annotation.{Mark, has_text}
-use Rattle.jsx_emit.specs.Grid.{Cell, blank, in_style, put_text}
-use Rattle.jsx_emit.specs.Page.{Look, Reach, blanks, label_text, line_chars, mark_end, one_line}
-use Rattle.jsx_emit.specs.Layout.{ShownLine, Spot, label_bytes}
-use Rattle.jsx_emit.specs.Shows.{at_line}
+use Rattle.jsx_draw.specs.Annotation.{Mark, has_text}
+use Rattle.jsx_draw.specs.Grid.{Cell, blank, in_style, put_text}
+use Rattle.jsx_emit.specs.Page.{Look, blanks, label_text, line_chars, one_line}
+use Rattle.jsx_draw.specs.Spots.{Reach, mark_end, ShownLine, Spot, label_bytes, at_line}
 use Rattle.jsx_emit.specs.Texts.{grid_chars, row_chars}
-use Rattle.jsx_emit.specs.Drawn.{Sheet, across, block, frame, gutter, label_style, laid_out, line_row, mark_row, marked_rows, marks_in, number_in, single_mark, under_line, underline}
+use Rattle.jsx_emit.specs.Sheets.{Sheet, block, gutter, line_row, marked_rows, number_in}
+use Rattle.jsx_draw.specs.Drawn.{across, frame, label_style, laid_out, mark_row, marks_in, single_mark, under_line, underline}
 use Rattle.jsx_emit.proofs.Children.{and_false}
 use Rattle.jsx_emit.proofs.Painting.{plain_columns, same_number}
 use Rattle.jsx_emit.proofs.Told.{Plain, bare_row, base, chars_again, chars_both, frame_one, labelled_row, line_encoded, plain_again, plain_both, plain_first, plain_mark}

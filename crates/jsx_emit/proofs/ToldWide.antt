@@ -6,9 +6,9 @@ use Rattle.std.specs.List.{list_all, range_with_len}
 use Rattle.std.specs.Str.{chars, encode_utf8_all}
 use Rattle.std.proofs.lemmas.List.{map-append}
 use Rattle.jsx_diag.specs.Data.{Text}
-use Rattle.jsx_emit.specs.Page.{Look, Reach, begin_lines, behind, blanks, gap_line, label_text, later_line, later_lines, line_chars, number, several_lines}
-use Rattle.jsx_emit.specs.Layout.{Spot, label_bytes, lines_put, spot_lines}
-use Rattle.jsx_emit.specs.Drawn.{gutter, line_blocks, number_in}
+use Rattle.jsx_emit.specs.Page.{Look, begin_lines, behind, blanks, gap_line, label_text, later_line, later_lines, line_chars, number, several_lines}
+use Rattle.jsx_draw.specs.Spots.{Reach, Spot, label_bytes, lines_put, spot_lines}
+use Rattle.jsx_emit.specs.Sheets.{gutter, line_blocks, number_in}
 use Rattle.jsx_emit.proofs.Told.{Plain, line_encoded, plain_again, plain_both, plain_first}
 use Rattle.jsx_emit.proofs.ToldSingle.{IsLabel, behind_mark, label_encoded, row_encoded}
 use Rattle.jsx_emit.proofs.WideBlocks.{inner, last_row, wide_blocks}

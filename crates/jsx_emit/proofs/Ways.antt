@@ -21,7 +21,7 @@ use Rattle.std.specs.Prelude.{codes}
 use Rattle.std.specs.Str.{chars}
 use Rattle.jsx_emit.specs.Shows.{EndWith, SuggestionPart, first_of, in_turn, rows_text, shown_texts, shown_texts_lines, text_of}
 use Rattle.jsx_emit.specs.Texts.{AddsRows, Helps, way_edits, way_text}
-use Rattle.jsx_emit.proofs.Pages.{take_next}
+use Rattle.jsx_draw.proofs.Orders.{take_next}
 use Rattle.jsx_emit.proofs.Rows.{adds_then, end_behind, rows_text-append}
 
 -- ---- parts that don't overlap

@@ -6,11 +6,10 @@ use Rattle.std.proofs.lemmas.Bool.Decides.{nat_tests}
 use Rattle.std.proofs.lemmas.List.{map-append}
 use Rattle.jsx_base.specs.Files.{File}
 use Rattle.jsx_diag.specs.Data.{Text}
-use Rattle.jsx_emit.specs.Page.{Reach}
-use Rattle.jsx_emit.specs.Layout.{Spot, label_bytes, line_put, lines_put, spot_lines}
-use Rattle.jsx_emit.specs.Drawn.{block, gap, gap_before, line_blocks}
+use Rattle.jsx_draw.specs.Spots.{Reach, Spot, label_bytes, line_put, lines_put, spot_lines}
+use Rattle.jsx_emit.specs.Sheets.{block, gap, gap_before, line_blocks}
 use Rattle.jsx_emit.proofs.Blocks.{blocks_are}
-use Rattle.jsx_emit.proofs.Loops.{range_last}
+use Rattle.jsx_draw.proofs.Loops.{range_last}
 use Rattle.jsx_emit.proofs.WideRows.{begins, block_first, block_inner, block_last, dots, first_rows, gap_dots, gap_one, in_spot, is_less, last_under, no_gap, not_less, not_same, not_same_back, side, wide_sheet, wide_spot}
 
 -- ---- rising lines

@@ -11,12 +11,13 @@ use Rattle.jsx_base.specs.Files.{File}
 use Rattle.jsx_diag.specs.declared.level.Style.{Style}
 use Rattle.jsx_diag.specs.declared.level.Style.TheVariants as style
 use Rattle.jsx_diag.specs.Data.{Text}
-use Rattle.jsx_emit.specs.Annotation.{First, Last, Mark, Multi, first_mark, last_mark, side_mark}
-use Rattle.jsx_emit.specs.Grid.{Cell, Grid, blank, in_style, put, put_all, put_cell, put_text}
-use Rattle.jsx_emit.specs.Page.{Reach, blanks, line_chars}
-use Rattle.jsx_emit.specs.Layout.{ShownLine, Spot, label_bytes, spot_lines}
+use Rattle.jsx_draw.specs.Annotation.{First, Last, Mark, Multi, first_mark, last_mark, side_mark}
+use Rattle.jsx_draw.specs.Grid.{Cell, Grid, blank, in_style, put, put_all, put_cell, put_text}
+use Rattle.jsx_draw.specs.Spots.{Reach, ShownLine, Spot, label_bytes, spot_lines}
+use Rattle.jsx_emit.specs.Page.{blanks, line_chars}
 use Rattle.jsx_emit.specs.Texts.{grid_chars, row_chars}
-use Rattle.jsx_emit.specs.Drawn.{Columns, Sheet, Wide, across, bar_of, bars_past, bars_to, block, dots_row, draw_open, drawn, frame, gap, goes_past, goes_to, label_style, laid_out, line_row, marked_rows, marks_in, multi_of_wide, under_line, underline, wide_at, wide_marks}
+use Rattle.jsx_draw.specs.Drawn.{Columns, Wide, across, bar_of, bars_past, bars_to, draw_open, drawn, frame, goes_past, goes_to, label_style, laid_out, marks_in, multi_of_wide, under_line, underline, wide_at, wide_marks}
+use Rattle.jsx_emit.specs.Sheets.{Sheet, block, dots_row, gap, line_row, marked_rows}
 use Rattle.jsx_emit.proofs.Painting.{same_number}
 use Rattle.jsx_emit.proofs.Sources.{change_one}
 use Rattle.jsx_emit.proofs.Told.{all_past, bare_row, base, base_long, chars_again, chars_both, frame_one, one_mid, one_more, put_mid}

@@ -9,9 +9,10 @@ use Rattle.jsx_base.specs.Files.{File}
 use Rattle.jsx_base.specs.MultiSpan.{Label, label_data}
 use Rattle.jsx_diag.specs.declared.sub_diagnostic.SubDiagnostic.{SubDiagnostic}
 use Rattle.jsx_diag.specs.Data.{Child, child_of}
-use Rattle.jsx_emit.specs.Layout.{Spot, end_line, greatest, held_in, spot_in}
+use Rattle.jsx_draw.specs.Spots.{Spot, greatest, held_in, spot_in}
+use Rattle.jsx_emit.specs.Layout.{end_line}
 use Rattle.jsx_emit.specs.Texts.{end_in}
-use Rattle.jsx_emit.proofs.Pages.{take_next}
+use Rattle.jsx_draw.proofs.Orders.{take_next}
 
 max_assoc : (a b c : ℕ) → max a (max b c) ≡ max (max a b) c
 max_assoc a b c = omega arith

@@ -1,10 +1,9 @@
-pub mod Annotation
-pub mod Grid
 pub mod Page
 pub mod Layout
 pub mod Shows
 pub mod Texts
-pub mod Drawn
+pub mod Sheets
 pub mod Views
 pub mod Writer
 pub mod Parts
+pub mod Marks

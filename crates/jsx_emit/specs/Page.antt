@@ -5,27 +5,20 @@ use Rattle.std.specs.List.{flat_map, list_all, list_any, range_with_len}
 use Rattle.std.specs.Option.{unwrap_or, is_none, option_map}
 use Rattle.std.specs.Str.{encode_utf8_all}
 use Rattle.jsx_base.specs.declared.place.Span.{Span}
-use Rattle.jsx_base.specs.Files.{File, Place, place_in}
+use Rattle.jsx_base.specs.Files.{File, Place}
 use Rattle.jsx_base.specs.Lines.{lines}
 use Rattle.jsx_base.specs.MultiSpan.{Spans, is_span}
-use Rattle.jsx_base.specs.SpanPlaces.{low, high, span_file, shown}
+use Rattle.jsx_base.specs.SpanPlaces.{span_file, shown}
 use Rattle.jsx_diag.specs.declared.level.Level.{Level}
 use Rattle.jsx_diag.specs.declared.level.Level.TheVariants as level
 use Rattle.jsx_diag.specs.Data.{Text, Piece, Code, Report}
+use Rattle.jsx_draw.specs.Spots.{Reach, reach_in, mark_end}
 
 -- how pages are made: whether numbers of lines and places are left out, and which number is shown for a line
 pub record Look : Type 0 where
   pub ui_testing : Bool
   pub skip_filename : Bool
   pub offset_line : ℕ → ℕ
-
--- the first and the last place of a span
-pub record Reach : Type 0 where
-  pub first : Place
-  pub last : Place
-
-abbrev pub reach_in : File → Span → Reach
-reach_in file sp = record { first = place_in (low sp) file; last = place_in (high sp) file }
 
 -- ---- parts of lines
 
@@ -63,10 +56,6 @@ label_text (Some text) = 32 ∷ text
 abbrev pub place_line : Look → ℕ → Place → Text
 place_line look w place =
     blanks w ++ cond look.skip_filename [] (codes "--> " ++ (shown place.file.name ++ (codes ":" ++ (decimal (look.offset_line place.line) ++ (codes ":" ++ decimal (place.col + 1))))))
-
--- the column behind the last one that is marked: a span of no width marks one
-abbrev pub mark_end : Reach → ℕ
-mark_end reach = cond (nat_eq reach.first.col_display reach.last.col_display) (reach.first.col_display + 1) reach.last.col_display
 
 -- a span on one line
 abbrev pub one_line : Look → ℕ → Reach → Option Text → List Text

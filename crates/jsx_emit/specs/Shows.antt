@@ -1,5 +1,5 @@
 -- When a text is a page of a report. What isn't said here of a page may be drawn in any way.
-use Rattle.std.specs.Prelude.{◌≡◌, ℕ, ◌+◌, List, [], ◌∷◌, ◌++◌, Option, Some, None, Bool, true, false, not, ◌&&◌, ◌||◌, cond, nat_eq, nat_le, length, map, take, filter, codes, IsTrue, IsFalse, slice_get, MatchOption}
+use Rattle.std.specs.Prelude.{◌≡◌, ℕ, ◌+◌, List, [], ◌∷◌, ◌++◌, Option, Some, None, Bool, true, false, not, ◌&&◌, ◌||◌, cond, nat_eq, nat_le, length, map, take, codes, IsTrue, IsFalse, slice_get, MatchOption}
 use Rattle.std.specs.Bool.{MatchBool}
 use Rattle.std.specs.List.{flat_map, list_all, range_with_len}
 use Rattle.std.specs.Option.{unwrap_or, is_none, option_map, option_eq}
@@ -14,7 +14,8 @@ use Rattle.jsx_diag.specs.Level.{is_failure_level}
 use Rattle.jsx_diag.specs.Data.{Text, Code, Edit, Suggestion, Child, Report}
 use Rattle.jsx_diag.specs.Splice.{by_start, Spliced, spliced, refusal}
 use Rattle.jsx_emit.specs.Page.{Look, blanks, number, number_width, line_chars, place_line, spaced, page_text, message_text, told, page}
-use Rattle.jsx_emit.specs.Layout.{header, place_before, Spot, spots, is_single, primary_place, ShownLine, shown_lines, last_line_of, Placed, placed, is_covered, may_mark, end_col, greatest, label_row, label_col, label_chars, may_be_hidden, has_no_span, note_lines, pointed, apart}
+use Rattle.jsx_emit.specs.Layout.{header, place_before, last_line_of, Placed, placed, is_covered, may_mark, label_row, label_col, label_chars, may_be_hidden, has_no_span, note_lines, pointed, apart}
+use Rattle.jsx_draw.specs.Spots.{Spot, spots, is_single, primary_place, ShownLine, shown_lines, end_col, greatest, at_line}
 
 -- the files, the span that stands for one that a macro made, and the line that stands for one of a documentation comment
 pub record Map : Type 0 where
@@ -45,10 +46,6 @@ cell_at rows row col = slice_get (unwrap_or (slice_get rows row) []) col
 pub record ShowsLine (look : Look) (w : ℕ) (it : ShownLine) (row : List ℕ) : Type 0 where
   pub gutter : List ℕ
   pub is : row ≡ number look w it.line ++ (codes " |" ++ (gutter ++ line_chars it.file it.line))
-
--- the spans of a line
-abbrev pub at_line : ShownLine → List Spot → List Spot
-at_line it spots = filter (λ spot. nat_eq spot.file.start it.file.start && nat_eq spot.reach.first.line it.line) spots
 
 abbrev pub is_some_of : (ℕ → Bool) → Option ℕ → Bool
 is_some_of test None = false

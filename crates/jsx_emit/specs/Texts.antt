@@ -9,13 +9,14 @@ use Rattle.jsx_base.specs.declared.place.Span.{Span}
 use Rattle.jsx_base.specs.Files.{File, Place, place_in}
 use Rattle.jsx_base.specs.Lines.{lines}
 use Rattle.jsx_base.specs.MultiSpan.{Spans}
-use Rattle.jsx_base.specs.SpanPlaces.{high, low, shown}
+use Rattle.jsx_base.specs.SpanPlaces.{high, shown}
 use Rattle.jsx_diag.specs.declared.suggestion.SubstitutionPart.{SubstitutionPart}
 use Rattle.jsx_diag.specs.declared.level.Level.{Level}
 use Rattle.jsx_diag.specs.Level.{shown_text}
 use Rattle.jsx_diag.specs.Data.{Text, Child, Edit, Report, edit_of}
-use Rattle.jsx_emit.specs.Grid.{Cell, Grid, Run}
-use Rattle.jsx_emit.specs.Layout.{apart, colon, last_line_of, pointed, primary_place}
+use Rattle.jsx_draw.specs.Grid.{Cell, Grid, Run}
+use Rattle.jsx_emit.specs.Layout.{apart, colon, last_line_of, pointed}
+use Rattle.jsx_draw.specs.Spots.{primary_place}
 use Rattle.jsx_emit.specs.Page.{Look, blanks, spaced}
 use Rattle.jsx_emit.specs.Shows.{EndWith, Map, first_of, id_line, rows_text, short_text}
 
@@ -58,10 +59,6 @@ before_note w level = blanks (w + 1) ++ (codes "= " ++ (shown_text level ++ colo
 -- `name:line:column`, where a line is shown as another
 abbrev pub place_text : (ℕ → ℕ) → Place → Text
 place_text offset_line place = shown place.file.name ++ (codes ":" ++ (decimal (offset_line place.line) ++ (codes ":" ++ decimal (place.col + 1))))
-
--- the ends of a span in a file
-abbrev pub ends_in : Span → File → Place × Place
-ends_in sp file = (place_in (low sp) file, place_in (high sp) file)
 
 -- a place before a header, if there is one
 abbrev pub before_place : (ℕ → ℕ) → Option Place → Text

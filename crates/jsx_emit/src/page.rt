@@ -6,17 +6,12 @@ ghost use Rattle.jsx_diag.specs.Data.{report_of};
 ghost use Rattle.jsx_emit.specs.Shows.{Shows};
 
 mod children;
-mod draw;
-mod files;
 mod header;
 mod labels;
-mod layout;
 mod lines;
 mod long;
-mod marks;
 mod notes;
 mod numbers;
-mod order;
 mod part;
 mod part_marks;
 mod places;
@@ -24,10 +19,8 @@ mod prepared;
 mod rows;
 mod short;
 mod sources;
-mod spots;
 mod suggestions;
 mod ways;
-mod wides;
 mod width;
 
 use crate::page::long::long_text;

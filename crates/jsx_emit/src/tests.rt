@@ -1,7 +1,10 @@
 //! Each call with ample memory.
 
-mod annotations;
+mod bad_input;
+mod cases;
 mod edges;
-mod grids;
+mod many;
+mod mappers;
 mod pages;
-mod parts;
+mod sinks;
+mod suggestions;

@@ -3,27 +3,27 @@
 ghost use Rattle.std.specs.Prelude.{◌≡◌, ◌++◌, ◌∷◌, [], cond, map, take, codes, nat_eq, IfOk, MatchOption, OnOk, string_bytes};
 ghost use Rattle.std.specs.List.{list_all};
 ghost use Rattle.std.specs.Str.{chars};
-ghost use Rattle.jsx_emit.specs.Annotation.{is_side, mark_of};
-ghost use Rattle.jsx_emit.specs.Drawn.{bar_cell, bar_cells, bars_past, block, columns_in, dots_row, gap, gap_before, gutter, line_blocks, line_row, marked_rows, number_in, slash_in, under_rows};
+ghost use Rattle.jsx_draw.specs.Annotation.{is_side, mark_of};
+ghost use Rattle.jsx_emit.specs.Sheets.{bar_cell, bar_cells, block, columns_in, dots_row, gap, gap_before, gutter, line_blocks, line_row, marked_rows, number_in, slash_in, under_rows};
+ghost use Rattle.jsx_draw.specs.Drawn.{bars_past};
 ghost use Rattle.jsx_base.specs.SourceFile.{shared_file};
 ghost use Rattle.std.specs.Char.{is_whitespace};
-ghost use Rattle.jsx_emit.specs.Layout.{greatest};
+ghost use Rattle.jsx_draw.specs.Spots.{greatest};
 ghost use Rattle.jsx_emit.specs.Page.{line_chars};
 ghost use Rattle.jsx_emit.specs.Shows.{rows_text};
-ghost use Rattle.jsx_emit.specs.Views.{columns_of, sheet_of, shown_line};
+ghost use Rattle.jsx_draw.specs.Views.{columns_of, shown_line};
+ghost use Rattle.jsx_emit.specs.Views.{sheet_of};
 
 use crate::page::Look;
-use crate::page::draw::{Columns, draw_open, under_line};
 use crate::page::labels::first;
-use crate::page::layout::lay_out;
-use crate::page::marks::{At, bars_past, bars_to, marks_in};
-use crate::page::numbers::{number, sum};
+use crate::page::numbers::number;
 use crate::page::rows::{push_blanks, push_rows};
-use crate::page::spots::Spot;
 use crate::page::suggestions::push_row;
-use crate::page::wides::Wide;
-use crate::{Annotation, AnnotationType, StyledBuffer};
 use jsx_base::SourceFile;
+use jsx_draw::{
+    Annotation, AnnotationType, At, Columns, Spot, StyledBuffer, Wide, bars_past, bars_to,
+    draw_open, lay_out, marks_in, sum, under_line,
+};
 use jsx_report::Style;
 use std::alloc::{AllocError, Global};
 use std::rc::Rc;

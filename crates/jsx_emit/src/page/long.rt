@@ -3,7 +3,6 @@
 ghost use Rattle.std.specs.Prelude.{◌≡◌, ◌++◌, None, map, cond, codes, IfOk, OnOk, string_bytes};
 ghost use Rattle.std.specs.Option.{option_map};
 ghost use Rattle.jsx_diag.specs.Data.{Text, child_of, report_of};
-ghost use Rattle.jsx_diag.specs.Level.{is_failure_level};
 ghost use Rattle.jsx_emit.specs.Parts.{BeginsWith, LongOver, OwnOver, StartsWith, separator};
 ghost use Rattle.jsx_emit.specs.Shows.{Headed};
 

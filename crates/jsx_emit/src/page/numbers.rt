@@ -60,13 +60,3 @@ fn digits(alloc: Global, n: usize) -> Result<usize, AllocError>
     let digits = format!(in alloc; "{n}")?;
     Ok(digits.len())
 }
-
-/// A sum, where it fits.
-pub(super) fn sum(a: usize, b: usize) -> Result<usize, AllocError>
-    ensures { IfOk result (λ n. n ≡ a + b) }
-{
-    match a.checked_add(b) {
-        Some(n) => Ok(n),
-        None => Err(AllocError),
-    }
-}

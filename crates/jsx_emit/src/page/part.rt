@@ -8,27 +8,27 @@ ghost use Rattle.jsx_base.specs.Locs.{loc_data};
 ghost use Rattle.jsx_base.specs.MultiSpan.{spans_of};
 ghost use Rattle.jsx_base.specs.SourceFile.{shared_file};
 ghost use Rattle.jsx_diag.specs.Data.{code_of, piece_of};
-ghost use Rattle.jsx_emit.specs.Annotation.{mark_of};
-ghost use Rattle.jsx_emit.specs.Drawn.{SpanRows, bar_row, file_blocks, first_col, first_place, other_file};
-ghost use Rattle.jsx_emit.specs.Layout.{header as header_text, primary_place};
+ghost use Rattle.jsx_draw.specs.Annotation.{mark_of};
+ghost use Rattle.jsx_emit.specs.Sheets.{SpanRows, bar_row, file_blocks, first_col, first_place, other_file};
+ghost use Rattle.jsx_emit.specs.Layout.{header as header_text};
+ghost use Rattle.jsx_draw.specs.Spots.{primary_place};
 ghost use Rattle.jsx_emit.specs.Page.{message_text, place_line};
 ghost use Rattle.jsx_emit.specs.Parts.{BeginsWith, PartOver, PlaceIsText};
 ghost use Rattle.jsx_emit.specs.Shows.{rows_text};
-ghost use Rattle.jsx_emit.specs.Views.{sheet_of, shown_file};
+ghost use Rattle.jsx_emit.specs.Views.{sheet_of};
+ghost use Rattle.jsx_draw.specs.Views.{shown_file};
 
-use crate::Annotation;
 use crate::page::Look;
-use crate::page::files::{ShownFile, files_of, put_first};
 use crate::page::header::push_header;
 use crate::page::lines::{Sheet, push_lines};
-use crate::page::marks::{At, marks_in};
-use crate::page::numbers::sum;
-use crate::page::places::{place_of, shown_place};
+use crate::page::places::shown_place;
 use crate::page::rows::push_blanks;
-use crate::page::spots::{by_lines, singles, spots_of};
 use crate::page::suggestions::push_row;
-use crate::page::wides::{depth_of, wides_of};
 use jsx_base::{Loc, MultiSpan, SourceMapper};
+use jsx_draw::{
+    Annotation, At, ShownFile, by_lines, depth_of, files_of, marks_in, place_of, put_first,
+    singles, spots_of, sum, wides_of,
+};
 use jsx_report::{DiagnosticId, Level, Message};
 use std::alloc::{AllocError, Global};
 

@@ -1,12 +1,19 @@
 //! Marks under what a suggestion puts in.
 
-ghost use Rattle.std.specs.Prelude.{[], OnOk, string_bytes};
-ghost use Rattle.jsx_emit.specs.Texts.{AddsRows};
+ghost use Rattle.std.specs.Prelude.{◌≡◌, ◌+◌, ◌-◌, ◌++◌, ◌∷◌, [], map, length, IfOk, MatchOption, OnOk, string_bytes};
+ghost use Rattle.std.specs.List.{sum_by};
+ghost use Rattle.std.specs.Str.{chars};
+ghost use Rattle.jsx_base.specs.Lines.{columns_of};
+ghost use Rattle.jsx_diag.specs.Data.{edit_of};
+ghost use Rattle.jsx_emit.specs.Marks.{columns, columns_at, lead, mark_at, marks_of, marks_row, part_mark};
+ghost use Rattle.jsx_emit.specs.Shows.{rows_text};
+ghost use Rattle.jsx_emit.specs.Texts.{grid_chars};
 
-use crate::StyledBuffer;
+use crate::page::labels::first;
 use crate::page::rows::push_rows;
 use crate::page::suggestions::{high, low};
-use jsx_base::{BytePos, Loc, SourceMapper, Span};
+use jsx_base::{BytePos, SourceMapper, Span};
+use jsx_draw::{StyledBuffer, across, sum};
 use jsx_report::{Style, SubstitutionPart};
 use std::alloc::{AllocError, Global};
 use unicode_width::UnicodeWidthChar;
@@ -32,11 +39,11 @@ pub(super) fn push_marks<M: SourceMapper>(
     width: usize,
     parts: &[SubstitutionPart],
 ) -> Result<(), AllocError>
-    ensures { OnOk result (AddsRows [] (string_bytes text.old) (string_bytes text.new)) }
+    ensures { OnOk result (string_bytes text.new ≡ string_bytes text.old ++ rows_text (grid_chars (marks_row (M.files cm.now) width (map edit_of parts.now)))) }
 {
     let mut buffer = StyledBuffer::new(alloc);
-    buffer.puts(0, width.saturating_add(1), "| ", Style::LineNumber)?;
-    draw_parts(&mut buffer, cm, width.saturating_add(3), parts)?;
+    buffer.puts(0, sum(width, 1)?, "| ", Style::LineNumber)?;
+    draw_parts(&mut buffer, cm, sum(width, 3)?, parts)?;
     push_rows(text, &mut buffer)
 }
 
@@ -47,79 +54,108 @@ struct Moved {
     back: usize,
 }
 
-// Marks each part, moved by what earlier ones added.
+// Marks each part, moved by what earlier ones added, up to the first that is in no file.
 fn draw_parts<M: SourceMapper>(
     buffer: &mut StyledBuffer,
     cm: &M,
     code: usize,
     parts: &[SubstitutionPart],
-) -> Result<(), AllocError> {
+) -> Result<(), AllocError>
+    ensures { OnOk result (buffer.new ≡ marks_of (M.files cm.now) code 0 0 (map edit_of parts.now) buffer.old) }
+{
+    let mut left = parts;
     let mut moved = Moved { by: 0, back: 0 };
-    for part in parts {
-        let Some((first, last)) = ends(cm, part.span) else {
+    while let Some((part, more)) = left.split_first() {
+        let Some(ends) = ends(cm, part.span) else {
             return Ok(());
         };
-        let snippet = part.snippet.as_str();
-        let start = moved_to(first.saturating_add(lead(snippet)), moved);
-        draw_part(buffer, code.saturating_add(start), columns(snippet.trim()))?;
-        moved = Moved {
-            by: moved
-                .by
-                .saturating_add(columns(snippet))
-                .saturating_add(first),
-            back: moved.back.saturating_add(last),
-        };
+        moved = draw_part(buffer, code, moved, ends, part.snippet.as_str())?;
+        left = more;
     }
     Ok(())
 }
 
+// Marks a part, and answers how far later ones are moved.
+fn draw_part(
+    buffer: &mut StyledBuffer,
+    code: usize,
+    moved: Moved,
+    ends: (usize, usize),
+    snippet: &str,
+) -> Result<Moved, AllocError>
+    ensures marked { OnOk result (buffer.new ≡ part_mark code moved.by moved.back ends.0 snippet.now buffer.old) }
+    ensures by { IfOk result (λ next. next.by ≡ moved.by + columns snippet.now + ends.0) }
+    ensures back { IfOk result (λ next. next.back ≡ moved.back + ends.1) }
+{
+    let col = sum(code, moved_to(sum(ends.0, lead(snippet))?, moved)?)?;
+    draw_mark(buffer, col, columns(snippet.trim())?)?;
+    moved_by(moved, ends, snippet)
+}
+
+// How far later parts are moved.
+fn moved_by(moved: Moved, ends: (usize, usize), snippet: &str) -> Result<Moved, AllocError>
+    ensures by { IfOk result (λ next. next.by ≡ moved.by + columns snippet.now + ends.0) }
+    ensures back { IfOk result (λ next. next.back ≡ moved.back + ends.1) }
+{
+    let by = sum(moved.by, columns(snippet)?)?;
+    Ok(Moved {
+        by: sum(by, ends.0)?,
+        back: sum(moved.back, ends.1)?,
+    })
+}
+
 // The display columns at which a span begins and ends.
-fn ends<M: SourceMapper>(cm: &M, span: Span) -> Option<(usize, usize)> {
+fn ends<M: SourceMapper>(cm: &M, span: Span) -> Option<(usize, usize)>
+    ensures { result ≡ columns_at (M.files cm.now) span }
+{
     let first = cm.lookup_char_pos(BytePos(low(span)))?;
     let last = cm.lookup_char_pos(BytePos(high(span)))?;
     Some((first.col_display, last.col_display))
 }
 
 // Where a column is, once what stands before it has moved.
-fn moved_to(col: usize, moved: Moved) -> usize {
-    col.saturating_add(moved.by).saturating_sub(moved.back)
+fn moved_to(col: usize, moved: Moved) -> Result<usize, AllocError>
+    ensures { IfOk result (λ to. to ≡ col + moved.by - moved.back) }
+{
+    let to = sum(col, moved.by)?;
+    Ok(to.saturating_sub(moved.back))
 }
 
 // How many bytes of white space a text begins with.
-fn lead(snippet: &str) -> usize {
+fn lead(snippet: &str) -> usize
+    ensures { result ≡ lead snippet.now }
+{
     snippet.len() - snippet.trim_start().len()
 }
 
-// Marks the cells of a part, or the place of one that puts nothing in.
-fn draw_part(buffer: &mut StyledBuffer, start: usize, cells: usize) -> Result<(), AllocError> {
+// Marks some cells, or where there are none the cell before a place and the one at it.
+fn draw_mark(buffer: &mut StyledBuffer, col: usize, cells: usize) -> Result<(), AllocError>
+    ensures { OnOk result (buffer.new ≡ mark_at col cells buffer.old) }
+{
     if cells == 0 {
-        return draw_place(buffer, start);
+        buffer.putc(0, col.saturating_sub(1), '-', Style::UnderlineSecondary)?;
+        return buffer.putc(0, col, '-', Style::UnderlineSecondary);
     }
-    for col in start..start.saturating_add(cells) {
-        buffer.putc(0, col, '^', Style::UnderlinePrimary)?;
-    }
-    Ok(())
-}
-
-// Marks the cell before a place, and the one at it.
-fn draw_place(buffer: &mut StyledBuffer, start: usize) -> Result<(), AllocError> {
-    buffer.putc(0, start.saturating_sub(1), '-', Style::UnderlineSecondary)?;
-    buffer.putc(0, start, '-', Style::UnderlineSecondary)
+    let end = sum(col, cells)?;
+    across(buffer, 0, (col, end), ('^', Style::UnderlinePrimary))
 }
 
 // The display columns of a text.
-fn columns(text: &str) -> usize {
+fn columns(text: &str) -> Result<usize, AllocError>
+    ensures { IfOk result (λ n. n ≡ columns text.now) }
+{
+    let mut rest = text;
     let mut columns = 0_usize;
-    for c in text.chars() {
-        columns = columns.saturating_add(columns_of(c));
+    while let Some((c, behind)) = first(rest) {
+        columns = sum(columns, columns_of(c))?;
+        rest = behind;
     }
-    columns
+    Ok(columns)
 }
 
 // The display columns of a character: four of a tab.
-fn columns_of(c: char) -> usize {
-    if c == '\t' {
-        return 4;
-    }
-    c.width().unwrap_or(0)
+fn columns_of(c: char) -> usize
+    ensures { result ≡ columns_of c }
+{
+    if c == '\t' { 4 } else { c.width().unwrap_or(0) }
 }

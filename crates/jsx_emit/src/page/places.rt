@@ -6,9 +6,9 @@ ghost use Rattle.jsx_base.specs.FileName.{shown_name};
 ghost use Rattle.jsx_base.specs.Files.{Place};
 ghost use Rattle.jsx_base.specs.Locs.{loc_data};
 ghost use Rattle.jsx_base.specs.MultiSpan.{spans_of};
-ghost use Rattle.jsx_emit.specs.Layout.{held_in, primary_place};
+ghost use Rattle.jsx_draw.specs.Spots.{held_in, primary_place, ends_in};
 ghost use Rattle.jsx_emit.specs.Page.{spaced};
-ghost use Rattle.jsx_emit.specs.Texts.{ends_in, place_text};
+ghost use Rattle.jsx_emit.specs.Texts.{place_text};
 
 use crate::page::header::push_spaced;
 use jsx_base::{FileName, Loc, MultiSpan, SourceMapper, Span};
@@ -41,29 +41,4 @@ pub(super) fn shown_place(
     ensures { IfOk result (λ text. string_bytes text ≡ shown_name name.now ++ (codes ":" ++ (decimal line ++ (codes ":" ++ decimal col)))) }
 {
     format!(in alloc; "{name}:{line}:{col}")
-}
-
-/// Where the first primary span begins, if it is in a file.
-pub(super) fn place_of<'m, M: SourceMapper>(map: &'m M, spans: &MultiSpan) -> Option<Loc<'m>>
-    ensures { option_map loc_data result ≡ primary_place (M.files map.now) (spans_of spans.now).primary }
-{
-    let span = spans.primary_span()?;
-    let (first, _) = ends_of(map, span)?;
-    Some(first)
-}
-
-/// The ends of a span that is no dummy, in its file.
-pub(super) fn ends_of<'m, M: SourceMapper>(map: &'m M, span: Span) -> Option<(Loc<'m>, Loc<'m>)>
-    ensures { option_map {U = Place × Place} (λ it. (loc_data it.0, loc_data it.1)) result ≡ option_map (ends_in span) (held_in (M.files map.now) span) }
-{
-    if span.is_dummy() {
-        return None;
-    }
-    let in_order = Span::new(span.lo, span.hi);
-    let first = map.lookup_char_pos(in_order.lo)?;
-    if first.file.end_pos.0 < in_order.hi.0 {
-        return None;
-    }
-    let last = map.lookup_char_pos(in_order.hi)?;
-    Some((first, last))
 }

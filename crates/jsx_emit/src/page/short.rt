@@ -8,8 +8,9 @@ ghost use Rattle.jsx_emit.specs.Page.{spaced};
 ghost use Rattle.jsx_emit.specs.Texts.{before_header, short_page};
 
 use crate::page::header::push_header;
-use crate::page::places::{place_of, push_place};
+use crate::page::places::push_place;
 use jsx_base::{MultiSpan, SourceMapper};
+use jsx_draw::place_of;
 use jsx_report::Diagnostic;
 use std::alloc::{AllocError, Global};
 

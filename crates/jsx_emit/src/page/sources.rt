@@ -4,8 +4,8 @@ ghost use Rattle.std.specs.Prelude.{[], ◌∷◌, OnOk, string_bytes};
 ghost use Rattle.std.specs.Str.{chars};
 ghost use Rattle.jsx_emit.specs.Texts.{AddsRows};
 
-use crate::StyledBuffer;
 use crate::page::rows::push_rows;
+use jsx_draw::StyledBuffer;
 use jsx_report::Style;
 use std::alloc::{AllocError, Global};
 

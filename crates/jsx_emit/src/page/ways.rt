@@ -12,8 +12,9 @@ use crate::page::part_marks::{has_marks, push_marks};
 use crate::page::rows::{push_blanks, push_rows};
 use crate::page::sources::push_source;
 use crate::page::suggestions::{low, split_line};
-use crate::{MAX_HIGHLIGHT_LINES, MAX_SUGGESTIONS, StyledBuffer};
+use crate::{MAX_HIGHLIGHT_LINES, MAX_SUGGESTIONS};
 use jsx_base::{BytePos, SourceMapper};
+use jsx_draw::StyledBuffer;
 use jsx_report::{Style, SubstitutionPart};
 use std::alloc::{AllocError, Global};
 

@@ -3,11 +3,12 @@
 ghost use Rattle.std.specs.Prelude.{◌≡◌, map, IfOk};
 ghost use Rattle.jsx_base.specs.MultiSpan.{spans_of};
 ghost use Rattle.jsx_diag.specs.Data.{child_of};
-ghost use Rattle.jsx_emit.specs.Layout.{end_line, greatest, held_in, last_line_of};
+ghost use Rattle.jsx_emit.specs.Layout.{end_line, last_line_of};
+ghost use Rattle.jsx_draw.specs.Spots.{greatest, held_in};
 ghost use Rattle.jsx_emit.specs.Texts.{end_in};
 
-use crate::page::places::ends_of;
 use jsx_base::{MultiSpan, SourceMapper, Span};
+use jsx_draw::ends_of;
 use jsx_report::SubDiagnostic;
 use std::alloc::{AllocError, Global};
 

@@ -1,26 +1,17 @@
 //! Pages of one span at the edges: tabs, wide characters, empty lines, and spans without width.
 
-use crate::EmitterWriter;
-use jsx_base::{BytePos, FileName, Globals, MemSink, MultiSpan, SourceMap, Span};
-use jsx_report::{Diagnostic, Emitter, HandlerFlags, Level};
-use std::alloc::{AllocError, Global};
+use super::cases::{Case, Extra, Form, held};
+use jsx_report::Level;
 
-// A text, a message, a span from one byte to another, and the page.
-#[derive(Drop)]
-struct Case {
-    src: &'static str,
-    message: &'static str,
-    lo: u32,
-    hi: u32,
-    page: &'static str,
-}
-
-const CASES: [Case; 12] = [
+const EDGES: &[Case] = &[
+    // A tab is four cells.
     Case {
-        src: "\ta = b;",
+        files: ("\ta = b;", ""),
+        form: Form::Long,
+        level: Level::Error,
         message: "tab",
-        lo: 1,
-        hi: 2,
+        span: Some((1, 2)),
+        extras: &[],
         page: "error: tab
  --> x.js:1:2
   |
@@ -29,11 +20,14 @@ const CASES: [Case; 12] = [
 
 ",
     },
+    // A wide character is two cells.
     Case {
-        src: "世 = b;",
+        files: ("世 = b;", ""),
+        form: Form::Long,
+        level: Level::Error,
         message: "wide",
-        lo: 6,
-        hi: 7,
+        span: Some((6, 7)),
+        extras: &[],
         page: "error: wide
  --> x.js:1:5
   |
@@ -42,11 +36,14 @@ const CASES: [Case; 12] = [
 
 ",
     },
+    // A combining character is none.
     Case {
-        src: "e\u{301} = b;",
+        files: ("e\u{301} = b;", ""),
+        form: Form::Long,
+        level: Level::Error,
         message: "combining",
-        lo: 6,
-        hi: 7,
+        span: Some((6, 7)),
+        extras: &[],
         page: "error: combining
  --> x.js:1:6
   |
@@ -55,11 +52,14 @@ const CASES: [Case; 12] = [
 
 ",
     },
+    // An empty line has no blank behind its bar.
     Case {
-        src: "f(\n\nb);",
+        files: ("f(\n\nb);", ""),
+        form: Form::Long,
+        level: Level::Error,
         message: "an empty line",
-        lo: 0,
-        hi: 6,
+        span: Some((0, 6)),
+        extras: &[],
         page: "error: an empty line
  --> x.js:1:1
   |
@@ -70,11 +70,14 @@ const CASES: [Case; 12] = [
 
 ",
     },
+    // A span of no width has one caret.
     Case {
-        src: "a = b;",
+        files: ("a = b;", ""),
+        form: Form::Long,
+        level: Level::Error,
         message: "no width",
-        lo: 4,
-        hi: 4,
+        span: Some((4, 4)),
+        extras: &[],
         page: "error: no width
  --> x.js:1:5
   |
@@ -83,11 +86,14 @@ const CASES: [Case; 12] = [
 
 ",
     },
+    // One that ends at the begin of a line has no underscore under it.
     Case {
-        src: "ab\ncd",
+        files: ("ab\ncd", ""),
+        form: Form::Long,
+        level: Level::Error,
         message: "the end is in column 0",
-        lo: 0,
-        hi: 3,
+        span: Some((0, 3)),
+        extras: &[],
         page: "error: the end is in column 0
  --> x.js:1:1
   |
@@ -97,11 +103,14 @@ const CASES: [Case; 12] = [
 
 ",
     },
+    // Lines in the middle are left out.
     Case {
-        src: "a\nb\nc\nd\ne\nf\ng\nh\ni\n",
+        files: ("a\nb\nc\nd\ne\nf\ng\nh\ni\n", ""),
+        form: Form::Long,
+        level: Level::Error,
         message: "nine lines",
-        lo: 0,
-        hi: 17,
+        span: Some((0, 17)),
+        extras: &[],
         page: "error: nine lines
  --> x.js:1:1
   |
@@ -116,11 +125,14 @@ const CASES: [Case; 12] = [
 
 ",
     },
+    // Seven lines are shown.
     Case {
-        src: "a\nb\nc\nd\ne\nf\ng\nh\ni\n",
+        files: ("a\nb\nc\nd\ne\nf\ng\nh\ni\n", ""),
+        form: Form::Long,
+        level: Level::Error,
         message: "seven lines",
-        lo: 0,
-        hi: 13,
+        span: Some((0, 13)),
+        extras: &[],
         page: "error: seven lines
  --> x.js:1:1
   |
@@ -135,11 +147,14 @@ const CASES: [Case; 12] = [
 
 ",
     },
+    // Six lines are shown.
     Case {
-        src: "a\nb\nc\nd\ne\nf\ng\nh\ni\n",
+        files: ("a\nb\nc\nd\ne\nf\ng\nh\ni\n", ""),
+        form: Form::Long,
+        level: Level::Error,
         message: "six lines",
-        lo: 2,
-        hi: 13,
+        span: Some((2, 13)),
+        extras: &[],
         page: "error: six lines
  --> x.js:2:1
   |
@@ -153,11 +168,14 @@ const CASES: [Case; 12] = [
 
 ",
     },
+    // White space before the span.
     Case {
-        src: "  f(\n  b);",
+        files: ("  f(\n  b);", ""),
+        form: Form::Long,
+        level: Level::Error,
         message: "white space before the first place",
-        lo: 2,
-        hi: 9,
+        span: Some((2, 9)),
+        extras: &[],
         page: "error: white space before the first place
  --> x.js:1:3
   |
@@ -167,11 +185,14 @@ const CASES: [Case; 12] = [
 
 ",
     },
+    // Ends out of order, and a message of two lines with a tab.
     Case {
-        src: "a = b;",
+        files: ("a = b;", ""),
+        form: Form::Long,
+        level: Level::Error,
         message: "two\n\tlines",
-        lo: 5,
-        hi: 4,
+        span: Some((5, 4)),
+        extras: &[],
         page: "error: two
     lines
  --> x.js:1:5
@@ -181,11 +202,14 @@ const CASES: [Case; 12] = [
 
 ",
     },
+    // A span inside of a character, and an empty message.
     Case {
-        src: "世 = b;",
+        files: ("世 = b;", ""),
+        form: Form::Long,
+        level: Level::Error,
         message: "",
-        lo: 1,
-        hi: 2,
+        span: Some((1, 2)),
+        extras: &[],
         page: "error: 
  --> x.js:1:1
   |
@@ -196,52 +220,7 @@ const CASES: [Case; 12] = [
     },
 ];
 
-// `x.js`, whose first byte has place 1.
-fn file(alloc: Global, src: &str) -> Result<SourceMap, AllocError> {
-    let mut map = SourceMap::new(alloc);
-    let mut globals = Globals::new();
-    let name = FileName::Real(String::from_str(alloc, "x.js")?);
-    match map.new_source_file(&mut globals, name, String::from_str(alloc, src)?) {
-        Ok(_) => Ok(map),
-        Err(_) => Err(AllocError),
-    }
-}
-
-// An error at the span of a case.
-fn report(alloc: Global, case: &Case) -> Result<Diagnostic, AllocError> {
-    let mut report = Diagnostic::new(alloc, Level::Error, case.message)?;
-    let span = Span {
-        lo: BytePos(case.lo.saturating_add(1)),
-        hi: BytePos(case.hi.saturating_add(1)),
-    };
-    report.set_span(MultiSpan::from_span(alloc, span)?);
-    Ok(report)
-}
-
-// Whether the page is what is written.
-fn holds(alloc: Global, case: &Case) -> Result<bool, AllocError> {
-    let map = file(alloc, case.src)?;
-    let report = report(alloc, case)?;
-    let mut writer = EmitterWriter::new(alloc, MemSink::new(alloc, &[])?, Some(&map), false, true);
-    if writer.emit(&report, &HandlerFlags::default()).is_err() {
-        return Err(AllocError);
-    }
-    let sink = writer.into_sink();
-    Ok(sink.bytes() == case.page.as_bytes())
-}
-
-// How many cases hold.
-fn held(alloc: Global) -> usize {
-    let mut held = 0_usize;
-    for case in &CASES {
-        if let Ok(true) = holds(alloc, case) {
-            held = held.saturating_add(1);
-        }
-    }
-    held
-}
-
 #[test]
 fn pages_at_the_edges(rt: HostRuntime) {
-    assert!(rt; held(rt.alloc()) == CASES.len());
+    assert!(rt; held(rt.alloc(), EDGES) == EDGES.len());
 }

@@ -1,7 +1,8 @@
 use Rattle.std.proofs.Common.{map, take}
 use Rattle.std.specs.Prelude.{string_bytes}
 use Rattle.jsx_diag.specs.Data.{piece_of}
-use Rattle.jsx_emit.proofs.Pages.{message_more, take_next}
+use Rattle.jsx_emit.proofs.Pages.{message_more}
+use Rattle.jsx_draw.proofs.Orders.{take_next}
 use Rattle.jsx_emit.proofs.page.header.push_message.Goals as goal
 
 pub loop-piece-preserved : goal.loop-piece-preserved

@@ -1,7 +1,7 @@
 use Rattle.std.proofs.Common.{arith}
 use Rattle.std.proofs.lemmas.Grind.{common_steps}
 use Rattle.std.proofs.lemmas.List.Folds.{list_all-map, list_all_at}
-use Rattle.jsx_emit.specs.Annotation.{Mark, is_side, mark_of}
+use Rattle.jsx_draw.specs.Annotation.{Mark, is_side, mark_of}
 use Rattle.jsx_emit.proofs.page.lines.are_sides.Goals as goal
 
 pub returns-then-not-is_line : goal.returns-then-not-is_line

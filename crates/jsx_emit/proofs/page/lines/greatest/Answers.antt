@@ -1,6 +1,6 @@
 use Rattle.std.proofs.Common.{get_or, ◌∙◌}
 use Rattle.std.proofs.lemmas.List.{get_or_default}
-use Rattle.jsx_emit.proofs.Loops.{greatest_next}
+use Rattle.jsx_draw.proofs.Loops.{greatest_next}
 use Rattle.jsx_emit.proofs.page.lines.greatest.Goals as goal
 
 pub loop-depth-preserved : goal.loop-depth-preserved

@@ -1,5 +1,5 @@
 use Rattle.std.proofs.Common.{◌≡◌, take}
-use Rattle.jsx_emit.specs.Layout.{greatest}
+use Rattle.jsx_draw.specs.Spots.{greatest}
 use Rattle.jsx_emit.proofs.page.lines.greatest.Given as goal
 
 abbrev pub invariant-loop-depth : goal.invariant-loop-depth

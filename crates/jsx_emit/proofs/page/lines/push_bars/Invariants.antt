@@ -1,6 +1,6 @@
 use Rattle.std.proofs.Common.{◌≡◌, ◌++◌}
 use Rattle.std.specs.Prelude.{string_bytes}
-use Rattle.jsx_emit.specs.Drawn.{bar_cells}
+use Rattle.jsx_emit.specs.Sheets.{bar_cells}
 use Rattle.jsx_emit.proofs.page.lines.push_bars.Given as goal
 
 abbrev pub invariant-loop-i : goal.invariant-loop-i

@@ -1,7 +1,7 @@
 use Rattle.std.proofs.Common.{◌+◌, map}
 use Rattle.std.specs.Prelude.{string_bytes}
-use Rattle.jsx_emit.specs.Drawn.{bars_past}
-use Rattle.jsx_emit.specs.Views.{shown_line, wide_of}
+use Rattle.jsx_draw.specs.Drawn.{bars_past}
+use Rattle.jsx_draw.specs.Views.{shown_line, wide_of}
 use Rattle.jsx_emit.proofs.LineRows.{dots_if}
 use Rattle.jsx_emit.proofs.page.lines.push_dots.Goals as goal
 

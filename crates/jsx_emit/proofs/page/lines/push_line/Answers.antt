@@ -2,7 +2,7 @@ use Rattle.std.specs.Prelude.{string_bytes}
 use Rattle.std.specs.Str.{chars}
 use Rattle.std.proofs.lemmas.Str.{IsUtf8-string_bytes}
 use Rattle.jsx_emit.specs.Page.{line_chars}
-use Rattle.jsx_emit.specs.Views.{shown_line}
+use Rattle.jsx_draw.specs.Views.{shown_line}
 use Rattle.jsx_emit.proofs.LineRows.{line_row_if}
 use Rattle.jsx_emit.proofs.page.lines.push_line.Goals as goal
 

@@ -1,6 +1,7 @@
 use Rattle.std.proofs.Common.{ap, map}
 use Rattle.std.specs.Prelude.{string_bytes}
-use Rattle.jsx_emit.specs.Views.{sheet_of, shown_file}
+use Rattle.jsx_emit.specs.Views.{sheet_of}
+use Rattle.jsx_draw.specs.Views.{shown_file}
 use Rattle.jsx_emit.proofs.Blocks.{files_if}
 use Rattle.jsx_emit.proofs.page.part.push_files.Goals as goal
 

@@ -1,6 +1,7 @@
 use Rattle.std.specs.Prelude.{string_bytes}
-use Rattle.jsx_emit.specs.Drawn.{other_file}
-use Rattle.jsx_emit.specs.Views.{sheet_of, shown_file}
+use Rattle.jsx_emit.specs.Sheets.{other_file}
+use Rattle.jsx_emit.specs.Views.{sheet_of}
+use Rattle.jsx_draw.specs.Views.{shown_file}
 use Rattle.jsx_emit.proofs.Blocks.{rows_more, rows_whole}
 use Rattle.jsx_emit.proofs.page.part.push_others.Goals as goal
 

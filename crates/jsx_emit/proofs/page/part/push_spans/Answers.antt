@@ -3,9 +3,9 @@ use Rattle.std.specs.Prelude.{string_bytes}
 use Rattle.std.specs.List.{flat_map}
 use Rattle.jsx_base.specs.Locs.{loc_data}
 use Rattle.jsx_base.specs.MultiSpan.{Label, spans_of}
-use Rattle.jsx_emit.specs.Layout.{held_in, spot_in, spots}
+use Rattle.jsx_draw.specs.Spots.{held_in, spot_in, spots}
 use Rattle.jsx_emit.specs.Page.{Look}
-use Rattle.jsx_emit.specs.Views.{shown_file, spot_of, wide_of}
+use Rattle.jsx_draw.specs.Views.{shown_file, spot_of, wide_of}
 use Rattle.jsx_emit.proofs.Own.{files_shown, sheet_for, span_rows_if}
 use Rattle.jsx_emit.proofs.page.part.push_spans.Goals as goal
 

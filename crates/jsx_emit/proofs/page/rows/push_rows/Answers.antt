@@ -1,7 +1,8 @@
 use Rattle.std.proofs.Common.{ap, map, take, ◌∙◌}
 use Rattle.std.specs.Prelude.{string_bytes}
-use Rattle.jsx_emit.specs.Grid.{shown_runs}
-use Rattle.jsx_emit.proofs.Pages.{row_more, rows_all, take_next}
+use Rattle.jsx_draw.specs.Grid.{shown_runs}
+use Rattle.jsx_emit.proofs.Pages.{row_more, rows_all}
+use Rattle.jsx_draw.proofs.Orders.{take_next}
 use Rattle.jsx_emit.proofs.page.rows.push_rows.Goals as goal
 
 pub loop-row-preserved : goal.loop-row-preserved

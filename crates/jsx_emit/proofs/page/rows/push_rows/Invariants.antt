@@ -1,6 +1,6 @@
 use Rattle.std.proofs.Common.{◌≡◌, ◌++◌, map, take}
 use Rattle.std.specs.Prelude.{string_bytes}
-use Rattle.jsx_emit.specs.Grid.{shown_runs}
+use Rattle.jsx_draw.specs.Grid.{shown_runs}
 use Rattle.jsx_emit.proofs.Pages.{runs_text}
 use Rattle.jsx_emit.proofs.page.rows.push_rows.Given as goal
 

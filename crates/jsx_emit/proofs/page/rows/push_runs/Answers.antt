@@ -1,7 +1,8 @@
 use Rattle.std.proofs.Common.{map, take}
 use Rattle.std.specs.Prelude.{string_bytes}
-use Rattle.jsx_emit.specs.Grid.{run_of}
-use Rattle.jsx_emit.proofs.Pages.{run_more, take_next}
+use Rattle.jsx_draw.specs.Grid.{run_of}
+use Rattle.jsx_emit.proofs.Pages.{run_more}
+use Rattle.jsx_draw.proofs.Orders.{take_next}
 use Rattle.jsx_emit.proofs.page.rows.push_runs.Goals as goal
 
 pub loop-run-preserved : goal.loop-run-preserved

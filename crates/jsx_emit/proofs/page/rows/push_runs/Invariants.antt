@@ -1,7 +1,7 @@
 use Rattle.std.proofs.Common.{◌≡◌, ◌++◌, map, take}
 use Rattle.std.specs.Prelude.{string_bytes}
 use Rattle.std.specs.Str.{encode_utf8_all}
-use Rattle.jsx_emit.specs.Grid.{run_of}
+use Rattle.jsx_draw.specs.Grid.{run_of}
 use Rattle.jsx_emit.specs.Texts.{run_chars}
 use Rattle.jsx_emit.proofs.page.rows.push_runs.Given as goal
 

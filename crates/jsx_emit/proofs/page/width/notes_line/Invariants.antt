@@ -1,6 +1,7 @@
 use Rattle.std.proofs.Common.{◌≡◌, map, take}
 use Rattle.jsx_diag.specs.Data.{Child, child_of}
-use Rattle.jsx_emit.specs.Layout.{end_line, greatest}
+use Rattle.jsx_emit.specs.Layout.{end_line}
+use Rattle.jsx_draw.specs.Spots.{greatest}
 use Rattle.jsx_emit.proofs.page.width.notes_line.Given as goal
 
 abbrev pub invariant-loop-note : goal.invariant-loop-note

@@ -1,0 +1,7 @@
+pub mod Grids
+pub mod Orders
+pub mod Drawing
+pub mod Loops
+pub mod FilesPut
+pub mod Ends
+mod GridExamples

@@ -1,0 +1,4 @@
+//! Each call with ample memory.
+
+mod annotations;
+mod grids;

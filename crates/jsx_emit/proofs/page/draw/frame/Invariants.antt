@@ -1,6 +1,0 @@
-use Rattle.std.proofs.Common.{◌≡◌}
-use Rattle.jsx_emit.specs.Drawn.{frame}
-use Rattle.jsx_emit.proofs.page.draw.frame.Given as goal
-
-abbrev pub invariant-loop-row : goal.invariant-loop-row
-invariant-loop-row l = record { so : l.buffer ≡ frame l.col l.row }

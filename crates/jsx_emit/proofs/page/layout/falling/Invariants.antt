@@ -1,7 +1,0 @@
-use Rattle.std.proofs.Common.{◌≡◌, map, take}
-use Rattle.jsx_emit.specs.Annotation.{mark_of}
-use Rattle.jsx_emit.specs.Views.{seen_mark}
-use Rattle.jsx_emit.proofs.page.layout.falling.Given as goal
-
-abbrev pub invariant-loop-mark : goal.invariant-loop-mark
-invariant-loop-mark l = record { so : map seen_mark l.seen.items ≡ take l.mark-index (map mark_of l.marks) }

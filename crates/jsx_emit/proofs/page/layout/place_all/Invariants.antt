@@ -1,7 +1,0 @@
-use Rattle.std.proofs.Common.{◌≡◌, ◌++◌, drop, map}
-use Rattle.jsx_emit.specs.Drawn.{marks_placed}
-use Rattle.jsx_emit.specs.Views.{placed_of, seen_mark}
-use Rattle.jsx_emit.proofs.page.layout.place_all.Given as goal
-
-abbrev pub invariant-loop-i : goal.invariant-loop-i
-invariant-loop-i l = record { so : map placed_of l.placed.items ++ marks_placed l.row (map seen_mark (drop l.i l.falling)) ≡ map placed_of l.fn.placed.items ++ marks_placed 0 (map seen_mark l.fn.falling) }

@@ -1,7 +1,0 @@
-use Rattle.std.proofs.Common.{◌≡◌, map, take}
-use Rattle.jsx_emit.specs.Layout.{greatest}
-use Rattle.jsx_emit.specs.Views.{placed_of}
-use Rattle.jsx_emit.proofs.page.layout.row_count.Given as goal
-
-abbrev pub invariant-loop-it : goal.invariant-loop-it
-invariant-loop-it l = record { so : l.greatest ≡ greatest (take l.it-index (map (λ it. it.row) (map placed_of l.placed))) }

@@ -1,8 +1,0 @@
-use Rattle.std.proofs.Common.{◌≡◌, map, take}
-use Rattle.std.specs.List.{flat_map}
-use Rattle.jsx_emit.specs.Drawn.{bar_of, goes_past}
-use Rattle.jsx_emit.specs.Views.{shown_line, wide_of}
-use Rattle.jsx_emit.proofs.page.marks.bars_past.Given as goal
-
-abbrev pub invariant-loop-wide : goal.invariant-loop-wide
-invariant-loop-wide l = record { so : l.bars.items ≡ flat_map (bar_of (goes_past (shown_line l.at))) (take l.wide-index (map wide_of l.wides)) }

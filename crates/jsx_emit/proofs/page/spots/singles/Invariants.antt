@@ -1,9 +1,0 @@
-use Rattle.std.proofs.Common.{◌≡◌, map, take}
-use Rattle.std.specs.List.{flat_map}
-use Rattle.jsx_emit.specs.Layout.{is_single}
-use Rattle.jsx_emit.specs.Views.{spot_of}
-use Rattle.jsx_emit.proofs.Loops.{if_so}
-use Rattle.jsx_emit.proofs.page.spots.singles.Given as goal
-
-abbrev pub invariant-loop-spot : goal.invariant-loop-spot
-invariant-loop-spot l = record { so : map spot_of l.singles.items ≡ flat_map (if_so is_single) (take l.spot-index (map spot_of l.spots)) }

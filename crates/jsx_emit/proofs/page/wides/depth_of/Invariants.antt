@@ -1,6 +1,0 @@
-use Rattle.std.proofs.Common.{◌≡◌, map, take}
-use Rattle.jsx_emit.specs.Layout.{greatest}
-use Rattle.jsx_emit.proofs.page.wides.depth_of.Given as goal
-
-abbrev pub invariant-loop-it : goal.invariant-loop-it
-invariant-loop-it l = record { so : l.depth ≡ greatest (take l.it-index (map (λ it. it.depth) l.wides)) }
