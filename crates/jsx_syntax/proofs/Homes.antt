@@ -1,48 +1,73 @@
 -- Which trees of the language so far stand where.
-use Rattle.std.proofs.Common.{◌≡◌, Bool, true, false, refl, sym, ◌∙◌, ap, subst}
-use Rattle.std.specs.Prelude.{IsTrue, ◌&&◌}
-use Rattle.jsx_base.specs.Token.{Text, TokenKind, IdentifierName, NumericLiteral, StringLiteral, JsxName, Elision, RegExpLiteral}
+use Rattle.std.proofs.Common.{◌≡◌, Bool, true, false, not, refl, sym, ◌∙◌, ap, subst}
+use Rattle.std.specs.Prelude.{IsTrue, codes, [], ◌∷◌, ◌&&◌, ◌||◌}
+use Rattle.jsx_base.specs.Token.{Text, TokenKind, IdentifierName, NumericLiteral, BigIntLiteral, StringLiteral, JsxName, Elision, RegExpLiteral, among}
 use Rattle.jsx_tree.specs.Signs.{Tok}
-use Rattle.jsx_tree.specs.Kinds.{ConstWord, Module, Var, Declarator, ExprStmt, Binds, Assigns, Call, Member, Element, Kind, program, statement, expression, jsx, Tree, leaf, node, list, Forest}
-use Rattle.jsx_tree.specs.Nonterminals.{Nonterminal, Expr, MemberObject, DotObject, Argument, Name, Pat, TagName, Attributes, DirectiveOnly, leaf_in, homes, in_homes}
+use Rattle.jsx_tree.specs.Kinds.{ConstWord, Module, Var, Declarator, ExprStmt, Binds, Assigns, Assign, OpAssign, Nullish, Or, And, BitOr, BitXor, BitAnd, ShiftLeft, ShiftRight, ShiftOut, Add, Subtract, Multiply, Divide, Remainder, Exponentiate, Void, TypeOf, Positive, Negative, Complement, Not, Unary, Binary, Cond, Call, Member, Index, ImportCall, Element, Kind, program, statement, expression, jsx, Tree, leaf, node, list, Forest}
+use Rattle.jsx_tree.specs.Nonterminals.{Nonterminal, Expr, NullishLeft, MemberObject, DotObject, SimpleTarget, Argument, Name, Pat, TagName, Attributes, DirectiveOnly, is_ident, is_bound, is_value_word, leaf_in, homes, in_homes}
 use Rattle.jsx_tree.specs.Grammar.{Part}
 use Rattle.jsx_tree.specs.Form.{admits, fits_below, is_leaf}
 use Rattle.jsx_tree.specs.Spelling.{mode_of, spelled}
 use Rattle.jsx_tree.specs.Reading.{Place, Lost, forth, scan}
 use Rattle.jsx_tree.specs.StaticRules.{Surroundings}
-use Rattle.jsx_tree.specs.Stage.{has_kind, leaf_at, value_leaf, with_semicolons}
+use Rattle.jsx_syntax.specs.Stage.{has_kind, leaf_at, value_leaf, with_semicolons}
 use Rattle.jsx_tree.specs.Walk.{is_found, Given, one, Past, tree}
 use Rattle.jsx_tree.specs.Language.{Whole}
 use Rattle.jsx_tree.specs.Answers.{Only, Barred}
-use Rattle.jsx_tree.specs.SoFar.{Staged, so_far}
+use Rattle.jsx_syntax.specs.SoFar.{Staged, so_far}
 use Rattle.jsx_tree.specs.Grows.{is_operand}
 use Rattle.jsx_tree.proofs.Tokens.{and_left, and_right, and_both, one_text}
 use Rattle.jsx_tree.proofs.Apart.{clash}
 use Rattle.jsx_tree.proofs.Rows.Bridge.{found_at}
 use Rattle.jsx_tree.proofs.Rows.Texts.{has_token, leaf_read}
-use Rattle.jsx_tree.proofs.Rows.Stopping.{is_never, never_stops}
+use Rattle.jsx_tree.proofs.Rows.Stopping.{is_never, never_stops, is_not}
 use Rattle.jsx_tree.proofs.Rows.Firsts.{kind_home}
 use Rattle.jsx_tree.proofs.Rows.Closers.{any_operand, homes_operand}
-use Rattle.jsx_tree.proofs.Rows.SoFar.{of_so_far}
+use Rattle.jsx_syntax.proofs.OfSoFar.{of_so_far}
+use Rattle.jsx_syntax.proofs.Listed.{Listed, listed, listed_binary, kinds, every, of_each}
 
--- the kinds
+-- the kinds: those of expressions, and the others
 pub data Taken : Kind → Type 0 where
   module' : Taken (program Module)
   constant : Taken (statement (Var ConstWord))
   bound : Taken (statement Declarator)
   evaluation : Taken (statement ExprStmt)
-  call : Taken (expression Call)
-  member : Taken (expression Member)
-  element : Taken (jsx Element)
+  operand : {k : Kind} → Listed k → Taken k
 
 taken : (k : Kind) → has_kind k ≡ true → Taken k
 taken (program Module) h = module'
 taken (statement (Var ConstWord)) h = constant
 taken (statement Declarator) h = bound
 taken (statement ExprStmt) h = evaluation
-taken (expression Call) h = call
-taken (expression Member) h = member
-taken (jsx Element) h = element
+taken (expression (Binary o)) h = operand (listed_binary o)
+taken (expression Assign) h = operand (listed (expression Assign) refl refl)
+taken (expression (OpAssign Nullish)) h = operand (listed (expression (OpAssign Nullish)) refl refl)
+taken (expression (OpAssign Or)) h = operand (listed (expression (OpAssign Or)) refl refl)
+taken (expression (OpAssign And)) h = operand (listed (expression (OpAssign And)) refl refl)
+taken (expression (OpAssign BitOr)) h = operand (listed (expression (OpAssign BitOr)) refl refl)
+taken (expression (OpAssign BitXor)) h = operand (listed (expression (OpAssign BitXor)) refl refl)
+taken (expression (OpAssign BitAnd)) h = operand (listed (expression (OpAssign BitAnd)) refl refl)
+taken (expression (OpAssign ShiftLeft)) h = operand (listed (expression (OpAssign ShiftLeft)) refl refl)
+taken (expression (OpAssign ShiftRight)) h = operand (listed (expression (OpAssign ShiftRight)) refl refl)
+taken (expression (OpAssign ShiftOut)) h = operand (listed (expression (OpAssign ShiftOut)) refl refl)
+taken (expression (OpAssign Add)) h = operand (listed (expression (OpAssign Add)) refl refl)
+taken (expression (OpAssign Subtract)) h = operand (listed (expression (OpAssign Subtract)) refl refl)
+taken (expression (OpAssign Multiply)) h = operand (listed (expression (OpAssign Multiply)) refl refl)
+taken (expression (OpAssign Divide)) h = operand (listed (expression (OpAssign Divide)) refl refl)
+taken (expression (OpAssign Remainder)) h = operand (listed (expression (OpAssign Remainder)) refl refl)
+taken (expression (OpAssign Exponentiate)) h = operand (listed (expression (OpAssign Exponentiate)) refl refl)
+taken (expression Cond) h = operand (listed (expression Cond) refl refl)
+taken (expression Call) h = operand (listed (expression Call) refl refl)
+taken (expression Member) h = operand (listed (expression Member) refl refl)
+taken (expression Index) h = operand (listed (expression Index) refl refl)
+taken (expression (Unary Void)) h = operand (listed (expression (Unary Void)) refl refl)
+taken (expression (Unary TypeOf)) h = operand (listed (expression (Unary TypeOf)) refl refl)
+taken (expression (Unary Positive)) h = operand (listed (expression (Unary Positive)) refl refl)
+taken (expression (Unary Negative)) h = operand (listed (expression (Unary Negative)) refl refl)
+taken (expression (Unary Complement)) h = operand (listed (expression (Unary Complement)) refl refl)
+taken (expression (Unary Not)) h = operand (listed (expression (Unary Not)) refl refl)
+taken (expression ImportCall) h = operand (listed (expression ImportCall) refl refl)
+taken (jsx Element) h = operand (listed (jsx Element) refl refl)
 taken _ h = cc
 
 pub taken_by : {v : Surroundings} {c : Nonterminal} {k : Kind} {x y : Place} {ts : Forest} → Staged v false c x (node k ts) y → Taken k
@@ -59,16 +84,17 @@ home_of {c = c} {k = k} {ts = ts} r = and_left (admits c (node k ts)) (fits_belo
 pub no_list : {v : Surroundings} {c : Nonterminal} {x y : Place} {ts : Forest} → Staged v false c x (list ts) y → ⊥
 no_list {c = c} {ts = ts} r = let bad = and_left (admits c (list ts)) (fits_below c (list ts)) r.reads.is in cc
 
+-- where no expression is at home
+pub no_operand_at : (c : Nonterminal) {k : Kind} → every (λ j. not (lives c j)) kinds ≡ true → Listed k → lives c k ≡ true → ⊥
+no_operand_at c {k} e l h = clash _ h (is_not _ (of_each (λ j. not (lives c j)) e k l))
+
 -- where none of them is at home
-pub nowhere : (c : Nonterminal) {k : Kind} → lives c (program Module) ≡ false → lives c (statement (Var ConstWord)) ≡ false → lives c (statement Declarator) ≡ false → lives c (statement ExprStmt) ≡ false → lives c (expression Call) ≡ false → lives c (expression Member) ≡ false → lives c (jsx Element) ≡ false
-    → Taken k → lives c k ≡ true → ⊥
-nowhere c a1 a2 a3 a4 a5 a6 a7 module' h = clash _ h a1
-nowhere c a1 a2 a3 a4 a5 a6 a7 constant h = clash _ h a2
-nowhere c a1 a2 a3 a4 a5 a6 a7 bound h = clash _ h a3
-nowhere c a1 a2 a3 a4 a5 a6 a7 evaluation h = clash _ h a4
-nowhere c a1 a2 a3 a4 a5 a6 a7 call h = clash _ h a5
-nowhere c a1 a2 a3 a4 a5 a6 a7 member h = clash _ h a6
-nowhere c a1 a2 a3 a4 a5 a6 a7 element h = clash _ h a7
+pub nowhere : (c : Nonterminal) {k : Kind} → lives c (program Module) ≡ false → lives c (statement (Var ConstWord)) ≡ false → lives c (statement Declarator) ≡ false → lives c (statement ExprStmt) ≡ false → every (λ j. not (lives c j)) kinds ≡ true → Taken k → lives c k ≡ true → ⊥
+nowhere c a1 a2 a3 a4 e module' h = clash _ h a1
+nowhere c a1 a2 a3 a4 e constant h = clash _ h a2
+nowhere c a1 a2 a3 a4 e bound h = clash _ h a3
+nowhere c a1 a2 a3 a4 e evaluation h = clash _ h a4
+nowhere c a1 a2 a3 a4 e (operand l) h = no_operand_at c e l h
 
 -- ---- leaves
 
@@ -157,13 +183,13 @@ name_kind IdentifierName t h = refl
 name_kind _ t h = cc
 
 pub tags : LeafOnly TagName JsxName
-tags = record { token = refl; never = refl; node = λ l ts. nowhere TagName refl refl refl refl refl refl refl; kind = tag_kind }
+tags = record { token = refl; never = refl; node = λ l ts. nowhere TagName refl refl refl refl refl; kind = tag_kind }
 
 pub patterns : LeafOnly (Pat Binds) IdentifierName
-patterns = record { token = refl; never = refl; node = λ l ts. nowhere (Pat Binds) refl refl refl refl refl refl refl; kind = pattern_kind }
+patterns = record { token = refl; never = refl; node = λ l ts. nowhere (Pat Binds) refl refl refl refl refl; kind = pattern_kind }
 
 pub names : LeafOnly Name IdentifierName
-names = record { token = refl; never = refl; node = λ l ts. nowhere Name refl refl refl refl refl refl refl; kind = name_kind }
+names = record { token = refl; never = refl; node = λ l ts. nowhere Name refl refl refl refl refl; kind = name_kind }
 
 -- ---- where nothing stands
 
@@ -176,59 +202,64 @@ none_there {v} {c} {x} f g = record { no = at }
     at h z (tree {t = list ts} q) = no_list q.reads
 
 pub no_attributes : {v : Surroundings} {x : Place} → Barred so_far v (Part Attributes) x
-no_attributes = none_there (λ l t h. cc) (λ l ts. nowhere Attributes refl refl refl refl refl refl refl)
+no_attributes = none_there (λ l t h. cc) (λ l ts. nowhere Attributes refl refl refl refl refl)
 
 pub no_directives : {v : Surroundings} {x : Place} → Barred so_far v (Part DirectiveOnly) x
-no_directives = none_there (λ l t h. cc) (λ l ts. nowhere DirectiveOnly refl refl refl refl refl refl refl)
+no_directives = none_there (λ l t h. cc) (λ l ts. nowhere DirectiveOnly refl refl refl refl refl)
 
 -- ---- values
 
 pub data Literal : Type 0 where
   IsName : Literal
   IsNumber : Literal
+  IsLong : Literal
   IsString : Literal
 
 abbrev pub token_kind : Literal → TokenKind
 token_kind IsName = IdentifierName
 token_kind IsNumber = NumericLiteral
+token_kind IsLong = BigIntLiteral
 token_kind IsString = StringLiteral
 
 pub data Value : Tree → Type 0 where
   literal : (l : Literal) {t : Text} → value_leaf true (token_kind l) t ≡ true → Value (leaf (token_kind l) t)
-  called : {ts : Forest} → Value (node (expression Call) ts)
-  dotted : {ts : Forest} → Value (node (expression Member) ts)
-  markup : {ts : Forest} → Value (node (jsx Element) ts)
+  made : {k : Kind} {ts : Forest} → Listed k → Value (node k ts)
 
 value_kind : (k : TokenKind) (t : Text) → value_leaf true k t ≡ true → Value (leaf k t)
 value_kind IdentifierName t h = literal IsName h
 value_kind NumericLiteral t h = literal IsNumber h
+value_kind BigIntLiteral t h = literal IsLong h
 value_kind StringLiteral t h = literal IsString h
 value_kind _ t h = cc
 
 dot_leaf : (k : TokenKind) (t : Text) → value_leaf false k t ≡ true → value_leaf true k t ≡ true
 dot_leaf IdentifierName t h = h
 dot_leaf StringLiteral t h = refl
+dot_leaf BigIntLiteral t h = refl
 dot_leaf NumericLiteral t h = cc
 dot_leaf _ t h = cc
 
-operand_leaf : (d : Nonterminal) (k : TokenKind) (t : Text) → is_operand d ≡ true → leaf_at d k t ≡ true → value_leaf true k t ≡ true
-operand_leaf (Expr n) k t o h = h
-operand_leaf MemberObject k t o h = h
-operand_leaf Argument k t o h = h
-operand_leaf DotObject k t o h = dot_leaf k t h
-operand_leaf (Pat Binds) k t o h = cc
-operand_leaf (Pat Assigns) k t o h = cc
-operand_leaf Name k t o h = cc
-operand_leaf TagName k t o h = cc
-operand_leaf _ k t o h = cc
+bound_word : (t : Text) → is_bound t ≡ true → is_value_word t ≡ true
+bound_word t h = ap (λ b. b || among t (codes "this" ∷ codes "null" ∷ codes "true" ∷ codes "false" ∷ [])) (and_left (is_ident t) _ h)
+
+operand_leaf : (d : Nonterminal) (k : TokenKind) (t : Text) → is_operand d ≡ true → leaf_in d k t ≡ true → leaf_at d k t ≡ true → value_leaf true k t ≡ true
+operand_leaf (Expr n) k t o i h = h
+operand_leaf MemberObject k t o i h = h
+operand_leaf NullishLeft k t o i h = h
+operand_leaf Argument k t o i h = h
+operand_leaf DotObject k t o i h = dot_leaf k t h
+operand_leaf (Pat Assigns) IdentifierName t o i h = bound_word t i
+operand_leaf SimpleTarget IdentifierName t o i h = bound_word t i
+operand_leaf (Pat Binds) k t o i h = cc
+operand_leaf Name k t o i h = cc
+operand_leaf TagName k t o i h = cc
+operand_leaf _ k t o i h = cc
 
 no_operand : (d : Nonterminal) (k : Kind) (ts : Forest) → is_operand d ≡ true → any_operand (homes k) ≡ false → admits d (node k ts) ≡ true → ⊥
 no_operand d k ts o n h = clash _ (homes_operand d (homes k) o (kind_home d k ts h)) n
 
 operand_kind : (d : Nonterminal) {k : Kind} {ts : Forest} → is_operand d ≡ true → Taken k → admits d (node k ts) ≡ true → Value (node k ts)
-operand_kind d o call h = called
-operand_kind d o member h = dotted
-operand_kind d o element h = markup
+operand_kind d o (operand l) h = made l
 operand_kind d o module' h = absurd (no_operand d _ _ o refl h)
 operand_kind d o constant h = absurd (no_operand d _ _ o refl h)
 operand_kind d o bound h = absurd (no_operand d _ _ o refl h)
@@ -236,6 +267,6 @@ operand_kind d o evaluation h = absurd (no_operand d _ _ o refl h)
 
 -- what stands where an expression does
 pub value : {v : Surroundings} {d : Nonterminal} {x y : Place} (t : Tree) → is_operand d ≡ true → Staged v false d x t y → Value t
-value {d = d} (leaf k t) o r = value_kind k t (operand_leaf d k t o r.staged)
+value {d = d} (leaf k t) o r = value_kind k t (operand_leaf d k t o (and_left (leaf_in d k t) (is_leaf k t) r.reads.is) r.staged)
 value {d = d} (node k ts) o r = operand_kind d o (taken_by r) (home_of r)
 value (list ts) o r = absurd (no_list r)

@@ -9,12 +9,12 @@ use Rattle.jsx_tree.specs.Grammar.{Part, Fixed, pun, key, heads}
 use Rattle.jsx_tree.specs.Form.{admits}
 use Rattle.jsx_tree.specs.Reading.{Place, Lost, At, forth}
 use Rattle.jsx_tree.specs.StaticRules.{Surroundings, all_of, list_rule, has_init}
-use Rattle.jsx_tree.specs.Stage.{limits, is_string}
+use Rattle.jsx_syntax.specs.Stage.{limits, is_string}
 use Rattle.jsx_tree.specs.Walk.{is_found, nothing, one, Piece, row, tail, Given, Past, sign, tree, Walk, next, steady}
 use Rattle.jsx_tree.specs.Stops.{going}
 use Rattle.jsx_tree.specs.Language.{Language, Whole}
 use Rattle.jsx_tree.specs.Answers.{Moves, Stuck, Only, Barred, OnlyRow, NoRow, NoNode, BuiltNode}
-use Rattle.jsx_tree.specs.SoFar.{Staged, behind_const, ends_so_far, row_so_far, so_far}
+use Rattle.jsx_syntax.specs.SoFar.{Staged, behind_const, ends_so_far, row_so_far, so_far}
 use Rattle.jsx_tree.proofs.Tokens.{and_left, and_right, and_both}
 use Rattle.jsx_tree.proofs.Apart.{clash}
 use Rattle.jsx_base.proofs.Fronts.{none_ahead}
@@ -29,9 +29,10 @@ use Rattle.jsx_tree.proofs.Rows.Lists.{all_with}
 use Rattle.jsx_tree.proofs.Rows.Optionals.{turn_absent, present_last, none_last}
 use Rattle.jsx_tree.proofs.Rows.Laws.{lost_barred, end_found, start_found}
 use Rattle.jsx_tree.proofs.Rows.Placing.{Chosen, OnlyAt, NoneAt, then_at, only_at, barred_at, only_node, barred_node}
-use Rattle.jsx_tree.proofs.Rows.SoFar.{of_so_far}
-use Rattle.jsx_syntax.proofs.Homes.{IsName, patterns, no_list, Taken, module', constant, bound, evaluation, call, member, element, taken_by, home_of}
-use Rattle.jsx_syntax.proofs.Values.{settled, settled_token, leaf_full, is_next, found_next, only_whole, barred_whole, no_heads}
+use Rattle.jsx_syntax.proofs.OfSoFar.{of_so_far}
+use Rattle.jsx_syntax.proofs.Homes.{IsName, patterns, no_list, Taken, module', constant, bound, evaluation, operand, no_operand_at, taken_by, home_of}
+use Rattle.jsx_syntax.specs.Growths.{settled}
+use Rattle.jsx_syntax.proofs.Values.{settled_token, leaf_full, is_next, found_next, only_whole, barred_whole, no_heads}
 
 -- ---- a variable and its initializer
 
@@ -40,9 +41,7 @@ bound_kind l ts bound h = refl
 bound_kind l ts module' h = cc
 bound_kind l ts constant h = cc
 bound_kind l ts evaluation h = cc
-bound_kind l ts call h = cc
-bound_kind l ts member h = cc
-bound_kind l ts element h = cc
+bound_kind l ts (operand m) h = absurd (no_operand_at Declarators refl m h)
 
 bound_chosen : {v : Surroundings} {x : Place} → Chosen so_far v Declarators (statement Declarator) x
 bound_chosen = record { no_leaf = λ s t y w. let bad = w.reads.staged in cc; kind = λ l ts y w. bound_kind l ts (taken_by w.reads) (home_of w.reads) }
@@ -165,9 +164,7 @@ item_kind l ts constant h f g = f refl
 item_kind l ts evaluation h f g = g refl
 item_kind l ts module' h f g = cc
 item_kind l ts bound h f g = cc
-item_kind l ts call h f g = cc
-item_kind l ts member h f g = cc
-item_kind l ts element h f g = cc
+item_kind l ts (operand m) h f g = absurd (no_operand_at Item refl m h)
 
 const_key : Keyed 99 (codes "onst")
 const_key = record { no_less = refl; no_slash = λ s. none_ahead RegExpLiteral Operand 99 s refl refl refl; no_head = refl }

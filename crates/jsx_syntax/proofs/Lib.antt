@@ -1,3 +1,4 @@
+pub mod OfSoFar
 pub mod Spellings
 pub mod Gaps
 pub mod Places
@@ -7,8 +8,19 @@ pub mod Takes
 pub mod Taking
 pub mod Alone
 pub mod Codes
+pub mod Listed
+pub mod Marks
+pub mod GrowthTokens
 pub mod Homes
 pub mod Values
+pub mod Climbing
+pub mod Openings
+pub mod OpeningTokens
+pub mod TakingOpenings
+pub mod Operators
+pub mod TakingGrowths
+pub mod Leveling
+pub mod Targeting
 pub mod Items
 pub mod Modules
 pub mod Steps

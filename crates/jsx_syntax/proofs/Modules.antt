@@ -11,12 +11,12 @@ use Rattle.jsx_tree.specs.Form.{is}
 use Rattle.jsx_tree.specs.Spelling.{spelled}
 use Rattle.jsx_tree.specs.Reading.{Place, scan, ended_at}
 use Rattle.jsx_tree.specs.StaticRules.{Surroundings, outside, first_of_list, is_string_stmt}
-use Rattle.jsx_tree.specs.Stage.{has_kind, limits, with_semicolons, ReadsSoFar}
+use Rattle.jsx_syntax.specs.Stage.{has_kind, limits, with_semicolons, ReadsSoFar}
 use Rattle.jsx_tree.specs.Walk.{Given, Past, Items, nil, last, more, sign, tree, many, Walk, done, next, around}
 use Rattle.jsx_tree.specs.Texts.{start}
 use Rattle.jsx_tree.specs.Language.{Whole}
 use Rattle.jsx_tree.specs.Answers.{Barred, ToEnd}
-use Rattle.jsx_tree.specs.SoFar.{Staged, row_so_far, so_far, in_module}
+use Rattle.jsx_syntax.specs.SoFar.{Staged, row_so_far, so_far, in_module}
 use Rattle.jsx_tree.proofs.Tokens.{and_left, and_right, and_both}
 use Rattle.jsx_tree.proofs.Rows.Bridge.{found_at}
 use Rattle.jsx_tree.proofs.Rows.Texts.{program_walk}
@@ -25,7 +25,7 @@ use Rattle.jsx_tree.proofs.Rows.Guarded.{weaken_items, whole_items}
 use Rattle.jsx_tree.proofs.Rows.Closers.{Shut, shut_reading}
 use Rattle.jsx_tree.proofs.Rows.Optionals.{end_shut}
 use Rattle.jsx_tree.proofs.Rows.Lines.{found_end}
-use Rattle.jsx_tree.proofs.Rows.SoFar.{of_so_far, plain_too}
+use Rattle.jsx_syntax.proofs.OfSoFar.{of_so_far, plain_too}
 use Rattle.jsx_syntax.proofs.Homes.{taken_by, home_of, no_list, no_directives}
 use Rattle.jsx_syntax.proofs.Items.{item_ends, item_kind, const_sign}
 

@@ -8,9 +8,10 @@ use Rattle.jsx_base.specs.declared.place.Span.{Span}
 use Rattle.jsx_tree.specs.declared.text.Text.{Text as TreeText}
 use Rattle.jsx_tree.specs.declared.tree.Jsx.{Jsx}
 use Rattle.jsx_tree.specs.Signs.{AfterExpr, AfterBinding, Tok, Semicolon, TrailingComma, Ends}
-use Rattle.jsx_tree.specs.Kinds.{ConstWord, Module, Var, Declarator, ExprStmt, Call, Member, Element, program, statement, expression, jsx, Tree, leaf, node, list, Forest, none, part}
+use Rattle.jsx_tree.specs.Kinds.{ConstWord, Module, Var, Declarator, ExprStmt, BinaryOp, UnaryOp, Delete, Void, TypeOf, Positive, Negative, Complement, Not, Assign, OpAssign, Unary, Binary, Cond, Call, Member, Index, ImportCall, Element, program, statement, expression, jsx, Tree, leaf, node, list, Forest, none, part}
 use Rattle.jsx_tree.specs.Nonterminals as grammar
-use Rattle.jsx_tree.specs.Grammar.{Commas, NoTrailing, TopLines, Many, p, semi, production}
+use Rattle.jsx_tree.specs.Grammar.{Commas, NoTrailing, TopLines, Many, Part, p, pun, sp, count, semi, left_of, right_of, production}
+use Rattle.jsx_tree.specs.Grows.{operator_sign}
 use Rattle.jsx_tree.specs.Spelling.{mode_of, saids, spelled}
 use Rattle.jsx_tree.specs.Reading.{Place, Lost, At, forth, scan}
 use Rattle.jsx_tree.specs.Spans.{Comes, spans, Told, tells, Tales, no_tales, tale, IsTold, AreTold, starts, places, placed_in}
@@ -20,9 +21,12 @@ use Rattle.jsx_tree.specs.Walk.{is_found}
 use Rattle.jsx_syntax.specs.Here.{Here, place_of, sign_of}
 use Rattle.jsx_syntax.specs.declared.lexer.Fixed.TheVariants as fixed
 use Rattle.jsx_syntax.specs.Spans.{Spans, next_of, end_of, Takes, IsPlaced, IsPlacedRow, IsPlacedList}
+use Rattle.jsx_syntax.specs.SoFar.{assign_sign}
+use Rattle.jsx_syntax.specs.Growths.{opening_sign}
 use Rattle.jsx_base.proofs.Fronts.{other_ahead}
 use Rattle.jsx_tree.proofs.Apart.{clash}
 use Rattle.jsx_tree.proofs.Signs.{semi_too, comma_too}
+use Rattle.jsx_syntax.proofs.Operators.{operator_is}
 use Rattle.jsx_syntax.proofs.Placing.{row_end, row_sign, row_quiet, row_unless, row_within, row_part, row_list, row_present, row_absent, list_none, node_is, leaf_is, led}
 
 -- ---- a semicolon and a trailing comma
@@ -84,6 +88,41 @@ member_row l dot name comes s = node_is (λ c e ps. refl) (led l _) s (row_part 
 pub call_row : {at : Option Span} {d : Told} {t : Tree} {es : Tales} {us : Forest} {w z x y : Here} → IsPlaced d t w z → Takes (sign_of fixed.Open) z x → IsPlacedRow (Many Commas grammar.Argument ∷ p ")" ∷ []) (tale (tells [] es) no_tales) (part (list us) none) x y → Spans at (next_of w) (end_of y)
     → IsPlaced (tells (spans at ∷ []) (tale d (tale (tells [] es) no_tales))) (node (expression Call) (part t (part (list us) none))) w y
 call_row l bracket r s = node_is (λ c e ps. refl) (led l _) s (row_part l (row_quiet (λ q. refl) (row_sign bracket r)))
+
+pub index_row : {at : Option Span} {d e : Told} {t u : Tree} {w z x y v : Here} → IsPlaced d t w z → Takes (pun "[") z x → IsPlaced e u x y → Takes (sign_of fixed.CloseBracket) y v → Spans at (next_of w) (end_of v)
+    → IsPlaced (told_node at (d ∷ e ∷ [])) (node (expression Index) (part t (part u none))) w v
+index_row l bracket r close s = node_is (λ c e ps. refl) (led l _) s (row_part l (row_quiet (λ q. refl) (row_sign bracket (row_part r (row_sign close row_end)))))
+
+pub conditional_row : {at : Option Span} {d e f : Told} {t u o : Tree} {w z x y v q : Here} → IsPlaced d t w z → Takes (pun "?") z x → IsPlaced e u x y → Takes (sign_of fixed.Colon) y v → IsPlaced f o v q → Spans at (next_of w) (end_of q)
+    → IsPlaced (told_node at (d ∷ e ∷ f ∷ [])) (node (expression Cond) (part t (part u (part o none)))) w q
+conditional_row l question r colon m s =
+    node_is (λ c e ps. refl) (led l _) s
+    (row_part l (row_quiet (λ q. refl) (row_quiet (λ q. refl) (row_sign question (row_quiet (λ q. refl) (row_part r (row_quiet (λ q. refl) (row_sign colon (row_quiet (λ q. refl) (row_part m row_end))))))))))
+
+pub binary_row : {at : Option Span} {d e : Told} {t u : Tree} {w z x y : Here} (o : BinaryOp) → IsPlaced d t w z → Takes (operator_sign o) z x → IsPlaced e u x y → Spans at (next_of w) (end_of y)
+    → IsPlaced (told_node at (d ∷ e ∷ [])) (node (expression (Binary o)) (part t (part u none))) w y
+binary_row {d = d} {e} {t} {u} {w} {y = y} o l sign r s =
+    node_is (λ c e ps. refl) (led l _) s
+    (subst (λ q. IsPlacedRow (Part (left_of o) ∷ sp ∷ count ∷ q ∷ sp ∷ Part (grammar.Expr (right_of o)) ∷ []) (tale d (tale e no_tales)) (part t (part u none)) w y) (operator_is o)
+    (row_part l (row_quiet (λ q. refl) (row_quiet (λ q. refl) (row_sign sign (row_quiet (λ q. refl) (row_part r row_end)))))))
+
+pub assign_row : {at : Option Span} {d e : Told} {t u : Tree} {w z x y : Here} → IsPlaced d t w z → Takes (pun "=") z x → IsPlaced e u x y → Spans at (next_of w) (end_of y) → IsPlaced (told_node at (d ∷ e ∷ [])) (node (expression Assign) (part t (part u none))) w y
+assign_row l sign r s = node_is (λ c e ps. refl) (led l _) s (row_part l (row_quiet (λ q. refl) (row_quiet (λ q. refl) (row_sign sign (row_quiet (λ q. refl) (row_part r row_end))))))
+
+pub op_assign_row : {at : Option Span} {d e : Told} {t u : Tree} {w z x y : Here} (o : BinaryOp) → IsPlaced d t w z → Takes (assign_sign o) z x → IsPlaced e u x y → Spans at (next_of w) (end_of y) → IsPlaced (told_node at (d ∷ e ∷ [])) (node (expression (OpAssign o)) (part t (part u none))) w y
+op_assign_row o l sign r s = node_is (λ c e ps. refl) (led l _) s (row_part l (row_quiet (λ q. refl) (row_quiet (λ q. refl) (row_sign sign (row_quiet (λ q. refl) (row_part r row_end))))))
+
+pub unary_row : {at : Option Span} {e : Told} {u : Tree} {w x y : Here} (o : UnaryOp) → Takes (opening_sign (expression (Unary o))) w x → IsPlaced e u x y → Spans at (next_of w) (end_of y) → IsPlaced (told_node at (e ∷ [])) (node (expression (Unary o)) (part u none)) w y
+unary_row Delete sign r s = node_is (λ c e ps. refl) (λ ms text. refl) s (row_quiet (λ q. refl) (row_sign sign (row_quiet (λ q. refl) (row_part r row_end))))
+unary_row Void sign r s = node_is (λ c e ps. refl) (λ ms text. refl) s (row_quiet (λ q. refl) (row_sign sign (row_quiet (λ q. refl) (row_part r row_end))))
+unary_row TypeOf sign r s = node_is (λ c e ps. refl) (λ ms text. refl) s (row_quiet (λ q. refl) (row_sign sign (row_quiet (λ q. refl) (row_part r row_end))))
+unary_row Positive sign r s = node_is (λ c e ps. refl) (λ ms text. refl) s (row_quiet (λ q. refl) (row_sign sign (row_quiet (λ q. refl) (row_part r row_end))))
+unary_row Negative sign r s = node_is (λ c e ps. refl) (λ ms text. refl) s (row_quiet (λ q. refl) (row_sign sign (row_quiet (λ q. refl) (row_part r row_end))))
+unary_row Complement sign r s = node_is (λ c e ps. refl) (λ ms text. refl) s (row_quiet (λ q. refl) (row_sign sign (row_part r row_end)))
+unary_row Not sign r s = node_is (λ c e ps. refl) (λ ms text. refl) s (row_quiet (λ q. refl) (row_sign sign (row_part r row_end)))
+
+pub import_row : {at : Option Span} {e : Told} {u : Tree} {w x y z v : Here} → Takes (opening_sign (expression ImportCall)) w x → Takes (sign_of fixed.Open) x y → IsPlaced e u y z → Takes (sign_of fixed.Close) z v → Spans at (next_of w) (end_of v) → IsPlaced (told_node at (e ∷ [])) (node (expression ImportCall) (part u none)) w v
+import_row sign bracket r close s = node_is (λ c e ps. refl) (λ ms text. refl) s (row_quiet (λ q. refl) (row_sign sign (row_sign bracket (row_part r (row_sign close row_end)))))
 
 pub declarator_row : {at : Option Span} {d e : Told} {t u : Tree} {x y z w v : Here} → IsPlaced d t x y → Takes (Ends AfterBinding) y z → Takes (sign_of fixed.Equals) z w → IsPlaced e u w v → Spans at (next_of x) (end_of v)
     → IsPlaced (told_node at (d ∷ told_list (e ∷ []) ∷ [])) (node (statement Declarator) (part t (part (list (part u none)) none))) x v

@@ -6,7 +6,8 @@ use Rattle.std.specs.Str.{chars, bytes_eq, IsUtf8}
 use Rattle.std.proofs.lemmas.Str.{chars-encodes, encodes-chars}
 use Rattle.std.proofs.lemmas.Slice.Eq.{bytes_eq-Decides}
 use lib.Utf8.{encode, scalars, encodes}
-use Rattle.jsx_base.specs.Token.{Text, same, among}
+use Rattle.jsx_base.specs.Token.{Text, IdentifierName, same, among}
+use Rattle.jsx_tree.specs.Kinds.{leaf}
 use Rattle.jsx_tree.specs.Nonterminals as grammar
 use Rattle.jsx_tree.proofs.Tokens.{and_left, and_right, same_is, same_self}
 
@@ -50,3 +51,22 @@ turned xs ys = by_both _ _ (λ e. (bytes_eq-Decides ys xs).1 (sym ((bytes_eq-Dec
 pub same_this : (bs : List ℕ) → IsUtf8 bs → bytes_eq bs (codes "this") ≡ same (chars bs) (codes "this")
 unfolding encode
 same_this bs u = turned bs (codes "this") ∙ same_bytes (codes "this") bs u refl
+
+pub same_null : (bs : List ℕ) → IsUtf8 bs → bytes_eq bs (codes "null") ≡ same (chars bs) (codes "null")
+unfolding encode
+same_null bs u = turned bs (codes "null") ∙ same_bytes (codes "null") bs u refl
+
+pub same_true : (bs : List ℕ) → IsUtf8 bs → bytes_eq bs (codes "true") ≡ same (chars bs) (codes "true")
+unfolding encode
+same_true bs u = turned bs (codes "true") ∙ same_bytes (codes "true") bs u refl
+
+pub same_false : (bs : List ℕ) → IsUtf8 bs → bytes_eq bs (codes "false") ≡ same (chars bs) (codes "false")
+unfolding encode
+same_false bs u = turned bs (codes "false") ∙ same_bytes (codes "false") bs u refl
+
+-- the leaf of a word, and that the word is an expression
+pub word_view : {t : Text} (u : Text) → same t u ≡ true → leaf IdentifierName u ≡ leaf IdentifierName t
+word_view {t} u e = ap (leaf IdentifierName) (sym (same_is t u e))
+
+pub word_value : (t u : Text) → grammar.is_value_word u ≡ true → same t u ≡ true → grammar.is_value_word t ≡ true
+word_value t u v e = ap grammar.is_value_word (same_is t u e) ∙ v

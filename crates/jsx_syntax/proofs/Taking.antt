@@ -4,7 +4,7 @@ use Rattle.std.specs.Prelude.{nat_eq}
 use Rattle.std.specs.Str.{chars}
 use Rattle.std.specs.Bool.{Decides}
 use Rattle.std.proofs.lemmas.Bool.{false≢true, and_parts, eqb-true}
-use Rattle.jsx_base.specs.Token.{Text, Mode, TokenKind as Kind, NoToken, Blank, same, is_kind, kind_number, is_token, skips, skip, breaks, at_front, Punctuator, Operator, Tag, NumericLiteral, StringLiteral, JsxName, IdentifierName}
+use Rattle.jsx_base.specs.Token.{Text, Mode, TokenKind as Kind, NoToken, Blank, same, is_kind, kind_number, is_token, skips, skip, breaks, at_front, Punctuator, Operator, Tag, NumericLiteral, BigIntLiteral, StringLiteral, JsxName, IdentifierName}
 use Rattle.jsx_base.specs.Lines.{size}
 use Rattle.jsx_tree.specs.Signs.{Ending, Tok, AfterExpr}
 use Rattle.jsx_tree.specs.Reading.{Lost, At, forth, go_if}
@@ -84,7 +84,9 @@ fixed_some fixed.Equals = refl
 fixed_some fixed.Semicolon = refl
 fixed_some fixed.Open = refl
 fixed_some fixed.Close = refl
+fixed_some fixed.CloseBracket = refl
 fixed_some fixed.Comma = refl
+fixed_some fixed.Colon = refl
 fixed_some fixed.Dot = refl
 fixed_some fixed.Less = refl
 fixed_some fixed.TagSlash = refl
@@ -96,7 +98,9 @@ fixed_skips fixed.Equals = refl
 fixed_skips fixed.Semicolon = refl
 fixed_skips fixed.Open = refl
 fixed_skips fixed.Close = refl
+fixed_skips fixed.CloseBracket = refl
 fixed_skips fixed.Comma = refl
+fixed_skips fixed.Colon = refl
 fixed_skips fixed.Dot = refl
 fixed_skips fixed.Less = refl
 fixed_skips fixed.TagSlash = refl
@@ -108,7 +112,9 @@ sign_is fixed.Equals = refl
 sign_is fixed.Semicolon = refl
 sign_is fixed.Open = refl
 sign_is fixed.Close = refl
+sign_is fixed.CloseBracket = refl
 sign_is fixed.Comma = refl
+sign_is fixed.Colon = refl
 sign_is fixed.Dot = refl
 sign_is fixed.Less = refl
 sign_is fixed.TagSlash = refl
@@ -123,7 +129,9 @@ fixed_full fixed.Equals = refl
 fixed_full fixed.Semicolon = refl
 fixed_full fixed.Open = refl
 fixed_full fixed.Close = refl
+fixed_full fixed.CloseBracket = refl
 fixed_full fixed.Comma = refl
+fixed_full fixed.Colon = refl
 fixed_full fixed.Dot = refl
 fixed_full fixed.Less = refl
 fixed_full fixed.TagSlash = refl
@@ -152,12 +160,14 @@ mark_is b t k f d m s = by_both b (is_it t (fixed_kind f) (fixed_text f)) yes no
 pub leaf_some : (l : Leaf) → is_kind NoToken (leaf_kind l) ≡ false
 leaf_some leaf.Name = refl
 leaf_some leaf.Num = refl
+leaf_some leaf.BigInt = refl
 leaf_some leaf.Str = refl
 leaf_some leaf.JsxName = refl
 
 pub leaf_skips : (l : Leaf) → skips (leaf_mode l) ≡ true
 leaf_skips leaf.Name = refl
 leaf_skips leaf.Num = refl
+leaf_skips leaf.BigInt = refl
 leaf_skips leaf.Str = refl
 leaf_skips leaf.JsxName = refl
 
@@ -167,6 +177,7 @@ whole_leaf m k h q n p e = alone m k (same h.last [] || breaks h.rest) (skip h.r
 leaf_whole : (l : Leaf) (h : Here) → is_kind (next_token (leaf_mode l) h).kind (leaf_kind l) ≡ true → is_leaf (leaf_kind l) (next_token (leaf_mode l) h).raw ≡ true
 leaf_whole leaf.Name h e = let w = whole_leaf Operator IdentifierName h refl refl refl e in and_both _ _ w.it w.ends
 leaf_whole leaf.Num h e = let w = whole_leaf Operator NumericLiteral h refl refl refl e in and_both _ _ w.it w.ends
+leaf_whole leaf.BigInt h e = let w = whole_leaf Operator BigIntLiteral h refl refl refl e in and_both _ _ w.it w.ends
 leaf_whole leaf.Str h e = let w = whole_leaf Operator StringLiteral h refl refl refl e in and_both _ _ w.it w.ends
 leaf_whole leaf.JsxName h e = let w = whole_leaf Tag JsxName h refl refl refl e in and_both _ _ w.it w.ends
 
@@ -177,6 +188,7 @@ pub leaf_full : (l : Leaf) (raw : Text) → is_leaf (leaf_kind l) raw ≡ true �
 leaf_full l (c ∷ raw) e = refl
 leaf_full leaf.Name [] e = absurd (false≢true e)
 leaf_full leaf.Num [] e = absurd (false≢true e)
+leaf_full leaf.BigInt [] e = absurd (false≢true e)
 leaf_full leaf.Str [] e = absurd (false≢true e)
 leaf_full leaf.JsxName [] e = absurd (false≢true e)
 

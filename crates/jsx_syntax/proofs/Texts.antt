@@ -4,11 +4,11 @@ use Rattle.jsx_base.specs.Token.{Text}
 use Rattle.jsx_tree.specs.Kinds.{Module, program, Tree, Forest, node, list, none, part}
 use Rattle.jsx_tree.specs.Nonterminals.{Item}
 use Rattle.jsx_tree.specs.Reading.{Place}
-use Rattle.jsx_tree.specs.Stage.{ReadsSoFar}
+use Rattle.jsx_syntax.specs.Stage.{ReadsSoFar}
 use Rattle.jsx_tree.specs.View.{forest}
 use Rattle.jsx_tree.specs.Texts.{start}
 use Rattle.jsx_tree.specs.Answers.{ToEnd, OnlyToEnd, NoneToEnd}
-use Rattle.jsx_tree.specs.SoFar.{in_module, so_far}
+use Rattle.jsx_syntax.specs.SoFar.{in_module, so_far}
 use Rattle.jsx_syntax.specs.Answers.{NoTree}
 use Rattle.jsx_syntax.proofs.Modules.{module_reads, module_statements}
 

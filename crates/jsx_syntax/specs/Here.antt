@@ -1,6 +1,6 @@
 -- Where the lexer stands, and the tokens that the parser asks it for.
 use Rattle.std.specs.Prelude.{ℕ, codes, length}
-use Rattle.jsx_base.specs.Token.{Text, Operand, Operator, Tag, TokenKind, IdentifierName, Punctuator, NumericLiteral, StringLiteral, JsxName}
+use Rattle.jsx_base.specs.Token.{Text, Operand, Operator, Tag, TokenKind, IdentifierName, Punctuator, NumericLiteral, BigIntLiteral, StringLiteral, JsxName}
 use Rattle.jsx_tree.specs.Signs.{Sign, Tok, Ending, AfterExpr, AfterBinding}
 use Rattle.jsx_tree.specs.Spelling.{mode_of}
 use Rattle.jsx_tree.specs.Reading.{Place, At}
@@ -35,7 +35,9 @@ sign_of fixed.Equals = Tok Operator Punctuator (codes "=")
 sign_of fixed.Semicolon = Tok Operator Punctuator (codes ";")
 sign_of fixed.Open = Tok Operator Punctuator (codes "(")
 sign_of fixed.Close = Tok Operator Punctuator (codes ")")
+sign_of fixed.CloseBracket = Tok Operator Punctuator (codes "]")
 sign_of fixed.Comma = Tok Operator Punctuator (codes ",")
+sign_of fixed.Colon = Tok Operator Punctuator (codes ":")
 sign_of fixed.Dot = Tok Operator Punctuator (codes ".")
 sign_of fixed.Less = Tok Operand Punctuator (codes "<")
 sign_of fixed.TagSlash = Tok Tag Punctuator (codes "/")
@@ -44,6 +46,7 @@ sign_of fixed.TagGreater = Tok Tag Punctuator (codes ">")
 abbrev pub leaf_kind : Leaf → TokenKind
 leaf_kind leaf.Name = IdentifierName
 leaf_kind leaf.Num = NumericLiteral
+leaf_kind leaf.BigInt = BigIntLiteral
 leaf_kind leaf.Str = StringLiteral
 leaf_kind leaf.JsxName = JsxName
 

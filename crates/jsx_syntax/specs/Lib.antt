@@ -1,3 +1,5 @@
+pub mod Stage
+pub mod SoFar
 pub mod Here
 pub mod NodeSpans
 pub mod Spans
@@ -5,3 +7,5 @@ pub mod Seen
 pub mod Answers
 pub mod Gaps
 pub mod Spelled
+pub mod Growths
+pub mod GrowthTokens

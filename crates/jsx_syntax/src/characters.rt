@@ -25,6 +25,46 @@ pub fn first(text: &str) -> Option<char>
     }
 }
 
+/// Whether the word is `in`.
+#[inline]
+pub fn is_in(word: &str) -> bool
+    ensures { result ≡ same (chars word.now) (codes "in") }
+{
+    word == "in"
+}
+
+/// Whether the word is `instanceof`.
+#[inline]
+pub fn is_instanceof(word: &str) -> bool
+    ensures { result ≡ same (chars word.now) (codes "instanceof") }
+{
+    word == "instanceof"
+}
+
+/// Whether the word is `void`.
+#[inline]
+pub fn is_void(word: &str) -> bool
+    ensures { result ≡ same (chars word.now) (codes "void") }
+{
+    word == "void"
+}
+
+/// Whether the word is `typeof`.
+#[inline]
+pub fn is_typeof(word: &str) -> bool
+    ensures { result ≡ same (chars word.now) (codes "typeof") }
+{
+    word == "typeof"
+}
+
+/// Whether the word is `import`.
+#[inline]
+pub fn is_import(word: &str) -> bool
+    ensures { result ≡ same (chars word.now) (codes "import") }
+{
+    word == "import"
+}
+
 /// Whether the word is `const`.
 #[inline]
 pub fn is_const(word: &str) -> bool

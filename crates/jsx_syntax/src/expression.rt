@@ -1,30 +1,42 @@
 //! Expressions.
 
-ghost use Rattle.std.specs.Prelude.{◌≡◌, ◌<◌, ◌≤◌, [], ◌∷◌, IfOk, OnOk, IsFalse, map};
-ghost use Rattle.jsx_tree.specs.Kinds.{Call, Member, Element, expression, jsx, list, none, part};
+ghost use Rattle.std.specs.Prelude.{◌≡◌, ◌<◌, ◌≤◌, [], ◌∷◌, IfOk, OnOk, IsTrue, map};
+ghost use Rattle.jsx_tree.specs.Kinds.{Role, Assign, OpAssign, Unary, Binary, Cond, Call, Member, Index, ImportCall, Element, expression, jsx, list, none, part};
 ghost use Rattle.jsx_tree.specs.Nonterminals as grammar;
 ghost use Rattle.jsx_tree.specs.Grammar.{Commas, Many, Part, p};
-ghost use Rattle.jsx_tree.specs.View.{forest, inside, view_expr};
+ghost use Rattle.jsx_tree.specs.View.{forest, inside, text_of, view_access, view_expr, view_operation, view_pattern};
+ghost use Rattle.jsx_tree.specs.ViewOperators.{assign_of, binary_of, unary_of};
 ghost use Rattle.jsx_tree.specs.Spans.{no_tales, tale};
-ghost use Rattle.jsx_tree.specs.Told.{told_expr, told_list};
+ghost use Rattle.jsx_tree.specs.Told.{told_expr, told_list, told_pat};
 ghost use Rattle.jsx_tree.specs.Walk.{one, tail};
 ghost use Rattle.jsx_tree.specs.Answers.{Only, Barred, OnlyRow, NoRow, Built};
-ghost use Rattle.jsx_tree.specs.Grows.{Follows};
-ghost use Rattle.jsx_tree.specs.SoFar.{in_module, is_number, row_so_far, so_far};
+ghost use Rattle.jsx_syntax.specs.SoFar.{in_module, is_number, row_so_far, so_far};
 ghost use Rattle.jsx_syntax.specs.Here.{place_of, left, sign_of};
 ghost use Rattle.jsx_syntax.specs.declared.lexer.Fixed.TheVariants as fixed;
 ghost use Rattle.jsx_syntax.specs.Answers.{Refused};
+ghost use Rattle.jsx_syntax.specs.Growths as growths;
+ghost use Rattle.jsx_syntax.specs.Growths.{Begins, NoOpening, NoneBegins, growth_kind, is_level, mark, opening_kind, opening_sign, settled};
 ghost use Rattle.jsx_syntax.specs.NodeSpans.{access_at, expr_at, jsx_at, operation_at};
-ghost use Rattle.jsx_syntax.specs.Spans.{Extends, IsPlaced, IsPlacedOn, IsPlacedRow, Spans, Starts, end_of, next_of};
+ghost use Rattle.jsx_syntax.specs.Spans.{Extends, IsPlaced, IsPlacedBehind, IsPlacedOn, IsPlacedRow, Spans, Starts, begin_of, end_of, next_of};
 
 use crate::error::ParseError;
-use crate::identifiers::{is_all_digits, is_reserved};
+use crate::growth::{self, Growth};
+use crate::identifiers::{is_bound, is_reserved, value_word};
 use crate::lexer::{Fixed, Leaf, Lexer};
 use crate::make;
+use crate::opening::Opening;
 use crate::parser::{expect, give_up, identifier_name, span_to, tag_name};
 use jsx_base::{BytePos, Span};
-use jsx_tree::{Access, Expr, Ident, Jsx, LiteralKind, Operation, Tag, Text};
-use std::alloc::Global;
+use jsx_tree::{
+    Access, AssignOp, BinaryOp, Expr, Ident, Jsx, LiteralKind, Operation, Pat, Tag, Text, UnaryOp,
+};
+use std::alloc::{AllocError, Global};
+
+/// The level of an assignment, and of all that a comma ends.
+pub const ASSIGNMENT: u8 = 1;
+
+/// The level of a unary expression.
+const UNARY: u8 = 15;
 
 /// A JSX element with neither attributes nor children: `<a/>`.
 fn element<'s>(alloc: Global, lexer: &mut Lexer<'s>) -> Result<Box<Expr<'s>>, ParseError>
@@ -32,6 +44,7 @@ fn element<'s>(alloc: Global, lexer: &mut Lexer<'s>) -> Result<Box<Expr<'s>>, Pa
     ensures span { IfOk result (λ e. Spans (expr_at e.value) (next_of lexer.old) (end_of lexer.new)) }
     ensures placed { IfOk result (λ e. IsPlaced (told_expr e.value) (view_expr e.value) lexer.old lexer.new) }
     ensures shorter { OnOk result (left lexer.new < left lexer.old) }
+    ensures ended { OnOk result (IsTrue (settled (place_of lexer.new))) }
     ensures refused { Refused result (NoRow so_far in_module (row_so_far (jsx Element)) (place_of lexer.old)) }
 {
     expect(lexer, Fixed::Less)?;
@@ -43,19 +56,23 @@ fn element<'s>(alloc: Global, lexer: &mut Lexer<'s>) -> Result<Box<Expr<'s>>, Pa
     Ok(make::element(alloc, span, Tag::Name(name), Vec::new(alloc))?)
 }
 
-/// An expression that begins with no other: an identifier, a literal or an element.
+/// A primary expression: an identifier, a literal or an element.
 fn primary<'s>(alloc: Global, lexer: &mut Lexer<'s>) -> Result<Box<Expr<'s>>, ParseError>
-    ensures read { IfOk result (λ e. Follows so_far in_module (grammar.Expr 1) (place_of lexer.old) (view_expr e.value) (place_of lexer.new)) }
+    requires { NoOpening (place_of lexer.old) }
+    ensures read { IfOk result (λ e. Begins in_module (place_of lexer.old) (view_expr e.value) (place_of lexer.new)) }
     ensures span { IfOk result (λ e. Spans (expr_at e.value) (next_of lexer.old) (end_of lexer.new)) }
     ensures placed { IfOk result (λ e. IsPlaced (told_expr e.value) (view_expr e.value) lexer.old lexer.new) }
     ensures shorter { OnOk result (left lexer.new < left lexer.old) }
-    ensures refused { Refused result (Barred so_far in_module (Part (grammar.Expr 1)) (place_of lexer.old)) }
+    ensures refused { Refused result (NoneBegins in_module (place_of lexer.old)) }
 {
     if let Some(raw) = lexer.leaf(Leaf::Name) {
+        let lo = lexer.last_place();
+        if let Some(word) = value_word(raw) {
+            return Ok(make::constant(alloc, span_to(lo, lexer), word)?);
+        }
         if is_reserved(raw) {
             return Err(give_up(lexer));
         }
-        let lo = lexer.last_place();
         let text = Text::Read(raw, lo);
         return Ok(make::name(alloc, span_to(lo, lexer), Ident { text })?);
     }
@@ -65,12 +82,14 @@ fn primary<'s>(alloc: Global, lexer: &mut Lexer<'s>) -> Result<Box<Expr<'s>>, Pa
         return Ok(make::literal(alloc, span_to(lo, lexer), LiteralKind::Str, text)?);
     }
     if let Some(raw) = lexer.leaf(Leaf::Num) {
-        if !is_all_digits(raw) {
-            return Err(give_up(lexer));
-        }
         let lo = lexer.last_place();
         let text = Text::Read(raw, lo);
         return Ok(make::literal(alloc, span_to(lo, lexer), LiteralKind::Num, text)?);
+    }
+    if let Some(raw) = lexer.leaf(Leaf::BigInt) {
+        let lo = lexer.last_place();
+        let text = Text::Read(raw, lo);
+        return Ok(make::literal(alloc, span_to(lo, lexer), LiteralKind::BigInt, text)?);
     }
     Ok(element(alloc, lexer)?)
 }
@@ -79,6 +98,104 @@ fn is_number(expr: &Expr) -> bool
     ensures { result ≡ is_number (view_expr expr.now) }
 {
     matches!(expr, Expr::Literal(_, LiteralKind::Num, _))
+}
+
+/// The level of an expression, up to that of calls and members.
+#[tactic(auto, using(crate::proofs::Leveling::leveling))]
+pub fn level(expr: &Expr) -> u8
+    ensures { result ≡ growths.level (view_expr expr.now) }
+{
+    match expr {
+        Expr::Operation(operation) => level_of_operation(operation),
+        _ => 17,
+    }
+}
+
+#[tactic(auto, using(crate::proofs::Leveling::leveling))]
+fn level_of_operation(operation: &Operation) -> u8
+    ensures { result ≡ growths.level (view_operation operation.now) }
+{
+    match operation {
+        Operation::Seq(_, _) => 0,
+        Operation::Assign(_, _, _) => 1,
+        Operation::OpAssign(_, _, _, _) => 1,
+        Operation::Arrow(_, _, _) => 1,
+        Operation::ArrowBlock(_, _, _, _) => 1,
+        Operation::BareArrow(_, _, _) => 1,
+        Operation::BareArrowBlock(_, _, _, _) => 1,
+        Operation::Cond(_, _, _, _) => 2,
+        Operation::Binary(_, operator, _, _) => growth::level(*operator),
+        Operation::Unary(_, _, _) => 15,
+        Operation::Update(_, _, _, _) => 16,
+        Operation::Spread(_, _) => 17,
+        Operation::Hole => 17,
+    }
+}
+
+/// Whether an expression may stand at the left of what goes on with it: `-a` not of `**`, and of `??` nothing that binds
+/// less than `|` but another `??`.
+fn fits(growth: Growth, left: &Expr) -> bool
+    ensures { result ≡ growths.fits (growth_kind growth) (view_expr left.now) }
+{
+    match growth {
+        Growth::Binary(operator) => fits_operator(operator, left),
+        Growth::Assign => is_target(left),
+        Growth::OpAssign(_) => is_target(left),
+        Growth::Cond => level(left) >= 3,
+        Growth::Call => level(left) >= 17,
+        Growth::Member => level(left) >= 17 && !is_number(left),
+        Growth::Index => level(left) >= 17,
+    }
+}
+
+fn fits_operator(operator: BinaryOp, left: &Expr) -> bool
+    ensures { result ≡ growths.fits (expression (Binary (binary_of operator))) (view_expr left.now) }
+{
+    let level = level(left);
+    level >= growth::left_level(operator) || level == 3 && growth::level(operator) == 3
+}
+
+/// Whether an expression may be assigned to: a name that may be bound, or a member.
+#[tactic(auto, using(crate::proofs::Targeting::targeting))]
+fn is_target(expr: &Expr) -> bool
+    ensures { result ≡ growths.is_target (view_expr expr.now) }
+{
+    match expr {
+        Expr::Ident(_, name) => is_bound_text(&name.text),
+        Expr::Access(access) => is_target_access(access),
+        Expr::Literal(_, _, _) => false,
+        Expr::Word(_, _) => false,
+        Expr::Operation(_) => false,
+        Expr::Array(_, _) => false,
+        Expr::Object(_, _) => false,
+        Expr::Template(_, _, _) => false,
+        Expr::Function(_, _, _, _, _) => false,
+        Expr::Class(_, _, _, _) => false,
+        Expr::Jsx(_) => false,
+        Expr::Paren(_, _) => false,
+    }
+}
+
+fn is_bound_text(text: &Text) -> bool
+    ensures { result ≡ grammar.is_bound (text_of text.now) }
+{
+    match text {
+        Text::Read(raw, _) => is_bound(raw),
+        Text::Made(made, _) => is_bound(made),
+    }
+}
+
+#[tactic(auto, using(crate::proofs::Targeting::targeting))]
+fn is_target_access(access: &Access) -> bool
+    ensures { result ≡ growths.is_target (view_access access.now) }
+{
+    matches!(
+        access,
+        Access::Member(_, _, _)
+            | Access::Index(_, _, _)
+            | Access::SuperMember(_, _)
+            | Access::SuperIndex(_, _)
+    )
 }
 
 /// Where an expression that was read begins.
@@ -170,15 +287,12 @@ fn member<'s>(
     object: Box<Expr<'s>>,
 ) -> Result<Box<Expr<'s>>, ParseError>
     ensures read { IfOk result (λ e. Built so_far in_module (tail (tail (row_so_far (expression Member)))) (expression Member) (part (view_expr object.entry.value)) (view_expr e.value) (place_of lexer.old) (place_of lexer.new)) }
-    ensures fits { OnOk result (IsFalse (is_number (view_expr object.entry.value))) }
     ensures span { IfOk result (λ e. Extends (expr_at object.entry.value) (expr_at e.value) (end_of lexer.new)) }
     ensures placed { IfOk result (λ e. IsPlacedOn (sign_of fixed.Dot) object.entry.value lexer.old e.value lexer.new) }
     ensures shorter { OnOk result (left lexer.new < left lexer.old) }
-    ensures refused { Refused result (IsFalse (is_number (view_expr object.entry.value)) → NoRow so_far in_module (tail (tail (row_so_far (expression Member)))) (place_of lexer.old)) }
+    ensures ended { OnOk result (IsTrue (settled (place_of lexer.new))) }
+    ensures refused { Refused result (NoRow so_far in_module (tail (tail (row_so_far (expression Member)))) (place_of lexer.old)) }
 {
-    if is_number(&object) {
-        return Err(give_up(lexer));
-    }
     let raw = identifier_name(lexer)?;
     let span = span_to(start_of(&object), lexer);
     let name = Text::Read(raw, lexer.last_place());
@@ -191,11 +305,12 @@ fn arguments<'s>(alloc: Global, lexer: &mut Lexer<'s>) -> Result<Vec<Box<Expr<'s
     ensures read { IfOk result (λ v. OnlyRow so_far in_module (tail (tail (row_so_far (expression Call)))) (place_of lexer.old) (part (list (forest (map (inside view_expr) v.items))) none) (place_of lexer.new)) }
     ensures placed { IfOk result (λ v. IsPlacedRow (Many Commas grammar.Argument ∷ p ")" ∷ []) (tale (told_list (map (inside told_expr) v.items)) no_tales) (part (list (forest (map (inside view_expr) v.items))) none) lexer.old lexer.new) }
     ensures shorter { OnOk result (left lexer.new < left lexer.old) }
+    ensures ended { OnOk result (IsTrue (settled (place_of lexer.new))) }
     ensures refused { Refused result (NoRow so_far in_module (tail (tail (row_so_far (expression Call)))) (place_of lexer.old)) }
 {
     let mut all = Vec::new(alloc);
     'arguments: while !lexer.take(Fixed::Close) {
-        let argument = expression(alloc, lexer)?;
+        let argument = expression(alloc, lexer, ASSIGNMENT)?;
         all.push(argument)?;
         if !lexer.take(Fixed::Comma) {
             expect(lexer, Fixed::Close)?;
@@ -216,6 +331,7 @@ fn call<'s>(
     ensures span { IfOk result (λ e. Extends (expr_at callee.entry.value) (expr_at e.value) (end_of lexer.new)) }
     ensures placed { IfOk result (λ e. IsPlacedOn (sign_of fixed.Open) callee.entry.value lexer.old e.value lexer.new) }
     ensures shorter { OnOk result (left lexer.new < left lexer.old) }
+    ensures ended { OnOk result (IsTrue (settled (place_of lexer.new))) }
     ensures refused { Refused result (NoRow so_far in_module (tail (tail (row_so_far (expression Call)))) (place_of lexer.old)) }
 {
     let all = arguments(alloc, lexer)?;
@@ -223,23 +339,241 @@ fn call<'s>(
     Ok(make::call(alloc, span, callee, all)?)
 }
 
-/// An expression, up to where it doesn't go on: `a.b(c).d`.
+/// A member behind its `[`: `a[b]`.
 #[cycle(expression)]
-pub fn expression<'s>(alloc: Global, lexer: &mut Lexer<'s>) -> Result<Box<Expr<'s>>, ParseError>
-    ensures read { IfOk result (λ e. Only so_far in_module (Part (grammar.Expr 1)) (place_of lexer.old) (one (view_expr e.value)) (place_of lexer.new)) }
+fn index<'s>(
+    alloc: Global,
+    lexer: &mut Lexer<'s>,
+    object: Box<Expr<'s>>,
+) -> Result<Box<Expr<'s>>, ParseError>
+    ensures read { IfOk result (λ e. Built so_far in_module (tail (tail (row_so_far (expression Index)))) (expression Index) (part (view_expr object.entry.value)) (view_expr e.value) (place_of lexer.old) (place_of lexer.new)) }
+    ensures span { IfOk result (λ e. Extends (expr_at object.entry.value) (expr_at e.value) (end_of lexer.new)) }
+    ensures placed { IfOk result (λ e. IsPlacedOn (mark (expression Index)) object.entry.value lexer.old e.value lexer.new) }
+    ensures shorter { OnOk result (left lexer.new < left lexer.old) }
+    ensures ended { OnOk result (IsTrue (settled (place_of lexer.new))) }
+    ensures refused { Refused result (NoRow so_far in_module (tail (tail (row_so_far (expression Index)))) (place_of lexer.old)) }
+{
+    let inner = expression(alloc, lexer, ASSIGNMENT)?;
+    expect(lexer, Fixed::CloseBracket)?;
+    let span = span_to(start_of(&object), lexer);
+    Ok(make::index(alloc, span, object, inner)?)
+}
+
+/// A conditional expression behind its `?`: `a ? b : c` (ECMA-262 section 13.14).
+#[cycle(expression)]
+fn conditional<'s>(
+    alloc: Global,
+    lexer: &mut Lexer<'s>,
+    test: Box<Expr<'s>>,
+) -> Result<Box<Expr<'s>>, ParseError>
+    ensures read { IfOk result (λ e. Built so_far in_module (tail (tail (row_so_far (expression Cond)))) (expression Cond) (part (view_expr test.entry.value)) (view_expr e.value) (place_of lexer.old) (place_of lexer.new)) }
+    ensures span { IfOk result (λ e. Extends (expr_at test.entry.value) (expr_at e.value) (end_of lexer.new)) }
+    ensures placed { IfOk result (λ e. IsPlacedOn (mark (expression Cond)) test.entry.value lexer.old e.value lexer.new) }
+    ensures shorter { OnOk result (left lexer.new < left lexer.old) }
+    ensures ended { OnOk result (IsTrue (settled (place_of lexer.new))) }
+    ensures refused { Refused result (NoRow so_far in_module (tail (tail (row_so_far (expression Cond)))) (place_of lexer.old)) }
+{
+    let then = expression(alloc, lexer, ASSIGNMENT)?;
+    expect(lexer, Fixed::Colon)?;
+    let other = expression(alloc, lexer, ASSIGNMENT)?;
+    let span = span_to(start_of(&test), lexer);
+    Ok(make::conditional(alloc, span, test, then, other)?)
+}
+
+/// A binary expression behind its operator: `a + b` (ECMA-262 sections 13.6 to 13.13).
+#[cycle(expression)]
+fn binary<'s>(
+    alloc: Global,
+    lexer: &mut Lexer<'s>,
+    operator: BinaryOp,
+    first: Box<Expr<'s>>,
+) -> Result<Box<Expr<'s>>, ParseError>
+    ensures read { IfOk result (λ e. Built so_far in_module (tail (tail (row_so_far (expression (Binary (binary_of operator)))))) (expression (Binary (binary_of operator))) (part (view_expr first.entry.value)) (view_expr e.value) (place_of lexer.old) (place_of lexer.new)) }
+    ensures span { IfOk result (λ e. Extends (expr_at first.entry.value) (expr_at e.value) (end_of lexer.new)) }
+    ensures placed { IfOk result (λ e. IsPlacedOn (mark (expression (Binary (binary_of operator)))) first.entry.value lexer.old e.value lexer.new) }
+    ensures shorter { OnOk result (left lexer.new < left lexer.old) }
+    ensures ended { OnOk result (IsTrue (settled (place_of lexer.new))) }
+    ensures refused { Refused result (NoRow so_far in_module (tail (tail (row_so_far (expression (Binary (binary_of operator)))))) (place_of lexer.old)) }
+{
+    let right = expression(alloc, lexer, growth::right_level(operator))?;
+    let span = span_to(start_of(&first), lexer);
+    Ok(make::binary(alloc, span, operator, first, right)?)
+}
+
+/// What is assigned to, of an expression: a name, or `a.b`.
+fn target_of<'s>(alloc: Global, expr: Box<Expr<'s>>) -> Result<Box<Pat<'s>>, AllocError>
+    ensures view { IfOk result (λ p. (r : Role) → view_pattern p.value r ≡ view_expr expr.entry.value) }
+    ensures told { IfOk result (λ p. told_pat p.value ≡ told_expr expr.entry.value) }
+{
+    if let Expr::Ident(at, name) = &*expr {
+        if let Text::Read(raw, place) = &name.text {
+            let text = Text::Read(*raw, *place);
+            return make::bound_name(alloc, *at, Ident { text });
+        }
+    }
+    make::target(alloc, expr)
+}
+
+/// An assignment behind its `=`: `a = b` (ECMA-262 section 13.15).
+#[cycle(expression)]
+fn assignment<'s>(
+    alloc: Global,
+    lexer: &mut Lexer<'s>,
+    first: Box<Expr<'s>>,
+) -> Result<Box<Expr<'s>>, ParseError>
+    ensures read { IfOk result (λ e. Built so_far in_module (tail (tail (row_so_far (expression Assign)))) (expression Assign) (part (view_expr first.entry.value)) (view_expr e.value) (place_of lexer.old) (place_of lexer.new)) }
+    ensures span { IfOk result (λ e. Extends (expr_at first.entry.value) (expr_at e.value) (end_of lexer.new)) }
+    ensures placed { IfOk result (λ e. IsPlacedOn (mark (expression Assign)) first.entry.value lexer.old e.value lexer.new) }
+    ensures shorter { OnOk result (left lexer.new < left lexer.old) }
+    ensures ended { OnOk result (IsTrue (settled (place_of lexer.new))) }
+    ensures refused { Refused result (NoRow so_far in_module (tail (tail (row_so_far (expression Assign)))) (place_of lexer.old)) }
+{
+    let value = expression(alloc, lexer, ASSIGNMENT)?;
+    let span = span_to(start_of(&first), lexer);
+    let target = target_of(alloc, first)?;
+    Ok(make::assign(alloc, span, target, value)?)
+}
+
+/// An assignment with an operator, behind that: `a += b` (ECMA-262 section 13.15).
+#[cycle(expression)]
+fn operator_assignment<'s>(
+    alloc: Global,
+    lexer: &mut Lexer<'s>,
+    operator: AssignOp,
+    first: Box<Expr<'s>>,
+) -> Result<Box<Expr<'s>>, ParseError>
+    ensures read { IfOk result (λ e. Built so_far in_module (tail (tail (row_so_far (expression (OpAssign (assign_of operator)))))) (expression (OpAssign (assign_of operator))) (part (view_expr first.entry.value)) (view_expr e.value) (place_of lexer.old) (place_of lexer.new)) }
+    ensures span { IfOk result (λ e. Extends (expr_at first.entry.value) (expr_at e.value) (end_of lexer.new)) }
+    ensures placed { IfOk result (λ e. IsPlacedOn (mark (expression (OpAssign (assign_of operator)))) first.entry.value lexer.old e.value lexer.new) }
+    ensures shorter { OnOk result (left lexer.new < left lexer.old) }
+    ensures ended { OnOk result (IsTrue (settled (place_of lexer.new))) }
+    ensures refused { Refused result (NoRow so_far in_module (tail (tail (row_so_far (expression (OpAssign (assign_of operator)))))) (place_of lexer.old)) }
+{
+    let value = expression(alloc, lexer, ASSIGNMENT)?;
+    let span = span_to(start_of(&first), lexer);
+    Ok(make::op_assign(alloc, span, operator, first, value)?)
+}
+
+/// What goes on with an expression, behind its first token.
+#[cycle(expression)]
+fn grow<'s>(
+    alloc: Global,
+    lexer: &mut Lexer<'s>,
+    growth: Growth,
+    first: Box<Expr<'s>>,
+) -> Result<Box<Expr<'s>>, ParseError>
+    ensures read { IfOk result (λ e. Built so_far in_module (tail (tail (row_so_far (growth_kind growth)))) (growth_kind growth) (part (view_expr first.entry.value)) (view_expr e.value) (place_of lexer.old) (place_of lexer.new)) }
+    ensures span { IfOk result (λ e. Extends (expr_at first.entry.value) (expr_at e.value) (end_of lexer.new)) }
+    ensures placed { IfOk result (λ e. IsPlacedOn (mark (growth_kind growth)) first.entry.value lexer.old e.value lexer.new) }
+    ensures shorter { OnOk result (left lexer.new < left lexer.old) }
+    ensures ended { OnOk result (IsTrue (settled (place_of lexer.new))) }
+    ensures refused { Refused result (NoRow so_far in_module (tail (tail (row_so_far (growth_kind growth)))) (place_of lexer.old)) }
+{
+    match growth {
+        Growth::Binary(operator) => Ok(binary(alloc, lexer, operator, first)?),
+        Growth::Assign => Ok(assignment(alloc, lexer, first)?),
+        Growth::OpAssign(operator) => Ok(operator_assignment(alloc, lexer, operator, first)?),
+        Growth::Cond => Ok(conditional(alloc, lexer, first)?),
+        Growth::Call => Ok(call(alloc, lexer, first)?),
+        Growth::Member => Ok(member(alloc, lexer, first)?),
+        Growth::Index => Ok(index(alloc, lexer, first)?),
+    }
+}
+
+/// A unary expression behind its operator: `-a` (ECMA-262 section 13.5).
+#[cycle(expression)]
+fn unary<'s>(
+    alloc: Global,
+    lexer: &mut Lexer<'s>,
+    operator: UnaryOp,
+) -> Result<Box<Expr<'s>>, ParseError>
+    ensures read { IfOk result (λ e. Built so_far in_module (tail (row_so_far (expression (Unary (unary_of operator))))) (expression (Unary (unary_of operator))) (λ ts. ts) (view_expr e.value) (place_of lexer.old) (place_of lexer.new)) }
+    ensures span { IfOk result (λ e. Spans (expr_at e.value) (begin_of lexer.old) (end_of lexer.new)) }
+    ensures placed { IfOk result (λ e. IsPlacedBehind (opening_sign (expression (Unary (unary_of operator)))) lexer.old (told_expr e.value) (view_expr e.value) lexer.new) }
+    ensures shorter { OnOk result (left lexer.new < left lexer.old) }
+    ensures ended { OnOk result (IsTrue (settled (place_of lexer.new))) }
+    ensures refused { Refused result (NoRow so_far in_module (tail (row_so_far (expression (Unary (unary_of operator))))) (place_of lexer.old)) }
+{
+    let lo = lexer.last_place();
+    let operand = expression(alloc, lexer, UNARY)?;
+    Ok(make::unary(alloc, span_to(lo, lexer), operator, operand)?)
+}
+
+/// An import call behind its word: `import(a)` (ECMA-262 section 13.3.10).
+#[cycle(expression)]
+fn import_call<'s>(alloc: Global, lexer: &mut Lexer<'s>) -> Result<Box<Expr<'s>>, ParseError>
+    ensures read { IfOk result (λ e. Built so_far in_module (tail (row_so_far (expression ImportCall))) (expression ImportCall) (λ ts. ts) (view_expr e.value) (place_of lexer.old) (place_of lexer.new)) }
+    ensures span { IfOk result (λ e. Spans (expr_at e.value) (begin_of lexer.old) (end_of lexer.new)) }
+    ensures placed { IfOk result (λ e. IsPlacedBehind (opening_sign (expression ImportCall)) lexer.old (told_expr e.value) (view_expr e.value) lexer.new) }
+    ensures shorter { OnOk result (left lexer.new < left lexer.old) }
+    ensures ended { OnOk result (IsTrue (settled (place_of lexer.new))) }
+    ensures refused { Refused result (NoRow so_far in_module (tail (row_so_far (expression ImportCall))) (place_of lexer.old)) }
+{
+    let lo = lexer.last_place();
+    expect(lexer, Fixed::Open)?;
+    let source = expression(alloc, lexer, ASSIGNMENT)?;
+    expect(lexer, Fixed::Close)?;
+    Ok(make::import_call(alloc, span_to(lo, lexer), source)?)
+}
+
+/// What an expression is, behind its first token.
+#[cycle(expression)]
+fn open<'s>(
+    alloc: Global,
+    lexer: &mut Lexer<'s>,
+    opening: Opening,
+) -> Result<Box<Expr<'s>>, ParseError>
+    ensures read { IfOk result (λ e. Built so_far in_module (tail (row_so_far (opening_kind opening))) (opening_kind opening) (λ ts. ts) (view_expr e.value) (place_of lexer.old) (place_of lexer.new)) }
+    ensures span { IfOk result (λ e. Spans (expr_at e.value) (begin_of lexer.old) (end_of lexer.new)) }
+    ensures placed { IfOk result (λ e. IsPlacedBehind (opening_sign (opening_kind opening)) lexer.old (told_expr e.value) (view_expr e.value) lexer.new) }
+    ensures shorter { OnOk result (left lexer.new < left lexer.old) }
+    ensures ended { OnOk result (IsTrue (settled (place_of lexer.new))) }
+    ensures refused { Refused result (NoRow so_far in_module (tail (row_so_far (opening_kind opening))) (place_of lexer.old)) }
+{
+    match opening {
+        Opening::ImportCall => Ok(import_call(alloc, lexer)?),
+        Opening::Unary(operator) => Ok(unary(alloc, lexer, operator)?),
+    }
+}
+
+/// An expression that begins with no other.
+#[cycle(expression)]
+fn beginning<'s>(alloc: Global, lexer: &mut Lexer<'s>) -> Result<Box<Expr<'s>>, ParseError>
+    ensures read { IfOk result (λ e. Begins in_module (place_of lexer.old) (view_expr e.value) (place_of lexer.new)) }
     ensures span { IfOk result (λ e. Spans (expr_at e.value) (next_of lexer.old) (end_of lexer.new)) }
     ensures placed { IfOk result (λ e. IsPlaced (told_expr e.value) (view_expr e.value) lexer.old lexer.new) }
     ensures shorter { OnOk result (left lexer.new < left lexer.old) }
-    ensures refused { Refused result (Barred so_far in_module (Part (grammar.Expr 1)) (place_of lexer.old)) }
+    ensures refused { Refused result (NoneBegins in_module (place_of lexer.old)) }
 {
-    let mut expr = primary(alloc, lexer)?;
+    let Some(opening) = lexer.opening() else {
+        return Ok(primary(alloc, lexer)?);
+    };
+    Ok(open(alloc, lexer, opening)?)
+}
+
+/// An expression of a level or more, up to where it doesn't go on: `a.b(c) + d`.
+#[cycle(expression)]
+pub fn expression<'s>(
+    alloc: Global,
+    lexer: &mut Lexer<'s>,
+    level: u8,
+) -> Result<Box<Expr<'s>>, ParseError>
+    requires { IsTrue (is_level level) }
+    ensures read { IfOk result (λ e. Only so_far in_module (Part (grammar.Expr level)) (place_of lexer.old) (one (view_expr e.value)) (place_of lexer.new)) }
+    ensures span { IfOk result (λ e. Spans (expr_at e.value) (next_of lexer.old) (end_of lexer.new)) }
+    ensures placed { IfOk result (λ e. IsPlaced (told_expr e.value) (view_expr e.value) lexer.old lexer.new) }
+    ensures shorter { OnOk result (left lexer.new < left lexer.old) }
+    ensures ended { OnOk result (IsTrue (settled (place_of lexer.new))) }
+    ensures refused { Refused result (Barred so_far in_module (Part (grammar.Expr level)) (place_of lexer.old)) }
+{
+    let mut expr = beginning(alloc, lexer)?;
     'steps: loop {
-        if lexer.take(Fixed::Dot) {
-            expr = member(alloc, lexer, expr)?;
-        } else if lexer.take(Fixed::Open) {
-            expr = call(alloc, lexer, expr)?;
-        } else {
+        let Some(growth) = lexer.growth(level) else {
             return Ok(expr);
+        };
+        if !fits(growth, &expr) {
+            return Err(give_up(lexer));
         }
+        expr = grow(alloc, lexer, growth, expr)?;
     }
 }

@@ -1,11 +1,15 @@
 //! Which words may stand where.
 
-ghost use Rattle.std.specs.Prelude.{◌≡◌, ◌∷◌, [], codes, filter, map, nat_eq, not};
+ghost use Rattle.std.specs.Prelude.{◌≡◌, ◌∷◌, [], codes, false, filter, map, nat_eq, not, IsTrue, IfSome, IfNone};
 ghost use Rattle.std.specs.Str.{chars};
 ghost use Rattle.std.specs.Char.{is_ascii_alphabetic};
-ghost use Rattle.jsx_base.specs.Token.{first_is, same, among};
+ghost use Rattle.jsx_base.specs.Token.{IdentifierName, first_is, same, among};
 ghost use Rattle.jsx_tree.specs.Nonterminals as grammar;
-ghost use Rattle.jsx_tree.specs.Stage as stage;
+ghost use Rattle.jsx_tree.specs.Kinds.{leaf};
+ghost use Rattle.jsx_tree.specs.View.{view_word};
+ghost use Rattle.jsx_syntax.specs.Stage as stage;
+
+use jsx_tree::Word;
 
 /// The names that strict mode doesn't bind.
 const RESTRICTED: [&str; 2] = ["eval", "arguments"];
@@ -93,9 +97,41 @@ pub fn is_plain_tag(name: &str) -> bool
     begins_with_letter(name) && !has_dash(name) && !is_this(name)
 }
 
-/// Whether the text is all decimal digits.
-pub fn is_all_digits(text: &str) -> bool
-    ensures { result ≡ stage.is_all_digits (chars text.now) }
+fn is_null(name: &str) -> bool
+    ensures { result ≡ same (chars name.now) (codes "null") }
 {
-    text.chars().all(|c| c.is_ascii_digit())
+    name == "null"
+}
+
+fn is_true(name: &str) -> bool
+    ensures { result ≡ same (chars name.now) (codes "true") }
+{
+    name == "true"
+}
+
+fn is_false(name: &str) -> bool
+    ensures { result ≡ same (chars name.now) (codes "false") }
+{
+    name == "false"
+}
+
+/// The word that is an expression by itself (ECMA-262 sections 13.2.1 and 13.2.3).
+pub fn value_word(name: &str) -> Option<Word>
+    ensures view { IfSome result (λ w. view_word w ≡ leaf IdentifierName (chars name.now)) }
+    ensures value { IfSome result (λ w. IsTrue (grammar.is_value_word (chars name.now))) }
+    ensures none { IfNone result (among (chars name.now) (codes "this" ∷ codes "null" ∷ codes "true" ∷ codes "false" ∷ []) ≡ false) }
+{
+    if is_this(name) {
+        return Some(Word::This);
+    }
+    if is_null(name) {
+        return Some(Word::Null);
+    }
+    if is_true(name) {
+        return Some(Word::True);
+    }
+    if is_false(name) {
+        return Some(Word::False);
+    }
+    None
 }

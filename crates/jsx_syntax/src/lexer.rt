@@ -1,18 +1,23 @@
 //! The tokens that the grammar so far asks for, one at a time from the front of the text.
 
-ghost use Rattle.std.specs.Prelude.{◌≡◌, ◌<◌, ◌^◌, ◌&&◌, IsTrue, IsFalse, IfSome, IfNone, MatchOption, false, true, length, []};
+ghost use Rattle.std.specs.Prelude.{◌≡◌, ◌<◌, ◌^◌, ◌&&◌, IsTrue, IsFalse, IfSome, IfNone, MatchOption, Some, false, true, length, nat_le, []};
 ghost use Rattle.std.specs.Str.{chars};
-ghost use Rattle.jsx_base.specs.Token.{Text, same, is_kind};
+ghost use Rattle.jsx_base.specs.Token.{Text, Operator, same, is_kind};
 ghost use Rattle.jsx_tree.specs.Signs.{AfterExpr};
 ghost use Rattle.jsx_tree.specs.Reading.{Lost, forth, ended_at};
 ghost use Rattle.jsx_tree.specs.Form.{is_leaf};
+ghost use Rattle.jsx_syntax.specs.SoFar.{goes_on_so_far};
+ghost use Rattle.jsx_syntax.specs.Stage.{has_kind};
 ghost use Rattle.jsx_lex.specs.Kinds.{is_punctuator, mode_of as mode_read, kind_of, spelling};
 ghost use Rattle.jsx_syntax.specs.Here.{Here, place_of, ending_of, left, sign_of, leaf_kind, leaf_sign};
-ghost use Rattle.jsx_syntax.specs.Seen.{IsNext, IsSeen, NoNext, here_of, is_it};
+ghost use Rattle.jsx_syntax.specs.Growths.{NoOpening, growth_kind, is_level, level_of_kind, mark, opening_kind, opening_sign};
+ghost use Rattle.jsx_syntax.specs.Seen.{IsNext, IsSeen, NoNext, here_of, is_it, next_token};
 ghost use Rattle.jsx_syntax.specs.Spans.{Takes, begin_of, end_of, next_of};
 ghost use Rattle.jsx_syntax.specs.Spelled.{IsMarkOf, fixed_mode, fixed_kind, fixed_text, leaf_mode};
 
 use crate::characters::{bytes, is_const};
+use crate::growth::{Growth, growth_of};
+use crate::opening::{Opening, opening_of};
 use crate::seen::{Seen, serves};
 use jsx_base::BytePos;
 use jsx_lex::{Lexer as Tokens, Mode, Token, TokenKind};
@@ -35,7 +40,10 @@ pub enum Fixed {
     Semicolon,
     Open,
     Close,
+    /// `]`
+    CloseBracket,
     Comma,
+    Colon,
     Dot,
     /// `<` where an expression may begin.
     Less,
@@ -51,6 +59,7 @@ pub enum Leaf {
     /// A name, reserved or not.
     Name,
     Num,
+    BigInt,
     Str,
     JsxName,
 }
@@ -79,7 +88,9 @@ impl Fixed {
             Fixed::Semicolon => TokenKind::Semicolon,
             Fixed::Open => TokenKind::LeftParen,
             Fixed::Close => TokenKind::RightParen,
+            Fixed::CloseBracket => TokenKind::RightBracket,
             Fixed::Comma => TokenKind::Comma,
+            Fixed::Colon => TokenKind::Colon,
             Fixed::Dot => TokenKind::Dot,
             Fixed::Less => TokenKind::Less,
             Fixed::TagSlash => TokenKind::Slash,
@@ -108,7 +119,7 @@ impl Leaf {
     {
         match self {
             Leaf::JsxName => Mode::Tag,
-            Leaf::Name | Leaf::Num | Leaf::Str => Mode::Operator,
+            Leaf::Name | Leaf::Num | Leaf::BigInt | Leaf::Str => Mode::Operator,
         }
     }
 
@@ -120,6 +131,7 @@ impl Leaf {
         let kind = match self {
             Leaf::Name => TokenKind::IdentifierName,
             Leaf::Num => TokenKind::NumericLiteral,
+            Leaf::BigInt => TokenKind::BigIntLiteral,
             Leaf::Str => TokenKind::StringLiteral,
             Leaf::JsxName => TokenKind::JsxName,
         };
@@ -280,6 +292,49 @@ impl<'s> Lexer<'s> {
         Some(seen.token.raw)
     }
 
+    /// Takes the next token if it goes on with an expression of this level or more.
+    pub fn growth(&mut self, level: u8) -> Option<Growth>
+        requires { IsTrue (is_level level) }
+        ensures taken { IfSome result (λ g. place_of self.new ≡ forth (mark (growth_kind g)) (place_of self.old)) }
+        ensures takes { IfSome result (λ g. Takes (mark (growth_kind g)) self.old self.new) }
+        ensures reaches { IfSome result (λ g. IsTrue (nat_le level (level_of_kind (growth_kind g)))) }
+        ensures shorter { IfSome result (λ g. left self.new < left self.old) }
+        ensures missing { IfNone result (goes_on_so_far (Some level) AfterExpr (next_token Operator self.old) ≡ false) }
+        ensures stays { IfNone result (self.new ≡ self.old) }
+    {
+        let Some(seen) = self.look(Mode::Operator) else {
+            return None;
+        };
+        let Some(growth) = growth_of(&seen.token) else {
+            return None;
+        };
+        if growth.level() < level {
+            return None;
+        }
+        self.step(&seen);
+        Some(growth)
+    }
+
+    /// Takes the next token if an expression begins with it that begins as no name, literal or element does.
+    pub fn opening(&mut self) -> Option<Opening>
+        ensures taken { IfSome result (λ g. place_of self.new ≡ forth (opening_sign (opening_kind g)) (place_of self.old)) }
+        ensures takes { IfSome result (λ g. Takes (opening_sign (opening_kind g)) self.old self.new) }
+        ensures begins { IfSome result (λ g. begin_of self.new ≡ next_of self.old) }
+        ensures shorter { IfSome result (λ g. left self.new < left self.old) }
+        ensures staged { IfSome result (λ g. IsTrue (has_kind (opening_kind g))) }
+        ensures missing { IfNone result (NoOpening (place_of self.old)) }
+        ensures stays { IfNone result (self.new ≡ self.old) }
+    {
+        let Some(seen) = self.look(Mode::Operator) else {
+            return None;
+        };
+        let Some(opening) = opening_of(&seen.token) else {
+            return None;
+        };
+        self.step(&seen);
+        Some(opening)
+    }
+
     /// The place behind the token that was taken last, in bytes from the text's begin.
     pub fn place(&self) -> BytePos
         ensures { result.0 ≡ end_of self.now }
@@ -357,6 +412,7 @@ mod tests {
             ("0xfF)", Leaf::Num, "0xfF"),
             ("3in []", Leaf::Num, ""),
             ("10n", Leaf::Num, ""),
+            ("10n", Leaf::BigInt, "10n"),
             (
                 "'\\u{10FFFF}\\x41\\\r\n'b",
                 Leaf::Str,

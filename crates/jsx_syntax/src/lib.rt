@@ -4,10 +4,12 @@
 mod characters;
 mod error;
 mod expression;
+mod growth;
 mod identifiers;
 mod lexer;
 mod make;
 mod module;
+mod opening;
 mod parser;
 mod seen;
 mod statement;

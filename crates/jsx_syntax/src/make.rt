@@ -2,13 +2,17 @@
 //! by value much.
 
 ghost use Rattle.std.specs.Prelude.{◌≡◌, [], ◌∷◌, IfOk, map};
-ghost use Rattle.jsx_tree.specs.Kinds.{Role, Declarator, Var, ExprStmt, Call, Member, Element, statement, expression, jsx, leaf, node, list, none, part};
-ghost use Rattle.jsx_tree.specs.View.{text_of, word, name_of, kind_of_literal, word_of, inside, forest, optional_of, view_tag, view_expr, view_pattern, view_pat, view_stmt, view_jsx};
+ghost use Rattle.jsx_tree.specs.Kinds.{Role, Declarator, Var, Assigns, ExprStmt, Assign, OpAssign, Unary, Binary, Cond, Call, Member, Index, ImportCall, Element, statement, expression, jsx, leaf, node, list, none, part};
+ghost use Rattle.jsx_tree.specs.View.{text_of, word, view_word, name_of, kind_of_literal, word_of, inside, forest, optional_of, view_tag, view_expr, view_pattern, view_pat, view_stmt, view_jsx};
+ghost use Rattle.jsx_tree.specs.ViewOperators.{assign_of, binary_of, unary_of};
 ghost use Rattle.jsx_tree.specs.Told.{told_list, told_optional, told_text, told_leaf, told_node, told_tag, told_expr, told_pat, told_stmt, told_jsx};
 ghost use Rattle.jsx_syntax.specs.NodeSpans.{expr_at, pat_at, stmt_at};
 
 use jsx_base::Span;
-use jsx_tree::{Access, DeclareWord, Expr, Ident, Jsx, LiteralKind, Pat, Stmt, Tag, Text};
+use jsx_tree::{
+    Access, AssignOp, BinaryOp, DeclareWord, Expr, Ident, Jsx, LiteralKind, Operation, Pat, Stmt,
+    Tag, Text, UnaryOp, Word,
+};
 use std::alloc::{AllocError, Global};
 
 /// A value in a box.
@@ -32,6 +36,19 @@ pub fn name<'s>(
     ensures span { IfOk result (λ e. expr_at e.value ≡ at) }
 {
     boxed(alloc, Expr::Ident(at, name))
+}
+
+/// `this`, `null`, `true` or `false`.
+pub fn constant<'s>(
+    alloc: Global,
+    at: Option<Span>,
+    value: Word,
+) -> Result<Box<Expr<'s>>, AllocError>
+    ensures view { IfOk result (λ e. view_expr e.value ≡ view_word value) }
+    ensures told { IfOk result (λ e. told_expr e.value ≡ told_node at []) }
+    ensures span { IfOk result (λ e. expr_at e.value ≡ at) }
+{
+    boxed(alloc, Expr::Word(at, value))
 }
 
 /// A literal whose text is one token.
@@ -143,4 +160,124 @@ pub fn expression_statement<'s>(
     ensures span { IfOk result (λ s. stmt_at s.value ≡ at) }
 {
     boxed(alloc, Stmt::Expr(at, expression))
+}
+
+/// `a[b]`
+pub fn index<'s>(
+    alloc: Global,
+    at: Option<Span>,
+    object: Box<Expr<'s>>,
+    index: Box<Expr<'s>>,
+) -> Result<Box<Expr<'s>>, AllocError>
+    ensures view { IfOk result (λ e. view_expr e.value ≡ node (expression Index) (part (view_expr object.entry.value) (part (view_expr index.entry.value) none))) }
+    ensures told { IfOk result (λ e. told_expr e.value ≡ told_node at (told_expr object.entry.value ∷ told_expr index.entry.value ∷ [])) }
+    ensures span { IfOk result (λ e. expr_at e.value ≡ at) }
+{
+    boxed(alloc, Expr::Access(Access::Index(at, object, index)))
+}
+
+/// `a + b`
+pub fn binary<'s>(
+    alloc: Global,
+    at: Option<Span>,
+    operator: BinaryOp,
+    left: Box<Expr<'s>>,
+    right: Box<Expr<'s>>,
+) -> Result<Box<Expr<'s>>, AllocError>
+    ensures view { IfOk result (λ e. view_expr e.value ≡ node (expression (Binary (binary_of operator))) (part (view_expr left.entry.value) (part (view_expr right.entry.value) none))) }
+    ensures told { IfOk result (λ e. told_expr e.value ≡ told_node at (told_expr left.entry.value ∷ told_expr right.entry.value ∷ [])) }
+    ensures span { IfOk result (λ e. expr_at e.value ≡ at) }
+{
+    boxed(
+        alloc,
+        Expr::Operation(Operation::Binary(at, operator, left, right)),
+    )
+}
+
+/// `a ? b : c`
+pub fn conditional<'s>(
+    alloc: Global,
+    at: Option<Span>,
+    test: Box<Expr<'s>>,
+    then: Box<Expr<'s>>,
+    other: Box<Expr<'s>>,
+) -> Result<Box<Expr<'s>>, AllocError>
+    ensures view { IfOk result (λ e. view_expr e.value ≡ node (expression Cond) (part (view_expr test.entry.value) (part (view_expr then.entry.value) (part (view_expr other.entry.value) none)))) }
+    ensures told { IfOk result (λ e. told_expr e.value ≡ told_node at (told_expr test.entry.value ∷ told_expr then.entry.value ∷ told_expr other.entry.value ∷ [])) }
+    ensures span { IfOk result (λ e. expr_at e.value ≡ at) }
+{
+    boxed(
+        alloc,
+        Expr::Operation(Operation::Cond(at, test, then, other)),
+    )
+}
+
+/// `-a`
+pub fn unary<'s>(
+    alloc: Global,
+    at: Option<Span>,
+    operator: UnaryOp,
+    operand: Box<Expr<'s>>,
+) -> Result<Box<Expr<'s>>, AllocError>
+    ensures view { IfOk result (λ e. view_expr e.value ≡ node (expression (Unary (unary_of operator))) (part (view_expr operand.entry.value) none)) }
+    ensures told { IfOk result (λ e. told_expr e.value ≡ told_node at (told_expr operand.entry.value ∷ [])) }
+    ensures span { IfOk result (λ e. expr_at e.value ≡ at) }
+{
+    boxed(
+        alloc,
+        Expr::Operation(Operation::Unary(at, operator, operand)),
+    )
+}
+
+/// `import(a)`
+pub fn import_call<'s>(
+    alloc: Global,
+    at: Option<Span>,
+    source: Box<Expr<'s>>,
+) -> Result<Box<Expr<'s>>, AllocError>
+    ensures view { IfOk result (λ e. view_expr e.value ≡ node (expression ImportCall) (part (view_expr source.entry.value) none)) }
+    ensures told { IfOk result (λ e. told_expr e.value ≡ told_node at (told_expr source.entry.value ∷ [])) }
+    ensures span { IfOk result (λ e. expr_at e.value ≡ at) }
+{
+    boxed(alloc, Expr::Access(Access::ImportCall(at, source)))
+}
+
+/// `a += b`
+pub fn op_assign<'s>(
+    alloc: Global,
+    at: Option<Span>,
+    operator: AssignOp,
+    target: Box<Expr<'s>>,
+    value: Box<Expr<'s>>,
+) -> Result<Box<Expr<'s>>, AllocError>
+    ensures view { IfOk result (λ e. view_expr e.value ≡ node (expression (OpAssign (assign_of operator))) (part (view_expr target.entry.value) (part (view_expr value.entry.value) none))) }
+    ensures told { IfOk result (λ e. told_expr e.value ≡ told_node at (told_expr target.entry.value ∷ told_expr value.entry.value ∷ [])) }
+    ensures span { IfOk result (λ e. expr_at e.value ≡ at) }
+{
+    boxed(
+        alloc,
+        Expr::Operation(Operation::OpAssign(at, operator, target, value)),
+    )
+}
+
+/// `a = b`
+pub fn assign<'s>(
+    alloc: Global,
+    at: Option<Span>,
+    target: Box<Pat<'s>>,
+    value: Box<Expr<'s>>,
+) -> Result<Box<Expr<'s>>, AllocError>
+    ensures view { IfOk result (λ e. view_expr e.value ≡ node (expression Assign) (part (view_pattern target.entry.value Assigns) (part (view_expr value.entry.value) none))) }
+    ensures told { IfOk result (λ e. told_expr e.value ≡ told_node at (told_pat target.entry.value ∷ told_expr value.entry.value ∷ [])) }
+    ensures span { IfOk result (λ e. expr_at e.value ≡ at) }
+{
+    boxed(alloc, Expr::Operation(Operation::Assign(at, target, value)))
+}
+
+/// What is assigned to, of an expression that is no name: `a.b`.
+pub fn target<'s>(alloc: Global, expr: Box<Expr<'s>>) -> Result<Box<Pat<'s>>, AllocError>
+    ensures view { IfOk result (λ p. (r : Role) → view_pattern p.value r ≡ view_expr expr.entry.value) }
+    ensures told { IfOk result (λ p. told_pat p.value ≡ told_expr expr.entry.value) }
+{
+    boxed(alloc, Pat::Target(expr))
 }

@@ -2,7 +2,7 @@
 
 ghost use Rattle.std.specs.Prelude.{◌≡◌, ◌<◌, ◌≤◌, IfOk, IfErr, Some, length, map, ℕ};
 ghost use Rattle.std.specs.Str.{chars};
-ghost use Rattle.jsx_tree.specs.Stage.{ReadsSoFar};
+ghost use Rattle.jsx_syntax.specs.Stage.{ReadsSoFar};
 ghost use Rattle.jsx_tree.specs.Grammar.{TopLines};
 ghost use Rattle.jsx_tree.specs.View.{forest};
 ghost use Rattle.jsx_tree.specs.ViewProgram.{view, view_item};
@@ -11,7 +11,7 @@ ghost use Rattle.jsx_tree.specs.Told.{tales, told, told_item};
 ghost use Rattle.jsx_syntax.specs.Here.{place_of};
 ghost use Rattle.jsx_tree.specs.Nonterminals as grammar;
 ghost use Rattle.jsx_tree.specs.Answers.{OnlyToEnd, NoneToEnd};
-ghost use Rattle.jsx_tree.specs.SoFar.{in_module, so_far};
+ghost use Rattle.jsx_syntax.specs.SoFar.{in_module, so_far};
 ghost use Rattle.jsx_syntax.specs.Answers.{Refused, NoTree, IsWithin};
 ghost use Rattle.jsx_syntax.specs.Spans.{IsPlacedList, Spans, program_at};
 
@@ -68,8 +68,9 @@ pub fn parse<'s>(alloc: Global, text: &'s str) -> Result<Program<'s>, ParseError
 mod tests {
     use super::parse;
     use crate::ParseError;
+    use crate::expression::level;
     use jsx_base::BytePos;
-    use jsx_tree::Program;
+    use jsx_tree::{Expr, Item, Operation, Program, Stmt};
     use std::alloc::Global;
 
     /// The number of statements, or the place of the error.
@@ -92,8 +93,65 @@ mod tests {
             ("const a = b.c(1, 'd',)(), e = <f/>.g;h\n(i) ;", 2),
             ("<a/>; 1(2); 'a'.b; eval;", 4),
             ("a.if.class;", 1),
+            ("a + b * c - d;a ** b ** c;a ?? b ?? c;", 3),
+            ("this.a == null;1.5e3 + 10n * 0xff;true ? 10n.a : false;", 3),
+            ("a || b && c ? d : e;a[b][c in d] instanceof f(g);", 2),
+            ("-a + !b * ~c;typeof a.b in c;void 0;- -+a;", 4),
+            ("import('a').b(import(c ? d : e));", 1),
+            ("a = b = c ? d : e;a.b += c;a[b] ??= c || d;", 3),
         ] {
             assert!(rt; read(rt.alloc(), text) == Ok(*want), "at {text}");
+        }
+    }
+
+    fn sides_of(operation: &Operation) -> (u8, u8) {
+        match operation {
+            Operation::Binary(_, _, left, right) => (level(left), level(right)),
+            Operation::Cond(_, test, _, other) => (level(test), level(other)),
+            Operation::OpAssign(_, _, target, value) => (level(target), level(value)),
+            _ => (0, 0),
+        }
+    }
+
+    fn sides_of_first(items: &[Item]) -> (u8, u8) {
+        let Some(Item::Stmt(statement)) = items.first() else {
+            return (0, 0);
+        };
+        let Stmt::Expr(_, expr) = &**statement else {
+            return (0, 0);
+        };
+        match &**expr {
+            Expr::Operation(operation) => sides_of(operation),
+            _ => (0, 0),
+        }
+    }
+
+    /// The levels of what stands at the two ends of the first statement's expression.
+    fn sides(alloc: Global, text: &str) -> (u8, u8) {
+        if text.len() >= 1000 {
+            return (0, 0);
+        }
+        match parse(alloc, text) {
+            Ok(Program::Module(module)) => sides_of_first(&module.body),
+            _ => (0, 0),
+        }
+    }
+
+    #[test]
+    fn binds_by_levels(rt: HostRuntime) {
+        for (text, want) in &[
+            ("a + b * c;", (17, 13)),
+            ("a * b + c;", (13, 17)),
+            ("a - b - c;", (12, 17)),
+            ("a ** b ** c;", (17, 14)),
+            ("a ?? b ?? c;", (3, 17)),
+            ("a || b && c;", (17, 5)),
+            ("a in b < c;", (10, 17)),
+            ("-a + typeof b;", (15, 15)),
+            ("a + b ? c : d ? e : f;", (12, 2)),
+            ("a.b += c ? d : e = f;", (17, 2)),
+        ] {
+            assert!(rt; sides(rt.alloc(), text) == *want, "at {text}");
         }
     }
 
@@ -106,8 +164,22 @@ mod tests {
             ("a(b,,);", 3),
             ("'use strict';", 0),
             ("1 .a;", 2),
-            ("this;", 0),
+            ("new;", 0),
             ("const a;", 6),
+            ("a ?? b || c;", 7),
+            ("a || b ?? c;", 7),
+            ("a ? b;", 4),
+            ("a +;", 2),
+            ("-a ** b;", 3),
+            ("a + b = c;", 6),
+            ("eval = a;", 5),
+            ("a() += b;", 4),
+            ("1 = a;", 2),
+            ("a = b", 4),
+            ("import a;", 0),
+            ("import();", 6),
+            ("delete a;", 0),
+            ("typeof;", 0),
             ("a; /* b", 1),
         ] {
             let want = Err(ParseError::Syntax(BytePos(*place)));

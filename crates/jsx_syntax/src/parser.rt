@@ -14,7 +14,7 @@ ghost use Rattle.jsx_tree.specs.Grammar.{Part};
 ghost use Rattle.jsx_tree.specs.Grammar as symbol;
 ghost use Rattle.jsx_tree.specs.Walk.{nothing, one};
 ghost use Rattle.jsx_tree.specs.Answers.{Only, Barred};
-ghost use Rattle.jsx_tree.specs.SoFar.{in_module, so_far};
+ghost use Rattle.jsx_syntax.specs.SoFar.{in_module, so_far};
 ghost use Rattle.jsx_syntax.specs.Answers.{Refused};
 ghost use Rattle.jsx_syntax.specs.NodeSpans.{pat_at};
 ghost use Rattle.jsx_syntax.specs.Spans.{FailsAt, IsPlaced, Spans, Takes, begin_of, end_of, next_of};

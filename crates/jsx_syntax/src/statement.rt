@@ -5,13 +5,13 @@ ghost use Rattle.jsx_tree.specs.Kinds.{ConstWord, Var, ExprStmt, statement, list
 ghost use Rattle.jsx_tree.specs.Nonterminals as grammar;
 ghost use Rattle.jsx_tree.specs.Grammar.{Many, NoTrailing, Part, semi};
 ghost use Rattle.jsx_tree.specs.StaticRules.{all_of, has_init};
-ghost use Rattle.jsx_tree.specs.Stage.{is_string};
+ghost use Rattle.jsx_syntax.specs.Stage.{is_string};
 ghost use Rattle.jsx_tree.specs.View.{forest, inside, view_expr, view_pat, view_stmt};
 ghost use Rattle.jsx_tree.specs.Spans.{no_tales, tale};
 ghost use Rattle.jsx_tree.specs.Told.{told_list, told_pat, told_stmt};
 ghost use Rattle.jsx_tree.specs.Walk.{one};
 ghost use Rattle.jsx_tree.specs.Answers.{Only, Barred, OnlyRow, NoNode, BuiltNode};
-ghost use Rattle.jsx_tree.specs.SoFar.{behind_const, in_module, row_so_far, so_far};
+ghost use Rattle.jsx_syntax.specs.SoFar.{behind_const, in_module, row_so_far, so_far};
 ghost use Rattle.jsx_syntax.specs.Here.{place_of, left, sign_of};
 ghost use Rattle.jsx_syntax.specs.declared.lexer.Fixed.TheVariants as fixed;
 ghost use Rattle.jsx_syntax.specs.Answers.{Refused};
@@ -19,7 +19,7 @@ ghost use Rattle.jsx_syntax.specs.NodeSpans.{pat_at, stmt_at};
 ghost use Rattle.jsx_syntax.specs.Spans.{IsPlaced, IsPlacedBehind, IsPlacedRow, Spans, begin_of, end_of, next_of};
 
 use crate::error::ParseError;
-use crate::expression::{expression, start_of};
+use crate::expression::{ASSIGNMENT, expression, start_of};
 use crate::lexer::{Ending, Fixed, Lexer};
 use crate::make;
 use crate::parser::{binding_identifier, expect, give_up, span_to};
@@ -40,7 +40,7 @@ fn declarator<'s>(alloc: Global, lexer: &mut Lexer<'s>) -> Result<Box<Pat<'s>>, 
     if !lexer.take(Fixed::Equals) {
         return Ok(make::declarator(alloc, span_to(lo, lexer), name, None)?);
     }
-    let value = expression(alloc, lexer)?;
+    let value = expression(alloc, lexer, ASSIGNMENT)?;
     Ok(make::declarator(alloc, span_to(lo, lexer), name, Some(value))?)
 }
 
@@ -106,7 +106,7 @@ fn expression_statement<'s>(
     ensures shorter { OnOk result (left lexer.new < left lexer.old) }
     ensures refused { Refused result (NoNode so_far in_module (row_so_far (statement ExprStmt)) (statement ExprStmt) (place_of lexer.old)) }
 {
-    let expr = expression(alloc, lexer)?;
+    let expr = expression(alloc, lexer, ASSIGNMENT)?;
     if is_string(&expr) {
         return Err(give_up(lexer));
     }

@@ -1,20 +1,14 @@
 pub mod Sources
+pub mod Views
 pub mod Sinks
 pub mod Completeness
 mod Examples
 pub mod Tests
 pub mod Characters
-pub mod Printing
 pub mod Becomes
 pub mod Words
-pub mod Literals
 pub mod Tags
 pub mod Quoted
-pub mod Printable
-pub mod Shapes
-pub mod ReadBack
-pub mod Expressions
-pub mod Modules
-pub mod Lowered
-pub mod Stands
+pub mod Quoting
 pub mod Refusals
+pub mod Lowering

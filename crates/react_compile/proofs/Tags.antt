@@ -5,7 +5,7 @@ use Rattle.jsx_base.proofs.Automata.{runs}
 use Rattle.jsx_tree.specs.Nonterminals.{has_dash, reserved, is_ident, is_value_word}
 use Rattle.jsx_tree.specs.Form.{is_leaf}
 use Rattle.react_compile.specs.Element.{is_lower}
-use Rattle.react_compile.specs.Printed.{is_string_tag}
+use Rattle.react_compile.specs.Lowering.{is_string_tag}
 use Rattle.react_compile.proofs.Tests.{here, there, same_is, cond_true}
 use Rattle.react_compile.proofs.Becomes.{Never, either, to, dead, last_never, accepts_never}
 use Rattle.react_compile.proofs.Words.{Front, front_of, Word, Is, taken_all, runs_all, ended_kind, first_only, over, not_blank}

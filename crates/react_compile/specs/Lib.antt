@@ -4,5 +4,5 @@ pub mod StandsFor
 pub mod Compiles
 pub mod Run
 pub mod Status
-pub mod Printed
 pub mod ParseErrors
+pub mod Lowering

@@ -1,6 +1,11 @@
 -- How a text that the compiler makes is spelled as a string literal (ECMA-262 section 12.9.4).
-use Rattle.std.specs.Prelude.{ℕ, ◌+◌, ◌/◌, ◌%◌, [], ◌∷◌, ◌++◌, codes, cond, nat_eq, nat_lt, ◌||◌}
+use Rattle.std.specs.Prelude.{ℕ, ◌+◌, ◌/◌, ◌%◌, List, [], ◌∷◌, ◌++◌, codes, Bool, true, cond, nat_eq, nat_lt, ◌&&◌, ◌||◌}
 use Rattle.jsx_base.specs.Token.{Text}
+
+-- bytes that are characters by themselves
+abbrev pub is_ascii : List ℕ → Bool
+is_ascii [] = true
+is_ascii (b ∷ bs) = nat_lt b 128 && is_ascii bs
 
 abbrev pub hex_digit : ℕ → ℕ
 hex_digit d = cond (nat_lt d 10) (48 + d) (87 + d)

@@ -4,10 +4,16 @@ ghost use Rattle.std.specs.Prelude.{◌≡◌, ◌<◌, ◌≤◌, ℕ, IfOk, If
 ghost use Rattle.std.specs.Str.{IsUtf8};
 ghost use Rattle.react_compile.specs.ParseErrors.{SyntaxWithin};
 ghost use Rattle.jsx_tree.specs.Kinds.{Tree};
-ghost use Rattle.react_compile.specs.Compiles.{Compiles, IsSource};
+ghost use Rattle.jsx_base.specs.Token as token;
+ghost use Rattle.jsx_syntax.specs.Stage.{ReadsSoFar};
+ghost use Rattle.jsx_tree.specs.ViewProgram.{view};
+ghost use Rattle.react_compile.specs.Compiles.{Compiles, IsCodeFor, IsSource};
 
-use crate::print::print;
+use crate::lower::lower;
+use jsx_print::print;
+use jsx_scope::parenthesise;
 use jsx_syntax::{ParseError, parse};
+use jsx_tree::Program;
 use std::alloc::{AllocError, Global};
 use std::str;
 
@@ -64,6 +70,16 @@ fn text_of(source: &[u8]) -> Result<&str, CompileError>
     }
 }
 
+/// The code of a program: its elements are lowered, pairs of parentheses put where they are needed, and the whole printed.
+fn code_of(alloc: Global, program: &mut Program<'_>) -> Result<String, AllocError>
+    ensures { IfOk result (λ code. (source : token.Text) → ReadsSoFar source (view program.old) → IsCodeFor (view program.old) (string_bytes code)) }
+{
+    let comments = lower(alloc, program)?;
+    parenthesise(alloc, program)?;
+    let printed = print(alloc, program, &comments)?;
+    Ok(printed.text)
+}
+
 /// Compiles a module.
 ///
 /// # Errors
@@ -77,7 +93,7 @@ pub fn compile(alloc: Global, source: &[u8]) -> Result<Output, CompileError>
     ensures complete { (tree : Tree) → IsSource source.now tree → IsOkUnless result CompileError.Memory }
 {
     let text = text_of(source)?;
-    let program = parse(alloc, text)?;
-    let code = print(alloc, &program)?;
+    let mut program = parse(alloc, text)?;
+    let code = code_of(alloc, &mut program)?;
     Ok(Output { code })
 }

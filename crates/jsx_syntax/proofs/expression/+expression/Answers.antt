@@ -1,22 +1,33 @@
-use Rattle.std.proofs.Common.{◌≡◌, arith, map, refl, sym, ◌∙◌, ap, subst}
+use Rattle.std.proofs.Common.{◌≡◌, true, arith, map, refl, sym, ◌∙◌, ap, subst, [], ◌∷◌}
+use Rattle.std.specs.Prelude.{codes}
+use Rattle.jsx_base.specs.Token.{Operator, Punctuator}
+use Rattle.jsx_tree.specs.Kinds.{Assigns, Assign, expression, node, none, part}
 use Rattle.jsx_tree.specs.Nonterminals.{Expr}
-use Rattle.jsx_tree.specs.Grammar.{Commas, Part, pun}
+use Rattle.jsx_tree.specs.Grammar.{Commas, Part}
 use Rattle.jsx_tree.specs.View.{forest, inside, view_expr}
-use Rattle.jsx_tree.specs.Told.{tales, told_expr}
+use Rattle.jsx_tree.specs.Told.{tales, told_expr, told_node}
 use Rattle.jsx_tree.specs.Walk.{one}
-use Rattle.jsx_tree.specs.Answers.{Moves, Stuck, Only}
-use Rattle.jsx_tree.specs.SoFar.{in_module, so_far}
+use Rattle.jsx_tree.specs.Answers.{Only}
+use Rattle.jsx_syntax.specs.SoFar.{in_module, so_far}
 use Rattle.jsx_syntax.specs.Here.{place_of, left}
 use Rattle.jsx_syntax.specs.NodeSpans.{expr_at}
-use Rattle.jsx_syntax.specs.Spans.{IsPlacedList, Spans, end_of, next_of}
-use Rattle.jsx_tree.proofs.Rows.SoFar.{of_so_far}
+use Rattle.jsx_syntax.specs.Growths.{NoOpening, growth_kind, opening_kind, fits, is_level, settled}
+use Rattle.jsx_tree.specs.ViewOperators.{assign_of, binary_of, unary_of}
+use Rattle.jsx_syntax.specs.Spans.{IsPlacedList, Spans, Takes, end_of, next_of}
+use Rattle.jsx_syntax.proofs.OfSoFar.{of_so_far}
+use Rattle.jsx_tree.proofs.Rows.Steps.{bar, on, built_1, built_2, built_3}
 use Rattle.jsx_tree.proofs.Rows.Lists.{begun, ended, ended_behind, no_more, not_closed, item_more, round}
-use Rattle.jsx_syntax.proofs.Values.{only_argument, barred_argument, member_follows, member_barred, call_follows, call_barred, value_only}
+use Rattle.jsx_syntax.proofs.Values.{only_argument, barred_argument, only_whole, barred_whole, settled_token, sign_ended}
+use Rattle.jsx_syntax.proofs.Operators.{binary_built, binary_none, unary_built, unary_none, mark_is, right_is_level, growth_listed, growth_grows}
+use Rattle.jsx_syntax.proofs.Climbing.{climb_only, climb_on, climb_barred, climb_unfit}
+use Rattle.jsx_syntax.proofs.Openings.{signed_follows, unread_opening}
+use Rattle.jsx_syntax.proofs.TakingOpenings.{opening_listed, opening_opens}
+use Rattle.jsx_syntax.proofs.TakingGrowths.{ended as stopped}
 use Rattle.jsx_syntax.proofs.Places.{spans_from}
 use Rattle.jsx_syntax.proofs.Steps.{passed}
 use Rattle.jsx_syntax.proofs.Trees.{pushed}
-use Rattle.jsx_syntax.proofs.Placing.{PlacedFront, plain_commas, row_end, row_sign, row_list, list_none, front_none, front_more, front_last, list_to, map_pushed, placed_as, placed_from, placed_to, takes_from}
-use Rattle.jsx_syntax.proofs.PlacedNodes.{no_trailing, takes_trailing, call_row}
+use Rattle.jsx_syntax.proofs.Placing.{PlacedFront, plain_commas, row_end, row_sign, row_list, list_none, front_none, front_more, front_last, list_to, map_pushed, placed_as, placed_from, placed_to}
+use Rattle.jsx_syntax.proofs.PlacedNodes.{no_trailing, takes_trailing, call_row, index_row, conditional_row, binary_row, assign_row, op_assign_row, unary_row, import_row}
 use Rattle.jsx_syntax.proofs.expression.+expression.Goals as goal
 
 pub arguments-arguments-init : goal.arguments-arguments-init
@@ -61,47 +72,6 @@ arguments-returns-clause-read t c = ended _ of_so_far refl round c.arguments.inv
 pub call-returns-clause-read : goal.call-returns-clause-read
 call-returns-clause-read t c = record { parts = _; is = c.in_ok-call.ensures.view; row = c.in_ok-all.ensures.read }
 
-pub expression-steps-init : goal.expression-steps-init
-expression-steps-init t c = record { so_far = c.in_ok-expr.ensures.read; span = c.in_ok-expr.ensures.span; placed = c.in_ok-expr.ensures.placed; within = c.in_ok-expr.ensures.shorter }
-
-pub expression-returns-in_err-expr-2-clause-refused : goal.expression-returns-in_err-expr-2-clause-refused
-expression-returns-in_err-expr-2-clause-refused t c = passed _ c.in_err-expr-2.ensures.refused c.from_residual-in_err-expr-2.ensures.1 (λ n. member_barred c.steps.invariant.so_far (record { is = c.take.ensures.taken c.if-take.true; found = refl }) n)
-
-pub expression-steps-preserved-then-take : goal.expression-steps-preserved-then-take
-expression-steps-preserved-then-take t c = record {
-  so_far = member_follows c.steps.invariant.so_far (record { is = c.take.ensures.taken c.if-take.true; found = refl }) c.in_ok-expr-2.ensures.fits c.in_ok-expr-2.ensures.read;
-  span = c.in_ok-expr-2.ensures.span.on _ _ c.steps.invariant.span;
-  placed = c.in_ok-expr-2.ensures.placed.on _ _ c.steps.invariant.span c.steps.invariant.placed (c.take.ensures.takes c.if-take.true);
-  within = omega (arith, c.in_ok-expr-2.ensures.shorter, c.take.ensures.shorter c.if-take.true, c.steps.invariant.within);
-}
-
-pub expression-returns-in_err-expr-3-clause-refused : goal.expression-returns-in_err-expr-3-clause-refused
-expression-returns-in_err-expr-3-clause-refused t c = passed _ c.in_err-expr-3.ensures.refused c.from_residual-in_err-expr-3.ensures.1
-    (λ n. call_barred c.steps.invariant.so_far (subst (λ p. Moves (pun "(") p (place_of c.take-else-take.new.self)) (ap place_of (c.take.ensures.stays c.if-take.false)) (record { is = c.take-else-take.ensures.taken c.if-take-2.true; found = refl })) n)
-
-pub expression-steps-preserved : goal.expression-steps-preserved
-expression-steps-preserved t c =
-    let same : left c.take.new.self ≡ left c.steps.lexer = ap left (c.take.ensures.stays c.if-take.false) in
-    record {
-      so_far = call_follows c.steps.invariant.so_far (subst (λ p. Moves (pun "(") p (place_of c.take-else-take.new.self)) (ap place_of (c.take.ensures.stays c.if-take.false)) (record { is = c.take-else-take.ensures.taken c.if-take-2.true; found = refl })) c.in_ok-expr-3.ensures.read;
-      span = c.in_ok-expr-3.ensures.span.on _ _ c.steps.invariant.span;
-      placed = c.in_ok-expr-3.ensures.placed.on _ _ c.steps.invariant.span c.steps.invariant.placed (takes_from (c.take.ensures.stays c.if-take.false) (c.take-else-take.ensures.takes c.if-take-2.true));
-      within = omega (arith, same, c.in_ok-expr-3.ensures.shorter, c.take-else-take.ensures.shorter c.if-take-2.true, c.steps.invariant.within);
-    }
-
-pub expression-returns-else-take-2-clause-span : goal.expression-returns-else-take-2-clause-span
-expression-returns-else-take-2-clause-span t c =
-    let stays : end_of c.take.new.self ≡ end_of c.steps.lexer = ap end_of (c.take.ensures.stays c.if-take.false) in
-    let stays' : end_of c.take-else-take.new.self ≡ end_of c.steps.lexer = ap end_of (c.take-else-take.ensures.stays c.if-take-2.false) ∙ stays in
-    spans_from c.steps.invariant.span refl refl (sym stays')
-
-pub expression-returns-else-take-2-clause-read : goal.expression-returns-else-take-2-clause-read
-expression-returns-else-take-2-clause-read t c =
-    let stays : place_of c.take.new.self ≡ place_of c.steps.lexer = ap place_of (c.take.ensures.stays c.if-take.false) in
-    let stays' : place_of c.take-else-take.new.self ≡ place_of c.steps.lexer = ap place_of (c.take-else-take.ensures.stays c.if-take-2.false) ∙ stays in
-    subst (λ p. Only so_far in_module (Part (Expr 1)) (place_of c.args.lexer.now) (one (view_expr c.steps.expr.value)) p) (sym stays')
-    (value_only c.steps.invariant.so_far (record { is = c.take.ensures.missing c.if-take.false }) (subst (λ p. Stuck (pun "(") p) stays (record { is = c.take-else-take.ensures.missing c.if-take-2.false })))
-
 pub arguments-returns-then-not-take-clause-placed : goal.arguments-returns-then-not-take-clause-placed
 arguments-returns-then-not-take-clause-placed t c =
     let argument = placed_from (c.take.ensures.stays c.arguments-test.true) c.in_ok-argument.ensures.placed in
@@ -119,5 +89,195 @@ call-returns-clause-placed t c = record {
       (spans_from c.span_to-span.ensures refl (c.start_of.ensures.on _ _ (subst (λ e. Spans (expr_at e) (next_of w) (end_of z)) (sym c.deref.ensures) s)) refl));
 }
 
-pub expression-returns-else-take-2-clause-placed : goal.expression-returns-else-take-2-clause-placed
-expression-returns-else-take-2-clause-placed t c = placed_to (c.take-else-take.ensures.stays c.if-take-2.false ∙ c.take.ensures.stays c.if-take.false) c.steps.invariant.placed
+pub arguments-returns-clause-ended : goal.arguments-returns-clause-ended
+arguments-returns-clause-ended t c = settled_token Operator Punctuator (codes ")") (place_of c.arguments.lexer) refl (sym (c.take.ensures.taken c.arguments-test.false)) refl
+
+pub arguments-returns-then-not-take-clause-ended : goal.arguments-returns-then-not-take-clause-ended
+arguments-returns-then-not-take-clause-ended t c = sign_ended c.in_ok-expect.ensures.read.past
+
+pub index-returns-in_err-inner-clause-refused : goal.index-returns-in_err-inner-clause-refused
+index-returns-in_err-inner-clause-refused t c = passed _ c.in_err-inner.ensures.refused c.from_residual.ensures.1 (λ b. bar (barred_whole b))
+
+pub index-returns-in_err-expect-clause-refused : goal.index-returns-in_err-expect-clause-refused
+index-returns-in_err-expect-clause-refused t c = passed _ c.in_err-expect.ensures.refused c.from_residual-in_err-expect.ensures.1 (λ b. on (only_whole c.in_ok-inner.ensures.read) (bar b))
+
+pub index-returns-clause-read : goal.index-returns-clause-read
+index-returns-clause-read t c = built_2 refl (only_whole c.in_ok-inner.ensures.read) c.in_ok-expect.ensures.read c.in_ok-index.ensures.view
+
+pub index-returns-clause-ended : goal.index-returns-clause-ended
+index-returns-clause-ended t c = sign_ended c.in_ok-expect.ensures.read.past
+
+pub index-returns-clause-placed : goal.index-returns-clause-placed
+index-returns-clause-placed t c = record {
+  on = λ w z s l bracket.
+      placed_as c.in_ok-index.ensures.told c.in_ok-index.ensures.view (index_row l bracket c.in_ok-inner.ensures.placed c.in_ok-expect.ensures.takes
+      (spans_from c.span_to-span.ensures refl (c.start_of.ensures.on _ _ (subst (λ e. Spans (expr_at e) (next_of w) (end_of z)) (sym c.deref.ensures) s)) refl));
+}
+
+pub conditional-returns-in_err-then-clause-refused : goal.conditional-returns-in_err-then-clause-refused
+conditional-returns-in_err-then-clause-refused t c = passed _ c.in_err-then.ensures.refused c.from_residual.ensures.1 (λ b. bar b)
+
+pub conditional-returns-in_err-expect-clause-refused : goal.conditional-returns-in_err-expect-clause-refused
+conditional-returns-in_err-expect-clause-refused t c = passed _ c.in_err-expect.ensures.refused c.from_residual-in_err-expect.ensures.1 (λ b. on c.in_ok-then.ensures.read (bar b))
+
+pub conditional-returns-in_err-other-clause-refused : goal.conditional-returns-in_err-other-clause-refused
+conditional-returns-in_err-other-clause-refused t c = passed _ c.in_err-other.ensures.refused c.from_residual-in_err-other.ensures.1 (λ b. on c.in_ok-then.ensures.read (on c.in_ok-expect.ensures.read (bar b)))
+
+pub conditional-returns-clause-read : goal.conditional-returns-clause-read
+conditional-returns-clause-read t c = built_3 refl c.in_ok-then.ensures.read c.in_ok-expect.ensures.read c.in_ok-other.ensures.read c.in_ok-conditional.ensures.view
+
+pub conditional-returns-clause-ended : goal.conditional-returns-clause-ended
+conditional-returns-clause-ended t c = c.in_ok-other.ensures.ended
+
+pub conditional-returns-clause-placed : goal.conditional-returns-clause-placed
+conditional-returns-clause-placed t c = record {
+  on = λ w z s l question.
+      placed_as c.in_ok-conditional.ensures.told c.in_ok-conditional.ensures.view (conditional_row l question c.in_ok-then.ensures.placed c.in_ok-expect.ensures.takes c.in_ok-other.ensures.placed
+      (spans_from c.span_to-span.ensures refl (c.start_of.ensures.on _ _ (subst (λ e. Spans (expr_at e) (next_of w) (end_of z)) (sym c.deref.ensures) s)) refl));
+}
+
+pub binary-expression-requires : goal.binary-expression-requires
+binary-expression-requires t c = (omega arith, subst (λ n. is_level n ≡ true) (sym c.right_level.ensures) (right_is_level (binary_of c.args.operator)))
+
+pub binary-returns-in_err-right-clause-refused : goal.binary-returns-in_err-right-clause-refused
+binary-returns-in_err-right-clause-refused t c = passed _ c.in_err-right.ensures.refused c.from_residual.ensures.1 (λ b. binary_none (binary_of c.args.operator) c.right_level.ensures b)
+
+pub binary-returns-clause-read : goal.binary-returns-clause-read
+binary-returns-clause-read t c = binary_built (binary_of c.args.operator) c.right_level.ensures c.in_ok-right.ensures.read refl c.in_ok-binary.ensures.view
+
+pub binary-returns-clause-ended : goal.binary-returns-clause-ended
+binary-returns-clause-ended t c = c.in_ok-right.ensures.ended
+
+pub binary-returns-clause-placed : goal.binary-returns-clause-placed
+binary-returns-clause-placed t c = record {
+  on = λ w z s l sign.
+      placed_as c.in_ok-binary.ensures.told c.in_ok-binary.ensures.view (binary_row (binary_of c.args.operator) l (subst (λ m. Takes m z c.args.lexer.now) (mark_is (binary_of c.args.operator)) sign) c.in_ok-right.ensures.placed
+      (spans_from c.span_to-span.ensures refl (c.start_of.ensures.on _ _ (subst (λ e. Spans (expr_at e) (next_of w) (end_of z)) (sym c.deref.ensures) s)) refl));
+}
+
+pub expression-steps-init : goal.expression-steps-init
+expression-steps-init t c = record { so_far = c.in_ok-expr.ensures.read.on c.args.level c.requires; span = c.in_ok-expr.ensures.span; placed = c.in_ok-expr.ensures.placed; within = c.in_ok-expr.ensures.shorter }
+
+pub expression-returns-in_err-expr-clause-refused : goal.expression-returns-in_err-expr-clause-refused
+expression-returns-in_err-expr-clause-refused t c = passed _ c.in_err-expr.ensures.refused c.from_residual.ensures.1 (λ n. n.on c.args.level c.requires)
+
+pub expression-returns-in_default-clause-read : goal.expression-returns-in_default-clause-read
+expression-returns-in_default-clause-read t c =
+    subst (λ p. Only so_far in_module (Part (Expr c.args.level)) (place_of c.args.lexer.now) (one (view_expr c.steps.expr.value)) p) (sym (ap place_of c.in_default.ensures.stays))
+    (climb_only c.requires c.steps.invariant.so_far (stopped c.args.level c.steps.lexer c.steps.invariant.so_far.ended c.in_default.ensures.missing))
+
+pub expression-returns-in_default-clause-span : goal.expression-returns-in_default-clause-span
+expression-returns-in_default-clause-span t c = spans_from c.steps.invariant.span refl refl (sym (ap end_of c.in_default.ensures.stays))
+
+pub expression-returns-in_default-clause-placed : goal.expression-returns-in_default-clause-placed
+expression-returns-in_default-clause-placed t c = placed_to c.in_default.ensures.stays c.steps.invariant.placed
+
+pub expression-returns-in_default-clause-ended : goal.expression-returns-in_default-clause-ended
+expression-returns-in_default-clause-ended t c = subst (λ h. settled (place_of h) ≡ true) (sym c.in_default.ensures.stays) c.steps.invariant.so_far.ended
+
+pub expression-returns-then-not-fits-clause-refused : goal.expression-returns-then-not-fits-clause-refused
+expression-returns-then-not-fits-clause-refused t c = record {
+  bars = λ _ _.
+      let g = c.in-Some.growth in
+      climb_unfit (growth_kind g) c.requires (growth_listed g) (growth_grows g) c.steps.invariant.so_far (record { is = c.in-Some.ensures.taken; found = refl }) c.in-Some.ensures.reaches
+      (ap (λ e. fits (growth_kind g) (view_expr e)) (sym c.deref.ensures) ∙ (sym c.fits.ensures ∙ c.if-not-fits.true));
+}
+
+pub expression-returns-in_err-expr-2-clause-refused : goal.expression-returns-in_err-expr-2-clause-refused
+expression-returns-in_err-expr-2-clause-refused t c =
+    let g = c.in-Some.growth in
+    passed _ c.in_err-expr-2.ensures.refused c.from_residual-in_err-expr-2.ensures.1 (λ n. climb_barred (growth_kind g) c.requires (growth_listed g) (growth_grows g) c.steps.invariant.so_far (record { is = c.in-Some.ensures.taken; found = refl }) c.in-Some.ensures.reaches n)
+
+pub expression-steps-preserved : goal.expression-steps-preserved
+expression-steps-preserved t c =
+    let g = c.in-Some.growth in
+    record {
+      so_far = climb_on (growth_kind g) c.requires (growth_listed g) (growth_grows g) c.steps.invariant.so_far (record { is = c.in-Some.ensures.taken; found = refl }) c.in-Some.ensures.reaches
+          (ap (λ e. fits (growth_kind g) (view_expr e)) (sym c.deref.ensures) ∙ (sym c.fits.ensures ∙ c.if-not-fits.false)) c.in_ok-expr-2.ensures.read c.in_ok-expr-2.ensures.ended;
+      span = c.in_ok-expr-2.ensures.span.on _ _ c.steps.invariant.span;
+      placed = c.in_ok-expr-2.ensures.placed.on _ _ c.steps.invariant.span c.steps.invariant.placed c.in-Some.ensures.takes;
+      within = omega (arith, c.in_ok-expr-2.ensures.shorter, c.in-Some.ensures.shorter, c.steps.invariant.within);
+    }
+
+pub unary-returns-in_err-operand-clause-refused : goal.unary-returns-in_err-operand-clause-refused
+unary-returns-in_err-operand-clause-refused t c = passed _ c.in_err-operand.ensures.refused c.from_residual.ensures.1 (λ b. unary_none (unary_of c.args.operator) b)
+
+pub unary-returns-clause-read : goal.unary-returns-clause-read
+unary-returns-clause-read t c = unary_built (unary_of c.args.operator) c.in_ok-operand.ensures.read refl c.in_ok-unary.ensures.view
+
+pub unary-returns-clause-ended : goal.unary-returns-clause-ended
+unary-returns-clause-ended t c = c.in_ok-operand.ensures.ended
+
+pub unary-returns-clause-placed : goal.unary-returns-clause-placed
+unary-returns-clause-placed t c = record {
+  on = λ w sign begins.
+      placed_as c.in_ok-unary.ensures.told c.in_ok-unary.ensures.view (unary_row (unary_of c.args.operator) sign c.in_ok-operand.ensures.placed (spans_from c.span_to.ensures refl (c.last_place-lo.ensures ∙ begins) refl));
+}
+
+pub import_call-returns-in_err-expect-clause-refused : goal.import_call-returns-in_err-expect-clause-refused
+import_call-returns-in_err-expect-clause-refused t c = passed _ c.in_err-expect.ensures.refused c.from_residual.ensures.1 (λ b. bar b)
+
+pub import_call-returns-in_err-source-clause-refused : goal.import_call-returns-in_err-source-clause-refused
+import_call-returns-in_err-source-clause-refused t c = passed _ c.in_err-source.ensures.refused c.from_residual-in_err-source.ensures.1 (λ b. on c.in_ok-expect.ensures.read (bar b))
+
+pub import_call-returns-in_err-expect-2-clause-refused : goal.import_call-returns-in_err-expect-2-clause-refused
+import_call-returns-in_err-expect-2-clause-refused t c = passed _ c.in_err-expect-2.ensures.refused c.from_residual-in_err-expect-2.ensures.1 (λ b. on c.in_ok-expect.ensures.read (on c.in_ok-source.ensures.read (bar b)))
+
+pub import_call-returns-clause-read : goal.import_call-returns-clause-read
+import_call-returns-clause-read t c = built_3 refl c.in_ok-expect.ensures.read c.in_ok-source.ensures.read c.in_ok-expect-2.ensures.read c.in_ok-import_call.ensures.view
+
+pub import_call-returns-clause-ended : goal.import_call-returns-clause-ended
+import_call-returns-clause-ended t c = sign_ended c.in_ok-expect-2.ensures.read.past
+
+pub import_call-returns-clause-placed : goal.import_call-returns-clause-placed
+import_call-returns-clause-placed t c = record {
+  on = λ w sign begins.
+      placed_as c.in_ok-import_call.ensures.told c.in_ok-import_call.ensures.view (import_row sign c.in_ok-expect.ensures.takes c.in_ok-source.ensures.placed c.in_ok-expect-2.ensures.takes (spans_from c.span_to.ensures refl (c.last_place-lo.ensures ∙ begins) refl));
+}
+
+pub beginning-primary-requires : goal.beginning-primary-requires
+beginning-primary-requires t c = subst (λ h. NoOpening (place_of h)) (sym c.in_default.ensures.stays) c.in_default.ensures.missing
+
+pub beginning-returns-clause-read : goal.beginning-returns-clause-read
+beginning-returns-clause-read t c =
+    let g = c.in-Some.opening in
+    signed_follows (opening_kind g) (opening_listed g c.in-Some.ensures.staged) (opening_opens g) (record { is = c.in-Some.ensures.taken; found = refl }) c.in_ok-open.ensures.read c.in_ok-open.ensures.ended
+
+pub beginning-returns-in_err-open-clause-refused : goal.beginning-returns-in_err-open-clause-refused
+beginning-returns-in_err-open-clause-refused t c =
+    let g = c.in-Some.opening in
+    passed _ c.in_err-open.ensures.refused c.from_residual-in_err-open.ensures.1 (λ n. unread_opening (opening_kind g) (opening_listed g c.in-Some.ensures.staged) (opening_opens g) (record { is = c.in-Some.ensures.taken; found = refl }) n)
+
+pub assignment-returns-in_err-value-clause-refused : goal.assignment-returns-in_err-value-clause-refused
+assignment-returns-in_err-value-clause-refused t c = passed _ c.in_err-value.ensures.refused c.from_residual.ensures.1 (λ b. bar b)
+
+pub assignment-returns-clause-read : goal.assignment-returns-clause-read
+assignment-returns-clause-read t c = built_1 refl c.in_ok-value.ensures.read (c.in_ok-assign.ensures.view ∙ ap (λ u. node (expression Assign) (part u (part (view_expr c.in_ok-value.value.value) none))) (c.in_ok-target.ensures.view Assigns))
+
+pub assignment-returns-clause-ended : goal.assignment-returns-clause-ended
+assignment-returns-clause-ended t c = c.in_ok-value.ensures.ended
+
+pub assignment-returns-clause-placed : goal.assignment-returns-clause-placed
+assignment-returns-clause-placed t c = record {
+  on = λ w z s l sign.
+      placed_as (c.in_ok-assign.ensures.told ∙ ap (λ d. told_node c.span_to-span.result (d ∷ told_expr c.in_ok-value.value.value ∷ [])) c.in_ok-target.ensures.told)
+      (c.in_ok-assign.ensures.view ∙ ap (λ u. node (expression Assign) (part u (part (view_expr c.in_ok-value.value.value) none))) (c.in_ok-target.ensures.view Assigns))
+      (assign_row l sign c.in_ok-value.ensures.placed
+      (spans_from c.span_to-span.ensures refl (c.start_of.ensures.on _ _ (subst (λ e. Spans (expr_at e) (next_of w) (end_of z)) (sym c.deref.ensures) s)) refl));
+}
+
+pub operator_assignment-returns-in_err-value-clause-refused : goal.operator_assignment-returns-in_err-value-clause-refused
+operator_assignment-returns-in_err-value-clause-refused t c = passed _ c.in_err-value.ensures.refused c.from_residual.ensures.1 (λ b. bar b)
+
+pub operator_assignment-returns-clause-read : goal.operator_assignment-returns-clause-read
+operator_assignment-returns-clause-read t c = built_1 refl c.in_ok-value.ensures.read c.in_ok-op_assign.ensures.view
+
+pub operator_assignment-returns-clause-ended : goal.operator_assignment-returns-clause-ended
+operator_assignment-returns-clause-ended t c = c.in_ok-value.ensures.ended
+
+pub operator_assignment-returns-clause-placed : goal.operator_assignment-returns-clause-placed
+operator_assignment-returns-clause-placed t c = record {
+  on = λ w z s l sign.
+      placed_as c.in_ok-op_assign.ensures.told c.in_ok-op_assign.ensures.view (op_assign_row (assign_of c.args.operator) l sign c.in_ok-value.ensures.placed
+      (spans_from c.span_to-span.ensures refl (c.start_of.ensures.on _ _ (subst (λ e. Spans (expr_at e) (next_of w) (end_of z)) (sym c.deref.ensures) s)) refl));
+}

@@ -1,13 +1,12 @@
 use Rattle.std.proofs.Common.{◌+◌, ◌*◌, ◌<◌, ◌≤◌, map}
 use Rattle.jsx_tree.specs.Kinds.{Call, expression}
-use Rattle.jsx_tree.specs.Nonterminals.{Expr}
 use Rattle.jsx_tree.specs.Grammar.{Commas}
 use Rattle.jsx_tree.specs.Told.{tales, told_expr}
 use Rattle.jsx_tree.specs.View.{forest, inside, view_expr}
 use Rattle.jsx_tree.specs.Walk.{tail}
-use Rattle.jsx_tree.specs.Grows.{Follows}
-use Rattle.jsx_tree.specs.SoFar.{in_module, row_so_far, so_far}
+use Rattle.jsx_syntax.specs.SoFar.{in_module, row_so_far, so_far}
 use Rattle.jsx_syntax.specs.Here.{place_of, left}
+use Rattle.jsx_syntax.specs.Growths.{Climbs}
 use Rattle.jsx_syntax.specs.NodeSpans.{expr_at}
 use Rattle.jsx_syntax.specs.Spans.{IsPlaced, IsPlacedList, Spans, end_of, next_of}
 use Rattle.jsx_tree.proofs.Rows.Turns.{Turn, prepend}
@@ -15,13 +14,43 @@ use Rattle.jsx_syntax.proofs.Placing.{PlacedFront}
 use Rattle.jsx_syntax.proofs.expression.+expression.Given as goal
 
 abbrev pub decreases-expression : goal.decreases-expression
-decreases-expression l = 3 * left l.lexer.now
+decreases-expression l = 6 * left l.lexer.now + 1
 
 abbrev pub decreases-call : goal.decreases-call
-decreases-call l = 3 * left l.lexer.now + 2
+decreases-call l = 6 * left l.lexer.now + 3
+
+abbrev pub decreases-index : goal.decreases-index
+decreases-index l = 6 * left l.lexer.now + 3
+
+abbrev pub decreases-conditional : goal.decreases-conditional
+decreases-conditional l = 6 * left l.lexer.now + 3
+
+abbrev pub decreases-assignment : goal.decreases-assignment
+decreases-assignment l = 6 * left l.lexer.now + 3
+
+abbrev pub decreases-operator_assignment : goal.decreases-operator_assignment
+decreases-operator_assignment l = 6 * left l.lexer.now + 3
+
+abbrev pub decreases-binary : goal.decreases-binary
+decreases-binary l = 6 * left l.lexer.now + 3
+
+abbrev pub decreases-grow : goal.decreases-grow
+decreases-grow l = 6 * left l.lexer.now + 4
+
+abbrev pub decreases-beginning : goal.decreases-beginning
+decreases-beginning l = 6 * left l.lexer.now
+
+abbrev pub decreases-open : goal.decreases-open
+decreases-open l = 6 * left l.lexer.now + 4
+
+abbrev pub decreases-unary : goal.decreases-unary
+decreases-unary l = 6 * left l.lexer.now + 3
+
+abbrev pub decreases-import_call : goal.decreases-import_call
+decreases-import_call l = 6 * left l.lexer.now + 3
 
 abbrev pub decreases-arguments : goal.decreases-arguments
-decreases-arguments l = 3 * left l.lexer.now + 1
+decreases-arguments l = 6 * left l.lexer.now + 2
 
 abbrev pub invariant-arguments-arguments : goal.invariant-arguments-arguments
 invariant-arguments-arguments l = record {
@@ -36,7 +65,7 @@ decreases-arguments-arguments l = left l.lexer
 
 abbrev pub invariant-expression-steps : goal.invariant-expression-steps
 invariant-expression-steps l = record {
-  so_far : Follows so_far in_module (Expr 1) (place_of l.fn.lexer) (view_expr l.expr.value) (place_of l.lexer);
+  so_far : Climbs in_module l.level (place_of l.fn.lexer) (view_expr l.expr.value) (place_of l.lexer);
   span : Spans (expr_at l.expr.value) (next_of l.fn.lexer) (end_of l.lexer);
   placed : IsPlaced (told_expr l.expr.value) (view_expr l.expr.value) l.fn.lexer l.lexer;
   within : left l.lexer < left l.fn.lexer;

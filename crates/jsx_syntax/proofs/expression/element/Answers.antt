@@ -5,11 +5,12 @@ use Rattle.jsx_tree.specs.Nonterminals.{Attributes}
 use Rattle.jsx_tree.specs.Walk.{one, is_found}
 use Rattle.jsx_tree.specs.Answers.{Only}
 use Rattle.jsx_tree.specs.Reading.{Place}
-use Rattle.jsx_tree.specs.SoFar.{in_module, so_far}
+use Rattle.jsx_syntax.specs.SoFar.{in_module, so_far}
 use Rattle.std.specs.Prelude.{IsTrue}
 use Rattle.jsx_tree.proofs.Rows.Steps.{built_5}
 use Rattle.jsx_tree.proofs.Rows.Lists.{only_none}
 use Rattle.jsx_syntax.proofs.Homes.{no_attributes}
+use Rattle.jsx_syntax.proofs.Values.{sign_ended}
 use Rattle.jsx_syntax.proofs.Steps.{fails_2, fails_4, fails_5}
 use Rattle.jsx_syntax.proofs.Places.{spans_from}
 use Rattle.jsx_syntax.proofs.Trees.{element_is}
@@ -37,3 +38,6 @@ returns-clause-placed c =
     placed_as (element_told c.span_to-span.result c.in_ok-name.name c.new.result c.new.ensures.items c.in_ok-element.ensures.told) (element_is c.in_ok-name.name c.new.result c.new.ensures.items c.in_ok-element.ensures.view)
     (element_row c.in_ok-expect.ensures.takes c.in_ok-name.ensures.takes c.in_ok-name.ensures.place c.in_ok-expect-2.ensures.takes c.in_ok-expect-3.ensures.takes
     (spans_from c.span_to-span.ensures refl (c.last_place-lo.ensures ∙ c.in_ok-expect.ensures.begins) refl))
+
+pub returns-clause-ended : goal.returns-clause-ended
+returns-clause-ended c = sign_ended c.in_ok-expect-3.ensures.read.past

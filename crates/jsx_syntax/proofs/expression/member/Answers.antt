@@ -1,24 +1,16 @@
-use Rattle.std.proofs.Common.{refl, sym, ◌∙◌, ap, subst}
-use Rattle.jsx_tree.specs.SoFar.{is_number}
-use Rattle.jsx_tree.specs.View.{view_expr}
+use Rattle.std.proofs.Common.{refl, sym, ◌∙◌, subst}
 use Rattle.jsx_syntax.specs.NodeSpans.{expr_at}
 use Rattle.jsx_syntax.specs.Spans.{Spans, end_of, next_of}
-use Rattle.jsx_tree.proofs.Apart.{clash}
 use Rattle.jsx_tree.proofs.Rows.Steps.{bar, built_1}
 use Rattle.jsx_syntax.proofs.Steps.{passed}
+use Rattle.jsx_syntax.proofs.Values.{name_ended}
 use Rattle.jsx_syntax.proofs.Places.{spans_from}
 use Rattle.jsx_syntax.proofs.Placing.{placed_as}
 use Rattle.jsx_syntax.proofs.PlacedNodes.{member_row}
 use Rattle.jsx_syntax.proofs.expression.member.Goals as goal
 
-pub returns-then-is_number-clause-refused : goal.returns-then-is_number-clause-refused
-returns-then-is_number-clause-refused c = record { bars = λ _ _ n. absurd (clash _ (ap (λ e. is_number (view_expr e)) (sym c.deref.ensures) ∙ (sym c.is_number.ensures ∙ c.if-is_number.true)) n) }
-
 pub returns-in_err-raw-clause-refused : goal.returns-in_err-raw-clause-refused
-returns-in_err-raw-clause-refused c = passed _ c.in_err-raw.ensures.refused c.from_residual.ensures.1 (λ b n. bar b)
-
-pub returns-clause-fits : goal.returns-clause-fits
-returns-clause-fits c = ap (λ e. is_number (view_expr e)) (sym c.deref.ensures) ∙ (sym c.is_number.ensures ∙ c.if-is_number.false)
+returns-in_err-raw-clause-refused c = passed _ c.in_err-raw.ensures.refused c.from_residual.ensures.1 (λ b. bar b)
 
 pub returns-clause-read : goal.returns-clause-read
 returns-clause-read c = built_1 refl c.in_ok-raw.ensures.read c.in_ok-member.ensures.view
@@ -27,5 +19,8 @@ pub returns-clause-placed : goal.returns-clause-placed
 returns-clause-placed c = record {
   on = λ w z s l dot.
       placed_as c.in_ok-member.ensures.told c.in_ok-member.ensures.view (member_row l dot c.in_ok-raw.ensures.takes (c.last_place.ensures ∙ c.in_ok-raw.ensures.begins)
-      (spans_from c.span_to-span.ensures refl (c.start_of.ensures.on _ _ (subst (λ e. Spans (expr_at e) (next_of w) (end_of z)) (sym c.deref-2.ensures) s)) refl));
+      (spans_from c.span_to-span.ensures refl (c.start_of.ensures.on _ _ (subst (λ e. Spans (expr_at e) (next_of w) (end_of z)) (sym c.deref.ensures) s)) refl));
 }
+
+pub returns-clause-ended : goal.returns-clause-ended
+returns-clause-ended c = name_ended c.in_ok-raw.ensures.read

@@ -6,11 +6,11 @@ use Rattle.jsx_tree.specs.View.{forest, view_stmt}
 use Rattle.jsx_tree.specs.ViewProgram.{view_item}
 use Rattle.jsx_tree.specs.Walk.{one}
 use Rattle.jsx_tree.specs.Answers.{Only, Barred}
-use Rattle.jsx_tree.specs.SoFar.{in_module, so_far}
+use Rattle.jsx_syntax.specs.SoFar.{in_module, so_far}
 use Rattle.jsx_syntax.specs.Here.{place_of}
 use Rattle.jsx_syntax.specs.Spans.{IsPlacedList}
 use Rattle.jsx_tree.proofs.Rows.Lines.{Onto, onto_none, onto_more, onto_end, onto_barred}
-use Rattle.jsx_tree.proofs.Rows.SoFar.{of_so_far}
+use Rattle.jsx_syntax.proofs.OfSoFar.{of_so_far}
 use Rattle.jsx_syntax.proofs.Modules.{none_at_end}
 use Rattle.jsx_syntax.proofs.Steps.{passed}
 use Rattle.jsx_syntax.proofs.Trees.{pushed}

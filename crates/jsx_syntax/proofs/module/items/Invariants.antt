@@ -6,7 +6,7 @@ use Rattle.jsx_tree.specs.ViewProgram.{view_item}
 use Rattle.jsx_tree.specs.Told.{tales, told_item}
 use Rattle.jsx_syntax.specs.Spans.{IsPlacedList}
 use Rattle.jsx_syntax.proofs.Placing.{PlacedFront}
-use Rattle.jsx_tree.specs.SoFar.{in_module, so_far}
+use Rattle.jsx_syntax.specs.SoFar.{in_module, so_far}
 use Rattle.jsx_syntax.specs.Here.{place_of, left}
 use Rattle.jsx_tree.proofs.Rows.Lines.{Onto}
 use Rattle.jsx_syntax.proofs.module.items.Given as goal

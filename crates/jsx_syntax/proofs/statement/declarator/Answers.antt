@@ -5,7 +5,7 @@ use Rattle.jsx_tree.specs.Nonterminals.{Declarators}
 use Rattle.jsx_tree.specs.Grammar.{Part}
 use Rattle.jsx_tree.specs.Walk.{one}
 use Rattle.jsx_tree.specs.Answers.{Only}
-use Rattle.jsx_tree.specs.SoFar.{in_module, so_far}
+use Rattle.jsx_syntax.specs.SoFar.{in_module, so_far}
 use Rattle.jsx_syntax.specs.Here.{place_of}
 use Rattle.jsx_syntax.specs.Spans.{end_of}
 use Rattle.jsx_syntax.proofs.Items.{initialized, uninitialized, no_binding, no_initializer}

@@ -5,7 +5,7 @@ use Rattle.jsx_tree.specs.StaticRules.{has_init}
 use Rattle.jsx_tree.specs.View.{forest, inside, view_pat}
 use Rattle.jsx_tree.specs.Told.{told_pat}
 use Rattle.jsx_syntax.specs.Here.{place_of}
-use Rattle.jsx_tree.proofs.Rows.SoFar.{of_so_far}
+use Rattle.jsx_syntax.proofs.OfSoFar.{of_so_far}
 use Rattle.jsx_tree.proofs.Rows.Lists.{begun, none_next, not_shut, one_next, shut}
 use Rattle.jsx_tree.proofs.Rows.Placing.{no_node}
 use Rattle.jsx_syntax.proofs.Items.{inits, inits_more, no_init}

@@ -3,7 +3,7 @@ use Rattle.std.specs.Prelude.{IsTrue}
 use Rattle.jsx_tree.specs.Grammar.{NoTrailing}
 use Rattle.jsx_tree.specs.View.{forest, inside, view_pat}
 use Rattle.jsx_tree.specs.Told.{told_pat}
-use Rattle.jsx_tree.specs.SoFar.{behind_const, in_module, so_far}
+use Rattle.jsx_syntax.specs.SoFar.{behind_const, in_module, so_far}
 use Rattle.jsx_syntax.specs.Here.{place_of, left}
 use Rattle.jsx_tree.proofs.Rows.Turns.{Turn, prepend}
 use Rattle.jsx_syntax.proofs.Items.{inits}

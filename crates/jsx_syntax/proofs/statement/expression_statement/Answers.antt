@@ -1,5 +1,5 @@
 use Rattle.std.proofs.Common.{refl, sym, ◌∙◌, ap, subst}
-use Rattle.jsx_tree.specs.Stage.{is_string}
+use Rattle.jsx_syntax.specs.Stage.{is_string}
 use Rattle.jsx_tree.specs.View.{view_expr}
 use Rattle.jsx_syntax.specs.NodeSpans.{expr_at}
 use Rattle.jsx_syntax.specs.Spans.{Spans, end_of, next_of}

@@ -1,6 +1,6 @@
 use Rattle.std.proofs.Common.{refl, ◌∙◌, map}
 use Rattle.jsx_tree.specs.View.{forest, inside, view_pat}
-use Rattle.jsx_tree.specs.SoFar.{in_module}
+use Rattle.jsx_syntax.specs.SoFar.{in_module}
 use Rattle.jsx_syntax.proofs.Items.{const_keeps}
 use Rattle.jsx_syntax.proofs.Placing.{placed_as}
 use Rattle.jsx_syntax.proofs.Places.{spans_from}

@@ -2,7 +2,7 @@ use Rattle.std.proofs.Common.{refl, ap, subst}
 use Rattle.jsx_tree.specs.Kinds.{ExprStmt, statement}
 use Rattle.jsx_tree.specs.View.{view_stmt}
 use Rattle.jsx_tree.specs.Answers.{NoNode, BuiltNode}
-use Rattle.jsx_tree.specs.SoFar.{in_module, row_so_far, so_far}
+use Rattle.jsx_syntax.specs.SoFar.{in_module, row_so_far, so_far}
 use Rattle.jsx_syntax.specs.Here.{place_of}
 use Rattle.jsx_syntax.proofs.Items.{const_only, const_barred, statement_only, statement_barred}
 use Rattle.jsx_syntax.proofs.Steps.{passed}

@@ -1,0 +1,543 @@
+-- An expression that grows to the right at some level: which step comes next, and where none does. Each fact on the kinds is one test of all of them.
+use Rattle.std.proofs.Common.{◌≡◌, ℕ, nat_eq, nat_le, Bool, true, false, not, cond, List, [], ◌∷◌, refl, sym, ◌∙◌, ap, subst, arith}
+use Rattle.std.specs.Prelude.{IsTrue, Option, Some, None, ◌&&◌}
+use Rattle.std.proofs.lemmas.Bool.{leb-true, le-leb}
+use Rattle.jsx_base.specs.Token.{Lexeme, Text, Operator, IdentifierName, NumericLiteral, BigIntLiteral, StringLiteral, TokenKind, among, token, same}
+use Rattle.jsx_tree.specs.Signs.{AfterExpr}
+use Rattle.jsx_tree.specs.Kinds.{Module, Var, ConstWord, Declarator, ExprStmt, Assigns, Assign, OpAssign, Void, TypeOf, Positive, Negative, Complement, Not, Unary, Binary, Cond, Call, Member, Index, ImportCall, Element, Kind, program, statement, expression, jsx, Tree, leaf, node, Forest, part}
+use Rattle.jsx_tree.specs.Nonterminals.{Nonterminal, Expr, NullishLeft, MemberObject, DotObject, SimpleTarget, Pat, TagName, is_bound, homes, in_homes, leaf_in, literal_homes, is_value_word}
+use Rattle.jsx_tree.specs.Grammar.{Part, right_of}
+use Rattle.jsx_tree.specs.Form.{admits, fits_below, is_leaf}
+use Rattle.jsx_tree.specs.Reading.{Place, Lost, At, forth}
+use Rattle.jsx_tree.specs.StaticRules.{Surroundings, rule, stands, has_plain_params}
+use Rattle.jsx_syntax.specs.Stage.{has_kind, limits, leaf_at, value_leaf}
+use Rattle.jsx_tree.specs.Walk.{is_found, one, IsRead, Piece, piece, tail, tree, Walk, next, around, steady}
+use Rattle.jsx_tree.specs.Stops.{going, level_asked}
+use Rattle.jsx_tree.specs.Language.{Whole}
+use Rattle.jsx_tree.specs.Answers.{Moves, Only, Barred, NoRow, Built}
+use Rattle.jsx_tree.specs.Grows.{starts, is_operand, Onward, stay, step, Steps, Decides, Joins, Stays}
+use Rattle.jsx_syntax.specs.SoFar.{Staged, is_number, marks, is_sign, is_mark, ends_so_far, row_so_far, so_far}
+use Rattle.jsx_tree.proofs.Tokens.{and_left, and_right, and_both}
+use Rattle.jsx_tree.proofs.Apart.{clash}
+use Rattle.jsx_tree.proofs.Rows.Bridge.{found_at}
+use Rattle.jsx_tree.proofs.Rows.Stopping.{is_not, heeds, covers, sign_stops}
+use Rattle.jsx_tree.proofs.Rows.Guarded.{guarded, whole_walk, loosen, to_grammar}
+use Rattle.jsx_tree.proofs.Rows.Bodies.{bodiless, plain}
+use Rattle.jsx_tree.proofs.Rows.Firsts.{kind_home}
+use Rattle.jsx_tree.proofs.Rows.Closers.{any_operand, homes_operand}
+use Rattle.jsx_tree.proofs.Rows.Placing.{free, free_around, moved}
+use Rattle.jsx_tree.proofs.Rows.Spines.{grows}
+use Rattle.jsx_tree.proofs.Rows.Growing.{grown_only, step_barred, left_barred, step_follows}
+use Rattle.jsx_tree.proofs.Rows.Steps.{on, then', only_sign}
+use Rattle.jsx_syntax.proofs.OfSoFar.{of_so_far}
+use Rattle.jsx_syntax.specs.Growths.{lead, mark, same_sign, has_sign, is_code, levels, is_level, level_of_kind, level, fits_by, fits, is_assignment, is_target_kind, is_target, settled, Climbs}
+use Rattle.jsx_syntax.proofs.Listed.{Listed, listed, code, kinds, every, every_two, of_each, of_two, one_place, every_level, of_level, of_level_kind, implies, implied, agree, agreed}
+use Rattle.jsx_syntax.proofs.Marks.{text_of_sign, mark_by, seen_sign, one_sign, by_sign}
+use Rattle.jsx_syntax.proofs.Homes.{Literal, IsName, IsNumber, IsLong, IsString, token_kind, Value, literal, made, value}
+use Rattle.jsx_syntax.proofs.Values.{signed, lead_row, led_sign, literal_level, node_to, leaf_to}
+
+-- ---- of each kind
+
+abbrev pub grows_on : Kind → Bool
+grows_on k = grows (row_so_far k)
+
+-- what stands at its left, and what its row ends with where no bracket does
+abbrev pub side_of : Option Nonterminal → Nonterminal
+side_of (Some c) = c
+side_of None = TagName
+
+abbrev pub side : Kind → Nonterminal
+side k = side_of (starts (row_so_far k))
+
+abbrev pub edge : Kind → Nonterminal
+edge (expression (Binary o)) = Expr (right_of o)
+edge (expression Cond) = Expr 1
+edge (expression Assign) = Expr 1
+edge (expression (OpAssign o)) = Expr 1
+edge (expression (Unary o)) = Expr 15
+edge k = TagName
+
+-- the places at the left of a step
+abbrev is_side : Nonterminal → Bool
+is_side (Expr n) = nat_le n 18
+is_side NullishLeft = true
+is_side MemberObject = true
+is_side DotObject = true
+is_side SimpleTarget = true
+is_side (Pat Assigns) = true
+is_side c = false
+
+-- those of an assignment
+abbrev is_left : Nonterminal → Bool
+is_left SimpleTarget = true
+is_left (Pat Assigns) = true
+is_left c = false
+
+abbrev takes_number : Nonterminal → Bool
+takes_number DotObject = false
+takes_number c = true
+
+abbrev taken_literals : Nonterminal → Bool
+taken_literals c = in_homes c (literal_homes NumericLiteral) && (in_homes c (literal_homes BigIntLiteral) && in_homes c (literal_homes StringLiteral))
+
+-- which leaves stand at the left
+abbrev leaves_fit : Kind → Bool
+leaves_fit k = cond (is_assignment k) (is_left (side k)) (not (is_left (side k)) && (taken_literals (side k) && (fits_by k 17 false && agree (fits_by k 17 true) (takes_number (side k)))))
+
+-- its row begins with a part at such a place, goes on by a mark, and each part of the rest is ended by what stands behind it
+abbrev well_formed : Kind → Bool
+well_formed k =
+    implies (grows_on k)
+    ((is_side (side k) && leaves_fit k)
+    && ((is_code (mark k) && (signed (tail (row_so_far k)) && has_sign (mark k) marks)) && ((guarded (edge k) (tail (row_so_far k)) && free (tail (row_so_far k))) && (bodiless (row_so_far k) && (has_kind k && any_operand (homes k))))))
+
+all_well_formed : every well_formed kinds ≡ true
+unfolding marks
+all_well_formed = refl
+
+-- of two: what may stand at the left of the first; and that the mark of the first, behind the second, ends the second's last part
+abbrev sinks : Kind → Kind → Bool
+sinks l k = implies (grows_on l && in_homes (side l) (homes k)) (nat_le (level_of_kind l) (level_of_kind k) && heeds (edge k) (mark l))
+
+all_sink : every_two sinks ≡ true
+all_sink = refl
+
+abbrev apart : Kind → Kind → Bool
+apart l k = implies (grows_on l && grows_on k) (implies (same_sign (mark l) (mark k)) (nat_eq (code l) (code k)))
+
+all_apart : every_two apart ≡ true
+all_apart = refl
+
+abbrev fitting : Kind → Kind → Bool
+fitting k l = implies (grows_on k) (agree (cond (is_assignment k) (is_target_kind l) (fits_by k (level_of_kind l) false)) (in_homes (side k) (homes l)))
+
+all_fitting : every_two fitting ≡ true
+all_fitting = refl
+
+-- of a level and a kind: whether it is at home there, is the same as whether its mark goes on there
+abbrev placed : ℕ → Kind → Bool
+placed n k = agree (in_homes (Expr n) (homes k)) (nat_le n (level_of_kind k)) && (implies (grows_on k) (agree (among (text_of_sign (mark k)) (going n)) (nat_le n (level_of_kind k))) && implies (nat_le n (level_of_kind k)) (covers (level_asked (Expr n)) (level_asked (edge k))))
+
+all_placed : every_level (λ n. every (placed n) kinds) levels ≡ true
+all_placed = refl
+
+-- ---- what these say
+
+-- what is so of the leaves at the left of what is no assignment
+record Fitting (k : Kind) : Type 0 where
+  beside : is_left (side k) ≡ false
+  numbers : in_homes (side k) (literal_homes NumericLiteral) ≡ true
+  longs : in_homes (side k) (literal_homes BigIntLiteral) ≡ true
+  strings : in_homes (side k) (literal_homes StringLiteral) ≡ true
+  leaves : fits_by k 17 false ≡ true
+  number : fits_by k 17 true ≡ takes_number (side k)
+
+data Leaves (k : Kind) : Type 0 where
+  assigned : is_assignment k ≡ true → is_left (side k) ≡ true → Leaves k
+  fitting_in : is_assignment k ≡ false → Fitting k → Leaves k
+
+leaves_of : (k : Kind) (b : Bool) → is_assignment k ≡ b → cond b (is_left (side k)) (not (is_left (side k)) && (taken_literals (side k) && (fits_by k 17 false && agree (fits_by k 17 true) (takes_number (side k))))) ≡ true → Leaves k
+leaves_of k true e h = assigned e h
+leaves_of k false e h =
+    let a = and_right (not (is_left (side k))) _ h in
+    let b = and_left (taken_literals (side k)) _ a in
+    let c = and_right (taken_literals (side k)) _ a in
+    let d = and_right (in_homes (side k) (literal_homes NumericLiteral)) _ b in
+    fitting_in e (record {
+      beside = is_not _ (and_left (not (is_left (side k))) _ h);
+      numbers = and_left (in_homes (side k) (literal_homes NumericLiteral)) _ b;
+      longs = and_left (in_homes (side k) (literal_homes BigIntLiteral)) _ d;
+      strings = and_right (in_homes (side k) (literal_homes BigIntLiteral)) _ d;
+      leaves = and_left (fits_by k 17 false) _ c;
+      number = agreed (fits_by k 17 true) (takes_number (side k)) (and_right (fits_by k 17 false) _ c);
+    })
+
+record Formed (k : Kind) : Type 0 where
+  sided : is_side (side k) ≡ true
+  leaves : Leaves k
+  coded : is_code (mark k) ≡ true
+  led : signed (tail (row_so_far k)) ≡ true
+  marked : has_sign (mark k) marks ≡ true
+  closed : guarded (edge k) (tail (row_so_far k)) ≡ true
+  freed : free (tail (row_so_far k)) ≡ true
+  bare : bodiless (row_so_far k) ≡ true
+  taken : has_kind k ≡ true
+  stood : any_operand (homes k) ≡ true
+
+formed : (k : Kind) → Listed k → grows_on k ≡ true → Formed k
+formed k m g =
+    let a = implied (grows_on k) _ (of_each well_formed all_well_formed k m) g in
+    let b = and_left (is_side (side k) && leaves_fit k) _ a in
+    let c = and_right (is_side (side k) && leaves_fit k) _ a in
+    let c1 = and_left (is_code (mark k) && (signed (tail (row_so_far k)) && has_sign (mark k) marks)) _ c in
+    let c2 = and_right (is_code (mark k) && (signed (tail (row_so_far k)) && has_sign (mark k) marks)) _ c in
+    let c3 = and_right (is_code (mark k)) _ c1 in
+    let c4 = and_left (guarded (edge k) (tail (row_so_far k)) && free (tail (row_so_far k))) _ c2 in
+    let c5 = and_right (guarded (edge k) (tail (row_so_far k)) && free (tail (row_so_far k))) _ c2 in
+    let c6 = and_right (bodiless (row_so_far k)) _ c5 in
+    record {
+      sided = and_left (is_side (side k)) _ b;
+      leaves = leaves_of k (is_assignment k) refl (and_right (is_side (side k)) _ b);
+      coded = and_left (is_code (mark k)) _ c1;
+      led = and_left (signed (tail (row_so_far k))) _ c3;
+      marked = and_right (signed (tail (row_so_far k))) _ c3;
+      closed = and_left (guarded (edge k) (tail (row_so_far k))) _ c4;
+      freed = and_right (guarded (edge k) (tail (row_so_far k))) _ c4;
+      bare = and_left (bodiless (row_so_far k)) _ c5;
+      taken = and_left (has_kind k) _ c6;
+      stood = and_right (has_kind k) _ c6;
+    }
+
+record Sunk (l k : Kind) : Type 0 where
+  below : nat_le (level_of_kind l) (level_of_kind k) ≡ true
+  heard : heeds (edge k) (mark l) ≡ true
+
+sunk : (l k : Kind) → Listed l → Listed k → grows_on l ≡ true → in_homes (side l) (homes k) ≡ true → Sunk l k
+sunk l k m n g h =
+    let a = implied (grows_on l && in_homes (side l) (homes k)) _ (of_two sinks all_sink l k m n) (and_both _ _ g h) in
+    record { below = and_left (nat_le (level_of_kind l) (level_of_kind k)) _ a; heard = and_right (nat_le (level_of_kind l) (level_of_kind k)) _ a }
+
+pub record Level (n : ℕ) (k : Kind) : Type 0 where
+  pub home : in_homes (Expr n) (homes k) ≡ nat_le n (level_of_kind k)
+  goes : grows_on k ≡ true → among (text_of_sign (mark k)) (going n) ≡ nat_le n (level_of_kind k)
+  covered : nat_le n (level_of_kind k) ≡ true → covers (level_asked (Expr n)) (level_asked (edge k)) ≡ true
+
+pub at_level : {n : ℕ} → is_level n ≡ true → (k : Kind) → Listed k → Level n k
+at_level {n} h k m =
+    let a = of_level_kind placed all_placed h k m in
+    let p = agree (in_homes (Expr n) (homes k)) (nat_le n (level_of_kind k)) in
+    let q = implies (grows_on k) (agree (among (text_of_sign (mark k)) (going n)) (nat_le n (level_of_kind k))) in
+    let b = and_right p _ a in
+    record {
+      home = agreed (in_homes (Expr n) (homes k)) (nat_le n (level_of_kind k)) (and_left p _ a);
+      goes = λ g. agreed (among (text_of_sign (mark k)) (going n)) (nat_le n (level_of_kind k)) (implied (grows_on k) _ (and_left q _ b) g);
+      covered = λ e. implied (nat_le n (level_of_kind k)) _ (and_right q _ b) e;
+    }
+
+-- ---- rows
+
+begins_grows : (ps : List Piece) {c : Nonterminal} → starts ps ≡ Some c → grows ps ≡ true
+begins_grows (piece [] (Part d) ∷ ps) e = refl
+begins_grows _ e = cc
+
+begins_side : (ps : List Piece) → grows ps ≡ true → starts ps ≡ Some (side_of (starts ps))
+begins_side (piece [] (Part d) ∷ ps) g = refl
+begins_side _ g = cc
+
+led_row : (ps : List Piece) → grows ps ≡ true → piece [] (Part (side_of (starts ps))) ∷ tail ps ≡ ps
+led_row (piece [] (Part d) ∷ ps) g = refl
+led_row _ g = cc
+
+-- ---- a step
+
+listed_node : {v : Surroundings} {c : Nonterminal} {k : Kind} {x y : Place} {ts : Forest} → is_operand c ≡ true → Staged v false c x (node k ts) y → Listed k
+listed_node {c = c} {k = k} {ts = ts} o r = listed k (and_left (has_kind k) _ r.staged) (homes_operand c (homes k) o (kind_home c k ts (and_left (admits c (node k ts)) (fits_below c (node k ts)) r.reads.is)))
+
+node_home : {v : Surroundings} {c : Nonterminal} {k : Kind} {x y : Place} {ts : Forest} → Staged v false c x (node k ts) y → in_homes c (homes k) ≡ true
+node_home {c = c} {k = k} {ts = ts} r = kind_home c k ts (and_left (admits c (node k ts)) (fits_below c (node k ts)) r.reads.is)
+
+side_is : (k : Kind) {c : Nonterminal} → starts (row_so_far k) ≡ Some c → side k ≡ c
+side_is k e = ap side_of e
+
+step_listed : {v : Surroundings} {c : Nonterminal} {x a y : Place} {t : Tree} {l : Kind} {ts : Forest} → Steps so_far v c x t a l ts y → Listed l
+step_listed p = listed_node p.operand p.reads
+
+step_grows : {v : Surroundings} {c : Nonterminal} {x a y : Place} {t : Tree} {l : Kind} {ts : Forest} → Steps so_far v c x t a l ts y → grows_on l ≡ true
+step_grows {l = l} p = begins_grows (row_so_far l) p.begins
+
+step_sign : {v : Surroundings} {c : Nonterminal} {x a y : Place} {t : Tree} {l : Kind} {ts : Forest} → Steps so_far v c x t a l ts y → IsTrue (is_found (forth (mark l) a))
+step_sign {l = l} p = led_sign (tail (row_so_far l)) (formed l (step_listed p) (step_grows p)).led p.walk
+
+operand_side : (k : Kind) → Formed k → is_operand (side k) ≡ true
+operand_side k f = at (side k) f.sided
+  where
+    at : (c : Nonterminal) → is_side c ≡ true → is_operand c ≡ true
+    at (Expr n) h = refl
+    at NullishLeft h = refl
+    at MemberObject h = refl
+    at DotObject h = refl
+    at SimpleTarget h = refl
+    at (Pat Assigns) h = refl
+    at _ h = cc
+
+-- ---- what stands at the left of a step may stand where the step does
+
+pub below_level : (n m k : ℕ) → nat_le n m ≡ true → nat_le m k ≡ true → nat_le n k ≡ true
+below_level n m k a b = le-leb n k (omega (arith, leb-true n m a, leb-true m k b))
+
+value_low : {v : Surroundings} {n : ℕ} {d : Nonterminal} {x y : Place} {t : Tree} → is_level n ≡ true → Value t → nat_le n (level t) ≡ true → Staged v false d x t y → Staged v false (Expr n) x t y
+value_low {n = n} h (literal l {t} w) e r = leaf_to (Expr n) l (literal_level n l t h w) w r
+value_low {n = n} h (made {k} {ts} m) e r = node_to (Expr n) ((at_level h k m).home ∙ e) r
+
+value_level : (n : ℕ) {t : Tree} → is_level n ≡ true → Value t → ((k : Kind) (ts : Forest) → t ≡ node k ts → Listed k → nat_le n (level_of_kind k) ≡ true) → nat_le n (level t) ≡ true
+value_level n h (literal l w) f = of_level (λ m. nat_le m 17) refl h
+value_level n h (made {k} {ts} m) f = f k ts refl m
+
+left_low : {v : Surroundings} {n : ℕ} {l : Kind} {c : Nonterminal} {x y : Place} {t : Tree} → is_level n ≡ true → Listed l → starts (row_so_far l) ≡ Some c → nat_le n (level_of_kind l) ≡ true → Staged v false c x t y → Staged v false (Expr n) x t y
+left_low {v} {n} {l} {c} {x} {y} {t} h m b e r =
+    let g = begins_grows (row_so_far l) b in
+    let f = formed l m g in
+    let q : Staged v false (side l) x t y = subst (λ d. Staged v false d x t y) (sym (side_is l b)) r in
+    let w = value t (operand_side l f) q in
+    value_low h w (value_level n h w (λ k ts is j. below_level n (level_of_kind l) (level_of_kind k) e (sunk l k m j g (node_home (subst (λ u. Staged v false (side l) x u y) is q))).below)) r
+
+node_level : {v : Surroundings} {n : ℕ} {k : Kind} {x y : Place} {ts : Forest} → is_level n ≡ true → Listed k → Staged v false (Expr n) x (node k ts) y → nat_le n (level_of_kind k) ≡ true
+node_level h m r = sym (at_level h _ m).home ∙ node_home r
+
+low : {v : Surroundings} {n : ℕ} {x y z : Place} {t u : Tree} → is_level n ≡ true → Onward so_far v x t y u z → Staged v false (Expr n) x u z → Staged v false (Expr n) x t y
+low h stay r = r
+low h (step k c d b i w o q on) r =
+    let up = low h on r in
+    let m = listed_node o q in
+    left_low h m b (node_level h m up) i
+
+step_low : {v : Surroundings} {n : ℕ} {x a y : Place} {t : Tree} {l : Kind} {ts : Forest} → is_level n ≡ true → Steps so_far v (Expr n) x t a l ts y → nat_le n (level_of_kind l) ≡ true
+step_low h p = node_level h (step_listed p) (low h p.onward p.whole.reads)
+
+-- ---- what a step's row ends with has come to its end
+
+pub edge_on : {v : Surroundings} {n : ℕ} {x y z : Place} {u : Tree} {us : Forest} (k : Kind) (m : Tree) → is_level n ≡ true → Listed k → m ≡ node k us → Onward so_far v x m y u z → Whole so_far v false (Expr n) x u z → ends_so_far (edge k) y ≡ true
+edge_on {v} {n} {x} {y} k m h j e stay w = of_so_far.covered (Expr n) (edge k) y ((at_level h k j).covered (node_level h j (subst (λ p. Staged v false (Expr n) x p y) e w.reads))) w.ends_there
+edge_on {v} {n} {x} {y} k m h j e (step l c d b i r o q on) w =
+    let n' = listed_node o q in
+    let g = begins_grows (row_so_far l) b in
+    let f = formed l n' g in
+    let home : in_homes (side l) (homes k) ≡ true = node_home (subst (λ p. Staged v false (side l) x p y) e (subst (λ s. Staged v false s x m y) (sym (side_is l b)) i)) in
+    of_so_far.ends_there (edge k) y (sign_stops (edge k) (mark l) y (sunk l k n' j g home).heard (led_sign (tail (row_so_far l)) f.led r))
+
+step_ends : {v : Surroundings} {n : ℕ} {x a y : Place} {t : Tree} {k : Kind} {ts : Forest} → is_level n ≡ true → Steps so_far v (Expr n) x t a k ts y → Walk (Whole so_far) (steady v) (tail (row_so_far k)) a ts y
+step_ends {v} {t = t} {k} {ts} h p =
+    let m = step_listed p in
+    let f = formed k m (step_grows p) in
+    moved (λ a i. free_around a (part t ts) v i) f.freed (whole_walk of_so_far (edge k) (tail (row_so_far k)) f.closed (edge_on k (node k (part t ts)) h m refl p.onward p.whole) p.walk)
+
+-- ---- the token that comes next
+
+step_kind : {v : Surroundings} {c : Nonterminal} {x a y : Place} {t : Tree} {k l : Kind} {ts : Forest} → Listed k → grows_on k ≡ true → IsTrue (is_found (forth (mark k) a)) → Steps so_far v c x t a l ts y → l ≡ k
+step_kind {a = a} {k = k} {l = l} m g f p =
+    let n = step_listed p in
+    let h = step_grows p in
+    one_place l k n m (implied (same_sign (mark l) (mark k)) _ (implied (grows_on l && grows_on k) _ (of_two apart all_apart l k n m) (and_both _ _ h g)) (one_sign (mark l) (mark k) a (formed l n h).coded (formed k m g).coded (step_sign p) f))
+
+agree_self : (b : Bool) → agree b b ≡ true
+agree_self true = refl
+agree_self false = refl
+
+pub mark_among : (n : ℕ) (k : Kind) → is_level n ≡ true → Listed k → grows_on k ≡ true → (x : Lexeme) → is_sign x (mark k) ≡ true → among x.raw (going n) ≡ nat_le n (level_of_kind k)
+mark_among n k h m g x e =
+    let u = among (text_of_sign (mark k)) (going n) in
+    agreed (among x.raw (going n)) u (by_sign (λ t. agree (among t (going n)) u) (mark k) x (agree_self u) e) ∙ (at_level h k m).goes g
+
+pub mark_is_one : (k : Kind) → Listed k → grows_on k ≡ true → (x : Lexeme) → is_sign x (mark k) ≡ true → is_mark x marks ≡ true
+mark_is_one k m g x e = mark_by (mark k) marks (formed k m g).marked x e
+
+pub mark_is_code : (k : Kind) → Listed k → grows_on k ≡ true → is_code (mark k) ≡ true
+mark_is_code k m g = (formed k m g).coded
+
+and_true : (b : Bool) → (b && true) ≡ b
+and_true true = refl
+and_true false = refl
+
+-- a mark that comes next goes on as its level says
+mark_goes : (n : ℕ) (k : Kind) (a : Place) → is_level n ≡ true → Listed k → grows_on k ≡ true → settled a ≡ true → IsTrue (is_found (forth (mark k) a)) → ends_so_far (Expr n) a ≡ not (nat_le n (level_of_kind k))
+mark_goes n k Lost h m g s f = cc
+mark_goes n k (At q AfterExpr text) h m g s f =
+    let i = seen_sign (mark k) q AfterExpr text (mark_is_code k m g) f in
+    let raw = mark_among n k h m g (token Operator (same q []) text) i in
+    let there = mark_is_one k m g (token Operator (same q []) text) i in
+    ap (λ b. not (among (token Operator b text).raw (going n) && is_mark (token Operator b text) marks)) (sym (is_not (same q []) s)) ∙ ((λ j. not (raw j && there j)) ∙ ap not (and_true _))
+mark_goes n k (At q _ text) h m g s f = cc
+
+-- ---- what the parser's loop says
+
+-- no mark comes next that goes on at the level
+pub stays : {v : Surroundings} {n : ℕ} {x a : Place} {t : Tree} → is_level n ≡ true → settled a ≡ true → ends_so_far (Expr n) a ≡ true → Stays so_far v (Expr n) x t a
+stays {n = n} {a = a} h s e = record {
+  none_on = λ l ts y p.
+      let b : ends_so_far (Expr n) a ≡ not (nat_le n (level_of_kind l)) = mark_goes n l a h (step_listed p) (step_grows p) s (step_sign p) in
+      clash (nat_le n (level_of_kind l)) (step_low h p) (is_not _ (sym b ∙ e));
+}
+
+pub climb_only : {v : Surroundings} {n : ℕ} {x a : Place} {t : Tree} → is_level n ≡ true → Climbs v n x t a → ends_so_far (Expr n) a ≡ true → Only so_far v (Part (Expr n)) x (one t) a
+climb_only h c e = grown_only c.follows (stays h c.ended e) c.reads e
+
+-- a mark that comes next and goes on at the level decides
+decides : {v : Surroundings} {n : ℕ} {x a : Place} {t : Tree} {k : Kind} → is_level n ≡ true → settled a ≡ true → Listed k → grows_on k ≡ true → nat_le n (level_of_kind k) ≡ true → IsTrue (is_found (forth (mark k) a)) → Decides so_far v (Expr n) x t a k
+decides {n = n} {a = a} {k = k} h s m g e f = record {
+  goes = λ i. clash (ends_so_far (Expr n) a) i (mark_goes n k a h m g s f ∙ ap not e);
+  kind = λ l ts y p. step_kind m g f p;
+  ends = λ ts y p. step_ends h p;
+}
+
+-- what fits stands at the left of the kind; what doesn't, doesn't
+side_admits : (c : Nonterminal) (l : Kind) (ts : Forest) → is_side c ≡ true → in_homes c (homes l) ≡ true → admits c (node l ts) ≡ true
+side_admits (Expr n) l ts h i = i
+side_admits NullishLeft l ts h i = i
+side_admits MemberObject l ts h i = i
+side_admits DotObject l ts h i = i
+side_admits SimpleTarget l ts h i = i
+side_admits (Pat Assigns) l ts h i = i
+side_admits _ l ts h i = cc
+
+side_word : (c : Nonterminal) (t : Text) → is_side c ≡ true → is_left c ≡ false → is_value_word t ≡ true → leaf_in c IdentifierName t ≡ true
+side_word (Expr n) t h l w = and_both _ _ h w
+side_word NullishLeft t h l w = w
+side_word MemberObject t h l w = w
+side_word DotObject t h l w = w
+side_word SimpleTarget t h l w = cc
+side_word (Pat Assigns) t h l w = cc
+side_word _ t h l w = cc
+
+side_leaf : (c : Nonterminal) (k : TokenKind) (t : Text) → is_side c ≡ true → is_left c ≡ false → leaf_at c k t ≡ value_leaf (takes_number c) k t
+side_leaf (Expr n) k t h l = refl
+side_leaf NullishLeft k t h l = refl
+side_leaf MemberObject k t h l = refl
+side_leaf DotObject k t h l = refl
+side_leaf SimpleTarget k t h l = cc
+side_leaf (Pat Assigns) k t h l = cc
+side_leaf _ k t h l = cc
+
+left_word : (c : Nonterminal) (t : Text) → is_left c ≡ true → is_bound t ≡ true → leaf_in c IdentifierName t ≡ true
+left_word SimpleTarget t h w = w
+left_word (Pat Assigns) t h w = w
+left_word _ t h w = cc
+
+left_takes : (c : Nonterminal) (t : Text) → is_left c ≡ true → leaf_at c IdentifierName t ≡ true
+left_takes SimpleTarget t h = refl
+left_takes (Pat Assigns) t h = refl
+left_takes _ t h = cc
+
+-- of all leaves a name alone stands at the left of an assignment, where it may be bound
+bound_left : (c : Nonterminal) (t : Text) → is_left c ≡ true → leaf_in c IdentifierName t ≡ true → is_bound t ≡ true
+bound_left SimpleTarget t h i = i
+bound_left (Pat Assigns) t h i = i
+bound_left _ t h i = cc
+
+no_literal_left : (c : Nonterminal) (l : Literal) (t : Text) → is_left c ≡ true → leaf_at c (token_kind l) t ≡ true → l ≡ IsName
+no_literal_left c IsName t h a = refl
+no_literal_left SimpleTarget IsNumber t h a = cc
+no_literal_left SimpleTarget IsLong t h a = cc
+no_literal_left SimpleTarget IsString t h a = cc
+no_literal_left (Pat Assigns) IsNumber t h a = cc
+no_literal_left (Pat Assigns) IsLong t h a = cc
+no_literal_left (Pat Assigns) IsString t h a = cc
+no_literal_left _ l t h a = cc
+
+by_fits : (k : Kind) (t : Tree) (b c : Bool) → is_assignment k ≡ b → fits k t ≡ c → cond b (is_target t) (fits_by k (level t) (is_number t)) ≡ c
+by_fits k t b c e f = subst (λ d. cond d (is_target t) (fits_by k (level t) (is_number t)) ≡ c) e f
+
+literal_side : {v : Surroundings} {d : Nonterminal} {x y : Place} {t : Text} (k : Kind) (l : Literal) → Formed k → Fitting k → value_leaf true (token_kind l) t ≡ true → fits_by k (level (leaf (token_kind l) t)) (is_number (leaf (token_kind l) t)) ≡ true → Staged v false d x (leaf (token_kind l) t) y → Staged v false (side k) x (leaf (token_kind l) t) y
+literal_side {t = t} k IsName fm fi w f r = leaf_to (side k) IsName (side_word (side k) t fm.sided fi.beside w) (side_leaf (side k) IdentifierName t fm.sided fi.beside ∙ w) r
+literal_side {t = t} k IsLong fm fi w f r = leaf_to (side k) IsLong fi.longs (side_leaf (side k) BigIntLiteral t fm.sided fi.beside) r
+literal_side {t = t} k IsString fm fi w f r = leaf_to (side k) IsString fi.strings (side_leaf (side k) StringLiteral t fm.sided fi.beside) r
+literal_side {t = t} k IsNumber fm fi w f r = leaf_to (side k) IsNumber fi.numbers (side_leaf (side k) NumericLiteral t fm.sided fi.beside ∙ (ap (λ b. value_leaf b NumericLiteral t) (sym fi.number ∙ f) ∙ w)) r
+
+target_side : {v : Surroundings} {d : Nonterminal} {x y : Place} {t : Text} (k : Kind) (l : Literal) → is_left (side k) ≡ true → is_target (leaf (token_kind l) t) ≡ true → Staged v false d x (leaf (token_kind l) t) y → Staged v false (side k) x (leaf (token_kind l) t) y
+target_side {t = t} k IsName s f r = leaf_to (side k) IsName (left_word (side k) t s f) (left_takes (side k) t s) r
+target_side k IsLong s f r = cc
+target_side k IsString s f r = cc
+target_side k IsNumber s f r = cc
+
+leaf_side : {v : Surroundings} {d : Nonterminal} {x y : Place} {t : Text} (k : Kind) (l : Literal) → Formed k → Leaves k → value_leaf true (token_kind l) t ≡ true → fits k (leaf (token_kind l) t) ≡ true → Staged v false d x (leaf (token_kind l) t) y → Staged v false (side k) x (leaf (token_kind l) t) y
+leaf_side {t = t} k l fm (assigned e s) w f r = target_side k l s (by_fits k (leaf (token_kind l) t) true true e f) r
+leaf_side {t = t} k l fm (fitting_in e fi) w f r = literal_side k l fm fi w (by_fits k (leaf (token_kind l) t) false true e f) r
+
+value_side : {v : Surroundings} {d : Nonterminal} {x y : Place} {t : Tree} (k : Kind) → Listed k → grows_on k ≡ true → Value t → fits k t ≡ true → Staged v false d x t y → Staged v false (side k) x t y
+value_side k m g (literal l {t} w) f r = let fm = formed k m g in leaf_side k l fm fm.leaves w f r
+value_side k m g (made {k = l} {ts} j) f r =
+    let fm = formed k m g in
+    node_to (side k) (side_admits (side k) l ts fm.sided (sym (agreed (cond (is_assignment k) (is_target_kind l) (fits_by k (level_of_kind l) false)) (in_homes (side k) (homes l)) (implied (grows_on k) _ (of_two fitting all_fitting k l m j) g)) ∙ f)) r
+
+literal_unfit : {v : Surroundings} {x y : Place} {t : Text} (k : Kind) (l : Literal) → Formed k → Fitting k → value_leaf true (token_kind l) t ≡ true → fits_by k (level (leaf (token_kind l) t)) (is_number (leaf (token_kind l) t)) ≡ false → Staged v false (side k) x (leaf (token_kind l) t) y → ⊥
+literal_unfit k IsName fm fi w f r = clash _ fi.leaves f
+literal_unfit k IsLong fm fi w f r = clash _ fi.leaves f
+literal_unfit k IsString fm fi w f r = clash _ fi.leaves f
+literal_unfit {t = t} k IsNumber fm fi w f r =
+    clash (value_leaf (takes_number (side k)) NumericLiteral t) (sym (side_leaf (side k) NumericLiteral t fm.sided fi.beside) ∙ r.staged) (ap (λ b. value_leaf b NumericLiteral t) (sym fi.number ∙ f))
+
+target_unfit : {v : Surroundings} {x y : Place} {t : Text} (k : Kind) (l : Literal) → is_left (side k) ≡ true → is_target (leaf (token_kind l) t) ≡ false → Staged v false (side k) x (leaf (token_kind l) t) y → ⊥
+target_unfit {t = t} k IsName s f r = clash (is_bound t) (bound_left (side k) t s (and_left (leaf_in (side k) IdentifierName t) (is_leaf IdentifierName t) r.reads.is)) f
+target_unfit {t = t} k IsLong s f r = let e = no_literal_left (side k) IsLong t s r.staged in cc
+target_unfit {t = t} k IsString s f r = let e = no_literal_left (side k) IsString t s r.staged in cc
+target_unfit {t = t} k IsNumber s f r = let e = no_literal_left (side k) IsNumber t s r.staged in cc
+
+leaf_unfit : {v : Surroundings} {x y : Place} {t : Text} (k : Kind) (l : Literal) → Formed k → Leaves k → value_leaf true (token_kind l) t ≡ true → fits k (leaf (token_kind l) t) ≡ false → Staged v false (side k) x (leaf (token_kind l) t) y → ⊥
+leaf_unfit {t = t} k l fm (assigned e s) w f r = target_unfit k l s (by_fits k (leaf (token_kind l) t) true false e f) r
+leaf_unfit {t = t} k l fm (fitting_in e fi) w f r = literal_unfit k l fm fi w (by_fits k (leaf (token_kind l) t) false false e f) r
+
+value_unfit : {v : Surroundings} {x y : Place} {t : Tree} (k : Kind) → Listed k → grows_on k ≡ true → Value t → fits k t ≡ false → Staged v false (side k) x t y → ⊥
+value_unfit k m g (literal l {t} w) f r = let fm = formed k m g in leaf_unfit k l fm fm.leaves w f r
+value_unfit k m g (made {k = l} {ts} j) f r =
+    clash _ (agreed (cond (is_assignment k) (is_target_kind l) (fits_by k (level_of_kind l) false)) (in_homes (side k) (homes l)) (implied (grows_on k) _ (of_two fitting all_fitting k l m j) g) ∙ node_home r) f
+
+-- the rules of a kind of expression ask nothing of its parts
+pub plain_kind : (k : Kind) (ts : Forest) (v : Surroundings) → has_kind k ≡ true → any_operand (homes k) ≡ true → has_plain_params ts ≡ true → (limits k ts && (rule k ts && stands k ts v)) ≡ true
+plain_kind (expression (Binary o)) ts v h a p = and_both _ _ p refl
+plain_kind (expression Assign) ts v h a p = and_both _ _ p refl
+plain_kind (expression (OpAssign o)) ts v h a p = and_both _ _ p refl
+plain_kind (expression Cond) ts v h a p = and_both _ _ p refl
+plain_kind (expression (Unary Void)) ts v h a p = and_both _ _ p refl
+plain_kind (expression (Unary TypeOf)) ts v h a p = and_both _ _ p refl
+plain_kind (expression (Unary Positive)) ts v h a p = and_both _ _ p refl
+plain_kind (expression (Unary Negative)) ts v h a p = and_both _ _ p refl
+plain_kind (expression (Unary Complement)) ts v h a p = and_both _ _ p refl
+plain_kind (expression (Unary Not)) ts v h a p = and_both _ _ p refl
+plain_kind (expression Call) ts v h a p = and_both _ _ p refl
+plain_kind (expression Member) ts v h a p = and_both _ _ p refl
+plain_kind (expression Index) ts v h a p = and_both _ _ p refl
+plain_kind (expression ImportCall) ts v h a p = and_both _ _ p refl
+plain_kind (jsx Element) ts v h a p = and_both _ _ p refl
+plain_kind (program Module) ts v h a p = cc
+plain_kind (statement ExprStmt) ts v h a p = cc
+plain_kind (statement Declarator) ts v h a p = cc
+plain_kind (statement (Var ConstWord)) ts v h a p = cc
+plain_kind _ ts v h a p = cc
+
+whole_row : {v : Surroundings} {x a y : Place} {t : Tree} {ts : Forest} (k : Kind) → Formed k → grows_on k ≡ true → Staged v false (side k) x t a → Walk (Whole so_far) (steady v) (tail (row_so_far k)) a ts y → Walk Staged (around v (part t ts)) (row_so_far k) x (part t ts) y
+whole_row {v} {x} {y = y} {t} {ts} k fm g s w = subst (λ ps. Walk Staged (around v (part t ts)) ps x (part t ts) y) (led_row (row_so_far k) g) (next (tree s) (loosen (moved (λ a h. sym (free_around a (part t ts) v h)) fm.freed w)))
+
+grammar_row : {v : Surroundings} {x a y : Place} {t : Tree} {ts : Forest} (k : Kind) → Formed k → grows_on k ≡ true → Staged v false (side k) x t a → Walk (Whole so_far) (steady v) (tail (row_so_far k)) a ts y → has_plain_params (part t ts) ≡ true
+grammar_row {v} {x} {y = y} {t} {ts} k fm g s w = plain (row_so_far k) fm.bare (subst (λ ps. Walk IsRead (around v (part t ts)) ps x (part t ts) y) (led_row (row_so_far k) g) (next (tree s.reads) (to_grammar of_so_far (moved (λ a h. sym (free_around a (part t ts) v h)) fm.freed w))))
+
+keeps : {v : Surroundings} {x a y : Place} {t : Tree} {ts : Forest} (k : Kind) → Formed k → grows_on k ≡ true → Staged v false (side k) x t a → Walk (Whole so_far) (steady v) (tail (row_so_far k)) a ts y → so_far.keeps k v (part t ts) ≡ true
+keeps {v} {t = t} {ts} k fm g s w = and_both _ _ fm.taken (plain_kind k (part t ts) v fm.taken fm.stood (grammar_row k fm g s w))
+
+joins : (n : ℕ) {v : Surroundings} {x a : Place} {t : Tree} {k : Kind} → is_level n ≡ true → Listed k → grows_on k ≡ true → nat_le n (level_of_kind k) ≡ true → Staged v false (side k) x t a → Joins so_far v x t a k
+joins n {v} {x} {a} {t} {k} h m g e s =
+    let fm = formed k m g in
+    record {
+      side = side k;
+      begins = begins_side (row_so_far k) g;
+      left = s;
+      frees = λ ts y w. moved (λ b i. sym (free_around b (part t ts) v i)) fm.freed w;
+      home = Expr n;
+      operand = refl;
+      at_home = λ ts. (at_level h k m).home ∙ e;
+      keeps = λ ts y w. keeps k fm g s w;
+    }
+
+-- what stands behind the sign with which a row begins, with that sign
+pub signed_built : {v : Surroundings} {k : Kind} {before : Forest → Forest} {w : Tree} {a b y : Place} (ps : List Piece) → signed ps ≡ true → Moves (lead ps) a b → Built so_far v (tail ps) k before w b y → Built so_far v ps k before w a y
+signed_built {v} {k} {before} {w} {a} {y = y} ps l m b = subst (λ qs. Built so_far v qs k before w a y) (lead_row ps l) (record { parts = b.parts; is = b.is; row = then' (only_sign m) b.row })
+
+pub signed_none : {v : Surroundings} {a b : Place} (ps : List Piece) → signed ps ≡ true → Moves (lead ps) a b → NoRow so_far v (tail ps) b → NoRow so_far v ps a
+signed_none {v} {a} ps l m n = subst (λ qs. NoRow so_far v qs a) (lead_row ps l) (on (only_sign m) n)
+
+-- the step is read
+pub climb_on : {v : Surroundings} {n : ℕ} {x a b y : Place} {t w : Tree} (k : Kind) → is_level n ≡ true → Listed k → grows_on k ≡ true → Climbs v n x t a → Moves (mark k) a b → nat_le n (level_of_kind k) ≡ true → fits k t ≡ true → Built so_far v (tail (tail (row_so_far k))) k (part t) w b y → settled y ≡ true → Climbs v n x w y
+climb_on {v} {n} {x} {a} {b} {y} {t} {w} k h m g c f e i built s =
+    let fm = formed k m g in
+    let left = value_side k m g (value t refl c.reads) i c.reads in
+    let all = signed_built (tail (row_so_far k)) fm.led f built in
+    record {
+      follows = step_follows of_so_far c.follows (decides h c.ended m g e (found_at (sym f.is) f.found)) (joins n h m g e left) all;
+      reads = subst (λ u. Staged v false (Expr n) x u y) (sym all.is) (of_so_far.to_node k ((at_level h k m).home ∙ e) (record { walk = whole_row k fm g left all.row.walk; keeps = keeps k fm g left all.row.walk }));
+      ended = s;
+    }
+
+-- it can't be read, or the tree may not stand at its left
+pub climb_barred : {v : Surroundings} {n : ℕ} {x a b : Place} {t : Tree} (k : Kind) → is_level n ≡ true → Listed k → grows_on k ≡ true → Climbs v n x t a → Moves (mark k) a b → nat_le n (level_of_kind k) ≡ true → NoRow so_far v (tail (tail (row_so_far k))) b → Barred so_far v (Part (Expr n)) x
+climb_barred k h m g c f e n = step_barred c.follows (decides h c.ended m g e (found_at (sym f.is) f.found)) (signed_none (tail (row_so_far k)) (formed k m g).led f n)
+
+pub climb_unfit : {v : Surroundings} {n : ℕ} {x a b : Place} {t : Tree} (k : Kind) → is_level n ≡ true → Listed k → grows_on k ≡ true → Climbs v n x t a → Moves (mark k) a b → nat_le n (level_of_kind k) ≡ true → fits k t ≡ false → Barred so_far v (Part (Expr n)) x
+climb_unfit {t = t} k h m g c f e i = left_barred c.follows (decides h c.ended m g e (found_at (sym f.is) f.found)) (begins_side (row_so_far k) g) (λ r. value_unfit k m g (value t (operand_side k (formed k m g)) r) i r)

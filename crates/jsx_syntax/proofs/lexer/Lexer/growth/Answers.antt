@@ -1,0 +1,29 @@
+use Rattle.std.proofs.Common.{◌<◌, arith, sym, ap, ◌∙◌, subst}
+use Rattle.std.proofs.lemmas.Bool.{le-leb, lt-leb}
+use Rattle.jsx_syntax.specs.Here.{place_of, left}
+use Rattle.jsx_syntax.proofs.TakingGrowths.{none_goes, other_goes, below_goes, growth_took}
+use Rattle.jsx_syntax.proofs.lexer.Lexer.growth.Goals as goal
+
+pub returns-in_default-clause-missing : goal.returns-in_default-clause-missing
+returns-in_default-clause-missing c = none_goes c.args.level c.in_default.ensures.found
+
+pub returns-in_default-growth_of-clause-missing : goal.returns-in_default-growth_of-clause-missing
+returns-in_default-growth_of-clause-missing c = other_goes c.args.level c.in-Some.ensures.found (sym c.growth_of.ensures ∙ c.in_default-growth_of.is)
+
+pub returns-then-level-clause-missing : goal.returns-then-level-clause-missing
+returns-then-level-clause-missing c = below_goes c.args.level c.in-Some-growth_of.growth c.requires c.in-Some.ensures.found (sym c.growth_of.ensures ∙ c.in-Some-growth_of.is) (lt-leb _ _ (omega (arith, c.if-level.true, c.level.ensures)))
+
+pub step-requires-clause-full : goal.step-requires-clause-full
+step-requires-clause-full c = (growth_took c.in-Some-growth_of.growth c.in-Some.ensures.found (sym c.growth_of.ensures ∙ c.in-Some-growth_of.is)).full
+
+pub returns-clause-taken : goal.returns-clause-taken
+returns-clause-taken c = ap place_of c.step.ensures ∙ (growth_took c.in-Some-growth_of.growth c.in-Some.ensures.found (sym c.growth_of.ensures ∙ c.in-Some-growth_of.is)).taken
+
+pub returns-clause-takes : goal.returns-clause-takes
+returns-clause-takes c = record { leads = sym (ap place_of c.step.ensures ∙ (growth_took c.in-Some-growth_of.growth c.in-Some.ensures.found (sym c.growth_of.ensures ∙ c.in-Some-growth_of.is)).taken); same = ap (λ h. h.end) c.step.ensures ∙ c.in-Some.ensures.found.whole }
+
+pub returns-clause-reaches : goal.returns-clause-reaches
+returns-clause-reaches c = le-leb _ _ (omega (arith, c.if-level.false, c.level.ensures))
+
+pub returns-clause-shorter : goal.returns-clause-shorter
+returns-clause-shorter c = subst (λ y. left y < left c.args.self.now) (sym c.step.ensures) (growth_took c.in-Some-growth_of.growth c.in-Some.ensures.found (sym c.growth_of.ensures ∙ c.in-Some-growth_of.is)).shorter

@@ -1,0 +1,157 @@
+-- What goes on with an expression to the right, and how tightly each expression binds.
+use Rattle.std.specs.Prelude.{◌≡◌, ℕ, List, [], ◌∷◌, Bool, true, false, not, nat_le, nat_eq, cond, ◌&&◌, ◌||◌}
+use Rattle.jsx_base.specs.Token.{Operator, IdentifierName, NoToken, is_kind, same, kind_number}
+use Rattle.jsx_tree.specs.Signs.{AfterExpr, Sign, Semicolon, Tok}
+use Rattle.jsx_tree.specs.Kinds.{BinaryOp, Nullish, Exponentiate, ExpressionKind, Seq, Assign, OpAssign, Arrow, ArrowBlock, BareArrow, BareArrowBlock, Cond, Binary, Unary, PrefixUpdate, PostfixUpdate, Call, Member, Index, SuperMember, SuperIndex, ImportCall, Kind, expression, Tree, leaf, node}
+use Rattle.jsx_tree.specs.Nonterminals.{Expr, level_of, is_bound}
+use Rattle.jsx_tree.specs.Grammar.{Fixed, Part, key, pun}
+use Rattle.jsx_tree.specs.Reading.{Place, Lost, At, forth}
+use Rattle.jsx_tree.specs.StaticRules.{Surroundings}
+use Rattle.jsx_tree.specs.Answers.{Barred}
+use Rattle.jsx_tree.specs.Grows.{Follows}
+use Rattle.jsx_tree.specs.Walk.{Piece, piece, tail}
+use Rattle.jsx_syntax.specs.SoFar.{Staged, is_number, row_so_far, so_far}
+use Rattle.jsx_tree.specs.ViewOperators.{assign_of, binary_of, unary_of}
+use Rattle.jsx_syntax.specs.declared.growth.Growth as code
+use Rattle.jsx_syntax.specs.declared.growth.Growth.TheVariants as growth
+use Rattle.jsx_syntax.specs.declared.opening.Opening as opening_code
+use Rattle.jsx_syntax.specs.declared.opening.Opening.TheVariants as opening
+
+abbrev pub growth_kind : code.Growth → Kind
+growth_kind (growth.Binary o) = expression (Binary (binary_of o))
+growth_kind growth.Assign = expression Assign
+growth_kind (growth.OpAssign o) = expression (OpAssign (assign_of o))
+growth_kind growth.Cond = expression Cond
+growth_kind growth.Call = expression Call
+growth_kind growth.Member = expression Member
+growth_kind growth.Index = expression Index
+
+-- the sign that a row begins with, and the one with which a kind goes on behind its first part
+abbrev pub lead : List Piece → Sign
+lead (piece a (Fixed s) ∷ ps) = s
+lead ps = Semicolon
+
+abbrev pub mark : Kind → Sign
+mark k = lead (tail (row_so_far k))
+
+-- ---- signs by their texts and kinds
+
+abbrev pub same_sign : Sign → Sign → Bool
+same_sign (Tok m k t) (Tok l j u) = nat_eq (kind_number k) (kind_number j) && same t u
+same_sign s u = false
+
+abbrev pub has_sign : Sign → List Sign → Bool
+has_sign s [] = false
+has_sign s (u ∷ us) = same_sign s u || has_sign s us
+
+-- a token of code with a text
+abbrev pub is_code : Sign → Bool
+is_code (Tok Operator k (d ∷ t)) = not (is_kind NoToken k)
+is_code s = false
+
+-- the levels at which a parser asks for an expression
+abbrev pub levels : List ℕ
+levels = 1 ∷ 5 ∷ 6 ∷ 7 ∷ 8 ∷ 9 ∷ 10 ∷ 11 ∷ 12 ∷ 13 ∷ 14 ∷ 15 ∷ []
+
+abbrev pub any_number : ℕ → List ℕ → Bool
+any_number n [] = false
+any_number n (m ∷ ms) = nat_eq n m || any_number n ms
+
+abbrev pub is_level : ℕ → Bool
+is_level n = any_number n levels
+
+-- the level of an expression, up to that of calls and members
+abbrev pub level_of_expression : ExpressionKind → ℕ
+level_of_expression Seq = 0
+level_of_expression Assign = 1
+level_of_expression (OpAssign o) = 1
+level_of_expression Arrow = 1
+level_of_expression ArrowBlock = 1
+level_of_expression BareArrow = 1
+level_of_expression BareArrowBlock = 1
+level_of_expression Cond = 2
+level_of_expression (Binary o) = level_of o
+level_of_expression (Unary o) = 15
+level_of_expression (PrefixUpdate o) = 16
+level_of_expression (PostfixUpdate o) = 16
+level_of_expression k = 17
+
+abbrev pub level_of_kind : Kind → ℕ
+level_of_kind (expression k) = level_of_expression k
+level_of_kind k = 17
+
+abbrev pub level : Tree → ℕ
+level (node k ts) = level_of_kind k
+level t = 17
+
+-- the level that the left side of an operator has at least; of `??` also another `??`
+abbrev pub left_level : BinaryOp → ℕ
+left_level Nullish = 6
+left_level Exponentiate = 16
+left_level o = level_of o
+
+-- whether an expression of this level, or a number, may stand at the left of what goes on with it: level 3 is another `??`
+abbrev pub fits_by : Kind → ℕ → Bool → Bool
+fits_by (expression (Binary o)) n m = nat_le (left_level o) n || (nat_eq n 3 && nat_eq (level_of o) 3)
+fits_by (expression Cond) n m = nat_le 3 n
+fits_by (expression Member) n m = nat_le 17 n && not m
+fits_by k n m = nat_le 17 n
+
+-- what an assignment stands before: a name that may be bound, or one of these
+abbrev pub is_assignment : Kind → Bool
+is_assignment (expression Assign) = true
+is_assignment (expression (OpAssign o)) = true
+is_assignment k = false
+
+abbrev pub is_target_kind : Kind → Bool
+is_target_kind (expression Member) = true
+is_target_kind (expression Index) = true
+is_target_kind (expression SuperMember) = true
+is_target_kind (expression SuperIndex) = true
+is_target_kind k = false
+
+abbrev pub is_target : Tree → Bool
+is_target (leaf IdentifierName t) = is_bound t
+is_target (node k ts) = is_target_kind k
+is_target t = false
+
+abbrev pub fits : Kind → Tree → Bool
+fits k t = cond (is_assignment k) (is_target t) (fits_by k (level t) (is_number t))
+
+-- ---- what a parser knows of an expression that it has read so far
+
+-- behind a token, where the next one is an operator
+abbrev pub settled : Place → Bool
+settled (At q AfterExpr text) = not (same q [])
+settled x = false
+
+-- whatever is read at the level begins with this tree, which may stand there, and goes on from where a token ended
+pub record Climbs (v : Surroundings) (n : ℕ) (x : Place) (t : Tree) (a : Place) : Type 0 where
+  pub follows : Follows so_far v (Expr n) x t a
+  pub reads : Staged v false (Expr n) x t a
+  pub ended : settled a ≡ true
+
+-- so at every level; at no level does anything stand there
+pub record Begins (v : Surroundings) (x : Place) (t : Tree) (a : Place) : Type 0 where
+  pub on : (n : ℕ) → is_level n ≡ true → Climbs v n x t a
+
+pub record NoneBegins (v : Surroundings) (x : Place) : Type 0 where
+  pub on : (n : ℕ) → is_level n ≡ true → Barred so_far v (Part (Expr n)) x
+
+-- ---- what an expression begins with that is neither a literal nor an element
+
+abbrev pub opening_kind : opening_code.Opening → Kind
+opening_kind opening.ImportCall = expression ImportCall
+opening_kind (opening.Unary o) = expression (Unary (unary_of o))
+
+-- the sign with which its row begins
+abbrev pub opening_sign : Kind → Sign
+opening_sign k = lead (row_so_far k)
+
+-- these signs
+unfoldable pub opening_signs : List Sign
+opening_signs = key "import" ∷ key "void" ∷ key "typeof" ∷ pun "+" ∷ pun "-" ∷ pun "~" ∷ pun "!" ∷ []
+
+-- none of them stands there
+pub record NoOpening (x : Place) : Type 0 where
+  pub on : (s : Sign) → is_code s ≡ true → has_sign s opening_signs ≡ true → forth s x ≡ Lost

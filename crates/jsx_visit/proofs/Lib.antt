@@ -1,0 +1,6 @@
+pub mod Halves
+pub mod Layers
+pub mod Lists
+pub mod Outcomes
+pub mod Remade
+pub mod Visits

@@ -1,0 +1,8 @@
+use Rattle.std.proofs.Common.{map}
+use Rattle.jsx_tree.specs.ViewProgram.{view_item}
+use Rattle.jsx_visit.specs.Visit.{visited}
+use Rattle.jsx_base.proofs.Spans.{MappedTo}
+use Rattle.jsx_visit.proofs.walk.Walker.items.Given as goal
+
+abbrev pub invariant-loop-item : goal.invariant-loop-item
+invariant-loop-item g l = MappedTo (visited g.V.Visitor.made) l.item-index (map view_item l.initial.item-items) (map view_item l.item-items)

@@ -1,0 +1,8 @@
+-- Elements lowered to calls: what is printed of a program then fits, and is code for it.
+pub mod Types
+pub mod Calls
+pub mod Free
+pub mod Standing
+pub mod Staged
+pub mod Visiting
+pub mod Programs
