@@ -19,7 +19,6 @@ mod Modules
 mod JsxForms
 mod Depths
 mod Layouts
-mod SoFar
 mod Programs
 mod Corners
 mod Places

@@ -9,7 +9,6 @@ pub mod Firsts
 pub mod Closers
 pub mod Bodies
 pub mod Laws
-pub mod SoFar
 pub mod Words
 pub mod Steps
 pub mod Turns

@@ -16,14 +16,12 @@ pub mod ViewProgram
 pub mod Spans
 pub mod Told
 pub mod Program
-pub mod Stage
 pub mod Fits
 pub mod Sound
 pub mod Notes
 pub mod Walk
 pub mod Stops
 pub mod Language
-pub mod SoFar
 pub mod Answers
 pub mod Texts
 pub mod Grows
