@@ -5,3 +5,5 @@ pub mod Loops
 pub mod FilesPut
 pub mod Ends
 mod GridExamples
+pub mod Sides
+mod SideExamples

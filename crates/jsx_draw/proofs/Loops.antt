@@ -6,7 +6,7 @@ use Rattle.std.proofs.lemmas.Grind.{flat_map-append}
 use Rattle.std.proofs.lemmas.List.{length-map, take_all, take_more, drop_all, take-append-drop}
 use Rattle.std.proofs.lemmas.Bool.Decides.{nat_tests}
 use Rattle.jsx_draw.specs.Spots.{ShownFile, ShownLine, Spot, by_lines, by_lines_put, greatest, is_before, is_single, line_put, lines_put, spot_put, spots_put, spot_lines, at_line}
-use Rattle.jsx_draw.specs.Drawn.{Wide, put_by, single_mark, sorted_by}
+use Rattle.jsx_draw.specs.Drawn.{put_by, single_mark, sorted_by}
 use Rattle.jsx_draw.proofs.Drawing.{greatest_last}
 use Rattle.jsx_draw.proofs.Orders.{split_at, take_next}
 
@@ -252,24 +252,3 @@ span_put_if spot old first second new begun (Ok u) is same e1 e2 e3 =
     ∙ sym (lines_both (firsts begun) (next begun ++ last) old ∙ lines_both (next begun) last (lines_put (firsts begun) old))
     ∙ ap (λ n. lines_put (firsts n ++ (next n ++ last)) old) same
     ∙ sym (ap (λ b. lines_put (cond b (spot.reach.first.line ∷ []) (firsts (spot.reach.first.line + 4) ++ (next (spot.reach.first.line + 4) ++ last))) old) is)
-
--- ---- spans side by side
-
-pub spots_seen : {X Y : Type 0} (f : X → Wide) (g : Y → Spot) (xs : List X) (ys : List Y) → map f xs ≡ map (λ y. record { spot = g y; depth = 1 }) ys → map (λ x. (f x).spot) xs ≡ map g ys
-spots_seen f g [] [] is = refl
-spots_seen f g [] (y ∷ ys) is = cc
-spots_seen f g (x ∷ xs) [] is = cc
-spots_seen f g (x ∷ xs) (y ∷ ys) is =
-    let first : f x ≡ record { spot = g y; depth = 1 } = cc in
-    let more : map f xs ≡ map (λ y. record { spot = g y; depth = 1 }) ys = cc in
-    ap (λ (z : Wide). z.spot ∷ map (λ x. (f x).spot) xs) first ∙ ap (λ z. g y ∷ z) (spots_seen f g xs ys more)
-
-pub one_depth : {X Y : Type 0} (f : X → Wide) (g : Y → Spot) (xs : List X) (ys : List Y) → map f xs ≡ map (λ y. record { spot = g y; depth = 1 }) ys → length ys ≡ 1 → map (λ x. (f x).depth) xs ≡ 1 ∷ []
-one_depth f g [] [] is one = absurd (let no : ⊥ = omega (arith, one) in no)
-one_depth f g [] (y ∷ ys) is one = cc
-one_depth f g (x ∷ xs) [] is one = cc
-one_depth f g (x ∷ xs) (y ∷ next ∷ ys) is one = absurd (let no : ⊥ = omega (arith, one) in no)
-one_depth f g (x ∷ next ∷ xs) (y ∷ []) is one = cc
-one_depth f g (x ∷ []) (y ∷ []) is one =
-    let first : f x ≡ record { spot = g y; depth = 1 } = cc in
-    ap (λ (z : Wide). z.depth ∷ []) first

@@ -1,9 +1,10 @@
 -- What is drawn of a report's spans under a line.
-use Rattle.std.specs.Prelude.{ℕ, zero, suc, ◌+◌, ◌-◌, List, [], ◌∷◌, ◌++◌, Bool, ◌&&◌, ◌||◌, cond, codes, nat_eq, nat_le, nat_lt, length, map}
+use Rattle.std.specs.Prelude.{ℕ, zero, suc, ◌+◌, ◌-◌, List, [], ◌∷◌, ◌++◌, Option, Some, None, Bool, true, false, not, ◌&&◌, ◌||◌, cond, codes, nat_eq, nat_le, nat_lt, length, map}
 use Rattle.std.specs.List.{flat_map, list_any}
-use Rattle.std.specs.Str.{chars}
+use Rattle.std.specs.Str.{bytes_eq, chars}
 use Rattle.jsx_diag.specs.declared.level.Style.{Style}
 use Rattle.jsx_diag.specs.declared.level.Style.TheVariants as style
+use Rattle.jsx_diag.specs.Data.{Text}
 use Rattle.jsx_draw.specs.Annotation.{Kind, Single, Whole, First, Last, Side, Mark, Multi, first_mark, last_mark, side_mark, is_edge, has_text, distance}
 use Rattle.jsx_draw.specs.Grid.{Cell, Grid, in_style, put_cell, put_text}
 use Rattle.jsx_draw.specs.Spots.{Spot, ShownLine, at_line, greatest, label_bytes, mark_end, overlap, spot_lines}
@@ -33,7 +34,48 @@ pub record Wide : Type 0 where
 abbrev pub multi_of_wide : Wide → Multi
 multi_of_wide it = record { depth = it.depth; line_start = it.spot.reach.first.line; line_end = it.spot.reach.last.line; start_col = it.spot.reach.first.col_display; end_col = it.spot.reach.last.col_display; is_primary = it.spot.is_primary; label = it.spot.label }
 
--- what is drawn of it at one of its lines
+-- ---- the columns of bars
+
+abbrev pub first_column : Spot → Wide
+first_column spot = record { spot = spot; depth = 1 }
+
+-- two spans have lines with one number
+abbrev pub share_line : Spot → Spot → Bool
+share_line a b = nat_le a.reach.first.line b.reach.last.line && nat_le b.reach.first.line a.reach.last.line
+
+abbrev pub same_label : Option Text → Option Text → Bool
+same_label None None = true
+same_label None (Some b) = false
+same_label (Some a) None = false
+same_label (Some a) (Some b) = bytes_eq a b
+
+-- two spans are drawn alike: at the same lines and columns, with the same label
+abbrev pub drawn_alike : Spot → Spot → Bool
+drawn_alike a b =
+    (nat_eq a.reach.first.line b.reach.first.line && nat_eq a.reach.first.col_display b.reach.first.col_display)
+    && ((nat_eq a.reach.last.line b.reach.last.line && nat_eq a.reach.last.col_display b.reach.last.col_display)
+    && (cond a.is_primary b.is_primary (not b.is_primary) && same_label a.label b.label))
+
+-- it shares a line with a span, and isn't that span in the first column
+abbrev pub moves_with : Spot → Wide → Bool
+moves_with one it = share_line it.spot one && not (nat_eq it.depth 1 && drawn_alike it.spot one)
+
+-- those before the first that doesn't move stand one column further right
+abbrev pub moved_by : Spot → List Wide → List Wide
+moved_by one [] = []
+moved_by one (it ∷ more) = cond (moves_with one it) (record it { depth = it.depth + 1 } ∷ moved_by one more) (it ∷ more)
+
+abbrev pub moved_by_each : List Spot → List Wide → List Wide
+moved_by_each [] wides = wides
+moved_by_each (one ∷ more) wides = moved_by_each more (moved_by one wides)
+
+-- spans by their lines, each with its column: all stand in the first, and then each moves those that share a line with it
+abbrev pub side_by_side : List Spot → List Wide
+side_by_side spots = moved_by_each spots (map first_column spots)
+
+-- ---- what is drawn at a line
+
+-- what is drawn of a span over several lines at one of them
 abbrev pub wide_at : ℕ → Wide → List Mark
 wide_at line it =
     cond (nat_eq line it.spot.reach.first.line) (first_mark (multi_of_wide it) ∷ [])

@@ -5,10 +5,10 @@ use Rattle.std.specs.List.{flat_map}
 use Rattle.std.proofs.lemmas.List.{length-map, take_all}
 use Rattle.jsx_base.specs.Files.{File}
 use Rattle.jsx_diag.specs.Data.{Text}
-use Rattle.jsx_emit.specs.Page.{Look}
+use Rattle.jsx_emit.specs.Page.{Look, rows_text}
 use Rattle.jsx_draw.specs.Spots.{ShownFile}
-use Rattle.jsx_emit.specs.Shows.{rows_text}
-use Rattle.jsx_emit.specs.Sheets.{Sheet, bar_row, block, file_blocks, gap_before, line_blocks, other_file}
+use Rattle.jsx_emit.specs.Sheets.{Sheet, block, file_blocks, gap_before, line_blocks, other_file}
+use Rattle.jsx_emit.specs.Written.{bar_row}
 use Rattle.jsx_draw.proofs.Loops.{flat_last}
 use Rattle.jsx_draw.proofs.Orders.{take_next}
 use Rattle.jsx_emit.proofs.Rows.{rows_text-append}

@@ -6,7 +6,7 @@ use Rattle.std.proofs.lemmas.List.{length-take-le}
 use Rattle.std.proofs.lemmas.Option.{slice_get-map}
 use Rattle.jsx_draw.specs.Grid.{Cell, Grid, blank, padded, put, put_all, change_at, with_rows, change_row, put_cell, put_text, row_at}
 use Rattle.jsx_emit.specs.Shows.{cell_at}
-use Rattle.jsx_emit.specs.Texts.{grid_chars}
+use Rattle.jsx_emit.specs.Written.{grid_chars}
 use Rattle.jsx_draw.specs.Drawn.{across}
 use Rattle.jsx_draw.proofs.Grids.{length-extended}
 

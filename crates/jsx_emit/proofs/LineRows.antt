@@ -13,11 +13,10 @@ use Rattle.jsx_base.specs.SpanPlaces.{shown}
 use Rattle.jsx_diag.specs.Data.{Text}
 use Rattle.jsx_emit.proofs.Places.{name_shown}
 use Rattle.jsx_draw.specs.Grid.{Grid, in_style, put_text}
-use Rattle.jsx_emit.specs.Page.{blanks, spaced}
+use Rattle.jsx_emit.specs.Page.{blanks, spaced, rows_text}
 use Rattle.jsx_draw.specs.Spots.{greatest}
-use Rattle.jsx_emit.specs.Shows.{rows_text}
-use Rattle.jsx_emit.specs.Texts.{grid_chars}
-use Rattle.jsx_emit.specs.Sheets.{bar_cell, bar_cells, bar_row, gutter, number_in}
+use Rattle.jsx_emit.specs.Written.{bar_row, grid_chars}
+use Rattle.jsx_emit.specs.Sheets.{bar_cell, bar_cells, gutter, number_in}
 use Rattle.jsx_draw.specs.Drawn.{draw_open, drawn}
 use Rattle.jsx_emit.proofs.Pages.{spaced-append, spaced-blanks}
 use Rattle.jsx_emit.proofs.Rows.{indented_row, rows_text-append, spaced_encoded, spaced_text}

@@ -172,7 +172,7 @@ headed r own more text it is = record {
   is = is ∙ ap (λ z. z ++ more) it.is ∙ append_assoc (spaced (header r.level r.code (message_text r.message))) it.rest more;
 }
 
-long_of : (look : Look) (files : List File) (r : Report) (w : ℕ) (own notes suggestions text : Text) → inline r.suggestions ≡ None → w ≡ number_width look (last_line_of files r.span r.children) → (IsFalse (is_failure_level r.level) → OwnPart look files w r.level r.code (message_text r.message) r.span own) → Headed r own → Each (NotePart look files w) r.children notes → Each (SuggestionPart files) r.suggestions suggestions → Joined (is_failure_level r.level) w r.children own notes suggestions text → Long look files r text
+long_of : (look : Look) (files : List File) (r : Report) (w : ℕ) (own notes suggestions text : Text) → inline r.suggestions ≡ None → w ≡ number_width look (last_line_of files r.span r.children) → (IsFalse (is_failure_level r.level) → OwnPart look files w r.level r.code (message_text r.message) r.span own) → Headed r own → Each (NotePart look files w) r.children notes → Each (SuggestionPart look.ui_testing files w) r.suggestions suggestions → Joined (is_failure_level r.level) w r.children own notes suggestions text → Long look files r text
 long_of look files r w own notes suggestions text none wide part begins each_note each_suggestion it =
     let same_spans : r.span ≡ pointed r = sym (ap (λ o. labelled_with o r.span) none) in
     let same_apart : r.suggestions ≡ apart r = sym (ap (λ o. cond (is_none o) r.suggestions []) none) in
@@ -191,11 +191,11 @@ long_of look files r w own notes suggestions text none wide part begins each_not
         is = it.is ∙ ap (λ z. own ++ (z ++ (notes ++ (suggestions ++ 10 ∷ [])))) (separated (is_failure_level r.level) w r.children level ∙ ap (λ n. before_notes n r.children) same_w);
         own_part = subst (λ (s : Spans). OwnPart look files (report_width look files r) r.level r.code (message_text r.message) s own) same_spans (subst (λ n. OwnPart look files n r.level r.code (message_text r.message) r.span own) same_w (part level));
         note_parts = subst (λ n. Each (NotePart look files n) r.children notes) same_w each_note;
-        suggestion_parts = subst (λ (all : List Suggestion). Each (SuggestionPart files) all suggestions) same_apart each_suggestion;
+        suggestion_parts = subst (λ (all : List Suggestion). Each (SuggestionPart look.ui_testing files (report_width look files r)) all suggestions) same_apart (subst (λ n. Each (SuggestionPart look.ui_testing files n) r.suggestions suggestions) same_w each_suggestion);
       };
     }
 
-pub long_over : (set : Setting) (map : Option Map) (r : Report) (w : ℕ) (own notes suggestions text : Text) → w ≡ cond set.ui_testing 2 (length (decimal (last_line_over (option_map (λ m. m.files) map) r.span r.children))) → OwnOver set map w r own → Headed r own → Each (NoteOver set map w) r.children notes → SuggestionsOver map r.suggestions suggestions → Joined (is_failure_level r.level) w r.children own notes suggestions text → LongOver set map r text
+pub long_over : (set : Setting) (map : Option Map) (r : Report) (w : ℕ) (own notes suggestions text : Text) → w ≡ cond set.ui_testing 2 (length (decimal (last_line_over (option_map (λ m. m.files) map) r.span r.children))) → OwnOver set map w r own → Headed r own → Each (NoteOver set map w) r.children notes → SuggestionsOver set.ui_testing map w r.suggestions suggestions → Joined (is_failure_level r.level) w r.children own notes suggestions text → LongOver set map r text
 long_over set None r w own notes suggestions text wide part begins each_note each_suggestion it = headed r own _ text begins it.is
 long_over set (Some map) r w own notes suggestions text wide part begins each_note each_suggestion it =
     λ none. long_of (look_of set map.offset_line) map.files r w own notes suggestions text none wide part begins each_note each_suggestion it

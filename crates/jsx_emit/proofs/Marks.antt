@@ -1,17 +1,23 @@
 -- The marks under what a suggestion writes.
-use Rattle.std.proofs.Common.{◌≡◌, ℕ, ◌+◌, List, [], ◌∷◌, ◌++◌, Some, None, map, refl, ap, sym, ◌∙◌}
+use Rattle.std.proofs.Common.{◌≡◌, ℕ, ◌+◌, ◌<◌, Bool, true, false, not, cond, get_or, nat_eq, arith, length, Option, List, [], ◌∷◌, ◌++◌, Some, None, map, refl, ap, sym, ◌∙◌}
 use Rattle.std.specs.Prelude.{Result, Ok, Err, OnOk, codes}
 use Rattle.std.specs.List.{sum_by}
-use Rattle.std.specs.Str.{chars}
+use Rattle.std.specs.Str.{IsUtf8, bytes_eq, chars, encode_utf8_all, trim}
+use Rattle.std.proofs.lemmas.Str.{encodes-chars}
+use Rattle.jsx_diag.specs.declared.suggestion.SubstitutionPart.{SubstitutionPart}
 use Rattle.std.proofs.lemmas.List.Sums.{sum_by-cons}
 use Rattle.jsx_base.specs.Files.{File}
-use Rattle.jsx_base.specs.Lines.{columns_of}
+use Rattle.jsx_base.specs.Lines.{before_first, columns_of, lines}
+use Rattle.jsx_base.specs.LineStarts.{Split}
+use Rattle.std.specs.Option.{is_none, is_some}
+use Rattle.std.specs.Prelude.{MatchOption, string_bytes}
+use Rattle.std.proofs.lemmas.Bool.{ne_eqb}
 use Rattle.jsx_diag.specs.declared.level.Style.TheVariants as style
-use Rattle.jsx_diag.specs.Data.{Text, Edit}
+use Rattle.jsx_diag.specs.Data.{Text, Edit, edit_of}
 use Rattle.jsx_draw.specs.Grid.{Grid, in_style, put_text}
 use Rattle.jsx_emit.specs.Marks.{columns, columns_at, mark_then, marks_of, marks_row, part_mark}
-use Rattle.jsx_emit.specs.Shows.{rows_text}
-use Rattle.jsx_emit.specs.Texts.{grid_chars}
+use Rattle.jsx_emit.specs.Page.{rows_text}
+use Rattle.jsx_emit.specs.Written.{grid_chars, is_sole}
 
 pub columns_next : (text rest : Text) (c : ℕ) → chars text ≡ c ∷ chars rest → columns text ≡ columns_of c + columns rest
 columns_next text rest c is = ap (λ z. sum_by columns_of z) is ∙ sum_by-cons columns_of c (chars rest)
@@ -55,3 +61,44 @@ marks_row_if files w a b parts g0 g1 g2 old new (Ok u) bar code e0 e1 e2 is =
     e2
     ∙ ap (λ k. marks_of files k 0 0 parts g1) code
     ∙ ap (marks_of files (w + 3) 0 0 parts) (e1 ∙ ap (λ z. put_text 0 a (in_style style.LineNumber z) g0) bar_spelled ∙ ap (λ k. put_text 0 k (in_style style.LineNumber (codes "| ")) g0) bar ∙ ap (put_text 0 (w + 1) (in_style style.LineNumber (codes "| "))) e0))
+
+-- ---- whether a text has marks
+
+some_lines : (cs : List ℕ) → 0 < length (lines cs)
+some_lines [] = omega arith
+some_lines (c ∷ cs) = at (nat_eq c 10) (lines cs)
+  where
+    first : (ls : List (List ℕ)) → 0 < length (before_first c ls)
+    first [] = omega arith
+    first (line ∷ more) = omega arith
+
+    at : (b : Bool) (ls : List (List ℕ)) → 0 < length (cond b ([] ∷ ls) (before_first c ls))
+    at true ls = omega arith
+    at false ls = first ls
+
+not_one : (n : ℕ) → 0 < n → nat_eq (n + 1) 1 ≡ false
+not_one n more = ne_eqb (n + 1) 1 (λ (e : n + 1 ≡ 1). omega (arith, more, e))
+
+none_tells : {X : Type 0} (o : Option X) (r : Bool) → is_some o ≡ not r → r ≡ is_none o
+none_tells None true is = refl
+none_tells None false is = cc
+none_tells (Some x) true is = cc
+none_tells (Some x) false is = refl
+
+one_line_if : {X : Type 0} (f g : X → Text) (text : Text) (o : Option X) (r : Bool) → r ≡ is_none o → MatchOption o (lines (chars text) ≡ chars text ∷ []) (λ it. Split text (f it) (g it)) → r ≡ nat_eq (length (lines (chars text))) 1
+one_line_if f g text None r is it = is ∙ sym (ap (λ z. nat_eq (length z) 1) it)
+one_line_if f g text (Some x) r is it =
+    let long : length (lines (chars text)) ≡ length (lines (chars (g x))) + 1 = ap (λ (z : List (List ℕ)). length z) it.lines_are ∙ (let e : length (chars (f x) ∷ lines (chars (g x))) ≡ length (lines (chars (g x))) + 1 = omega arith in e) in
+    is ∙ sym (ap (λ n. nat_eq n 1) long ∙ not_one (length (lines (chars (g x)))) (some_lines (chars (g x))))
+
+pub one_line_is : {X : Type 0} (f g : X → Text) (text : Text) (o : Option X) (r : Bool) → is_some o ≡ not r → MatchOption o (lines (chars text) ≡ chars text ∷ []) (λ it. Split text (f it) (g it)) → r ≡ nat_eq (length (lines (chars text))) 1
+one_line_is f g text o r is it = one_line_if f g text o r (none_tells o r is) it
+
+sole_case : (parts : List SubstitutionPart) (part : SubstitutionPart) (source : Text) (same : Bool) → length parts ≡ 1 → part ≡ get_or parts 0 part → same ≡ bytes_eq (trim (string_bytes part.snippet)) (trim (encode_utf8_all (chars source))) → same ≡ is_sole (chars source) (map edit_of parts)
+sole_case [] part source same one at is = absurd (let no : ⊥ = omega (arith, one) in no)
+sole_case (first ∷ []) part source same one at is = is ∙ ap (λ (z : SubstitutionPart). bytes_eq (trim (string_bytes z.snippet)) (trim (encode_utf8_all (chars source)))) at
+sole_case (first ∷ next ∷ more) part source same one at is = absurd (let no : ⊥ = omega (arith, one) in no)
+
+pub sole_is : (parts : List SubstitutionPart) (part : SubstitutionPart) (source a b : Text) (same : Bool) → length parts ≡ 1 → part ≡ get_or parts 0 part → IsUtf8 source → a ≡ trim (string_bytes part.snippet) → b ≡ trim source → same ≡ bytes_eq a b → same ≡ is_sole (chars source) (map edit_of parts)
+sole_is parts part source a b same one at utf8 e1 e2 is =
+    sole_case parts part source same one at (is ∙ ap (λ z. bytes_eq z b) e1 ∙ ap (bytes_eq (trim (string_bytes part.snippet))) (e2 ∙ ap trim (sym (encodes-chars source utf8))))

@@ -18,10 +18,10 @@ use Rattle.jsx_diag.specs.Level.{shown_text}
 use Rattle.jsx_diag.specs.Data.{Text, Piece}
 use Rattle.jsx_draw.specs.declared.styled_buffer.StyledString.{StyledString}
 use Rattle.jsx_draw.specs.Grid.{Cell, Grid, Run, add_cell, add_cells, run_of, run_of_cell, same_style, shown_cell, shown_row, shown_runs}
-use Rattle.jsx_emit.specs.Page.{blanks, spaced, message_text, page_text}
+use Rattle.jsx_emit.specs.Page.{blanks, spaced, message_text, page_text, rows_text}
 use Rattle.jsx_emit.specs.Layout.{before_all, colon, indented, note_lines}
-use Rattle.jsx_emit.specs.Shows.{rows_text}
-use Rattle.jsx_emit.specs.Texts.{Lined, Tabbed, before_note, grid_chars, hanging, line_break, row_chars, run_chars}
+use Rattle.jsx_emit.specs.Texts.{Lined, Tabbed, before_note, hanging, line_break, run_chars}
+use Rattle.jsx_emit.specs.Written.{grid_chars, row_chars}
 
 -- ---- tabs
 

@@ -12,7 +12,7 @@ use Rattle.jsx_draw.specs.Grid.{Grid, in_style, put_text}
 use Rattle.jsx_draw.specs.Spots.{Spot, end_col, label_bytes, start_col}
 use Rattle.jsx_emit.specs.Layout.{Placed, covers, falling, falling_put, is_covered, is_no_shorter, is_text, label_chars, label_col, label_row, mark_of, may_be_hidden, may_mark, meets, occupies, overlaps, placed, placed_from, row_after, row_from}
 use Rattle.jsx_emit.specs.Shows.{Marked, cell_at, columns, has_cell, has_label, is_marked, is_some_of}
-use Rattle.jsx_emit.specs.Texts.{grid_chars}
+use Rattle.jsx_emit.specs.Written.{grid_chars}
 use Rattle.jsx_draw.specs.Drawn.{Columns, Edges, Downs, Labels, Underlines, PlacedMark, begins_later, draw_label, draw_underline, drawn, frame, is_longer, row_count, under_line, Sides, laid_out, layer_of, mark_overlaps, mark_row, marks_meet, marks_placed, put_by, row_behind, single_mark, sorted_by, label_style, underline}
 use Rattle.jsx_emit.proofs.Cells.{HasAt, across_keeps, across_keeps_row, across_new, same_or_apart, seen, text_keeps, text_keeps_row, text_new}
 use Rattle.jsx_emit.proofs.Children.{not_zero}

@@ -1,5 +1,6 @@
 -- The part of a report or a note of its own.
-use Rattle.std.proofs.Common.{◌≡◌, ℕ, Bool, true, false, not, ◌&&◌, cond, List, [], ◌∷◌, ◌++◌, Option, Some, None, map, filter, codes, refl, ap, sym, ◌∙◌, subst, append-nil}
+use Rattle.std.proofs.lemmas.List.{length-map}
+use Rattle.std.proofs.Common.{◌≡◌, ℕ, Bool, true, false, not, ◌&&◌, cond, List, [], ◌∷◌, ◌++◌, Option, Some, None, map, filter, codes, refl, ap, sym, ◌∙◌, subst, append-nil, length, arith}
 use Rattle.std.specs.Prelude.{string_bytes}
 use Rattle.std.specs.List.{list_all}
 use Rattle.std.specs.Option.{option_map}
@@ -13,11 +14,13 @@ use Rattle.jsx_diag.specs.declared.diagnostic.DiagnosticId.TheVariants.{Error, L
 use Rattle.jsx_diag.specs.declared.message.Message.{Message}
 use Rattle.jsx_diag.specs.Level.{shown_text}
 use Rattle.jsx_diag.specs.Data.{Text, code_of, piece_of}
-use Rattle.jsx_emit.specs.Page.{Look, message_text, place_line, spaced}
+use Rattle.jsx_emit.specs.Page.{Look, message_text, spaced, rows_text}
 use Rattle.jsx_draw.specs.Spots.{ShownFile, Spot, by_lines, greatest, is_single, primary_first, shown_files, spots}
 use Rattle.jsx_emit.specs.Layout.{code_text, colon, header}
-use Rattle.jsx_emit.specs.Shows.{Behind, Stand, rows_text}
-use Rattle.jsx_emit.specs.Sheets.{RowsOf, Sheet, SheetFor, file_blocks}
+use Rattle.jsx_emit.specs.Shows.{Behind, Stand}
+use Rattle.jsx_emit.specs.Sheets.{RowsOf, Sheet, file_blocks, sheet_for}
+use Rattle.jsx_draw.specs.Drawn.{side_by_side}
+use Rattle.jsx_draw.proofs.Sides.{alone, spots_kept}
 use Rattle.jsx_draw.specs.Drawn.{Wide}
 use Rattle.jsx_emit.proofs.Rows.{spaced_text}
 use Rattle.jsx_emit.proofs.Standing.{PlainIf, lines_of_files, look_with, stand_files}
@@ -92,6 +95,25 @@ no_items : (wides : List Wide) → map (λ (it : Wide). it.spot) wides ≡ [] �
 no_items [] e = refl
 no_items (it ∷ wides) e = cc
 
+-- what is so of what lines are drawn by
+pub record SheetFor (look : Look) (w : ℕ) (spots : List Spot) (sheet : Sheet) : Type 0 where
+  pub ui_testing : sheet.ui_testing ≡ look.ui_testing
+  pub width : sheet.width ≡ w
+  pub singles : sheet.singles ≡ filter is_single spots
+  pub wides : map (λ it. it.spot) sheet.wides ≡ by_lines (filter (λ spot. not (is_single spot)) spots)
+  pub depth : sheet.depth ≡ greatest (map (λ it. it.depth) sheet.wides)
+  pub alone : length sheet.wides ≡ 1 → map (λ it. it.depth) sheet.wides ≡ 1 ∷ []
+
+alone_if : (lines : List Spot) → length (side_by_side lines) ≡ 1 → map (λ (it : Wide). it.depth) (side_by_side lines) ≡ 1 ∷ []
+alone_if [] one = cc
+alone_if (spot ∷ []) one = ap (map (λ (it : Wide). it.depth)) (alone spot)
+alone_if (spot ∷ next ∷ more) one =
+    let long : length (spot ∷ next ∷ more) ≡ 1 = ap (λ (z : List Spot). length z) (sym (spots_kept (spot ∷ next ∷ more))) ∙ length-map (side_by_side (spot ∷ next ∷ more)) (λ (it : Wide). it.spot) ∙ one in
+    absurd (let no : ⊥ = omega (arith, long) in no)
+
+pub for_spots : (look : Look) (w : ℕ) (spots : List Spot) → SheetFor look w spots (sheet_for look w spots)
+for_spots look w spots = record { ui_testing = refl; width = refl; singles = refl; wides = spots_kept (by_lines (filter (λ spot. not (is_single spot)) spots)); depth = refl; alone = alone_if (by_lines (filter (λ spot. not (is_single spot)) spots)) }
+
 pub plain : (look : Look) (w : ℕ) (spots : List Spot) (sheet : Sheet) → SheetFor look w spots sheet → PlainIf spots sheet
 plain look w spots sheet it = λ single.
     let none : sheet.wides ≡ [] = no_items sheet.wides (it.wides ∙ ap by_lines (none_wide spots single)) in
@@ -113,9 +135,9 @@ stands look w spots sheet files it =
 pub behind_of : (look : Look) (w : ℕ) (spots : List Spot) (place : Option Place) (rows : List (List ℕ)) → RowsOf look w spots place rows → Behind look w spots place rows
 behind_of look w spots None rows it = it
 behind_of look w spots (Some place) rows it = (
-  file_blocks look it.0 (primary_first place.file.start (shown_files spots)),
-  it.2 ∙ ap (λ n. chars (place_line look n place) ∷ file_blocks look it.0 (primary_first place.file.start (shown_files spots))) it.1.width,
-  stands look w spots it.0 (primary_first place.file.start (shown_files spots)) it.1,
+  file_blocks look (sheet_for look w spots) (primary_first place.file.start (shown_files spots)),
+  it,
+  stands look w spots (sheet_for look w spots) (primary_first place.file.start (shown_files spots)) (for_spots look w spots),
 )
 
 pub headed_rows : (text header new : Text) (rows : List (List ℕ)) → IsUtf8 header → text ≡ spaced header ++ 10 ∷ [] → new ≡ text ++ rows_text rows → new ≡ rows_text (chars header ∷ rows)

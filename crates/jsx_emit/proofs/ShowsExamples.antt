@@ -2,7 +2,7 @@
 use Rattle.std.specs.Prelude.{ℕ, ◌+◌, List, [], ◌∷◌, ◌++◌, Some, None, true, false, codes, refl}
 use Rattle.std.specs.Fmt.{digits}
 use Rattle.std.specs.List.{flat_map}
-use Rattle.std.specs.Str.{chars}
+use Rattle.std.specs.Str.{chars, trim_end, trim_start}
 use Rattle.unicode_width.specs.Width.{char_width}
 use Rattle.jsx_base.specs.declared.place.Span.{Span}
 use Rattle.jsx_base.specs.FileName.{RealName}
@@ -53,6 +53,7 @@ page_with_note same = record {
       told = tt;
       rows = codes " --> x.js:1:5" ∷ codes "  |" ∷ codes "1 | a = a;" ∷ codes "  | - x ^" ∷ [];
       is = refl;
+      drawn = refl;
       behind = (codes "  |" ∷ codes "1 | a = a;" ∷ codes "  | - x ^" ∷ [], refl, (codes "  |" ∷ [], codes "1 | a = a;", codes "  | - x ^" ∷ [], refl, record { gutter = codes " "; is = refl }, λ _. record { underlined = refl; labels = refl }, tt));
     };
     note_parts = (lines (codes "  = note: n" ∷ []), [], refl, refl, refl);
@@ -70,7 +71,7 @@ unfolding message place way
 with_ways = record { level = Error; message = message (codes "m"); code = None; span = record { primary = place 4 5 ∷ []; labels = [] }; children = []; suggestions = way (codes "c") ∷ [] }
 
 page_with_ways : Shows plain with_ways (lines (codes "error: m" ∷ codes " --> x.js:1:5" ∷ codes "  |" ∷ codes "1 | a = a;" ∷ codes "  |     ^" ∷ codes "help: use" ∷ codes "  |" ∷ codes "1 | a = b;" ∷ codes "  |     ^" ∷ codes "1 | a = c;" ∷ codes "  |     ^" ∷ [] ∷ []))
-unfolding plain file with_ways way message place lines digits char_width chars lib.Utf8.encode
+unfolding plain file with_ways way message place lines digits char_width chars trim_end trim_start lib.Utf8.encode
 page_with_ways same = record {
   page = tt;
   headed = record { rest = _; is = refl };
@@ -83,6 +84,7 @@ page_with_ways same = record {
       told = refl;
       rows = codes " --> x.js:1:5" ∷ codes "  |" ∷ codes "1 | a = a;" ∷ codes "  |     ^" ∷ [];
       is = refl;
+      drawn = refl;
       behind = (codes "  |" ∷ codes "1 | a = a;" ∷ codes "  |     ^" ∷ [], refl, (codes "  |" ∷ [], codes "1 | a = a;", codes "  |     ^" ∷ [], refl, record { gutter = codes " "; is = refl }, λ _. record { underlined = refl; labels = refl }, tt));
     };
     note_parts = refl;
@@ -90,12 +92,7 @@ page_with_ways same = record {
       lines (codes "help: use" ∷ codes "  |" ∷ codes "1 | a = b;" ∷ codes "  |     ^" ∷ codes "1 | a = c;" ∷ codes "  |     ^" ∷ []),
       [],
       refl,
-      record {
-        behind = [];
-        rows = codes "  |" ∷ codes "1 | a = b;" ∷ codes "  |     ^" ∷ codes "1 | a = c;" ∷ codes "  |     ^" ∷ [];
-        is = refl;
-        texts = (codes "  |" ∷ [], codes "1 | ", codes "  |     ^" ∷ codes "1 | a = c;" ∷ codes "  |     ^" ∷ [], refl, (codes "  |     ^" ∷ [], codes "1 | ", codes "  |     ^" ∷ [], refl, tt));
-      },
+      refl,
       refl,
     );
   };

@@ -14,14 +14,15 @@ use Rattle.jsx_base.specs.SpanPlaces.{low, span_file}
 use Rattle.jsx_diag.specs.declared.level.Level.{Level}
 use Rattle.jsx_diag.specs.declared.level.Level.TheVariants as level
 use Rattle.jsx_diag.specs.Data.{Text, Code}
-use Rattle.jsx_emit.specs.Page.{Look, blanks, error_lines, has_end, one_line, page_text, place_line, several_lines, sole_label, sole_span, span_lines, told, told_at, told_in}
+use Rattle.jsx_emit.specs.Page.{Look, blanks, error_lines, has_end, one_line, page_text, place_line, several_lines, sole_label, sole_span, span_lines, told, told_at, told_in, rows_text}
 use Rattle.jsx_draw.specs.Spots.{Reach, reach_in, ShownFile, Spot, by_lines, greatest, held_in, is_dummy, is_single, lines_put, primary_first, primary_in, primary_place, shown_files, spot_in, spot_lines, spots, spots_put}
 use Rattle.jsx_emit.specs.Layout.{header}
-use Rattle.jsx_emit.specs.Shows.{IsTold, rows_text}
-use Rattle.jsx_emit.specs.Sheets.{RowsOf, Sheet, SheetFor, bar_row, line_blocks, place_blocks}
+use Rattle.jsx_emit.specs.Shows.{IsTold}
+use Rattle.jsx_emit.specs.Sheets.{RowsOf, Sheet, line_blocks, place_blocks, sheet_for}
+use Rattle.jsx_emit.specs.Written.{bar_row}
 use Rattle.jsx_draw.specs.Drawn.{Wide}
 use Rattle.jsx_emit.specs.Parts.{PlaceIsText}
-use Rattle.jsx_emit.proofs.Part.{plain}
+use Rattle.jsx_emit.proofs.Part.{SheetFor, for_spots, plain}
 use Rattle.jsx_emit.proofs.Reaches.{columns_rise, lines_rise}
 use Rattle.jsx_emit.proofs.Standing.{plain_sheet}
 use Rattle.jsx_emit.proofs.Told.{Plain, lines_as_rows, plain_again, plain_both, plain_first}
@@ -189,7 +190,7 @@ told_one look files w message sp labels text file label it held label_is ended =
     subst (λ o. RowsOf look w (sole_spot reach label ∷ []) (primary_in o sp) it.rows) held
     (subst (λ (z : List Spot). RowsOf look w z (primary_in (held_in files sp) sp) it.rows) only.1 it.are) in
     let place : PlaceIsText look w (Some (place_in (low sp) file)) = subst (λ o. PlaceIsText look w (primary_in o sp)) held it.place in
-    page_is look w reach label rows_are.0 message it.rows text it.head place (lines_rise file sp) (columns_rise file sp) ended only.0 rows_are.1 rows_are.2 it.is
+    page_is look w reach label (sheet_for look w (sole_spot reach label ∷ [])) message it.rows text it.head place (lines_rise file sp) (columns_rise file sp) ended only.0 (for_spots look w (sole_spot reach label ∷ [])) rows_are it.is
 
 at_end : (look : Look) (files : List File) (w : ℕ) (message : Text) (sp : Span) (labels : List (Span × Text)) (text : Text) (file : File) (label : Option Text) (ended : Bool) → Known look files w message (record { primary = sp ∷ []; labels = labels }) text → held_in files sp ≡ Some file → sole_label sp labels ≡ Some label → has_end (reach_in file sp) ≡ ended → IsTold (cond ended (Some (error_lines look w (reach_in file sp) message label)) None) text
 at_end look files w message sp labels text file label false it held label_is ended_is = tt

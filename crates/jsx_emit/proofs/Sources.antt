@@ -1,12 +1,11 @@
--- Rows that end with a line of a source.
-use Rattle.std.proofs.Common.{◌≡◌, ℕ, ◌+◌, ◌≤◌, List, [], ◌∷◌, ◌++◌, length, refl, ap, sym, subst, ◌∙◌, arith, length-append, append-nil, append_assoc}
-use Rattle.std.specs.Prelude.{Result, Ok, Err, OnOk}
+-- Grids of one row, and what is put behind it.
+use Rattle.std.proofs.Common.{◌≡◌, ℕ, Bool, ◌+◌, ◌-◌, ◌≤◌, List, [], ◌∷◌, ◌++◌, length, refl, ap, sym, subst, ◌∙◌, arith, length-append, append-nil, append_assoc}
 use Rattle.std.proofs.lemmas.List.{map-append}
 use Rattle.jsx_diag.specs.declared.level.Style.{Style}
-use Rattle.jsx_diag.specs.Data.{Text}
-use Rattle.jsx_draw.specs.Grid.{Cell, Grid, change_at, change_row, in_style, padded, put, put_all, put_behind, put_cell, put_text}
-use Rattle.jsx_emit.specs.Shows.{rows_text}
-use Rattle.jsx_emit.specs.Texts.{AddsRows, grid_chars, row_chars}
+use Rattle.jsx_draw.specs.Grid.{Cell, Grid, change_at, change_row, in_style, padded, put, put_all, put_behind, put_text}
+use Rattle.jsx_diag.specs.declared.level.Style.TheVariants as style
+use Rattle.std.specs.Str.{chars}
+use Rattle.jsx_emit.specs.Written.{dots_text, grid_chars, line_number, row_chars, source_front, source_row}
 use Rattle.jsx_draw.proofs.Grids.{extended_none, put_behind_end}
 
 pub put_end : (row : List Cell) (cell : Cell) → put (length row) cell row ≡ row ++ cell ∷ []
@@ -47,28 +46,34 @@ behind_one : (source row : List Cell) → put_behind 0 source (row ∷ []) ≡ (
 behind_one [] row = ap (λ z. z ∷ []) (sym (append-nil row))
 behind_one (cell ∷ source) row = change_one (put_all (length row) (cell ∷ source)) row ∙ ap (λ z. z ∷ []) (all_behind (cell ∷ source) row)
 
-chars_styled : (style : Style) (cs : List ℕ) → row_chars (in_style style cs) ≡ cs
-chars_styled style [] = refl
-chars_styled style (c ∷ cs) = ap (λ z. c ∷ z) (chars_styled style cs)
+chars_styled : (one : Style) (cs : List ℕ) → row_chars (in_style one cs) ≡ cs
+chars_styled one [] = refl
+chars_styled one (c ∷ cs) = ap (λ z. c ∷ z) (chars_styled one cs)
 
-source_row : (style : Style) (line : List ℕ) (old new : Text) (grid : Grid) → OneRow grid → new ≡ old ++ rows_text (grid_chars (put_behind 0 (in_style style line) grid)) → AddsRows (line ∷ []) old new
-source_row style line old new grid it is =
-    let source = in_style style line in
+-- a row and nothing else, which ends with a line
+record EndsWith (line : List ℕ) (rows : List (List ℕ)) : Type 0 where
+  front : List ℕ
+  is : rows ≡ (front ++ line) ∷ []
+
+none_few : length {A = List Cell} [] ≤ 1
+none_few = omega arith
+
+front_one : (ui : Bool) (w : ℕ) (dots : Bool) (number : ℕ) → OneRow (source_front ui w dots number)
+front_one ui w dots number =
+    let few1 = text_few (w - 1) (in_style style.LineNumber (chars (dots_text dots))) [] none_few in
+    let few2 = text_few 0 (in_style style.LineNumber (chars (line_number ui number))) _ few1 in
+    let few3 = one_few _ (one_of (put (w + 1) (124, style.LineNumber)) _ few2) in
+    one_of (put (w + 2) (32, style.LineNumber)) _ few3
+
+-- a source's line ends its row
+ends_row : (ui : Bool) (w : ℕ) (dots : Bool) (number : ℕ) (line : List ℕ) → EndsWith line (grid_chars (source_row ui w dots number line))
+ends_row ui w dots number line =
+    let one = front_one ui w dots number in
+    let source = in_style style.NoStyle line in
     record {
-      rows = (row_chars it.row ++ line) ∷ [];
+      front = row_chars one.row;
       is =
-          is
-          ∙ ap (λ z. old ++ rows_text (grid_chars z)) (ap (put_behind 0 source) it.is ∙ behind_one source it.row)
-          ∙ ap (λ z. old ++ rows_text (z ∷ [])) (map-append (λ (cell : Cell). cell.0) it.row source ∙ ap (λ z. row_chars it.row ++ z) (chars_styled style line));
-      ends = ([], row_chars it.row, [], refl, tt);
+          ap (λ z. grid_chars (put_behind 0 source z)) one.is
+          ∙ ap grid_chars (behind_one source one.row)
+          ∙ ap (λ z. z ∷ []) (map-append (λ (cell : Cell). cell.0) one.row source ∙ ap (λ z. row_chars one.row ++ z) (chars_styled style.NoStyle line));
     }
-
-pub source_row_if : {X : Type 0} (a b d : ℕ) (dots number : List Cell) (bar blank : Cell) (style : Style) (line : List ℕ) (old new : Text) (g0 g1 g2 g3 g4 g5 : Grid) (r : Result (Unit {0}) X) → g0 ≡ [] → g1 ≡ put_text 0 d dots g0 → g2 ≡ put_text 0 0 number g1 → g3 ≡ put_cell 0 a bar g2 → g4 ≡ put_cell 0 b blank g3 → g5 ≡ put_behind 0 (in_style style line) g4 → OnOk r (new ≡ old ++ rows_text (grid_chars g5)) → OnOk r (AddsRows (line ∷ []) old new)
-source_row_if a b d dots number bar blank style line old new g0 g1 g2 g3 g4 g5 (Err e) e0 e1 e2 e3 e4 e5 is = tt
-source_row_if a b d dots number bar blank style line old new g0 g1 g2 g3 g4 g5 (Ok x) e0 e1 e2 e3 e4 e5 is =
-    let few0 : length g0 ≤ 1 = subst (λ (z : Grid). length z ≤ 1) (sym e0) (omega arith) in
-    let few1 : length g1 ≤ 1 = subst (λ (z : Grid). length z ≤ 1) (sym e1) (text_few d dots g0 few0) in
-    let few2 : length g2 ≤ 1 = subst (λ (z : Grid). length z ≤ 1) (sym e2) (text_few 0 number g1 few1) in
-    let few3 : length g3 ≤ 1 = subst (λ (z : Grid). length z ≤ 1) (sym e3) (one_few _ (one_of (put a bar) g2 few2)) in
-    let one : OneRow g4 = subst OneRow (sym e4) (one_of (put b blank) g3 few3) in
-    source_row style line old new g4 one (is ∙ ap (λ z. old ++ rows_text (grid_chars z)) e5)

@@ -7,8 +7,8 @@ use Rattle.jsx_draw.specs.Annotation.{Mark, is_side}
 use Rattle.jsx_emit.specs.Page.{Look, line_chars}
 use Rattle.jsx_draw.specs.Spots.{ShownFile, ShownLine, Spot, is_single, at_line}
 use Rattle.jsx_emit.specs.Shows.{Marked, MarkedAt, Stand}
-use Rattle.jsx_emit.specs.Texts.{grid_chars}
-use Rattle.jsx_emit.specs.Sheets.{Sheet, bar_row, block, file_blocks, first_place, gap, gutter, line_blocks, line_row, other_file, slash_in, under_rows}
+use Rattle.jsx_emit.specs.Written.{bar_row, grid_chars}
+use Rattle.jsx_emit.specs.Sheets.{Sheet, block, file_blocks, first_place, gap, gutter, line_blocks, line_row, other_file, slash_in, under_rows}
 use Rattle.jsx_draw.specs.Drawn.{bars_to, marks_in, single_mark}
 use Rattle.jsx_emit.proofs.Painting.{marked, plain_under}
 

@@ -9,9 +9,8 @@ use Rattle.std.proofs.lemmas.List.{length-append, length-replicate, map-append}
 use Rattle.std.proofs.lemmas.Str.{encode_ascii, encodes-append}
 use Rattle.jsx_diag.specs.declared.level.Style.TheVariants as style
 use Rattle.jsx_draw.specs.Grid.{Cell, blank, in_style, padded, put, put_all, put_cell, put_text}
-use Rattle.jsx_emit.specs.Page.{blanks, page_text, spaced}
-use Rattle.jsx_emit.specs.Shows.{rows_text}
-use Rattle.jsx_emit.specs.Texts.{row_chars}
+use Rattle.jsx_emit.specs.Page.{blanks, page_text, spaced, rows_text}
+use Rattle.jsx_emit.specs.Written.{row_chars}
 use Rattle.jsx_draw.specs.Drawn.{across, frame}
 use Rattle.jsx_emit.specs.Sheets.{number_in}
 use Rattle.jsx_draw.proofs.Grids.{extended_none, length-extended, put_behind_end}

@@ -10,7 +10,7 @@ use Rattle.jsx_draw.specs.Annotation.{Mark, has_text}
 use Rattle.jsx_draw.specs.Grid.{Cell, blank, in_style, put_text}
 use Rattle.jsx_emit.specs.Page.{Look, blanks, label_text, line_chars, one_line}
 use Rattle.jsx_draw.specs.Spots.{Reach, mark_end, ShownLine, Spot, label_bytes, at_line}
-use Rattle.jsx_emit.specs.Texts.{grid_chars, row_chars}
+use Rattle.jsx_emit.specs.Written.{grid_chars, row_chars}
 use Rattle.jsx_emit.specs.Sheets.{Sheet, block, gutter, line_row, marked_rows, number_in}
 use Rattle.jsx_draw.specs.Drawn.{across, frame, label_style, laid_out, mark_row, marks_in, single_mark, under_line, underline}
 use Rattle.jsx_emit.proofs.Children.{and_false}

@@ -54,7 +54,9 @@ whole_again look files r text it =
       is = subst (λ (s : Spans). text ≡ it.own ++ (before_notes (number_width look (last_line_of files s r.children)) r.children ++ (it.notes ++ (it.suggestions ++ 10 ∷ [])))) same it.is;
       own_part = subst (λ (s : Spans). OwnPart look files (number_width look (last_line_of files s r.children)) r.level r.code (message_text r.message) s it.own) same it.own_part;
       note_parts = subst (λ (s : Spans). Each (NotePart look files (number_width look (last_line_of files s r.children))) r.children it.notes) same it.note_parts;
-      suggestion_parts = subst (λ (all : List Suggestion). Each (SuggestionPart files) all it.suggestions) (apart_again r) it.suggestion_parts;
+      suggestion_parts =
+          subst (λ (all : List Suggestion). Each (SuggestionPart look.ui_testing files (number_width look (last_line_of files (pointed r) r.children))) all it.suggestions) (apart_again r)
+          (subst (λ (s : Spans). Each (SuggestionPart look.ui_testing files (number_width look (last_line_of files s r.children))) (apart (shown_report r)) it.suggestions) same it.suggestion_parts);
     }
 
 headed_again : (r : Report) (text : Text) → Headed (shown_report r) text → Headed r text

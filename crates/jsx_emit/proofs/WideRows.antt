@@ -15,7 +15,7 @@ use Rattle.jsx_draw.specs.Annotation.{First, Last, Mark, Multi, first_mark, last
 use Rattle.jsx_draw.specs.Grid.{Cell, Grid, blank, in_style, put, put_all, put_cell, put_text}
 use Rattle.jsx_draw.specs.Spots.{Reach, ShownLine, Spot, label_bytes, spot_lines}
 use Rattle.jsx_emit.specs.Page.{blanks, line_chars}
-use Rattle.jsx_emit.specs.Texts.{grid_chars, row_chars}
+use Rattle.jsx_emit.specs.Written.{grid_chars, row_chars}
 use Rattle.jsx_draw.specs.Drawn.{Columns, Wide, across, bar_of, bars_past, bars_to, draw_open, drawn, frame, goes_past, goes_to, label_style, laid_out, marks_in, multi_of_wide, under_line, underline, wide_at, wide_marks}
 use Rattle.jsx_emit.specs.Sheets.{Sheet, block, dots_row, gap, line_row, marked_rows}
 use Rattle.jsx_emit.proofs.Painting.{same_number}

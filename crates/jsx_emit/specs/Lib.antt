@@ -7,3 +7,4 @@ pub mod Views
 pub mod Writer
 pub mod Parts
 pub mod Marks
+pub mod Written

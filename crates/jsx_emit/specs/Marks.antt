@@ -1,4 +1,4 @@
--- The marks under what a suggestion writes. These definitions are private: no client sees where a mark stands.
+-- The marks under what a suggestion writes.
 use Rattle.std.specs.Prelude.{ℕ, ◌+◌, ◌-◌, List, [], ◌∷◌, Option, Some, None, cond, nat_eq, length, codes}
 use Rattle.std.specs.List.{sum_by}
 use Rattle.std.specs.Str.{chars, trim, trim_start}

@@ -120,6 +120,10 @@ spaced text = flat_map (λ b. cond (nat_eq b 9) (blanks 4) (b ∷ [])) text
 abbrev pub page_text : List Text → Text
 page_text page = flat_map (λ line. spaced line ++ 10 ∷ []) page
 
+-- rows of characters as a text: each tab becomes four spaces, and each row ends with LF
+abbrev pub rows_text : List (List ℕ) → Text
+rows_text rows = flat_map (λ row. encode_utf8_all (spaced row) ++ 10 ∷ []) rows
+
 -- the text of a message
 abbrev pub message_text : List Piece → Text
 message_text message = flat_map (λ piece. piece.text) message

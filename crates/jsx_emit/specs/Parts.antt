@@ -34,9 +34,9 @@ LongOver set None report text = Headed report text
 LongOver set (Some map) report text = inline report.suggestions ≡ None → Long (look_of set map.offset_line) map.files report text
 
 -- suggestions, where there are files
-abbrev pub SuggestionsOver : Option Map → List Suggestion → Text → Type 0
-SuggestionsOver None suggestions text = Unit {0}
-SuggestionsOver (Some map) suggestions text = Each (SuggestionPart map.files) suggestions text
+abbrev pub SuggestionsOver : Bool → Option Map → ℕ → List Suggestion → Text → Type 0
+SuggestionsOver ui_testing None w suggestions text = Unit {0}
+SuggestionsOver ui_testing (Some map) w suggestions text = Each (SuggestionPart ui_testing map.files w) suggestions text
 
 -- the report's own part of a level that ends with LF
 abbrev pub OwnOver : Setting → Option Map → ℕ → Report → Text → Type 0

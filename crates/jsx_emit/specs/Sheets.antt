@@ -1,5 +1,5 @@
--- The lines of a report's spans and what stands under and between them, row by row. These definitions are private: what clients see of a page is in Shows.
-use Rattle.std.specs.Prelude.{◌≡◌, ℕ, zero, suc, ◌+◌, List, [], ◌∷◌, ◌++◌, Option, Some, None, Bool, not, ◌||◌, cond, nat_eq, nat_lt, length, map, filter, max, take, codes, decimal}
+-- The lines of a report's spans and what stands under and between them, row by row.
+use Rattle.std.specs.Prelude.{◌≡◌, ℕ, zero, suc, ◌+◌, List, [], ◌∷◌, ◌++◌, Option, Some, None, Bool, not, ◌||◌, cond, nat_eq, nat_lt, map, filter, max, take, codes, decimal}
 use Rattle.std.specs.Char.{is_whitespace}
 use Rattle.std.specs.List.{flat_map, list_all, list_any}
 use Rattle.std.specs.Str.{chars}
@@ -9,12 +9,11 @@ use Rattle.jsx_diag.specs.declared.level.Style.TheVariants as style
 use Rattle.jsx_diag.specs.Data.{Text}
 use Rattle.jsx_draw.specs.Annotation.{Kind, Single, Whole, First, Last, Side, Mark, is_side}
 use Rattle.jsx_draw.specs.Grid.{in_style, put_text}
-use Rattle.jsx_emit.specs.Page.{Look, blanks, left_in, line_chars, place_line}
+use Rattle.jsx_emit.specs.Page.{Look, blanks, left_in, line_chars, place_line, rows_text}
 use Rattle.jsx_draw.specs.Spots.{Spot, ShownFile, ShownLine, by_lines, greatest, primary_place, spots, is_single, primary_first, shown_files}
 use Rattle.jsx_base.specs.MultiSpan.{Spans}
-use Rattle.jsx_emit.specs.Shows.{rows_text}
-use Rattle.jsx_emit.specs.Texts.{grid_chars}
-use Rattle.jsx_draw.specs.Drawn.{Wide, marks_in, laid_out, Columns, drawn, draw_open, under_line, bars_to, bars_past}
+use Rattle.jsx_emit.specs.Written.{bar_row, grid_chars}
+use Rattle.jsx_draw.specs.Drawn.{Wide, marks_in, laid_out, Columns, drawn, draw_open, side_by_side, under_line, bars_to, bars_past}
 
 -- ---- lines
 
@@ -96,10 +95,6 @@ line_blocks sheet file [] = []
 line_blocks sheet file (line ∷ []) = block sheet (record { file = file; line = line })
 line_blocks sheet file (line ∷ next ∷ more) = block sheet (record { file = file; line = line }) ++ (gap sheet file line next ++ line_blocks sheet file (next ∷ more))
 
--- `|` behind the numbers
-abbrev pub bar_row : ℕ → List ℕ
-bar_row w = blanks (w + 1) ++ codes "|"
-
 -- where the lines of a further file begin
 abbrev pub first_col : List Mark → ℕ
 first_col [] = 1
@@ -126,19 +121,19 @@ file_blocks look sheet (first ∷ more) = bar_row sheet.width ∷ (line_blocks s
 abbrev pub place_blocks : Look → Sheet → Place → List ShownFile → List (List ℕ)
 place_blocks look sheet place files = chars (place_line look sheet.width place) ∷ file_blocks look sheet files
 
--- what lines are drawn by, of these spans
-pub record SheetFor (look : Look) (w : ℕ) (spots : List Spot) (sheet : Sheet) : Type 0 where
-  pub ui_testing : sheet.ui_testing ≡ look.ui_testing
-  pub width : sheet.width ≡ w
-  pub singles : sheet.singles ≡ filter is_single spots
-  pub wides : map (λ it. it.spot) sheet.wides ≡ by_lines (filter (λ spot. not (is_single spot)) spots)
-  pub depth : sheet.depth ≡ greatest (map (λ it. it.depth) sheet.wides)
-  pub alone : length sheet.wides ≡ 1 → map (λ it. it.depth) sheet.wides ≡ 1 ∷ []
+-- the spans over several lines, side by side
+abbrev pub wides_in : List Spot → List Wide
+wides_in spots = side_by_side (by_lines (filter (λ spot. not (is_single spot)) spots))
 
+-- what lines are drawn by, of these spans
+abbrev pub sheet_for : Look → ℕ → List Spot → Sheet
+sheet_for look w spots =
+    record { ui_testing = look.ui_testing; width = w; depth = greatest (map (λ it. it.depth) (wides_in spots)); singles = filter is_single spots; wides = wides_in spots }
+
+-- behind a header: nothing where the first primary span is in no file
 abbrev pub RowsOf : Look → ℕ → List Spot → Option Place → List (List ℕ) → Type 0
 RowsOf look w spots None rows = rows ≡ []
-RowsOf look w spots (Some place) rows =
-    (sheet : Sheet) × SheetFor look w spots sheet × (rows ≡ place_blocks look sheet place (primary_first place.file.start (shown_files spots)))
+RowsOf look w spots (Some place) rows = rows ≡ place_blocks look (sheet_for look w spots) place (primary_first place.file.start (shown_files spots))
 
 -- rows behind a header
 pub record SpanRows (look : Look) (files : List File) (w : ℕ) (spans : Spans) (old new : Text) : Type 0 where

@@ -1,19 +1,18 @@
 -- When a text is a page of a report. What isn't said here of a page may be drawn in any way.
-use Rattle.std.specs.Prelude.{◌≡◌, ℕ, ◌+◌, List, [], ◌∷◌, ◌++◌, Option, Some, None, Bool, true, false, not, ◌&&◌, ◌||◌, cond, nat_eq, nat_le, length, map, take, codes, IsTrue, IsFalse, slice_get, MatchOption}
+use Rattle.std.specs.Prelude.{◌≡◌, ℕ, ◌+◌, List, [], ◌∷◌, ◌++◌, Option, Some, None, Bool, false, not, ◌||◌, nat_eq, length, map, codes, IsTrue, IsFalse, slice_get, MatchOption}
 use Rattle.std.specs.Bool.{MatchBool}
 use Rattle.std.specs.List.{flat_map, list_all, range_with_len}
-use Rattle.std.specs.Option.{unwrap_or, is_none, option_map, option_eq}
-use Rattle.std.specs.Str.{chars, encode_utf8_all}
+use Rattle.std.specs.Option.{unwrap_or, option_map, option_eq}
+use Rattle.std.specs.Str.{chars}
 use Rattle.jsx_base.specs.declared.place.Span.{Span}
 use Rattle.jsx_base.specs.Files.{File, Place}
-use Rattle.jsx_base.specs.Lines.{lines}
 use Rattle.jsx_base.specs.MultiSpan.{Spans}
-use Rattle.jsx_base.specs.SpanPlaces.{low, high}
 use Rattle.jsx_diag.specs.declared.level.Level.{Level}
 use Rattle.jsx_diag.specs.Level.{is_failure_level}
-use Rattle.jsx_diag.specs.Data.{Text, Code, Edit, Suggestion, Child, Report}
-use Rattle.jsx_diag.specs.Splice.{by_start, Spliced, spliced, refusal}
-use Rattle.jsx_emit.specs.Page.{Look, blanks, number, number_width, line_chars, place_line, spaced, page_text, message_text, told, page}
+use Rattle.jsx_diag.specs.Data.{Text, Code, Suggestion, Child, Report}
+use Rattle.jsx_emit.specs.Page.{Look, blanks, number, number_width, line_chars, place_line, spaced, page_text, rows_text, message_text, told, page}
+use Rattle.jsx_emit.specs.Sheets.{RowsOf}
+use Rattle.jsx_emit.specs.Written.{suggestion_rows}
 use Rattle.jsx_emit.specs.Layout.{header, place_before, last_line_of, Placed, placed, is_covered, may_mark, label_row, label_col, label_chars, may_be_hidden, has_no_span, note_lines, pointed, apart}
 use Rattle.jsx_draw.specs.Spots.{Spot, spots, is_single, primary_place, ShownLine, shown_lines, end_col, greatest, at_line}
 
@@ -34,10 +33,6 @@ abbrev pub look_of : Setting → (ℕ → ℕ) → Look
 look_of set offset = record { ui_testing = set.ui_testing; skip_filename = set.skip_filename; offset_line = offset }
 
 -- ---- rows
-
--- rows of characters as a text: each tab becomes four spaces, and each row ends with LF
-abbrev pub rows_text : List (List ℕ) → Text
-rows_text rows = flat_map (λ row. encode_utf8_all (spaced row) ++ 10 ∷ []) rows
 
 abbrev pub cell_at : List (List ℕ) → ℕ → ℕ → Option ℕ
 cell_at rows row col = slice_get (unwrap_or (slice_get rows row) []) col
@@ -99,6 +94,7 @@ pub record OwnPart (look : Look) (files : List File) (w : ℕ) (level : Level) (
   pub told : IsTold (told look (λ _. w) files level code message spans) text
   pub rows : List (List ℕ)
   pub is : text ≡ rows_text (chars (header level code message) ∷ rows)
+  pub drawn : RowsOf look w (spots files spans) (primary_place files spans.primary) rows
   pub behind : Behind look w (spots files spans) (primary_place files spans.primary) rows
 
 -- ---- the parts of notes
@@ -117,42 +113,9 @@ NotePart look files w it text =
 
 -- ---- the parts of suggestions
 
--- no part begins before the one before it ends
-abbrev pub in_turn : List Edit → Bool
-in_turn [] = true
-in_turn (part ∷ []) = true
-in_turn (part ∷ next ∷ more) = nat_le (high part.span) (low next.span) && in_turn (next ∷ more)
-
-abbrev pub text_of : Option Spliced → List ℕ
-text_of None = []
-text_of (Some it) = it.text
-
--- the texts that a suggestion shows: none where its lines are refused or its parts overlap
-abbrev pub shown_texts : List File → Suggestion → List (List ℕ)
-shown_texts files it =
-    cond (is_none (refusal files it.substitutions) && list_all (λ way. in_turn (by_start way)) it.substitutions)
-    (map (λ way. text_of (spliced files way)) it.substitutions)
-    []
-
--- the first six lines of each of the first four
-abbrev pub shown_texts_lines : List File → Suggestion → List (List ℕ)
-shown_texts_lines files it = flat_map (λ text. take 6 (lines text)) (take 4 (shown_texts files it))
-
--- rows in order, of which each ends with its line
-abbrev pub EndWith : List (List ℕ) → List (List ℕ) → Type 0
-EndWith [] rows = Unit {0}
-EndWith (line ∷ more) rows =
-    (before : List (List ℕ)) × (front : List ℕ) × (after : List (List ℕ)) × (rows ≡ before ++ (front ++ line) ∷ after) × EndWith more after
-
-abbrev pub first_of : List (List ℕ) → List ℕ
-first_of [] = []
-first_of (line ∷ more) = line
-
-pub record SuggestionPart (files : List File) (it : Suggestion) (text : Text) : Type 0 where
-  pub behind : List ℕ
-  pub rows : List (List ℕ)
-  pub is : text ≡ rows_text ((codes "help: " ++ (first_of (lines (chars it.msg)) ++ behind)) ∷ rows)
-  pub texts : EndWith (shown_texts_lines files it) rows
+-- a suggestion that stands apart is told row by row
+abbrev pub SuggestionPart : Bool → List File → ℕ → Suggestion → Text → Type 0
+SuggestionPart ui_testing files w it text = text ≡ rows_text (suggestion_rows ui_testing files w it)
 
 -- ---- the whole
 
@@ -178,7 +141,7 @@ pub record Whole (look : Look) (files : List File) (report : Report) (text : Tex
   pub is : text ≡ own ++ (before_notes (report_width look files report) report.children ++ (notes ++ (suggestions ++ 10 ∷ [])))
   pub own_part : OwnPart look files (report_width look files report) report.level report.code (message_text report.message) (pointed report) own
   pub note_parts : Each (NotePart look files (report_width look files report)) report.children notes
-  pub suggestion_parts : Each (SuggestionPart files) (apart report) suggestions
+  pub suggestion_parts : Each (SuggestionPart look.ui_testing files (report_width look files report)) (apart report) suggestions
 
 -- the header comes first
 pub record Headed (report : Report) (text : Text) : Type 0 where

@@ -1,24 +1,19 @@
 -- Texts that a page is made of.
-use Rattle.std.specs.Prelude.{◌≡◌, ◌<◌, ◌+◌, ℕ, List, [], ◌∷◌, ◌++◌, Option, Some, None, false, cond, nat_eq, codes, decimal, length, map, string_bytes}
-use Rattle.std.specs.declared.alloc.Global.{Global}
-use Rattle.std.specs.declared.string.String.{String}
-use Rattle.std.specs.declared.vec.Vec.{Vec}
+use Rattle.std.specs.Prelude.{◌≡◌, ◌<◌, ◌+◌, ℕ, List, [], ◌∷◌, ◌++◌, Option, Some, None, false, cond, nat_eq, codes, decimal, length, map}
 use Rattle.std.specs.List.{flat_map}
 use Rattle.std.specs.Str.{IsUtf8, chars}
 use Rattle.jsx_base.specs.declared.place.Span.{Span}
 use Rattle.jsx_base.specs.Files.{File, Place, place_in}
-use Rattle.jsx_base.specs.Lines.{lines}
 use Rattle.jsx_base.specs.MultiSpan.{Spans}
 use Rattle.jsx_base.specs.SpanPlaces.{high, shown}
-use Rattle.jsx_diag.specs.declared.suggestion.SubstitutionPart.{SubstitutionPart}
 use Rattle.jsx_diag.specs.declared.level.Level.{Level}
 use Rattle.jsx_diag.specs.Level.{shown_text}
-use Rattle.jsx_diag.specs.Data.{Text, Child, Edit, Report, edit_of}
-use Rattle.jsx_draw.specs.Grid.{Cell, Grid, Run}
+use Rattle.jsx_diag.specs.Data.{Text, Child, Report}
+use Rattle.jsx_draw.specs.Grid.{Run}
 use Rattle.jsx_emit.specs.Layout.{apart, colon, last_line_of, pointed}
 use Rattle.jsx_draw.specs.Spots.{primary_place}
 use Rattle.jsx_emit.specs.Page.{Look, blanks, spaced}
-use Rattle.jsx_emit.specs.Shows.{EndWith, Map, first_of, id_line, rows_text, short_text}
+use Rattle.jsx_emit.specs.Shows.{Map, id_line, short_text}
 
 -- a text with a tab, what stands before the first, and behind it
 pub record Tabbed (text front behind : Text) : Type 0 where
@@ -29,14 +24,6 @@ pub record Tabbed (text front behind : Text) : Type 0 where
 -- the characters of runs, one after another
 abbrev pub run_chars : List Run → List ℕ
 run_chars runs = flat_map (λ run. run.text) runs
-
--- the characters of a row
-abbrev pub row_chars : List Cell → List ℕ
-row_chars row = map (λ cell. cell.0) row
-
--- the rows of a grid without styles
-abbrev pub grid_chars : Grid → List (List ℕ)
-grid_chars grid = map row_chars grid
 
 -- LF, and n blanks
 abbrev pub line_break : ℕ → Text
@@ -105,24 +92,6 @@ shown_report report = record report { span = pointed report; suggestions = apart
 abbrev pub end_in : Span → Option File → ℕ
 end_in sp None = 0
 end_in sp (Some file) = (place_in (high sp) file).line
-
--- rows more, which end with these lines in order; of other rows nothing is said
-pub record AddsRows (source : List (List ℕ)) (old new : Text) : Type 0 where
-  pub rows : List (List ℕ)
-  pub is : new ≡ old ++ rows_text rows
-  pub ends : EndWith source rows
-
--- a message behind `help: `, and rows of which nothing is said
-pub record Helps (msg : List ℕ) (old new : Text) : Type 0 where
-  pub rows : List (List ℕ)
-  pub is : new ≡ old ++ rows_text ((codes "help: " ++ first_of (lines msg)) ∷ rows)
-
--- the characters of what is written in one way, and its parts
-abbrev pub way_text : String Global × Vec SubstitutionPart Global → List ℕ
-way_text way = chars (string_bytes way.0)
-
-abbrev pub way_edits : String Global × Vec SubstitutionPart Global → List Edit
-way_edits way = map edit_of way.1.items
 
 -- the greatest line in which a span of a report or its notes ends, or 0 without files
 abbrev pub last_line_over : Option (List File) → Spans → List Child → ℕ

@@ -9,8 +9,7 @@ ghost use Rattle.jsx_draw.specs.Drawn.{bars_past};
 ghost use Rattle.jsx_base.specs.SourceFile.{shared_file};
 ghost use Rattle.std.specs.Char.{is_whitespace};
 ghost use Rattle.jsx_draw.specs.Spots.{greatest};
-ghost use Rattle.jsx_emit.specs.Page.{line_chars};
-ghost use Rattle.jsx_emit.specs.Shows.{rows_text};
+ghost use Rattle.jsx_emit.specs.Page.{line_chars, rows_text};
 ghost use Rattle.jsx_draw.specs.Views.{columns_of, shown_line};
 ghost use Rattle.jsx_emit.specs.Views.{sheet_of};
 

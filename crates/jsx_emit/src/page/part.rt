@@ -9,12 +9,12 @@ ghost use Rattle.jsx_base.specs.MultiSpan.{spans_of};
 ghost use Rattle.jsx_base.specs.SourceFile.{shared_file};
 ghost use Rattle.jsx_diag.specs.Data.{code_of, piece_of};
 ghost use Rattle.jsx_draw.specs.Annotation.{mark_of};
-ghost use Rattle.jsx_emit.specs.Sheets.{SpanRows, bar_row, file_blocks, first_col, first_place, other_file};
+ghost use Rattle.jsx_emit.specs.Sheets.{SpanRows, file_blocks, first_col, first_place, other_file};
+ghost use Rattle.jsx_emit.specs.Written.{bar_row};
 ghost use Rattle.jsx_emit.specs.Layout.{header as header_text};
 ghost use Rattle.jsx_draw.specs.Spots.{primary_place};
-ghost use Rattle.jsx_emit.specs.Page.{message_text, place_line};
+ghost use Rattle.jsx_emit.specs.Page.{message_text, place_line, rows_text};
 ghost use Rattle.jsx_emit.specs.Parts.{BeginsWith, PartOver, PlaceIsText};
-ghost use Rattle.jsx_emit.specs.Shows.{rows_text};
 ghost use Rattle.jsx_emit.specs.Views.{sheet_of};
 ghost use Rattle.jsx_draw.specs.Views.{shown_file};
 
@@ -171,8 +171,8 @@ fn push_others<M: SourceMapper>(
     Ok(())
 }
 
-// Adds a row that is a bar.
-fn push_bar_row(text: &mut String, width: usize) -> Result<(), AllocError>
+/// Adds a row that is a bar.
+pub(super) fn push_bar_row(text: &mut String, width: usize) -> Result<(), AllocError>
     ensures { OnOk result (string_bytes text.new ≡ string_bytes text.old ++ rows_text (bar_row width ∷ [])) }
 {
     push_blanks(text, width)?;

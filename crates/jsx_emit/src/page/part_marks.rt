@@ -1,17 +1,17 @@
 //! Marks under what a suggestion puts in.
 
-ghost use Rattle.std.specs.Prelude.{◌≡◌, ◌+◌, ◌-◌, ◌++◌, ◌∷◌, [], map, length, IfOk, MatchOption, OnOk, string_bytes};
+ghost use Rattle.std.specs.Prelude.{◌≡◌, ◌+◌, ◌-◌, ◌++◌, ◌∷◌, [], map, length, nat_eq, IfOk, MatchOption, OnOk, string_bytes};
 ghost use Rattle.std.specs.List.{sum_by};
 ghost use Rattle.std.specs.Str.{chars};
-ghost use Rattle.jsx_base.specs.Lines.{columns_of};
+ghost use Rattle.jsx_base.specs.Lines.{columns_of, lines};
 ghost use Rattle.jsx_diag.specs.Data.{edit_of};
 ghost use Rattle.jsx_emit.specs.Marks.{columns, columns_at, lead, mark_at, marks_of, marks_row, part_mark};
-ghost use Rattle.jsx_emit.specs.Shows.{rows_text};
-ghost use Rattle.jsx_emit.specs.Texts.{grid_chars};
+ghost use Rattle.jsx_emit.specs.Page.{rows_text};
+ghost use Rattle.jsx_emit.specs.Written.{grid_chars, has_marks, is_sole};
 
 use crate::page::labels::first;
 use crate::page::rows::push_rows;
-use crate::page::suggestions::{high, low};
+use crate::page::suggestions::{high, low, split_line};
 use jsx_base::{BytePos, SourceMapper, Span};
 use jsx_draw::{StyledBuffer, across, sum};
 use jsx_report::{Style, SubstitutionPart};
@@ -19,12 +19,22 @@ use std::alloc::{AllocError, Global};
 use unicode_width::UnicodeWidthChar;
 
 /// Whether a text has marks: it is one line, and not its sole snippet.
-pub(super) fn has_marks(source: &str, parts: &[SubstitutionPart]) -> bool {
-    !source.contains('\n') && !is_sole(source, parts)
+pub(super) fn has_marks(source: &str, parts: &[SubstitutionPart]) -> bool
+    ensures { result ≡ has_marks (chars source.now) (map edit_of parts.now) }
+{
+    is_one_line(source) && !is_sole(source, parts)
+}
+
+fn is_one_line(source: &str) -> bool
+    ensures { result ≡ nat_eq (length (lines (chars source.now))) 1 }
+{
+    split_line(source).is_none()
 }
 
 // Whether a text is its sole snippet, both without white space at their ends.
-fn is_sole(source: &str, parts: &[SubstitutionPart]) -> bool {
+fn is_sole(source: &str, parts: &[SubstitutionPart]) -> bool
+    ensures { result ≡ is_sole (chars source.now) (map edit_of parts.now) }
+{
     match parts {
         [part] => part.snippet.as_str().trim() == source.trim(),
         _ => false,

@@ -3,9 +3,9 @@
 ghost use Rattle.std.specs.Prelude.{◌≡◌, [], ◌∷◌, ◌++◌, map, OnOk, string_bytes};
 ghost use Rattle.std.specs.Str.{encode_utf8_all};
 ghost use Rattle.jsx_draw.specs.Grid.{run_of};
-ghost use Rattle.jsx_emit.specs.Page.{blanks};
-ghost use Rattle.jsx_emit.specs.Shows.{rows_text};
-ghost use Rattle.jsx_emit.specs.Texts.{grid_chars, run_chars};
+ghost use Rattle.jsx_emit.specs.Page.{blanks, rows_text};
+ghost use Rattle.jsx_emit.specs.Texts.{run_chars};
+ghost use Rattle.jsx_emit.specs.Written.{grid_chars};
 
 use jsx_draw::{StyledBuffer, StyledString};
 use std::alloc::AllocError;

@@ -1,6 +1,6 @@
 //! The suggestions that stand apart.
 
-ghost use Rattle.std.specs.Prelude.{◌≡◌, [], ◌∷◌, ◌++◌, false, cond, map, IfOk, OnOk, MatchOption, string_bytes};
+ghost use Rattle.std.specs.Prelude.{◌≡◌, [], ◌∷◌, ◌+◌, ◌++◌, false, cond, map, IfOk, OnOk, MatchOption, string_bytes};
 ghost use Rattle.std.specs.List.{list_all};
 ghost use Rattle.std.specs.Option.{is_none, option_map};
 ghost use Rattle.std.specs.Str.{chars};
@@ -8,10 +8,11 @@ ghost use Rattle.jsx_base.specs.LineStarts.{Split};
 ghost use Rattle.jsx_base.specs.Lines.{lines};
 ghost use Rattle.jsx_base.specs.SpanPlaces.{high, low};
 ghost use Rattle.jsx_diag.specs.Data.{edit_of, suggestion_of};
-ghost use Rattle.jsx_diag.specs.Splice.{fault};
+ghost use Rattle.jsx_diag.specs.Splice.{fault, spliced_data};
 ghost use Rattle.jsx_emit.specs.Parts.{SuggestionsOver};
-ghost use Rattle.jsx_emit.specs.Shows.{Each, SuggestionPart, in_turn, rows_text, shown_texts};
-ghost use Rattle.jsx_emit.specs.Texts.{AddsRows, Helps, way_edits, way_text};
+ghost use Rattle.jsx_emit.specs.Shows.{Each, SuggestionPart};
+ghost use Rattle.jsx_emit.specs.Page.{blanks, rows_text};
+ghost use Rattle.jsx_emit.specs.Written.{help_lines, in_turn, set_in, shown_ways};
 
 use crate::page::Look;
 use crate::page::header::push_spaced;
@@ -30,7 +31,7 @@ pub(super) fn suggestions_text<M: SourceMapper>(
     width: usize,
     suggestions: &[CodeSuggestion],
 ) -> Result<String, AllocError>
-    ensures { IfOk result (λ text. SuggestionsOver (option_map (λ cm. record { files = M.files cm.now; call_span = M.call_span cm.now; offset_line = M.offset_line cm.now }) cm.entry) (map suggestion_of suggestions.now) (string_bytes text)) }
+    ensures { IfOk result (λ text. SuggestionsOver look.ui_testing (option_map (λ cm. record { files = M.files cm.now; call_span = M.call_span cm.now; offset_line = M.offset_line cm.now }) cm.entry) width (map suggestion_of suggestions.now) (string_bytes text)) }
 {
     let Some(cm) = cm else {
         return Ok(String::new(alloc));
@@ -46,7 +47,7 @@ fn all_texts<M: SourceMapper>(
     width: usize,
     suggestions: &[CodeSuggestion],
 ) -> Result<String, AllocError>
-    ensures { IfOk result (λ text. Each (SuggestionPart (M.files cm.now)) (map suggestion_of suggestions.now) (string_bytes text)) }
+    ensures { IfOk result (λ text. Each (SuggestionPart look.ui_testing (M.files cm.now) width) (map suggestion_of suggestions.now) (string_bytes text)) }
 {
     let mut text = String::new(alloc);
     for it in suggestions {
@@ -64,7 +65,7 @@ fn suggestion_text<M: SourceMapper>(
     width: usize,
     it: &CodeSuggestion,
 ) -> Result<String, AllocError>
-    ensures { IfOk result (λ text. SuggestionPart (M.files cm.now) (suggestion_of it.now) (string_bytes text)) }
+    ensures { IfOk result (λ text. SuggestionPart look.ui_testing (M.files cm.now) width (suggestion_of it.now) (string_bytes text)) }
 {
     let mut text = String::new(alloc);
     push_help(&mut text, width, it.msg.as_str())?;
@@ -75,7 +76,7 @@ fn suggestion_text<M: SourceMapper>(
 
 // Adds `help: message`, whose further lines stand behind blanks.
 fn push_help(text: &mut String, width: usize, msg: &str) -> Result<(), AllocError>
-    ensures { OnOk result (Helps (chars msg.now) (string_bytes text.old) (string_bytes text.new)) }
+    ensures { OnOk result (string_bytes text.new ≡ string_bytes text.old ++ rows_text (help_lines width (lines (chars msg.now)))) }
 {
     let Some((line, rest)) = split_line(msg) else {
         return push_row(text, "help: ", msg);
@@ -95,7 +96,7 @@ pub(super) fn push_row(text: &mut String, before: &str, line: &str) -> Result<()
 
 // Adds the further lines of a message.
 fn push_further(text: &mut String, width: usize, more: &str) -> Result<(), AllocError>
-    ensures { OnOk result (AddsRows [] (string_bytes text.old) (string_bytes text.new)) }
+    ensures { OnOk result (string_bytes text.new ≡ string_bytes text.old ++ rows_text (set_in (width + 15) (lines (chars more.now)))) }
 {
     let mut rest = more;
     while let Some((line, behind)) = split_line(rest) {
@@ -107,7 +108,7 @@ fn push_further(text: &mut String, width: usize, more: &str) -> Result<(), Alloc
 
 // Adds a row behind blanks.
 fn push_indented(text: &mut String, width: usize, line: &str) -> Result<(), AllocError>
-    ensures { OnOk result (AddsRows [] (string_bytes text.old) (string_bytes text.new)) }
+    ensures { OnOk result (string_bytes text.new ≡ string_bytes text.old ++ rows_text ((blanks (width + 15) ++ chars line.now) ∷ [])) }
 {
     push_blanks(text, width)?;
     push_row(text, "               ", line)
@@ -126,7 +127,7 @@ fn ways_of<M: SourceMapper>(
     cm: &M,
     it: &CodeSuggestion,
 ) -> Result<Vec<(String, Vec<SubstitutionPart>)>, AllocError>
-    ensures { IfOk result (λ ways. map way_text ways.items ≡ shown_texts (M.files cm.now) (suggestion_of it.now)) }
+    ensures { IfOk result (λ ways. map spliced_data ways.items ≡ shown_ways (M.files cm.now) (suggestion_of it.now)) }
 {
     match it.splice_lines(alloc, cm) {
         Ok(ways) => Ok(unless_overlapping(alloc, ways)),
@@ -155,7 +156,7 @@ fn unless_overlapping(
     alloc: Global,
     ways: Vec<(String, Vec<SubstitutionPart>)>,
 ) -> Vec<(String, Vec<SubstitutionPart>)>
-    ensures { result.items ≡ cond (list_all (λ way. in_turn (way_edits way)) ways.items) ways.items [] }
+    ensures { result.items ≡ cond (list_all (λ way. in_turn ((spliced_data way).parts)) ways.items) ways.items [] }
 {
     if all_in_turn(&ways) {
         ways
@@ -166,7 +167,7 @@ fn unless_overlapping(
 
 // Whether the parts of no way overlap.
 fn all_in_turn(ways: &[(String, Vec<SubstitutionPart>)]) -> bool
-    ensures { result ≡ list_all (λ way. in_turn (way_edits way)) ways.now }
+    ensures { result ≡ list_all (λ way. in_turn ((spliced_data way).parts)) ways.now }
 {
     for way in ways {
         if !in_turn(&way.1) {

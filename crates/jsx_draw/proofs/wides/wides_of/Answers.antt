@@ -1,13 +1,12 @@
-use Rattle.std.proofs.Common.{◌∙◌}
+use Rattle.std.proofs.Common.{◌∙◌, ap, arith, map}
+use Rattle.jsx_draw.specs.Drawn.{moved_by_each}
 use Rattle.jsx_draw.specs.Views.{spot_of, wide_of}
-use Rattle.jsx_draw.proofs.Loops.{one_depth, spots_seen}
+use Rattle.jsx_draw.proofs.Sides.{firsts_seen, whole_vec}
 use Rattle.jsx_draw.proofs.wides.wides_of.Goals as goal
 
-pub returns-then-spots-lt2-clause-spots : goal.returns-then-spots-lt2-clause-spots
-returns-then-spots-lt2-clause-spots c = spots_seen wide_of spot_of c.in_ok-wides.wides.items c.args.spots.now c.in_ok-wides.ensures
-
-pub returns-then-spots-lt2-clause-alone : goal.returns-then-spots-lt2-clause-alone
-returns-then-spots-lt2-clause-alone c = λ one. one_depth wide_of spot_of c.in_ok-wides.wides.items c.args.spots.now c.in_ok-wides.ensures one
-
-pub returns-clause-spots : goal.returns-clause-spots
-returns-clause-spots c = c.moved.ensures ∙ spots_seen wide_of spot_of c.in_ok-wides.wides.items c.args.spots.now c.in_ok-wides.ensures
+pub returns : goal.returns
+returns c =
+    let spots = map spot_of c.args.spots.now in
+    let long = c.deref_mut.ensures.len in
+    whole_vec wide_of spots c.in_ok-wides.wides.items c.deref_mut.result.now c.move_by_each.new.wides c.in_ok-wides.wides.len c.deref_mut.ensures.value (omega (arith, long)) c.in_ok-move_by_each.ensures
+    ∙ ap (moved_by_each spots) (c.in_ok-wides.ensures ∙ firsts_seen spot_of c.args.spots.now)

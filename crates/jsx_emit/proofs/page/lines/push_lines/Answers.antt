@@ -2,7 +2,7 @@ use Rattle.std.proofs.Common.{◌++◌}
 use Rattle.std.specs.Prelude.{string_bytes}
 use Rattle.jsx_base.specs.SourceFile.{shared_file}
 use Rattle.jsx_emit.specs.Sheets.{line_blocks}
-use Rattle.jsx_emit.specs.Shows.{rows_text}
+use Rattle.jsx_emit.specs.Page.{rows_text}
 use Rattle.jsx_emit.specs.Views.{sheet_of}
 use Rattle.jsx_emit.proofs.Blocks.{block_all, block_more}
 use Rattle.jsx_emit.proofs.page.lines.push_lines.Goals as goal

@@ -4,7 +4,8 @@ use Rattle.std.specs.Str.{chars}
 use Rattle.std.proofs.lemmas.Str.{IsUtf8-string_bytes}
 use Rattle.jsx_base.specs.SourceFile.{shared_file}
 use Rattle.jsx_base.specs.SpanPlaces.{shown}
-use Rattle.jsx_emit.specs.Sheets.{bar_row, first_col}
+use Rattle.jsx_emit.specs.Sheets.{first_col}
+use Rattle.jsx_emit.specs.Written.{bar_row}
 use Rattle.jsx_draw.specs.Drawn.{marks_in}
 use Rattle.jsx_emit.specs.Page.{blanks}
 use Rattle.jsx_draw.specs.Views.{shown_line, spot_of, wide_of}

@@ -2,7 +2,7 @@ use Rattle.std.proofs.Common.{◌≡◌, ◌++◌, map, take}
 use Rattle.std.specs.Prelude.{string_bytes}
 use Rattle.std.specs.List.{flat_map}
 use Rattle.jsx_emit.specs.Sheets.{other_file}
-use Rattle.jsx_emit.specs.Shows.{rows_text}
+use Rattle.jsx_emit.specs.Page.{rows_text}
 use Rattle.jsx_emit.specs.Views.{sheet_of}
 use Rattle.jsx_draw.specs.Views.{shown_file}
 use Rattle.jsx_emit.proofs.page.part.push_others.Given as goal

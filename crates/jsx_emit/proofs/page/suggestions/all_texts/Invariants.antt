@@ -6,5 +6,5 @@ use Rattle.jsx_emit.proofs.page.suggestions.all_texts.Given as goal
 
 abbrev pub invariant-loop-it : goal.invariant-loop-it
 invariant-loop-it g l = record {
-  each : Each (SuggestionPart (g.M.SourceMapper.files l.cm)) (take l.it-index (map suggestion_of l.suggestions)) (string_bytes l.text);
+  each : Each (SuggestionPart l.look.ui_testing (g.M.SourceMapper.files l.cm) l.width) (take l.it-index (map suggestion_of l.suggestions)) (string_bytes l.text);
 }
