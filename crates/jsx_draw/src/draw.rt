@@ -33,7 +33,8 @@ enum Layer {
     Underlines,
 }
 
-/// What stands under a line: in each row the bar behind the numbers, and the spans, layer by layer.
+/// What stands under a line: in each row the bar behind the numbers, and the spans, layer by layer. It
+/// takes time by the square of the number of spans, and by the cells.
 pub fn under_line(
     alloc: Global,
     at: Columns,

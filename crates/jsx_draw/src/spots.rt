@@ -112,7 +112,7 @@ pub fn singles<'m, 'l>(
     Ok(singles)
 }
 
-/// Those over several lines, by their lines.
+/// Those over several lines, by their lines. It takes time by the square of their number.
 pub fn by_lines<'m, 'l>(
     alloc: Global,
     spots: &[Spot<'m, 'l>],

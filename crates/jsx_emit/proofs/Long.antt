@@ -16,7 +16,7 @@ use Rattle.jsx_diag.specs.Data.{Text, Code, Child, Report, Suggestion}
 use Rattle.jsx_emit.specs.Page.{Look, is_error, message_text, number_width, own_width, page_text, sole_label, sole_span, spaced, told, told_at, told_in, told_of}
 use Rattle.jsx_draw.specs.Spots.{Reach, reach_in, greatest, held_in, is_dummy, spot_in}
 use Rattle.jsx_emit.specs.Layout.{apart, end_line, header, inline, labelled_with, last_line_of, pointed}
-use Rattle.jsx_emit.specs.Shows.{Map, Setting, Each, Headed, IsTold, Long, NotePart, OwnPart, SuggestionPart, before_notes, look_of, report_width}
+use Rattle.jsx_emit.specs.Shows.{Map, Setting, Bare, BareNote, Each, Headed, IsTold, Long, NotePart, OwnPart, SuggestionPart, before_notes, id_line, look_of, report_width}
 use Rattle.jsx_diag.specs.declared.level.Level.TheVariants as level
 use Rattle.jsx_emit.specs.Texts.{last_line_over}
 use Rattle.jsx_emit.proofs.Children.{not_zero}
@@ -195,8 +195,26 @@ long_of look files r w own notes suggestions text none wide part begins each_not
       };
     }
 
+bare_of : (set : Setting) (r : Report) (w : ℕ) (own notes suggestions text : Text) → w ≡ number_width (look_of set id_line) 0 → own ≡ spaced (header r.level r.code (message_text r.message)) ++ 10 ∷ [] → Each (NoteOver set None w) r.children notes → suggestions ≡ [] → IsFalse (is_failure_level r.level) → Joined (is_failure_level r.level) w r.children own notes suggestions text → Bare (number_width (look_of set id_line) 0) r text
+bare_of set r w own notes suggestions text same_w own_is each_note none level it =
+    let h = spaced (header r.level r.code (message_text r.message)) in
+    let before = before_notes (number_width (look_of set id_line) 0) r.children in
+    record {
+      notes = notes;
+      is =
+          it.is
+          ∙ ap (λ z. own ++ (z ++ (notes ++ (suggestions ++ 10 ∷ [])))) (separated (is_failure_level r.level) w r.children level ∙ ap (λ n. before_notes n r.children) same_w)
+          ∙ ap (λ z. own ++ (before ++ (notes ++ (z ++ 10 ∷ [])))) none
+          ∙ ap (λ z. z ++ (before ++ (notes ++ 10 ∷ []))) own_is
+          ∙ append_assoc h (10 ∷ []) (before ++ (notes ++ 10 ∷ []));
+      note_parts = subst (λ n. Each (BareNote n) r.children notes) same_w each_note;
+    }
+
 pub long_over : (set : Setting) (map : Option Map) (r : Report) (w : ℕ) (own notes suggestions text : Text) → w ≡ cond set.ui_testing 2 (length (decimal (last_line_over (option_map (λ m. m.files) map) r.span r.children))) → OwnOver set map w r own → Headed r own → Each (NoteOver set map w) r.children notes → SuggestionsOver set.ui_testing map w r.suggestions suggestions → Joined (is_failure_level r.level) w r.children own notes suggestions text → LongOver set map r text
-long_over set None r w own notes suggestions text wide part begins each_note each_suggestion it = headed r own _ text begins it.is
+long_over set None r w own notes suggestions text wide part begins each_note each_suggestion it = record {
+  headed = headed r own _ text begins it.is;
+  whole = λ level. bare_of set r w own notes suggestions text wide (part level) each_note each_suggestion level it;
+}
 long_over set (Some map) r w own notes suggestions text wide part begins each_note each_suggestion it =
     λ none. long_of (look_of set map.offset_line) map.files r w own notes suggestions text none wide part begins each_note each_suggestion it
 

@@ -39,6 +39,11 @@ pub files_shown : (start : ℕ) (narrow lines ss : List Spot) (made put : List S
 files_shown start narrow lines ss made put singles wide is first =
     first ∙ ap (primary_first start) (is ∙ ap (λ z. spots_put (z ++ lines) []) singles ∙ ap (λ z. spots_put (filter is_single ss ++ z) []) wide)
 
+pub spot_rows_if : {X : Type 0} (look : Look) (sheet want : Sheet) (shown wanted : List ShownFile) (old new : Text) (r : Result (Unit {0}) X) → sheet ≡ want → shown ≡ wanted → OnOk r (new ≡ old ++ rows_text (file_blocks look sheet shown)) → OnOk r (new ≡ old ++ rows_text (file_blocks look want wanted))
+spot_rows_if look sheet want shown wanted old new (Err e) same first is = tt
+spot_rows_if look sheet want shown wanted old new (Ok u) same first is =
+    is ∙ ap (λ z. old ++ rows_text (file_blocks look z shown)) same ∙ ap (λ z. old ++ rows_text (file_blocks look want z)) first
+
 pub span_rows_if : {X : Type 0} (look : Look) (files : List File) (w : ℕ) (spans : Spans) (place : Place) (sheet : Sheet) (shown : List ShownFile) (old a new : Text) (r : Result (Unit {0}) X) → Some place ≡ primary_place files spans.primary → sheet ≡ sheet_for look w (spots files spans) → shown ≡ primary_first place.file.start (shown_files (spots files spans)) → a ≡ old ++ rows_text (chars (place_line look w place) ∷ []) → OnOk r (new ≡ a ++ rows_text (file_blocks look sheet shown)) → OnOk r (SpanRows look files w spans old new)
 span_rows_if look files w spans place sheet shown old a new (Err e) found same first e1 e2 = tt
 span_rows_if look files w spans place sheet shown old a new (Ok u) found same first e1 e2 = record {

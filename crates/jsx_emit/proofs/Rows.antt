@@ -81,7 +81,7 @@ pub two_texts_if : {X : Type 0} (before line old a b c : Text) (r : Result (Unit
 two_texts_if before line old a b c (Ok x) first second e1 e2 e3 = two_texts before line old a b c first second e1 e2 e3
 two_texts_if before line old a b c (Err e) first second e1 e2 e3 = tt
 
-encoded_blanks : (n : ℕ) → encode_utf8_all (blanks n) ≡ blanks n
+pub encoded_blanks : (n : ℕ) → encode_utf8_all (blanks n) ≡ blanks n
 encoded_blanks zero = refl
 encoded_blanks (suc n) = ap (λ z. z ++ encode_utf8_all (blanks n)) (encode_ascii 32 (omega arith)) ∙ ap (λ z. 32 ∷ z) (encoded_blanks n)
 

@@ -97,3 +97,18 @@ page_with_ways same = record {
     );
   };
 }
+
+bare : Setting
+bare = record { map = None; short = false; ui_testing = false; skip_filename = false }
+
+-- without files the header and the notes stand alone
+page_without_files : Shows bare with_note (lines (codes "error: m" ∷ codes "  |" ∷ codes "  = note: n" ∷ [] ∷ []))
+unfolding bare with_note message place note lines digits
+page_without_files = record {
+  headed = record { rest = _; is = refl };
+  whole = λ _. record {
+    notes = lines (codes "  = note: n" ∷ []);
+    is = refl;
+    note_parts = (lines (codes "  = note: n" ∷ []), [], refl, refl, refl);
+  };
+}

@@ -1,29 +1,32 @@
 -- What a suggestion writes in each way.
-use Rattle.std.proofs.Common.{◌≡◌, ℕ, zero, suc, ◌+◌, ◌-◌, ◌<◌, ◌≤◌, Bool, true, false, ◌&&◌, cond, nat_eq, nat_le, nat_lt, List, [], ◌∷◌, ◌++◌, map, length, take, drop, get_or, Option, Some, None, refl, ap, sym, ◌∙◌, arith, append_assoc}
-use Rattle.std.specs.Prelude.{Result, Ok, Err, OnOk}
+use Rattle.std.proofs.Common.{◌≡◌, ℕ, zero, suc, ◌+◌, ◌-◌, ◌<◌, ◌≤◌, Bool, true, false, ◌&&◌, cond, nat_eq, nat_le, nat_lt, List, [], ◌∷◌, ◌++◌, map, length, take, drop, get_or, Option, Some, None, refl, ap, sym, ◌∙◌, arith, append_assoc, length-append}
+use Rattle.std.specs.Prelude.{Result, Ok, Err, IfOk, OnOk, codes}
 use Rattle.std.specs.List.{list_all, flat_map}
 use Rattle.std.specs.Option.{is_none}
+use Rattle.std.specs.Str.{chars}
 use Rattle.std.specs.declared.alloc.Global.{Global}
 use Rattle.std.specs.declared.string.String.{String}
 use Rattle.std.specs.declared.vec.Vec.{Vec}
 use Rattle.std.proofs.lemmas.Bool.{ne_eqb}
 use Rattle.std.proofs.lemmas.Bool.Decides.{nat_tests}
 use Rattle.std.proofs.Math.Seq.{drop-cons}
-use Rattle.std.proofs.lemmas.List.{append-nil, drop_all, get_or-map, length-map, replicate-append-replicate, take-map}
+use Rattle.std.proofs.Math.Utf8.{scalars}
+use Rattle.std.proofs.lemmas.List.{append-nil, drop_all, get_or-map, length-map, map-append, take-map}
+use Rattle.std.proofs.lemmas.Str.{chars-encodes}
 use Rattle.jsx_base.specs.Lines.{lines}
+use Rattle.jsx_base.specs.LineStarts.{Split}
 use Rattle.jsx_base.specs.Files.{File}
 use Rattle.jsx_base.specs.SpanPlaces.{high, low}
+use Rattle.jsx_diag.specs.declared.level.Style.TheVariants as style
 use Rattle.jsx_diag.specs.declared.splice.SpliceError.{SpliceError}
 use Rattle.jsx_diag.specs.declared.suggestion.SubstitutionPart.{SubstitutionPart}
 use Rattle.jsx_diag.specs.Data.{Text, Edit, Suggestion, edit_of}
 use Rattle.jsx_diag.specs.Splice.{Spliced, by_start, fault, refusal, splice_of, spliced, spliced_data, spliced_in, parts_file}
-use Rattle.std.specs.Prelude.{codes}
-use Rattle.std.specs.Str.{chars}
+use Rattle.jsx_draw.specs.Grid.{Cell, Grid, change_at, in_style, put_before, put_cell, put_text}
+use Rattle.jsx_draw.proofs.Grids.{extended_more, extended_none}
 use Rattle.jsx_emit.specs.Page.{blanks, rows_text}
-use Rattle.jsx_emit.specs.Written.{bar_row, each_way, grid_chars, help_lines, if_written, in_turn, is_cut, last_row, set_in, shown_ways, source_row, source_rows, suggestion_rows, way_rows, ways_rows}
-use Rattle.jsx_base.specs.LineStarts.{Split}
-use Rattle.jsx_emit.proofs.Blocks.{added_both}
-use Rattle.jsx_emit.proofs.Rows.{indented_row, rows_last, rows_last_if, rows_next, rows_none, rows_text-append}
+use Rattle.jsx_emit.specs.Written.{below_drawn, end_row, first_number, grid_chars, help_grid, if_written, in_turn, is_cut, next_row, others_text, set_in, shown_ways, source_drawn, sources_drawn, suggestion_rows, way_drawn, ways_below, ways_drawn}
+use Rattle.jsx_emit.proofs.Rows.{encoded_blanks}
 
 -- ---- parts that don't overlap
 
@@ -117,91 +120,136 @@ none_shown files it error left refused some is =
 
 -- ---- the lines of a text
 
--- the rows of the lines of a text behind the first count
-abbrev pub rows_behind : Bool → ℕ → Bool → ℕ → ℕ → Text → List (List ℕ)
-rows_behind ui w dots number count rest = source_rows ui w dots number (take (6 - count) (lines (chars rest)))
+-- the lines behind the first count, of which six are shown
+abbrev pub lines_left : ℕ → Text → List (List ℕ)
+lines_left count rest = take (6 - count) (lines (chars rest))
 
-one_line : (ui : Bool) (w : ℕ) (dots : Bool) (number : ℕ) (line : List ℕ) → source_rows ui w dots number (line ∷ []) ≡ grid_chars (source_row ui w dots number line)
-one_line ui w dots number line = append-nil (grid_chars (source_row ui w dots number line))
-
-pub line_next : (ui : Bool) (w : ℕ) (dots : Bool) (number count : ℕ) (rest line behind text new start : Text) → count < 6 → Split rest line behind → new ≡ text ++ rows_text (grid_chars (source_row ui w dots number (chars line))) → text ++ rows_text (rows_behind ui w dots number count rest) ≡ start → new ++ rows_text (rows_behind ui w false (number + 1) (count + 1) behind) ≡ start
-line_next ui w dots number count rest line behind text new start less split is before =
+taken_next : (count : ℕ) (rest line behind : Text) → count < 6 → Split rest line behind → lines_left count rest ≡ chars line ∷ lines_left (count + 1) behind
+taken_next count rest line behind less split =
     let e : 6 - count ≡ suc (6 - (count + 1)) = omega (arith, less) in
-    rows_next (rows_behind ui w dots number count rest) (grid_chars (source_row ui w dots number (chars line))) (rows_behind ui w false (number + 1) (count + 1) behind) text new start
-    (ap (λ k. source_rows ui w dots number (take k (lines (chars rest)))) e ∙ ap (λ z. source_rows ui w dots number (take (suc (6 - (count + 1))) z)) split.lines_are)
-    is before
+    ap (λ k. take k (lines (chars rest))) e ∙ ap (λ z. take (suc (6 - (count + 1))) z) split.lines_are
+
+taken_last : (count : ℕ) (rest : Text) → count < 6 → lines (chars rest) ≡ chars rest ∷ [] → lines_left count rest ≡ chars rest ∷ []
+taken_last count rest less sole =
+    let e : 6 - count ≡ suc (6 - (count + 1)) = omega (arith, less) in
+    ap (λ k. take k (lines (chars rest))) e ∙ ap (λ z. take (suc (6 - (count + 1))) z) sole ∙ none_behind (6 - (count + 1)) (chars rest)
+  where
+    none_behind : (k : ℕ) (line : List ℕ) → take (suc k) (line ∷ []) ≡ line ∷ []
+    none_behind zero line = refl
+    none_behind (suc k) line = refl
+
+taken_none : (count : ℕ) (rest : Text) → count ≡ 6 → lines_left count rest ≡ []
+taken_none count rest full =
+    let e : 6 - count ≡ 0 = omega (arith, full) in
+    ap (λ k. take k (lines (chars rest))) e
+
+pub line_next : (ui : Bool) (w row number count : ℕ) (rest line behind : Text) (grid next start : Grid) → count < 6 → Split rest line behind → next ≡ source_drawn ui w row number (chars line) grid → sources_drawn ui w row number (lines_left count rest) grid ≡ start → sources_drawn ui w (row + 1) (number + 1) (lines_left (count + 1) behind) next ≡ start
+line_next ui w row number count rest line behind grid next start less split is before =
+    ap (sources_drawn ui w (row + 1) (number + 1) (lines_left (count + 1) behind)) is
+    ∙ sym (ap (λ ls. sources_drawn ui w row number ls grid) (taken_next count rest line behind less split))
+    ∙ before
+
+pub row_next : (row count start : ℕ) (rest line behind : Text) → count < 6 → Split rest line behind → row + length (lines_left count rest) ≡ start → row + 1 + length (lines_left (count + 1) behind) ≡ start
+row_next row count start rest line behind less split before =
+    let long : length (lines_left count rest) ≡ length (lines_left (count + 1) behind) + 1 = ap (λ (z : List (List ℕ)). length z) (taken_next count rest line behind less split) ∙ (let e : length (chars line ∷ lines_left (count + 1) behind) ≡ length (lines_left (count + 1) behind) + 1 = omega arith in e) in
+    omega (arith, long, before)
 
 pub line_cut : (count : ℕ) (rest line behind : Text) (b : Bool) → count < 6 → Split rest line behind → nat_lt (6 - count) (length (lines (chars rest))) ≡ b → nat_lt (6 - (count + 1)) (length (lines (chars behind))) ≡ b
 line_cut count rest line behind b less split before =
     let e : nat_lt (6 - count) (length (chars line ∷ lines (chars behind))) ≡ nat_lt (6 - (count + 1)) (length (lines (chars behind))) = grind (arith, nat_tests, less) in
     sym e ∙ ap (λ z. nat_lt (6 - count) (length z)) (sym split.lines_are) ∙ before
 
--- six lines were added
-pub lines_full : (ui : Bool) (w : ℕ) (dots : Bool) (number count : ℕ) (rest text start : Text) → count ≡ 6 → text ++ rows_text (rows_behind ui w dots number count rest) ≡ start → text ≡ start
-lines_full ui w dots number count rest text start full before =
-    let e : 6 - count ≡ 0 = omega (arith, full) in
-    rows_none (rows_behind ui w dots number count rest) text start (ap (λ k. source_rows ui w dots number (take k (lines (chars rest)))) e) before
+-- six lines were drawn
+pub lines_full : (ui : Bool) (w row number count : ℕ) (rest : Text) (grid start : Grid) → count ≡ 6 → sources_drawn ui w row number (lines_left count rest) grid ≡ start → grid ≡ start
+lines_full ui w row number count rest grid start full before = sym (ap (λ ls. sources_drawn ui w row number ls grid) (taken_none count rest full)) ∙ before
+
+pub row_full : (row count start : ℕ) (rest : Text) → count ≡ 6 → row + length (lines_left count rest) ≡ start → row ≡ start
+row_full row count start rest full before =
+    let none : length (lines_left count rest) ≡ 0 = ap (λ (z : List (List ℕ)). length z) (taken_none count rest full) in
+    omega (arith, none, before)
 
 pub cut_full : (count : ℕ) (rest : Text) (line : List ℕ) (more : List (List ℕ)) (b : Bool) → count ≡ 6 → lines (chars rest) ≡ line ∷ more → nat_lt (6 - count) (length (lines (chars rest))) ≡ b → true ≡ b
 cut_full count rest line more b full is before =
     let e : true ≡ nat_lt (6 - count) (length (line ∷ more)) = grind (arith, nat_tests, full) in
     e ∙ ap (λ z. nat_lt (6 - count) (length z)) (sym is) ∙ before
 
--- the last line is added
-pub lines_last : (ui : Bool) (w : ℕ) (dots : Bool) (number count : ℕ) (rest text new start : Text) → count < 6 → lines (chars rest) ≡ chars rest ∷ [] → new ≡ text ++ rows_text (grid_chars (source_row ui w dots number (chars rest))) → text ++ rows_text (rows_behind ui w dots number count rest) ≡ start → new ≡ start
-lines_last ui w dots number count rest text new start less sole is before =
-    let e : 6 - count ≡ suc (6 - (count + 1)) = omega (arith, less) in
-    rows_last (rows_behind ui w dots number count rest) (grid_chars (source_row ui w dots number (chars rest))) text new start
-    (ap (λ k. source_rows ui w dots number (take k (lines (chars rest)))) e ∙ ap (λ z. source_rows ui w dots number (take (suc (6 - (count + 1))) z)) sole ∙ ap (source_rows ui w dots number) (none_behind (6 - (count + 1)) (chars rest)) ∙ one_line ui w dots number (chars rest))
-    is before
-  where
-    none_behind : (k : ℕ) (line : List ℕ) → take (suc k) (line ∷ []) ≡ line ∷ []
-    none_behind zero line = refl
-    none_behind (suc k) line = refl
+-- the last line is drawn
+pub lines_last : (ui : Bool) (w row number count : ℕ) (rest : Text) (grid next start : Grid) → count < 6 → lines (chars rest) ≡ chars rest ∷ [] → next ≡ source_drawn ui w row number (chars rest) grid → sources_drawn ui w row number (lines_left count rest) grid ≡ start → next ≡ start
+lines_last ui w row number count rest grid next start less sole is before =
+    is ∙ sym (ap (λ ls. sources_drawn ui w row number ls grid) (taken_last count rest less sole)) ∙ before
+
+pub row_last : (row below count start : ℕ) (rest : Text) → count < 6 → lines (chars rest) ≡ chars rest ∷ [] → below ≡ row + 1 → row + length (lines_left count rest) ≡ start → below ≡ start
+row_last row below count start rest less sole is before =
+    let one : length (lines_left count rest) ≡ 1 = ap (λ (z : List (List ℕ)). length z) (taken_last count rest less sole) in
+    omega (arith, one, is, before)
 
 pub cut_last : (count : ℕ) (rest : Text) (b : Bool) → count < 6 → lines (chars rest) ≡ chars rest ∷ [] → nat_lt (6 - count) (length (lines (chars rest))) ≡ b → false ≡ b
 cut_last count rest b less sole before =
     let e : false ≡ nat_lt (6 - count) (length (chars rest ∷ [])) = grind (arith, nat_tests, less) in
     e ∙ ap (λ z. nat_lt (6 - count) (length z)) (sym sole) ∙ before
 
--- what stands below the lines, or nothing where some are left
-pub all_below : (lines below : List (List ℕ)) (cut : Bool) (old a new : Text) → cut ≡ false → a ≡ old ++ rows_text lines → new ≡ a ++ rows_text below → new ≡ old ++ rows_text (lines ++ cond cut [] below)
-all_below lines below cut old a new none e1 e2 = added_both lines below old a new e1 e2 ∙ ap (λ b. old ++ rows_text (lines ++ cond b [] below)) (sym none)
+-- ---- texts one below the other
 
-pub none_below : (lines below : List (List ℕ)) (cut : Bool) (old new : Text) → cut ≡ true → new ≡ old ++ rows_text lines → new ≡ old ++ rows_text (lines ++ cond cut [] below)
-none_below lines below cut old new left is = is ∙ ap (λ z. old ++ rows_text z) (sym (append-nil lines) ∙ ap (λ b. lines ++ cond b [] below) (sym left))
+dots_spelled : chars (codes "...") ≡ codes "..."
+unfolding chars
+dots_spelled = refl
 
--- ---- texts one after another
+-- dots where lines are left
+pub dots_drawn : (cut : Bool) (n w row : ℕ) (old new other : Grid) → cut ≡ true → n ≡ w - 1 → new ≡ put_text row n (in_style style.LineNumber (chars (codes "..."))) old → new ≡ cond cut (put_text row (w - 1) (in_style style.LineNumber (codes "...")) old) other
+dots_drawn cut n w row old new other is e1 e2 =
+    e2
+    ∙ ap (λ z. put_text row n (in_style style.LineNumber z) old) dots_spelled
+    ∙ ap (λ k. put_text row k (in_style style.LineNumber (codes "...")) old) e1
+    ∙ ap (λ b. cond b (put_text row (w - 1) (in_style style.LineNumber (codes "...")) old) other) (sym is)
 
-pub way_next : (ui : Bool) (files : List File) (w : ℕ) (dots next : Bool) (n : ℕ) (shown : List Way) (i : ℕ) (way : Way) (text new start : Text) → i < length shown → way ≡ get_or shown i way → next ≡ is_cut (spliced_data way) → new ≡ text ++ rows_text (way_rows ui files w dots (spliced_data way)) → text ++ rows_text (each_way ui files w dots n (drop i (map spliced_data shown))) ≡ start → new ++ rows_text (each_way ui files w next n (drop (i + 1) (map spliced_data shown))) ≡ start
-way_next ui files w dots next n shown i way text new start within at cut is before =
-    ap (λ b. new ++ rows_text (each_way ui files w b n (drop (i + 1) (map spliced_data shown)))) cut
-    ∙ rows_next (each_way ui files w dots n (drop i (map spliced_data shown))) (way_rows ui files w dots (spliced_data way)) (each_way ui files w (is_cut (spliced_data way)) n (drop (i + 1) (map spliced_data shown))) text new start
-    (ap (each_way ui files w dots n) (item_at spliced_data shown i way within at))
-    is before
+-- the lines of a way, and what stands below them
+pub way_is : (ui : Bool) (files : List File) (w row number end_at : ℕ) (cut : Bool) (way : Spliced) (text : List ℕ) (parts : List Edit) (grid a b : Grid) → text ≡ way.text → parts ≡ way.parts → number ≡ first_number files parts → a ≡ sources_drawn ui w row number (take 6 (lines text)) grid → end_at ≡ end_row row text → cut ≡ is_cut text → b ≡ cond cut (put_text end_at (w - 1) (in_style style.LineNumber (codes "...")) a) (below_drawn files w end_at text parts a) → b ≡ way_drawn ui files w row way grid
+way_is ui files w row number end_at cut way text parts grid a b same_text same_parts is_number e1 e2 e3 e4 =
+    e4
+    ∙ ap (λ z. cond z (put_text end_at (w - 1) (in_style style.LineNumber (codes "...")) a) (below_drawn files w end_at text parts a)) e3
+    ∙ ap (λ n. cond (is_cut text) (put_text n (w - 1) (in_style style.LineNumber (codes "...")) a) (below_drawn files w n text parts a)) e2
+    ∙ ap (λ z. cond (is_cut text) (put_text (end_row row text) (w - 1) (in_style style.LineNumber (codes "...")) z) (below_drawn files w (end_row row text) text parts z)) (e1 ∙ ap (λ n. sources_drawn ui w row n (take 6 (lines text)) grid) is_number)
+    ∙ ap (λ t. cond (is_cut t) (put_text (end_row row t) (w - 1) (in_style style.LineNumber (codes "...")) (sources_drawn ui w row (first_number files parts) (take 6 (lines t)) grid)) (below_drawn files w (end_row row t) t parts (sources_drawn ui w row (first_number files parts) (take 6 (lines t)) grid))) same_text
+    ∙ ap (λ ps. cond (is_cut way.text) (put_text (end_row row way.text) (w - 1) (in_style style.LineNumber (codes "...")) (sources_drawn ui w row (first_number files ps) (take 6 (lines way.text)) grid)) (below_drawn files w (end_row row way.text) way.text ps (sources_drawn ui w row (first_number files ps) (take 6 (lines way.text)) grid))) same_parts
 
-pub ways_begun : (ui : Bool) (files : List File) (w n : ℕ) (ways shown : List Way) (old : Text) → shown ≡ take 4 ways → old ++ rows_text (each_way ui files w false n (drop 0 (map spliced_data shown))) ≡ old ++ rows_text (each_way ui files w false n (take 4 (map spliced_data ways)))
-ways_begun ui files w n ways shown old are = ap (λ z. old ++ rows_text (each_way ui files w false n z)) (ap (map spliced_data) are ∙ sym (take-map spliced_data 4 ways))
+pub way_is_if : {X : Type 0} (ui : Bool) (files : List File) (w row number end_at : ℕ) (cut : Bool) (way : Spliced) (text : List ℕ) (parts : List Edit) (grid a b : Grid) (r : Result ℕ X) → text ≡ way.text → parts ≡ way.parts → number ≡ first_number files parts → a ≡ sources_drawn ui w row number (take 6 (lines text)) grid → end_at ≡ end_row row text → cut ≡ is_cut text → OnOk r (b ≡ cond cut (put_text end_at (w - 1) (in_style style.LineNumber (codes "...")) a) (below_drawn files w end_at text parts a)) → OnOk r (b ≡ way_drawn ui files w row way grid)
+way_is_if ui files w row number end_at cut way text parts grid a b (Err e) same_text same_parts is_number e1 e2 e3 e4 = tt
+way_is_if ui files w row number end_at cut way text parts grid a b (Ok n) same_text same_parts is_number e1 e2 e3 e4 = way_is ui files w row number end_at cut way text parts grid a b same_text same_parts is_number e1 e2 e3 e4
 
-pub ways_last_if : {X : Type 0} (ui : Bool) (files : List File) (w : ℕ) (dots : Bool) (n : ℕ) (shown : List Way) (i : ℕ) (text new start : Text) (r : Result (Unit {0}) X) → length shown ≤ i → OnOk r (new ≡ text ++ rows_text (grid_chars (last_row w dots n))) → text ++ rows_text (each_way ui files w dots n (drop i (map spliced_data shown))) ≡ start → OnOk r (new ≡ start)
-ways_last_if ui files w dots n shown i text new start r all is before =
-    rows_last_if (each_way ui files w dots n (drop i (map spliced_data shown))) (grid_chars (last_row w dots n)) text new start r
-    (ap (each_way ui files w dots n) (drop_all i (map spliced_data shown) (omega (arith, all, length-map shown spliced_data))))
-    is before
+pub next_is_if : {X : Type 0} (row end_at : ℕ) (cut : Bool) (way : Spliced) (text : List ℕ) (r : Result ℕ X) → text ≡ way.text → end_at ≡ end_row row text → cut ≡ is_cut text → IfOk r (λ next. next ≡ end_at + cond cut 0 1) → IfOk r (λ next. next ≡ next_row row way.text)
+next_is_if row end_at cut way text (Err e) same e1 e2 e3 = tt
+next_is_if row end_at cut way text (Ok n) same e1 e2 e3 =
+    e3 ∙ ap (λ b. end_at + cond b 0 1) e2 ∙ ap (λ k. k + cond (is_cut text) 0 1) e1 ∙ ap (next_row row) same
 
-pub no_ways : (ui : Bool) (files : List File) (w : ℕ) (ways : List Way) (old : Text) (b : Bool) → b ≡ nat_eq (length ways) 0 → b ≡ true → old ≡ old ++ rows_text (ways_rows ui files w (map spliced_data ways))
-no_ways ui files w [] old b tells none = sym (append-nil old)
-no_ways ui files w (way ∷ ways) old b tells none =
+pub way_next : (ui : Bool) (files : List File) (w others row below : ℕ) (shown : List Way) (i : ℕ) (way : Way) (grid next start : Grid) → i < length shown → way ≡ get_or shown i way → below ≡ next_row row (spliced_data way).text → next ≡ way_drawn ui files w row (spliced_data way) grid → ways_drawn ui files w others row (drop i (map spliced_data shown)) grid ≡ start → ways_drawn ui files w others below (drop (i + 1) (map spliced_data shown)) next ≡ start
+way_next ui files w others row below shown i way grid next start within at is_below is before =
+    ap (λ n. ways_drawn ui files w others n (drop (i + 1) (map spliced_data shown)) next) is_below
+    ∙ ap (ways_drawn ui files w others (next_row row (spliced_data way).text) (drop (i + 1) (map spliced_data shown))) is
+    ∙ sym (ap (λ z. ways_drawn ui files w others row z grid) (item_at spliced_data shown i way within at))
+    ∙ before
+
+pub ways_begun : (ui : Bool) (files : List File) (w others : ℕ) (ways shown : List Way) (grid : Grid) → shown ≡ take 4 ways → ways_drawn ui files w others 2 (drop 0 (map spliced_data shown)) grid ≡ ways_drawn ui files w others 2 (take 4 (map spliced_data ways)) grid
+ways_begun ui files w others ways shown grid are = ap (λ z. ways_drawn ui files w others 2 z grid) (ap (map spliced_data) are ∙ sym (take-map spliced_data 4 ways))
+
+pub ways_last_if : {X : Type 0} (ui : Bool) (files : List File) (w others row : ℕ) (shown : List Way) (i : ℕ) (grid next start : Grid) (r : Result (Unit {0}) X) → length shown ≤ i → OnOk r (next ≡ put_text row 0 (in_style style.NoStyle (chars (others_text others))) grid) → ways_drawn ui files w others row (drop i (map spliced_data shown)) grid ≡ start → OnOk r (next ≡ start)
+ways_last_if ui files w others row shown i grid next start (Err e) all is before = tt
+ways_last_if ui files w others row shown i grid next start (Ok u) all is before =
+    is ∙ sym (ap (λ z. ways_drawn ui files w others row z grid) (drop_all i (map spliced_data shown) (omega (arith, all, length-map shown spliced_data)))) ∙ before
+
+pub no_ways : (ui : Bool) (files : List File) (w : ℕ) (ways : List Way) (grid : Grid) (b : Bool) → b ≡ nat_eq (length ways) 0 → b ≡ true → grid ≡ ways_below ui files w (map spliced_data ways) grid
+no_ways ui files w [] grid b tells none = refl
+no_ways ui files w (way ∷ ways) grid b tells none =
     let some : nat_eq (length (way ∷ ways)) 0 ≡ false = ne_eqb (length (way ∷ ways)) 0 (λ (e : length (way ∷ ways) ≡ 0). omega (arith, e)) in
     let no : true ≡ false = sym none ∙ tells ∙ some in
     cc
 
-pub some_ways_if : {X : Type 0} (ui : Bool) (files : List File) (w : ℕ) (ways : List Way) (old a new : Text) (r : Result (Unit {0}) X) (b : Bool) → b ≡ nat_eq (length ways) 0 → b ≡ false → a ≡ old ++ rows_text (bar_row w ∷ []) → OnOk r (new ≡ a ++ rows_text (each_way ui files w false (length ways) (take 4 (map spliced_data ways)))) → OnOk r (new ≡ old ++ rows_text (ways_rows ui files w (map spliced_data ways)))
-some_ways_if ui files w ways old a new (Err e) b tells some e1 e2 = tt
-some_ways_if ui files w [] old a new (Ok u) b tells some e1 e2 = let no : true ≡ false = sym tells ∙ some in cc
-some_ways_if ui files w (way ∷ ways) old a new (Ok u) b tells some e1 e2 =
-    added_both (bar_row w ∷ []) (each_way ui files w false (length (way ∷ ways)) (take 4 (map spliced_data (way ∷ ways)))) old a new e1 e2
-    ∙ ap (λ n. old ++ rows_text (bar_row w ∷ each_way ui files w false n (take 4 (map spliced_data (way ∷ ways))))) (sym (length-map (way ∷ ways) spliced_data))
+pub some_ways_if : {X : Type 0} (ui : Bool) (files : List File) (w : ℕ) (ways : List Way) (grid a next : Grid) (r : Result (Unit {0}) X) (b : Bool) → b ≡ nat_eq (length ways) 0 → b ≡ false → a ≡ put_cell 1 (w + 1) (124, style.LineNumber) grid → OnOk r (next ≡ ways_drawn ui files w (length ways - 4) 2 (take 4 (map spliced_data ways)) a) → OnOk r (next ≡ ways_below ui files w (map spliced_data ways) grid)
+some_ways_if ui files w ways grid a next (Err e) b tells some e1 e2 = tt
+some_ways_if ui files w [] grid a next (Ok u) b tells some e1 e2 = let no : true ≡ false = sym tells ∙ some in cc
+some_ways_if ui files w (way ∷ ways) grid a next (Ok u) b tells some e1 e2 =
+    e2
+    ∙ ap (ways_drawn ui files w (length (way ∷ ways) - 4) 2 (take 4 (map spliced_data (way ∷ ways)))) e1
+    ∙ ap (λ n. ways_drawn ui files w (n - 4) 2 (take 4 (map spliced_data (way ∷ ways))) (put_cell 1 (w + 1) (124, style.LineNumber) grid)) (sym (length-map (way ∷ ways) spliced_data))
 
 -- ---- messages
 
@@ -209,32 +257,79 @@ help_chars : chars (codes "help: ") ≡ codes "help: "
 unfolding chars
 help_chars = refl
 
-blanks_spelled : chars (codes "               ") ≡ blanks 15
-unfolding chars
-blanks_spelled = refl
+last_changed : (grid : Grid) (change : List Cell → List Cell) (row : List Cell) → change_at (length grid) change (grid ++ row ∷ []) ≡ grid ++ change row ∷ []
+last_changed [] change row = refl
+last_changed (first ∷ grid) change row = ap (λ z. first ∷ z) (last_changed grid change row)
 
--- a line behind blanks
-pub set_in_if : {X : Type 0} (w : ℕ) (line : List ℕ) (old a b : Text) (r : Result (Unit {0}) X) → a ≡ old ++ blanks w → OnOk r (b ≡ a ++ rows_text ((chars (codes "               ") ++ line) ∷ [])) → OnOk r (b ≡ old ++ rows_text ((blanks (w + 15) ++ line) ∷ []))
-set_in_if w line old a b (Err e) e1 e2 = tt
-set_in_if w line old a b (Ok u) e1 e2 =
-    indented_row w (chars (codes "               ") ++ line) old a b e1 e2
-    ∙ ap (λ z. old ++ rows_text (z ∷ [])) (ap (λ z. blanks w ++ (z ++ line)) blanks_spelled ∙ sym (append_assoc (blanks w) (blanks 15) line) ∙ ap (λ z. z ++ line) (replicate-append-replicate w 15 32))
+-- a row below all others, and what is put before it
+row_below : (grid : Grid) (cells : List Cell) → put_before (length grid) cells grid ≡ grid ++ cells ∷ []
+row_below grid cells =
+    ap (change_at (length grid) (λ row. cells ++ row)) (extended_more [] (length grid) grid (omega arith) ∙ ap (λ z. z ++ [] ∷ []) (extended_none [] (length grid) grid (omega arith)))
+    ∙ last_changed grid (λ row. cells ++ row) []
+    ∙ ap (λ z. grid ++ z ∷ []) (append-nil cells)
 
-pub help_line_if : {X : Type 0} (w : ℕ) (msg old new : Text) (r : Result (Unit {0}) X) → lines (chars msg) ≡ chars msg ∷ [] → OnOk r (new ≡ old ++ rows_text ((chars (codes "help: ") ++ chars msg) ∷ [])) → OnOk r (new ≡ old ++ rows_text (help_lines w (lines (chars msg))))
-help_line_if w msg old new (Err e) sole is = tt
-help_line_if w msg old new (Ok u) sole is = is ∙ ap (λ z. old ++ rows_text ((z ++ chars msg) ∷ [])) help_chars ∙ ap (λ z. old ++ rows_text (help_lines w z)) (sym sole)
+before_last : (grid : Grid) (cells row : List Cell) → put_before (length grid) cells (grid ++ row ∷ []) ≡ grid ++ (cells ++ row) ∷ []
+before_last grid cells row =
+    ap (change_at (length grid) (λ z. cells ++ z)) (extended_none [] (length grid + 1) (grid ++ row ∷ []) (omega (arith, length-append grid (row ∷ []))))
+    ∙ last_changed grid (λ z. cells ++ z) row
 
-pub help_more_if : {X : Type 0} (w : ℕ) (msg line behind old a new : Text) (r : Result (Unit {0}) X) → Split msg line behind → a ≡ old ++ rows_text ((chars (codes "help: ") ++ chars line) ∷ []) → OnOk r (new ≡ a ++ rows_text (set_in (w + 15) (lines (chars behind)))) → OnOk r (new ≡ old ++ rows_text (help_lines w (lines (chars msg))))
-help_more_if w msg line behind old a new (Err e) split e1 e2 = tt
-help_more_if w msg line behind old a new (Ok u) split e1 e2 =
-    added_both ((codes "help: " ++ chars line) ∷ []) (set_in (w + 15) (lines (chars behind))) old a new (e1 ∙ ap (λ z. old ++ rows_text ((z ++ chars line) ∷ [])) help_chars) e2
-    ∙ ap (λ z. old ++ rows_text (help_lines w z)) (sym split.lines_are)
+-- a row of two texts
+pub row_of_two : {X : Type 0} (n : ℕ) (before line : List ℕ) (grid a b : Grid) (r : Result (Unit {0}) X) → n ≡ length grid → a ≡ put_before n (in_style style.NoStyle line) grid → OnOk r (b ≡ put_before n (in_style style.NoStyle before) a) → OnOk r (b ≡ grid ++ in_style style.NoStyle (before ++ line) ∷ [])
+row_of_two n before line grid a b (Err e) is e1 e2 = tt
+row_of_two n before line grid a b (Ok u) is e1 e2 =
+    e2
+    ∙ ap (put_before n (in_style style.NoStyle before)) e1
+    ∙ ap (λ k. put_before k (in_style style.NoStyle before) (put_before k (in_style style.NoStyle line) grid)) is
+    ∙ ap (put_before (length grid) (in_style style.NoStyle before)) (row_below grid (in_style style.NoStyle line))
+    ∙ before_last grid (in_style style.NoStyle before) (in_style style.NoStyle line)
+    ∙ ap (λ z. grid ++ z ∷ []) (sym (map-append (λ c. (c, style.NoStyle)) before line))
+
+-- blanks are spelled as themselves
+scalars_blanks : (n : ℕ) → scalars (blanks n) ≡ true
+scalars_blanks zero = refl
+scalars_blanks (suc n) = scalars_blanks n
+
+pub blanks_spelled : (n : ℕ) → chars (blanks n) ≡ blanks n
+blanks_spelled n = ap chars (sym (encoded_blanks n)) ∙ chars-encodes (blanks n) (scalars_blanks n)
+
+-- rows behind blanks that are left to add
+abbrev pub rows_in : ℕ → Text → Grid
+rows_in n rest = map (in_style style.NoStyle) (set_in n (lines (chars rest)))
+
+pub further_next : (n : ℕ) (indent rest line behind : Text) (grid next start : Grid) → chars indent ≡ blanks n → Split rest line behind → next ≡ grid ++ in_style style.NoStyle (chars indent ++ chars line) ∷ [] → grid ++ rows_in n rest ≡ start → next ++ rows_in n behind ≡ start
+further_next n indent rest line behind grid next start spelled split is before =
+    ap (λ z. z ++ rows_in n behind) (is ∙ ap (λ z. grid ++ in_style style.NoStyle (z ++ chars line) ∷ []) spelled)
+    ∙ append_assoc grid (in_style style.NoStyle (blanks n ++ chars line) ∷ []) (rows_in n behind)
+    ∙ ap (λ ls. grid ++ map (in_style style.NoStyle) (set_in n ls)) (sym split.lines_are)
+    ∙ before
+
+pub further_last_if : {X : Type 0} (n : ℕ) (indent rest : Text) (grid next start : Grid) (r : Result (Unit {0}) X) → chars indent ≡ blanks n → lines (chars rest) ≡ chars rest ∷ [] → OnOk r (next ≡ grid ++ in_style style.NoStyle (chars indent ++ chars rest) ∷ []) → grid ++ rows_in n rest ≡ start → OnOk r (next ≡ start)
+further_last_if n indent rest grid next start (Err e) spelled sole is before = tt
+further_last_if n indent rest grid next start (Ok u) spelled sole is before =
+    is
+    ∙ ap (λ z. grid ++ in_style style.NoStyle (z ++ chars rest) ∷ []) spelled
+    ∙ ap (λ ls. grid ++ map (in_style style.NoStyle) (set_in n ls)) (sym sole)
+    ∙ before
+
+-- a message of one line
+pub help_line : (w : ℕ) (msg : Text) (a b : Grid) → lines (chars msg) ≡ chars msg ∷ [] → a ≡ [] → b ≡ a ++ in_style style.NoStyle (chars (codes "help: ") ++ chars msg) ∷ [] → b ≡ help_grid w (lines (chars msg))
+help_line w msg a b sole none is =
+    is
+    ∙ ap (λ z. z ++ in_style style.NoStyle (chars (codes "help: ") ++ chars msg) ∷ []) none
+    ∙ ap (λ z. in_style style.NoStyle (z ++ chars msg) ∷ []) help_chars
+    ∙ ap (help_grid w) (sym sole)
+
+-- a message of several
+pub help_more : (w : ℕ) (msg line behind : Text) (a b c : Grid) → Split msg line behind → a ≡ [] → b ≡ a ++ in_style style.NoStyle (chars (codes "help: ") ++ chars line) ∷ [] → c ≡ b ++ rows_in (w + 15) behind → c ≡ help_grid w (lines (chars msg))
+help_more w msg line behind a b c split none e1 e2 =
+    e2
+    ∙ ap (λ z. z ++ rows_in (w + 15) behind) (e1 ∙ ap (λ z. z ++ in_style style.NoStyle (chars (codes "help: ") ++ chars line) ∷ []) none ∙ ap (λ z. in_style style.NoStyle (z ++ chars line) ∷ []) help_chars)
+    ∙ ap (help_grid w) (sym split.lines_are)
 
 -- ---- the whole
 
-pub suggestion_part : (ui : Bool) (files : List File) (w : ℕ) (it : Suggestion) (ways : List Spliced) (old a new : Text) → old ≡ [] → a ≡ old ++ rows_text (help_lines w (lines (chars it.msg))) → ways ≡ shown_ways files it → new ≡ a ++ rows_text (ways_rows ui files w ways) → new ≡ rows_text (suggestion_rows ui files w it)
-suggestion_part ui files w it ways old a new none helps are adds =
+pub suggestion_part : (ui : Bool) (files : List File) (w : ℕ) (it : Suggestion) (ways : List Spliced) (a b : Grid) (old new : Text) → a ≡ help_grid w (lines (chars it.msg)) → ways ≡ shown_ways files it → b ≡ ways_below ui files w ways a → old ≡ [] → new ≡ old ++ rows_text (grid_chars b) → new ≡ rows_text (suggestion_rows ui files w it)
+suggestion_part ui files w it ways a b old new helps are draws none adds =
     adds
-    ∙ ap (λ z. z ++ rows_text (ways_rows ui files w ways)) (helps ∙ ap (λ z. z ++ rows_text (help_lines w (lines (chars it.msg)))) none)
-    ∙ sym (rows_text-append (help_lines w (lines (chars it.msg))) (ways_rows ui files w ways))
-    ∙ ap (λ z. rows_text (help_lines w (lines (chars it.msg)) ++ ways_rows ui files w z)) are
+    ∙ ap (λ z. z ++ rows_text (grid_chars b)) none
+    ∙ ap (λ z. rows_text (grid_chars z)) (draws ∙ ap (ways_below ui files w ways) helps ∙ ap (λ z. ways_below ui files w z (help_grid w (lines (chars it.msg)))) are)

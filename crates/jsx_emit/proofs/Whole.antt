@@ -12,7 +12,7 @@ use Rattle.jsx_base.specs.MultiSpan.{Spans}
 use Rattle.jsx_diag.specs.Data.{Text, Report, Suggestion}
 use Rattle.jsx_emit.specs.Page.{Look, number_width, message_text, own_width, page_text, told}
 use Rattle.jsx_emit.specs.Layout.{apart, inline, labelled_with, last_line_of, pointed}
-use Rattle.jsx_emit.specs.Shows.{Map, Setting, Each, Headed, IsPage, Long, OwnPart, NotePart, ShowsOver, SuggestionPart, Whole, before_notes, look_of}
+use Rattle.jsx_emit.specs.Shows.{Map, Setting, Each, Headed, IsPage, Long, LongBare, OwnPart, NotePart, ShowsOver, SuggestionPart, Whole, before_notes, id_line, look_of}
 use Rattle.jsx_emit.specs.Texts.{MovesNoneOf, SameIf, short_page, shown_report}
 use Rattle.jsx_emit.specs.Parts.{LongOver}
 
@@ -62,6 +62,12 @@ whole_again look files r text it =
 headed_again : (r : Report) (text : Text) → Headed (shown_report r) text → Headed r text
 headed_again r text it = record { rest = it.rest; is = it.is }
 
+bare_again : (look : Look) (r : Report) (text : Text) → LongBare look (shown_report r) text → LongBare look r text
+bare_again look r text it = record {
+  headed = headed_again r text it.headed;
+  whole = λ level. let bare = it.whole level in record { notes = bare.notes; is = bare.is; note_parts = bare.note_parts };
+}
+
 -- the page that is told of spans, where nothing is suggested
 abbrev ToldWith : Look → List File → Report → Text → List Suggestion → Spans → Type 0
 ToldWith look files r text all spans =
@@ -85,7 +91,7 @@ page_again : (look : Look) (files : List File) (r : Report) (text : Text) → Is
 page_again look files r text it = told_again look files r text r.suggestions it
 
 pub shows_long : (set : Setting) (map : Option Map) (r p : Report) (text : Text) → set.short ≡ false → SameIf (MovesNoneOf map) p (shown_report r) → LongOver set map p text → ShowsOver set map r text
-shows_long set None r p text short same is = when_false set.short _ (Headed r text) short (headed_again r text (subst (λ z. Headed z text) (same.same tt) is))
+shows_long set None r p text short same is = when_false set.short _ (LongBare (look_of set id_line) r text) short (bare_again (look_of set id_line) r text (subst (λ z. LongBare (look_of set id_line) z text) (same.same tt) is))
 shows_long set (Some map) r p text short same is =
     λ stays. when_false set.short _ (Long (look_of set map.offset_line) map.files r text) short (
     let is_shown : p ≡ shown_report r = same.same stays in

@@ -28,29 +28,29 @@ columns text = sum_by columns_of (chars text)
 abbrev pub lead : Text → ℕ
 lead text = length text - length (trim_start text)
 
--- carets under n cells, or under none of them the cell before a place and the one at it
-abbrev pub mark_at : ℕ → ℕ → Grid → Grid
-mark_at col n grid =
+-- in a row, carets under n cells, or under none of them the cell before a place and the one at it
+abbrev pub mark_at : ℕ → ℕ → ℕ → Grid → Grid
+mark_at row col n grid =
     cond (nat_eq n 0)
-    (put_cell 0 col (45, style.UnderlineSecondary) (put_cell 0 (col - 1) (45, style.UnderlineSecondary) grid))
-    (across 0 col (col + n - col) (94, style.UnderlinePrimary) grid)
+    (put_cell row col (45, style.UnderlineSecondary) (put_cell row (col - 1) (45, style.UnderlineSecondary) grid))
+    (across row col (col + n - col) (94, style.UnderlinePrimary) grid)
 
 -- the mark of a part, moved by what earlier ones put in and took away
-abbrev pub part_mark : ℕ → ℕ → ℕ → ℕ → Text → Grid → Grid
-part_mark code by back first snippet grid = mark_at (code + (first + lead snippet + by - back)) (columns (trim snippet)) grid
+abbrev pub part_mark : ℕ → ℕ → ℕ → ℕ → ℕ → Text → Grid → Grid
+part_mark row code by back first snippet grid = mark_at row (code + (first + lead snippet + by - back)) (columns (trim snippet)) grid
 
 abbrev pub mark_then : Option (ℕ × ℕ) → (ℕ × ℕ → Grid) → Grid → Grid
 mark_then None next grid = grid
 mark_then (Some ends) next grid = next ends
 
 -- the marks of parts, up to the first that is in no file
-abbrev pub marks_of : List File → ℕ → ℕ → ℕ → List Edit → Grid → Grid
-marks_of files code by back [] grid = grid
-marks_of files code by back (part ∷ more) grid =
+abbrev pub marks_of : List File → ℕ → ℕ → ℕ → ℕ → List Edit → Grid → Grid
+marks_of files row code by back [] grid = grid
+marks_of files row code by back (part ∷ more) grid =
     mark_then (columns_at files part.span)
-    (λ ends. marks_of files code (by + columns part.snippet + ends.0) (back + ends.1) more (part_mark code by back ends.0 part.snippet grid))
+    (λ ends. marks_of files row code (by + columns part.snippet + ends.0) (back + ends.1) more (part_mark row code by back ends.0 part.snippet grid))
     grid
 
--- the row of marks
-abbrev pub marks_row : List File → ℕ → List Edit → Grid
-marks_row files w parts = marks_of files (w + 3) 0 0 parts (put_text 0 (w + 1) (in_style style.LineNumber (codes "| ")) [])
+-- a bar behind the numbers, and marks
+abbrev pub marks_drawn : List File → ℕ → ℕ → List Edit → Grid → Grid
+marks_drawn files w row parts grid = marks_of files row (w + 3) 0 0 parts (put_text row (w + 1) (in_style style.LineNumber (codes "| ")) grid)

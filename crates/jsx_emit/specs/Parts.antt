@@ -9,7 +9,7 @@ use Rattle.std.specs.Str.{IsUtf8}
 use Rattle.jsx_base.specs.Files.{Place}
 use Rattle.jsx_emit.specs.Page.{Look, blanks, message_text, page_text, place_line, spaced}
 use Rattle.jsx_emit.specs.Layout.{has_no_span, header, inline, note_lines}
-use Rattle.jsx_emit.specs.Shows.{Each, Map, Setting, Headed, Long, OwnPart, NotePart, SuggestionPart, look_of, note_spans}
+use Rattle.jsx_emit.specs.Shows.{Each, Map, Setting, Long, LongBare, OwnPart, SuggestionPart, id_line, look_of, note_spans}
 
 -- a header and the lines of its spans; the header alone where there are no files
 abbrev pub PartOver : Setting → Option Map → ℕ → Level → Option Code → Text → Spans → Text → Type 0
@@ -23,19 +23,18 @@ EndedNote set map w it text =
     (text ≡ page_text (note_lines w it.level (message_text it.message)))
     (PartOver set map w it.level None (message_text it.message) (note_spans it) text)
 
--- a note, where there are files
+-- a note; nothing is said of a failure note
 abbrev pub NoteOver : Setting → Option Map → ℕ → Child → Text → Type 0
-NoteOver set None w it text = Unit {0}
-NoteOver set (Some map) w it text = NotePart (look_of set map.offset_line) map.files w it text
+NoteOver set map w it text = MatchBool (is_failure_level it.level) (Unit {0}) (EndedNote set map w it text)
 
--- a whole page of a report of which no suggestion becomes a label; its header where there are no files
+-- a whole page of a report of which no suggestion becomes a label
 abbrev pub LongOver : Setting → Option Map → Report → Text → Type 0
-LongOver set None report text = Headed report text
+LongOver set None report text = LongBare (look_of set id_line) report text
 LongOver set (Some map) report text = inline report.suggestions ≡ None → Long (look_of set map.offset_line) map.files report text
 
--- suggestions, where there are files
+-- suggestions, which are shown where there are files
 abbrev pub SuggestionsOver : Bool → Option Map → ℕ → List Suggestion → Text → Type 0
-SuggestionsOver ui_testing None w suggestions text = Unit {0}
+SuggestionsOver ui_testing None w suggestions text = text ≡ []
 SuggestionsOver ui_testing (Some map) w suggestions text = Each (SuggestionPart ui_testing map.files w) suggestions text
 
 -- the report's own part of a level that ends with LF

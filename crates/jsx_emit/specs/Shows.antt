@@ -157,6 +157,28 @@ pub record Long (look : Look) (files : List File) (report : Report) (text : Text
   pub headed : Headed report text
   pub whole : IsFalse (is_failure_level report.level) → Whole look files report text
 
+-- ---- without files
+
+-- a note without files: behind `=` where it points nowhere, else its header; nothing is said of a failure note
+abbrev pub BareNote : ℕ → Child → Text → Type 0
+BareNote w it text =
+    MatchBool (is_failure_level it.level) (Unit {0})
+    (MatchBool (has_no_span (note_spans it))
+    (text ≡ page_text (note_lines w it.level (message_text it.message)))
+    (text ≡ spaced (header it.level None (message_text it.message)) ++ 10 ∷ []))
+
+-- the header, the notes, and an empty line: without files no suggestion is shown
+pub record Bare (w : ℕ) (report : Report) (text : Text) : Type 0 where
+  pub notes : Text
+  pub is : text ≡ spaced (header report.level report.code (message_text report.message)) ++ 10 ∷ (before_notes w report.children ++ (notes ++ 10 ∷ []))
+  pub note_parts : Each (BareNote w) report.children notes
+
+pub record LongBare (look : Look) (report : Report) (text : Text) : Type 0 where
+  pub headed : Headed report text
+  pub whole : IsFalse (is_failure_level report.level) → Bare (number_width look 0) report text
+
+-- ---- any page
+
 -- the header alone, behind the place where there is one
 abbrev pub short_text : Look → Option Place → Report → Text
 short_text look place report =
@@ -167,7 +189,7 @@ id_line line = line
 
 abbrev pub ShowsOver : Setting → Option Map → Report → Text → Type 0
 ShowsOver set None report text =
-    MatchBool set.short (text ≡ short_text (look_of set id_line) None report) (Headed report text)
+    MatchBool set.short (text ≡ short_text (look_of set id_line) None report) (LongBare (look_of set id_line) report text)
 ShowsOver set (Some map) report text =
     ((sp : Span) → map.call_span sp ≡ sp)
     → MatchBool set.short

@@ -7,6 +7,8 @@ use Rattle.jsx_base.specs.Files.{File, Place, place_in}
 use Rattle.jsx_base.specs.MultiSpan.{Spans}
 use Rattle.jsx_base.specs.SpanPlaces.{high, shown}
 use Rattle.jsx_diag.specs.declared.level.Level.{Level}
+use Rattle.jsx_diag.specs.declared.level.Level.TheVariants.{Note}
+use Rattle.jsx_diag.specs.declared.level.Style.TheVariants.{NoStyle}
 use Rattle.jsx_diag.specs.Level.{shown_text}
 use Rattle.jsx_diag.specs.Data.{Text, Child, Report}
 use Rattle.jsx_draw.specs.Grid.{Run}
@@ -97,3 +99,10 @@ end_in sp (Some file) = (place_in (high sp) file).line
 abbrev pub last_line_over : Option (List File) → Spans → List Child → ℕ
 last_line_over None spans children = 0
 last_line_over (Some files) spans children = last_line_of files spans children
+
+-- what says that spans stand for those of a macro
+unfoldable pub macro_text : Text
+macro_text = codes "this error originates in a macro outside of the current crate (in Nightly builds, run with -Z external-macro-backtrace for more info)"
+
+abbrev pub macro_note : Child
+macro_note = record { level = Note; message = record { text = macro_text; style = NoStyle } ∷ []; span = record { primary = []; labels = [] }; render_span = None }

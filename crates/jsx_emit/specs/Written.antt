@@ -11,7 +11,7 @@ use Rattle.jsx_diag.specs.Data.{Text, Edit, Suggestion}
 use Rattle.jsx_diag.specs.Splice.{Spliced, by_start, refusal, spliced}
 use Rattle.jsx_draw.specs.Grid.{Cell, Grid, in_style, put_behind, put_cell, put_text}
 use Rattle.jsx_emit.specs.Page.{blanks}
-use Rattle.jsx_emit.specs.Marks.{marks_row}
+use Rattle.jsx_emit.specs.Marks.{marks_drawn}
 
 -- ---- rows
 
@@ -38,6 +38,10 @@ abbrev pub help_lines : ℕ → List (List ℕ) → List (List ℕ)
 help_lines w [] = []
 help_lines w (line ∷ more) = (codes "help: " ++ line) ∷ set_in (w + 15) more
 
+-- the message in the first rows
+abbrev pub help_grid : ℕ → List (List ℕ) → Grid
+help_grid w lines = map (in_style style.NoStyle) (help_lines w lines)
+
 -- ---- the ways that are shown
 
 -- no part begins before the one before it ends
@@ -63,25 +67,18 @@ shown_ways files it =
 abbrev pub line_number : Bool → ℕ → Text
 line_number ui_testing line = cond ui_testing (codes "LL") (decimal line)
 
--- what says that lines are left
-abbrev pub dots_text : Bool → Text
-dots_text dots = cond dots (codes "...") []
+-- a line in a row, behind its number, a bar, and what stands there already
+abbrev pub source_drawn : Bool → ℕ → ℕ → ℕ → List ℕ → Grid → Grid
+source_drawn ui_testing w row number line grid =
+    put_behind row (in_style style.NoStyle line)
+    (put_cell row (w + 2) (32, style.LineNumber)
+    (put_cell row (w + 1) (124, style.LineNumber)
+    (put_text row 0 (in_style style.LineNumber (chars (line_number ui_testing number))) grid)))
 
--- a number and a bar, over dots for the text before
-abbrev pub source_front : Bool → ℕ → Bool → ℕ → Grid
-source_front ui_testing w dots number =
-    put_cell 0 (w + 2) (32, style.LineNumber)
-    (put_cell 0 (w + 1) (124, style.LineNumber)
-    (put_text 0 0 (in_style style.LineNumber (chars (line_number ui_testing number)))
-    (put_text 0 (w - 1) (in_style style.LineNumber (chars (dots_text dots))) [])))
-
--- a line behind its number and a bar
-abbrev pub source_row : Bool → ℕ → Bool → ℕ → List ℕ → Grid
-source_row ui_testing w dots number line = put_behind 0 (in_style style.NoStyle line) (source_front ui_testing w dots number)
-
-abbrev pub source_rows : Bool → ℕ → Bool → ℕ → List (List ℕ) → List (List ℕ)
-source_rows ui_testing w dots number [] = []
-source_rows ui_testing w dots number (line ∷ more) = grid_chars (source_row ui_testing w dots number line) ++ source_rows ui_testing w false (number + 1) more
+-- lines from a row on
+abbrev pub sources_drawn : Bool → ℕ → ℕ → ℕ → List (List ℕ) → Grid → Grid
+sources_drawn ui_testing w row number [] grid = grid
+sources_drawn ui_testing w row number (line ∷ more) grid = sources_drawn ui_testing w (row + 1) (number + 1) more (source_drawn ui_testing w row number line grid)
 
 -- ---- what stands below the lines of a text
 
@@ -95,11 +92,11 @@ is_sole text (part ∷ next ∷ more) = false
 abbrev pub has_marks : List ℕ → List Edit → Bool
 has_marks text parts = nat_eq (length (lines text)) 1 && not (is_sole text parts)
 
--- the row of marks, or a bar
-abbrev pub below_rows : List File → ℕ → List ℕ → List Edit → List (List ℕ)
-below_rows files w text parts = cond (has_marks text parts) (grid_chars (marks_row files w parts)) (bar_row w ∷ [])
+-- marks, or a bar
+abbrev pub below_drawn : List File → ℕ → ℕ → List ℕ → List Edit → Grid → Grid
+below_drawn files w row text parts grid = cond (has_marks text parts) (marks_drawn files w row parts grid) (put_cell row (w + 1) (124, style.LineNumber) grid)
 
--- ---- texts one after another
+-- ---- texts one below the other
 
 abbrev pub line_in : Option Place → ℕ
 line_in None = 0
@@ -111,34 +108,41 @@ first_number files [] = 0
 first_number files (part ∷ more) = line_in (place_at files (low part.span))
 
 -- more than six lines: the others are left
-abbrev pub is_cut : Spliced → Bool
-is_cut way = nat_lt 6 (length (lines way.text))
+abbrev pub is_cut : List ℕ → Bool
+is_cut text = nat_lt 6 (length (lines text))
 
--- the first six lines of a text, and what stands below them where none is left
-abbrev pub way_rows : Bool → List File → ℕ → Bool → Spliced → List (List ℕ)
-way_rows ui_testing files w dots way =
-    source_rows ui_testing w dots (first_number files way.parts) (take 6 (lines way.text))
-    ++ cond (is_cut way) [] (below_rows files w way.text way.parts)
+-- dots that say that lines are left, in the row that the next text shares; else marks, or a bar
+abbrev pub end_drawn : List File → ℕ → ℕ → Spliced → Grid → Grid
+end_drawn files w row way grid = cond (is_cut way.text) (put_text row (w - 1) (in_style style.LineNumber (codes "...")) grid) (below_drawn files w row way.text way.parts grid)
+
+-- the row below the first six lines
+abbrev pub end_row : ℕ → List ℕ → ℕ
+end_row row text = row + length (take 6 (lines text))
+
+-- the first six lines of a text from a row on, and what stands below them
+abbrev pub way_drawn : Bool → List File → ℕ → ℕ → Spliced → Grid → Grid
+way_drawn ui_testing files w row way grid = end_drawn files w (end_row row way.text) way (sources_drawn ui_testing w row (first_number files way.parts) (take 6 (lines way.text)) grid)
+
+-- the row in which the next text begins
+abbrev pub next_row : ℕ → List ℕ → ℕ
+next_row row text = end_row row text + cond (is_cut text) 0 1
 
 abbrev pub others_text : ℕ → Text
 others_text others = cond (nat_eq others 0) [] (codes "and " ++ (decimal others ++ codes " other candidates"))
 
--- the last row: dots for the last text, and how many texts aren't shown
-abbrev pub last_row : ℕ → Bool → ℕ → Grid
-last_row w dots ways = put_text 0 0 (in_style style.NoStyle (chars (others_text (ways - 4)))) (put_text 0 (w - 1) (in_style style.LineNumber (chars (dots_text dots))) [])
+-- texts from a row on, and how many others aren't shown
+abbrev pub ways_drawn : Bool → List File → ℕ → ℕ → ℕ → List Spliced → Grid → Grid
+ways_drawn ui_testing files w others row [] grid = put_text row 0 (in_style style.NoStyle (chars (others_text others))) grid
+ways_drawn ui_testing files w others row (way ∷ more) grid = ways_drawn ui_testing files w others (next_row row way.text) more (way_drawn ui_testing files w row way grid)
 
--- some of so many texts, the first of which stands below one with lines left or not
-abbrev pub each_way : Bool → List File → ℕ → Bool → ℕ → List Spliced → List (List ℕ)
-each_way ui_testing files w dots ways [] = grid_chars (last_row w dots ways)
-each_way ui_testing files w dots ways (way ∷ more) = way_rows ui_testing files w dots way ++ each_way ui_testing files w (is_cut way) ways more
-
--- a bar, and the first four texts
-abbrev pub ways_rows : Bool → List File → ℕ → List Spliced → List (List ℕ)
-ways_rows ui_testing files w [] = []
-ways_rows ui_testing files w (way ∷ more) = bar_row w ∷ each_way ui_testing files w false (length (way ∷ more)) (take 4 (way ∷ more))
+-- a bar in the second row, and the first four texts from the third on
+abbrev pub ways_below : Bool → List File → ℕ → List Spliced → Grid → Grid
+ways_below ui_testing files w [] grid = grid
+ways_below ui_testing files w (way ∷ more) grid =
+    ways_drawn ui_testing files w (length (way ∷ more) - 4) 2 (take 4 (way ∷ more)) (put_cell 1 (w + 1) (124, style.LineNumber) grid)
 
 -- ---- the whole
 
--- all rows of a suggestion, where numbers take w cells
+-- all rows of a suggestion, where numbers take w cells: its message, and what it writes drawn over that
 abbrev pub suggestion_rows : Bool → List File → ℕ → Suggestion → List (List ℕ)
-suggestion_rows ui_testing files w it = help_lines w (lines (chars it.msg)) ++ ways_rows ui_testing files w (shown_ways files it)
+suggestion_rows ui_testing files w it = grid_chars (ways_below ui_testing files w (shown_ways files it) (help_grid w (lines (chars it.msg))))

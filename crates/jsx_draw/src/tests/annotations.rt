@@ -69,8 +69,26 @@ fn is_copied(alloc: Global) -> Result<bool, AllocError> {
     })
 }
 
+fn parts_are_copied(alloc: Global, it: &MultilineAnnotation) -> Result<bool, AllocError> {
+    let last = it.as_end(alloc)?;
+    let copy = last.try_clone(alloc)?;
+    Ok(copy == last && is_copied_kind(alloc, &last.annotation_type)?)
+}
+
+fn is_copied_kind(alloc: Global, kind: &AnnotationType) -> Result<bool, AllocError> {
+    let copy = kind.try_clone(alloc)?;
+    Ok(copy == *kind)
+}
+
+fn whole_is_copied(alloc: Global) -> Result<bool, AllocError> {
+    let it = multiline(alloc)?;
+    let copy = it.try_clone(alloc)?;
+    Ok(copy == it && parts_are_copied(alloc, &it)?)
+}
+
 #[test]
 fn a_span_over_several_lines_has_three_parts(rt: HostRuntime) {
     assert!(rt; has_three_parts(rt.alloc()) == Ok(true));
     assert!(rt; is_copied(rt.alloc()) == Ok(true));
+    assert!(rt; whole_is_copied(rt.alloc()) == Ok(true));
 }

@@ -1,6 +1,6 @@
 //! The grid.
 
-use crate::{StyledBuffer, StyledString};
+use crate::{StyledBuffer, StyledString, across, draw_open};
 use jsx_diag::Style;
 use std::alloc::{AllocError, Global};
 
@@ -12,8 +12,8 @@ fn push_row(shown: &mut String, row: &[StyledString]) -> Result<(), AllocError> 
     shown.push_str("\n")
 }
 
-// Each run with a bar behind it, and each row with LF.
-fn shown(alloc: Global, buffer: &mut StyledBuffer) -> Result<String, AllocError> {
+/// Each run with a bar behind it, and each row with LF.
+pub(super) fn shown(alloc: Global, buffer: &mut StyledBuffer) -> Result<String, AllocError> {
     let mut shown = String::new(alloc);
     for row in &buffer.render()? {
         push_row(&mut shown, row)?;
@@ -34,7 +34,7 @@ fn draws<F: FnOnce(&mut StyledBuffer) -> Result<(), AllocError>>(
     draw(&mut buffer).is_ok() && buffer.num_lines() == rows && is(shown(alloc, &mut buffer), want)
 }
 
-fn is(made: Result<String, AllocError>, want: &str) -> bool {
+pub(super) fn is(made: Result<String, AllocError>, want: &str) -> bool {
     match made {
         Ok(text) => text.as_str() == want,
         Err(_) => false,
@@ -60,9 +60,15 @@ fn styled_in_part(buffer: &mut StyledBuffer) -> Result<(), AllocError> {
     Ok(())
 }
 
+fn lined(buffer: &mut StyledBuffer) -> Result<(), AllocError> {
+    across(buffer, 0, (1, 3), ('x', Style::NoStyle))?;
+    draw_open(buffer, 1, 2, &[2])
+}
+
 #[test]
 fn a_grid_pads_with_blanks(rt: HostRuntime) {
     assert!(rt; draws(rt.alloc(), pushed_by_a_character, 1, "\u{e9}  ab|\n"));
     assert!(rt; draws(rt.alloc(), put_in_a_later_row, 3, "\n\n xy    |\n"));
     assert!(rt; draws(rt.alloc(), styled_in_part, 1, "a|b|cd|\n"));
+    assert!(rt; draws(rt.alloc(), lined, 2, " xx|||\n   |||\n"));
 }

@@ -9,14 +9,14 @@ ghost use Rattle.jsx_base.specs.MultiSpan.{spans_of};
 ghost use Rattle.jsx_base.specs.SourceFile.{shared_file};
 ghost use Rattle.jsx_diag.specs.Data.{code_of, piece_of};
 ghost use Rattle.jsx_draw.specs.Annotation.{mark_of};
-ghost use Rattle.jsx_emit.specs.Sheets.{SpanRows, file_blocks, first_col, first_place, other_file};
+ghost use Rattle.jsx_emit.specs.Sheets.{SpanRows, file_blocks, first_col, first_place, other_file, sheet_for};
 ghost use Rattle.jsx_emit.specs.Written.{bar_row};
 ghost use Rattle.jsx_emit.specs.Layout.{header as header_text};
-ghost use Rattle.jsx_draw.specs.Spots.{primary_place};
+ghost use Rattle.jsx_draw.specs.Spots.{primary_first, primary_place, shown_files};
 ghost use Rattle.jsx_emit.specs.Page.{message_text, place_line, rows_text};
 ghost use Rattle.jsx_emit.specs.Parts.{BeginsWith, PartOver, PlaceIsText};
 ghost use Rattle.jsx_emit.specs.Views.{sheet_of};
-ghost use Rattle.jsx_draw.specs.Views.{shown_file};
+ghost use Rattle.jsx_draw.specs.Views.{shown_file, spot_of};
 
 use crate::page::Look;
 use crate::page::header::push_header;
@@ -26,7 +26,7 @@ use crate::page::rows::push_blanks;
 use crate::page::suggestions::push_row;
 use jsx_base::{Loc, MultiSpan, SourceMapper};
 use jsx_draw::{
-    Annotation, At, ShownFile, by_lines, depth_of, files_of, marks_in, place_of, put_first,
+    Annotation, At, ShownFile, Spot, by_lines, depth_of, files_of, marks_in, place_of, put_first,
     singles, spots_of, sum, wides_of,
 };
 use jsx_report::{DiagnosticId, Level, Message};
@@ -71,11 +71,27 @@ fn push_spans<M: SourceMapper>(
     };
     let labels = spans.span_labels(alloc)?;
     let spots = spots_of(alloc, cm, &labels)?;
-    let narrow = singles(alloc, &spots)?;
-    let lines = by_lines(alloc, &spots)?;
+    push_place_line(alloc, text, cm, look, width, &place)?;
+    push_spots(alloc, text, cm, look, width, place.file.start_pos.0, &spots)
+}
+
+// Adds the files of spans. The one that begins at this place changes places with the first.
+fn push_spots<M: SourceMapper>(
+    alloc: Global,
+    text: &mut String,
+    cm: &M,
+    look: Look,
+    width: usize,
+    start: u32,
+    spots: &[Spot<'_, '_>],
+) -> Result<(), AllocError>
+    ensures { OnOk result (string_bytes text.new ≡ string_bytes text.old ++ rows_text (file_blocks (record { ui_testing = look.ui_testing; skip_filename = look.skip_filename; offset_line = M.offset_line cm.now }) (sheet_for (record { ui_testing = look.ui_testing; skip_filename = look.skip_filename; offset_line = M.offset_line cm.now }) width (map spot_of spots.now)) (primary_first start (shown_files (map spot_of spots.now))))) }
+{
+    let narrow = singles(alloc, spots)?;
+    let lines = by_lines(alloc, spots)?;
     let wides = wides_of(alloc, &lines)?;
     let mut files = files_of(alloc, &narrow, &lines)?;
-    put_first(&mut files, place.file.start_pos.0);
+    put_first(&mut files, start);
     let sheet = Sheet {
         look,
         width,
@@ -83,7 +99,6 @@ fn push_spans<M: SourceMapper>(
         singles: &narrow,
         wides: &wides,
     };
-    push_place_line(alloc, text, cm, look, width, &place)?;
     push_files(alloc, text, cm, sheet, &files)
 }
 

@@ -1,21 +1,19 @@
 //! Marks under what a suggestion puts in.
 
-ghost use Rattle.std.specs.Prelude.{◌≡◌, ◌+◌, ◌-◌, ◌++◌, ◌∷◌, [], map, length, nat_eq, IfOk, MatchOption, OnOk, string_bytes};
+ghost use Rattle.std.specs.Prelude.{◌≡◌, ◌+◌, ◌-◌, map, length, nat_eq, IfOk, MatchOption, OnOk};
 ghost use Rattle.std.specs.List.{sum_by};
 ghost use Rattle.std.specs.Str.{chars};
 ghost use Rattle.jsx_base.specs.Lines.{columns_of, lines};
 ghost use Rattle.jsx_diag.specs.Data.{edit_of};
-ghost use Rattle.jsx_emit.specs.Marks.{columns, columns_at, lead, mark_at, marks_of, marks_row, part_mark};
-ghost use Rattle.jsx_emit.specs.Page.{rows_text};
-ghost use Rattle.jsx_emit.specs.Written.{grid_chars, has_marks, is_sole};
+ghost use Rattle.jsx_emit.specs.Marks.{columns, columns_at, lead, mark_at, marks_drawn, marks_of, part_mark};
+ghost use Rattle.jsx_emit.specs.Written.{has_marks, is_sole};
 
 use crate::page::labels::first;
-use crate::page::rows::push_rows;
 use crate::page::suggestions::{high, low, split_line};
 use jsx_base::{BytePos, SourceMapper, Span};
 use jsx_draw::{StyledBuffer, across, sum};
 use jsx_report::{Style, SubstitutionPart};
-use std::alloc::{AllocError, Global};
+use std::alloc::AllocError;
 use unicode_width::UnicodeWidthChar;
 
 /// Whether a text has marks: it is one line, and not its sole snippet.
@@ -41,20 +39,18 @@ fn is_sole(source: &str, parts: &[SubstitutionPart]) -> bool
     }
 }
 
-/// Adds a row of marks.
-pub(super) fn push_marks<M: SourceMapper>(
-    alloc: Global,
-    text: &mut String,
+/// Draws a bar behind the numbers, and marks.
+pub(super) fn draw_marks<M: SourceMapper>(
+    buffer: &mut StyledBuffer,
     cm: &M,
     width: usize,
+    row: usize,
     parts: &[SubstitutionPart],
 ) -> Result<(), AllocError>
-    ensures { OnOk result (string_bytes text.new ≡ string_bytes text.old ++ rows_text (grid_chars (marks_row (M.files cm.now) width (map edit_of parts.now)))) }
+    ensures { OnOk result (buffer.new ≡ marks_drawn (M.files cm.now) width row (map edit_of parts.now) buffer.old) }
 {
-    let mut buffer = StyledBuffer::new(alloc);
-    buffer.puts(0, sum(width, 1)?, "| ", Style::LineNumber)?;
-    draw_parts(&mut buffer, cm, sum(width, 3)?, parts)?;
-    push_rows(text, &mut buffer)
+    buffer.puts(row, sum(width, 1)?, "| ", Style::LineNumber)?;
+    draw_parts(buffer, cm, row, sum(width, 3)?, parts)
 }
 
 // How many columns earlier parts put in, and how many they took away.
@@ -68,10 +64,11 @@ struct Moved {
 fn draw_parts<M: SourceMapper>(
     buffer: &mut StyledBuffer,
     cm: &M,
+    row: usize,
     code: usize,
     parts: &[SubstitutionPart],
 ) -> Result<(), AllocError>
-    ensures { OnOk result (buffer.new ≡ marks_of (M.files cm.now) code 0 0 (map edit_of parts.now) buffer.old) }
+    ensures { OnOk result (buffer.new ≡ marks_of (M.files cm.now) row code 0 0 (map edit_of parts.now) buffer.old) }
 {
     let mut left = parts;
     let mut moved = Moved { by: 0, back: 0 };
@@ -79,26 +76,26 @@ fn draw_parts<M: SourceMapper>(
         let Some(ends) = ends(cm, part.span) else {
             return Ok(());
         };
-        moved = draw_part(buffer, code, moved, ends, part.snippet.as_str())?;
+        moved = draw_part(buffer, (row, code), moved, ends, part.snippet.as_str())?;
         left = more;
     }
     Ok(())
 }
 
-// Marks a part, and answers how far later ones are moved.
+// Marks a part in a row where the text begins at a column, and answers how far later ones are moved.
 fn draw_part(
     buffer: &mut StyledBuffer,
-    code: usize,
+    at: (usize, usize),
     moved: Moved,
     ends: (usize, usize),
     snippet: &str,
 ) -> Result<Moved, AllocError>
-    ensures marked { OnOk result (buffer.new ≡ part_mark code moved.by moved.back ends.0 snippet.now buffer.old) }
+    ensures marked { OnOk result (buffer.new ≡ part_mark at.0 at.1 moved.by moved.back ends.0 snippet.now buffer.old) }
     ensures by { IfOk result (λ next. next.by ≡ moved.by + columns snippet.now + ends.0) }
     ensures back { IfOk result (λ next. next.back ≡ moved.back + ends.1) }
 {
-    let col = sum(code, moved_to(sum(ends.0, lead(snippet))?, moved)?)?;
-    draw_mark(buffer, col, columns(snippet.trim())?)?;
+    let col = sum(at.1, moved_to(sum(ends.0, lead(snippet))?, moved)?)?;
+    draw_mark(buffer, at.0, col, columns(snippet.trim())?)?;
     moved_by(moved, ends, snippet)
 }
 
@@ -138,16 +135,21 @@ fn lead(snippet: &str) -> usize
     snippet.len() - snippet.trim_start().len()
 }
 
-// Marks some cells, or where there are none the cell before a place and the one at it.
-fn draw_mark(buffer: &mut StyledBuffer, col: usize, cells: usize) -> Result<(), AllocError>
-    ensures { OnOk result (buffer.new ≡ mark_at col cells buffer.old) }
+// Marks some cells of a row, or where there are none the cell before a place and the one at it.
+fn draw_mark(
+    buffer: &mut StyledBuffer,
+    row: usize,
+    col: usize,
+    cells: usize,
+) -> Result<(), AllocError>
+    ensures { OnOk result (buffer.new ≡ mark_at row col cells buffer.old) }
 {
     if cells == 0 {
-        buffer.putc(0, col.saturating_sub(1), '-', Style::UnderlineSecondary)?;
-        return buffer.putc(0, col, '-', Style::UnderlineSecondary);
+        buffer.putc(row, col.saturating_sub(1), '-', Style::UnderlineSecondary)?;
+        return buffer.putc(row, col, '-', Style::UnderlineSecondary);
     }
     let end = sum(col, cells)?;
-    across(buffer, 0, (col, end), ('^', Style::UnderlinePrimary))
+    across(buffer, row, (col, end), ('^', Style::UnderlinePrimary))
 }
 
 // The display columns of a text.

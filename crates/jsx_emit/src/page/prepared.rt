@@ -1,10 +1,10 @@
 //! A report as it is shown: a suggestion that becomes a label, and spans that stand for those of macros.
 
-ghost use Rattle.std.specs.Prelude.{◌≡◌, IfOk, OnOk, false, map};
+ghost use Rattle.std.specs.Prelude.{◌≡◌, IfOk, OnOk, false, map, string_bytes};
 ghost use Rattle.std.specs.Option.{option_map};
 ghost use Rattle.jsx_base.specs.MultiSpan.{spans_of};
 ghost use Rattle.jsx_diag.specs.Data.{child_of, report_of};
-ghost use Rattle.jsx_emit.specs.Texts.{MovesNone, MovesNoneOf, SameIf, shown_report};
+ghost use Rattle.jsx_emit.specs.Texts.{MovesNone, MovesNoneOf, SameIf, macro_note, macro_text, shown_report};
 
 use crate::page::labels::label_in;
 use jsx_base::{MultiSpan, SourceMapper, Span};
@@ -33,11 +33,19 @@ fn labelled(alloc: Global, db: &Diagnostic) -> Result<Diagnostic, AllocError>
     ensures { IfOk result (λ it. report_of it ≡ shown_report (report_of db.now)) }
 {
     let mut report = db.try_clone(alloc)?;
+    put_label(alloc, &mut report)?;
+    Ok(report)
+}
+
+// Puts the label that a suggestion becomes in place of the suggestion.
+fn put_label(alloc: Global, report: &mut Diagnostic) -> Result<(), AllocError>
+    ensures { OnOk result (report_of report.new ≡ shown_report (report_of report.old)) }
+{
     if let Some((span, label)) = label_in(alloc, &report.suggestions)? {
         report.span.push_span_label(span, label)?;
         report.suggestions.clear();
     }
-    Ok(report)
+    Ok(())
 }
 
 // Puts the spans that are shown in place of those that macros made, with a note if there are some.
@@ -121,12 +129,22 @@ fn move_span<M: SourceMapper>(map: &M, spans: &mut MultiSpan, span: Span) -> boo
     true
 }
 
-fn macro_note(alloc: Global) -> Result<SubDiagnostic, AllocError> {
-    let message = Message(String::from_str(alloc, MACRO)?, Style::NoStyle);
+// The note that says that spans stand for those of a macro.
+fn macro_note(alloc: Global) -> Result<SubDiagnostic, AllocError>
+    ensures { IfOk result (λ note. child_of note ≡ macro_note) }
+{
+    let message = Message(macro_text(alloc)?, Style::NoStyle);
     Ok(SubDiagnostic {
         level: Level::Note,
         message: vec![in alloc; message]?,
         span: MultiSpan::new(alloc),
         render_span: None,
     })
+}
+
+#[tactic(auto, unfolding(crate::specs::Texts::macro_text))]
+fn macro_text(alloc: Global) -> Result<String, AllocError>
+    ensures { IfOk result (λ text. string_bytes text ≡ macro_text) }
+{
+    String::from_str(alloc, MACRO)
 }

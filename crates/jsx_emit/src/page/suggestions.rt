@@ -12,15 +12,18 @@ ghost use Rattle.jsx_diag.specs.Splice.{fault, spliced_data};
 ghost use Rattle.jsx_emit.specs.Parts.{SuggestionsOver};
 ghost use Rattle.jsx_emit.specs.Shows.{Each, SuggestionPart};
 ghost use Rattle.jsx_emit.specs.Page.{blanks, rows_text};
-ghost use Rattle.jsx_emit.specs.Written.{help_lines, in_turn, set_in, shown_ways};
+ghost use Rattle.jsx_emit.specs.Written.{help_grid, in_turn, set_in, shown_ways};
+ghost use Rattle.jsx_diag.specs.declared.level.Style.TheVariants.{NoStyle};
+ghost use Rattle.jsx_draw.specs.Grid.{in_style};
 
 use crate::page::Look;
 use crate::page::header::push_spaced;
-use crate::page::rows::push_blanks;
-use crate::page::ways::push_ways;
+use crate::page::rows::{push_blanks, push_rows};
+use crate::page::ways::draw_ways;
 use jsx_base::{SourceMapper, Span};
 use jsx_diag::SpliceError;
-use jsx_report::{CodeSuggestion, SubstitutionPart};
+use jsx_draw::{StyledBuffer, sum};
+use jsx_report::{CodeSuggestion, Style, SubstitutionPart};
 use std::alloc::{AllocError, Global};
 
 /// The texts of suggestions, one after another.
@@ -67,22 +70,62 @@ fn suggestion_text<M: SourceMapper>(
 ) -> Result<String, AllocError>
     ensures { IfOk result (λ text. SuggestionPart look.ui_testing (M.files cm.now) width (suggestion_of it.now) (string_bytes text)) }
 {
-    let mut text = String::new(alloc);
-    push_help(&mut text, width, it.msg.as_str())?;
+    let mut buffer = help_buffer(alloc, width, it.msg.as_str())?;
     let ways = ways_of(alloc, cm, it)?;
-    push_ways(alloc, &mut text, cm, look, width, &ways)?;
+    draw_ways(alloc, &mut buffer, cm, look, width, &ways)?;
+    let mut text = String::new(alloc);
+    push_rows(&mut text, &mut buffer)?;
     Ok(text)
 }
 
-// Adds `help: message`, whose further lines stand behind blanks.
-fn push_help(text: &mut String, width: usize, msg: &str) -> Result<(), AllocError>
-    ensures { OnOk result (string_bytes text.new ≡ string_bytes text.old ++ rows_text (help_lines width (lines (chars msg.now)))) }
+// `help: message`, whose further lines stand behind blanks, in rows.
+fn help_buffer(alloc: Global, width: usize, msg: &str) -> Result<StyledBuffer, AllocError>
+    ensures { IfOk result (λ buffer. buffer ≡ help_grid width (lines (chars msg.now))) }
 {
+    let mut buffer = StyledBuffer::new(alloc);
     let Some((line, rest)) = split_line(msg) else {
-        return push_row(text, "help: ", msg);
+        draw_row(&mut buffer, "help: ", msg)?;
+        return Ok(buffer);
     };
-    push_row(text, "help: ", line)?;
-    push_further(text, width, rest)
+    draw_row(&mut buffer, "help: ", line)?;
+    draw_further(alloc, &mut buffer, width, rest)?;
+    Ok(buffer)
+}
+
+// Adds a row of two texts to a grid.
+fn draw_row(buffer: &mut StyledBuffer, before: &str, line: &str) -> Result<(), AllocError>
+    ensures { OnOk result (buffer.new ≡ buffer.old ++ in_style NoStyle (chars before.now ++ chars line.now) ∷ []) }
+{
+    let row = buffer.num_lines();
+    buffer.prepend(row, line, Style::NoStyle)?;
+    buffer.prepend(row, before, Style::NoStyle)
+}
+
+// Adds the further lines of a message.
+fn draw_further(
+    alloc: Global,
+    buffer: &mut StyledBuffer,
+    width: usize,
+    more: &str,
+) -> Result<(), AllocError>
+    ensures { OnOk result (buffer.new ≡ buffer.old ++ map (in_style NoStyle) (set_in (width + 15) (lines (chars more.now)))) }
+{
+    let indent = blanks_text(alloc, sum(width, 15)?)?;
+    let mut rest = more;
+    while let Some((line, behind)) = split_line(rest) {
+        draw_row(buffer, indent.as_str(), line)?;
+        rest = behind;
+    }
+    draw_row(buffer, indent.as_str(), rest)
+}
+
+// So many blanks.
+fn blanks_text(alloc: Global, n: usize) -> Result<String, AllocError>
+    ensures { IfOk result (λ text. string_bytes text ≡ blanks n) }
+{
+    let mut text = String::new(alloc);
+    push_blanks(&mut text, n)?;
+    Ok(text)
 }
 
 /// Adds a row of two texts.
@@ -92,26 +135,6 @@ pub(super) fn push_row(text: &mut String, before: &str, line: &str) -> Result<()
     push_spaced(text, before)?;
     push_spaced(text, line)?;
     text.push('\n')
-}
-
-// Adds the further lines of a message.
-fn push_further(text: &mut String, width: usize, more: &str) -> Result<(), AllocError>
-    ensures { OnOk result (string_bytes text.new ≡ string_bytes text.old ++ rows_text (set_in (width + 15) (lines (chars more.now)))) }
-{
-    let mut rest = more;
-    while let Some((line, behind)) = split_line(rest) {
-        push_indented(text, width, line)?;
-        rest = behind;
-    }
-    push_indented(text, width, rest)
-}
-
-// Adds a row behind blanks.
-fn push_indented(text: &mut String, width: usize, line: &str) -> Result<(), AllocError>
-    ensures { OnOk result (string_bytes text.new ≡ string_bytes text.old ++ rows_text ((blanks (width + 15) ++ chars line.now) ∷ [])) }
-{
-    push_blanks(text, width)?;
-    push_row(text, "               ", line)
 }
 
 /// The first line of a text and what stands behind it, if there is another line.

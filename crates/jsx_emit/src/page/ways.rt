@@ -1,18 +1,17 @@
 //! The lines that a suggestion writes.
 
-ghost use Rattle.std.specs.Prelude.{◌≡◌, ◌+◌, ◌++◌, false, length, map, nat_lt, take, IfOk, OnOk, string_bytes};
+ghost use Rattle.std.specs.Prelude.{◌≡◌, ◌+◌, ◌-◌, codes, cond, length, map, take, IfOk, OnOk, string_bytes};
 ghost use Rattle.std.specs.Str.{chars};
 ghost use Rattle.jsx_base.specs.Lines.{lines};
 ghost use Rattle.jsx_diag.specs.Data.{edit_of};
 ghost use Rattle.jsx_diag.specs.Splice.{spliced_data};
-ghost use Rattle.jsx_emit.specs.Page.{rows_text};
-ghost use Rattle.jsx_emit.specs.Written.{below_rows, each_way, first_number, grid_chars, is_cut, last_row, others_text, source_rows, way_rows, ways_rows};
+ghost use Rattle.jsx_diag.specs.declared.level.Style.TheVariants.{LineNumber, NoStyle};
+ghost use Rattle.jsx_draw.specs.Grid.{in_style, put_cell, put_text};
+ghost use Rattle.jsx_emit.specs.Written.{below_drawn, end_row, first_number, is_cut, next_row, others_text, sources_drawn, way_drawn, ways_below, ways_drawn};
 
 use crate::page::Look;
-use crate::page::part::push_bar_row;
-use crate::page::part_marks::{has_marks, push_marks};
-use crate::page::rows::push_rows;
-use crate::page::sources::{Row, dots_text, push_source};
+use crate::page::part_marks::{draw_marks, has_marks};
+use crate::page::sources::{Row, draw_source};
 use crate::page::suggestions::{low, split_line};
 use crate::{MAX_HIGHLIGHT_LINES, MAX_SUGGESTIONS};
 use jsx_base::{BytePos, SourceMapper};
@@ -20,40 +19,47 @@ use jsx_draw::{StyledBuffer, sum};
 use jsx_report::{Style, SubstitutionPart};
 use std::alloc::{AllocError, Global};
 
-/// Adds the first lines of the first ways.
-pub(super) fn push_ways<M: SourceMapper>(
+/// Draws a bar in the second row, and the first lines of the first ways from the third on.
+pub(super) fn draw_ways<M: SourceMapper>(
     alloc: Global,
-    text: &mut String,
+    buffer: &mut StyledBuffer,
     cm: &M,
     look: Look,
     width: usize,
     ways: &[(String, Vec<SubstitutionPart>)],
 ) -> Result<(), AllocError>
-    ensures { OnOk result (string_bytes text.new ≡ string_bytes text.old ++ rows_text (ways_rows look.ui_testing (M.files cm.now) width (map spliced_data ways.now))) }
+    ensures { OnOk result (buffer.new ≡ ways_below look.ui_testing (M.files cm.now) width (map spliced_data ways.now) buffer.old) }
 {
     if ways.is_empty() {
         return Ok(());
     }
-    push_bar_row(text, width)?;
-    push_each(alloc, text, cm, look, width, ways)
+    draw_bar(buffer, width, 1)?;
+    draw_each(alloc, buffer, cm, look, width, ways)
 }
 
-// Adds the first lines of the first ways, without the bar above.
-fn push_each<M: SourceMapper>(
+// Draws the bar behind the numbers in a row.
+fn draw_bar(buffer: &mut StyledBuffer, width: usize, row: usize) -> Result<(), AllocError>
+    ensures { OnOk result (buffer.new ≡ put_cell row (width + 1) (124, LineNumber) buffer.old) }
+{
+    buffer.putc(row, sum(width, 1)?, '|', Style::LineNumber)
+}
+
+// Draws the first lines of the first ways, and how many others there are.
+fn draw_each<M: SourceMapper>(
     alloc: Global,
-    text: &mut String,
+    buffer: &mut StyledBuffer,
     cm: &M,
     look: Look,
     width: usize,
     ways: &[(String, Vec<SubstitutionPart>)],
 ) -> Result<(), AllocError>
-    ensures { OnOk result (string_bytes text.new ≡ string_bytes text.old ++ rows_text (each_way look.ui_testing (M.files cm.now) width false (length ways.now) (take 4 (map spliced_data ways.now)))) }
+    ensures { OnOk result (buffer.new ≡ ways_drawn look.ui_testing (M.files cm.now) width (length ways.now - 4) 2 (take 4 (map spliced_data ways.now)) buffer.old) }
 {
-    let mut dots = false;
+    let mut row = 2_usize;
     for way in first_ways(ways) {
-        dots = push_way(alloc, text, cm, look, width, dots, way)?;
+        row = draw_way(alloc, buffer, cm, look, width, row, way)?;
     }
-    push_last(alloc, text, width, dots, ways.len())
+    draw_others(alloc, buffer, row, ways.len())
 }
 
 // The ways that are shown.
@@ -63,32 +69,29 @@ fn first_ways(ways: &[(String, Vec<SubstitutionPart>)]) -> &[(String, Vec<Substi
     &ways[..ways.len().min(MAX_SUGGESTIONS)]
 }
 
-// Adds the first lines of a way, and answers whether lines are left.
-fn push_way<M: SourceMapper>(
+// Draws the first lines of a way from a row on, and answers in which row the next one begins.
+fn draw_way<M: SourceMapper>(
     alloc: Global,
-    text: &mut String,
+    buffer: &mut StyledBuffer,
     cm: &M,
     look: Look,
     width: usize,
-    dots: bool,
+    row: usize,
     way: &(String, Vec<SubstitutionPart>),
-) -> Result<bool, AllocError>
-    ensures added { OnOk result (string_bytes text.new ≡ string_bytes text.old ++ rows_text (way_rows look.ui_testing (M.files cm.now) width dots (spliced_data way.now))) }
-    ensures cut { IfOk result (λ left. left ≡ is_cut (spliced_data way.now)) }
+) -> Result<usize, AllocError>
+    ensures drawn { OnOk result (buffer.new ≡ way_drawn look.ui_testing (M.files cm.now) width row (spliced_data way.now) buffer.old) }
+    ensures next { IfOk result (λ next. next ≡ next_row row (spliced_data way.now).text) }
 {
     let source = way.0.as_str();
     let line = line_of(cm, &way.1);
-    let at = Row {
+    let first = Row {
         look,
         width,
-        dots,
+        row,
         line,
     };
-    if push_lines(alloc, text, at, source)? {
-        return Ok(true);
-    }
-    push_below(alloc, text, cm, width, source, &way.1)?;
-    Ok(false)
+    let end = draw_lines(alloc, buffer, first, source)?;
+    draw_end(buffer, cm, width, end, source, &way.1)
 }
 
 // The line of the first part.
@@ -104,84 +107,113 @@ fn line_of<M: SourceMapper>(cm: &M, parts: &[SubstitutionPart]) -> usize
     }
 }
 
-// Adds the first lines of a text, and answers whether some are left.
-fn push_lines(
+// The row below the first lines of a text, and whether some are left.
+#[derive(Clone, Copy)]
+struct End {
+    row: usize,
+    cut: bool,
+}
+
+// Draws the first lines of a text, each in a row of its own.
+fn draw_lines(
     alloc: Global,
-    text: &mut String,
+    buffer: &mut StyledBuffer,
     first: Row,
     source: &str,
-) -> Result<bool, AllocError>
-    ensures added { OnOk result (string_bytes text.new ≡ string_bytes text.old ++ rows_text (source_rows first.look.ui_testing first.width first.dots first.line (take 6 (lines (chars source.now))))) }
-    ensures cut { IfOk result (λ left. left ≡ nat_lt 6 (length (lines (chars source.now)))) }
+) -> Result<End, AllocError>
+    ensures drawn { OnOk result (buffer.new ≡ sources_drawn first.look.ui_testing first.width first.row first.line (take 6 (lines (chars source.now))) buffer.old) }
+    ensures row { IfOk result (λ end. end.row ≡ end_row first.row (chars source.now)) }
+    ensures cut { IfOk result (λ end. end.cut ≡ is_cut (chars source.now)) }
 {
     let mut rest = source;
     let mut at = first;
     let mut count = 0_usize;
     while let Some((line, behind)) = split_line(rest) {
         if count == MAX_HIGHLIGHT_LINES {
-            return Ok(true);
+            return Ok(End {
+                row: at.row,
+                cut: true,
+            });
         }
-        push_source(alloc, text, at, line)?;
+        draw_source(alloc, buffer, at, line)?;
         at = below(at)?;
         rest = behind;
         count += 1;
     }
     if count == MAX_HIGHLIGHT_LINES {
-        return Ok(true);
+        return Ok(End {
+            row: at.row,
+            cut: true,
+        });
     }
-    push_source(alloc, text, at, rest)?;
-    Ok(false)
+    draw_source(alloc, buffer, at, rest)?;
+    Ok(End {
+        row: sum(at.row, 1)?,
+        cut: false,
+    })
 }
 
 // Where the next line is shown.
 fn below(at: Row) -> Result<Row, AllocError>
-    ensures { IfOk result (λ next. next ≡ record at { dots = false; line = at.line + 1 }) }
+    ensures { IfOk result (λ next. next ≡ record at { row = at.row + 1; line = at.line + 1 }) }
 {
     Ok(Row {
-        dots: false,
+        row: sum(at.row, 1)?,
         line: sum(at.line, 1)?,
         ..at
     })
 }
 
-// Adds what stands below the lines: marks under what was put in, or a bar.
-fn push_below<M: SourceMapper>(
-    alloc: Global,
-    text: &mut String,
+// Draws what stands below the lines of a way: dots in the row of the next one where lines are left,
+// else marks or a bar. It answers in which row the next one begins.
+fn draw_end<M: SourceMapper>(
+    buffer: &mut StyledBuffer,
     cm: &M,
     width: usize,
+    end: End,
+    source: &str,
+    parts: &[SubstitutionPart],
+) -> Result<usize, AllocError>
+    ensures drawn { OnOk result (buffer.new ≡ cond end.cut (put_text end.row (width - 1) (in_style LineNumber (codes "...")) buffer.old) (below_drawn (M.files cm.now) width end.row (chars source.now) (map edit_of parts.now) buffer.old)) }
+    ensures next { IfOk result (λ next. next ≡ end.row + cond end.cut 0 1) }
+{
+    if end.cut {
+        buffer.puts(end.row, width.saturating_sub(1), "...", Style::LineNumber)?;
+        return Ok(end.row);
+    }
+    draw_below(buffer, cm, width, end.row, source, parts)?;
+    sum(end.row, 1)
+}
+
+// Draws what stands below all lines of a way: marks under what was put in, or a bar.
+fn draw_below<M: SourceMapper>(
+    buffer: &mut StyledBuffer,
+    cm: &M,
+    width: usize,
+    row: usize,
     source: &str,
     parts: &[SubstitutionPart],
 ) -> Result<(), AllocError>
-    ensures { OnOk result (string_bytes text.new ≡ string_bytes text.old ++ rows_text (below_rows (M.files cm.now) width (chars source.now) (map edit_of parts.now))) }
+    ensures { OnOk result (buffer.new ≡ below_drawn (M.files cm.now) width row (chars source.now) (map edit_of parts.now) buffer.old) }
 {
     if has_marks(source, parts) {
-        push_marks(alloc, text, cm, width, parts)
+        draw_marks(buffer, cm, width, row, parts)
     } else {
-        push_bar_row(text, width)
+        draw_bar(buffer, width, row)
     }
 }
 
-// Adds that lines are left of the last way, and how many other ways there are.
-fn push_last(
+// Draws how many of so many ways aren't shown, if any.
+fn draw_others(
     alloc: Global,
-    text: &mut String,
-    width: usize,
-    dots: bool,
+    buffer: &mut StyledBuffer,
+    row: usize,
     ways: usize,
 ) -> Result<(), AllocError>
-    ensures { OnOk result (string_bytes text.new ≡ string_bytes text.old ++ rows_text (grid_chars (last_row width dots ways))) }
+    ensures { OnOk result (buffer.new ≡ put_text row 0 (in_style NoStyle (chars (others_text (ways - 4)))) buffer.old) }
 {
     let others = others_text(alloc, ways.saturating_sub(MAX_SUGGESTIONS))?;
-    let mut buffer = StyledBuffer::new(alloc);
-    buffer.puts(
-        0,
-        width.saturating_sub(1),
-        dots_text(dots),
-        Style::LineNumber,
-    )?;
-    buffer.puts(0, 0, others.as_str(), Style::NoStyle)?;
-    push_rows(text, &mut buffer)
+    buffer.puts(row, 0, others.as_str(), Style::NoStyle)
 }
 
 // How many other ways there are, if any.

@@ -5,7 +5,7 @@ use jsx_base::{BytePos, FileName, Globals, MemSink, MultiSpan, SourceMap, Span};
 use jsx_report::{Diagnostic, DiagnosticId, Emitter, HandlerFlags, Level};
 use std::alloc::{AllocError, Global};
 
-/// From one byte to another, from 0, of the text of `x.js`, a byte, and the text of `y.js`.
+/// From one byte to another, from 0, of the text of `x.js`, a byte, and the text of `input.js`.
 pub(super) type Bytes = (u32, u32);
 
 /// How a page is made.
@@ -40,7 +40,7 @@ pub(super) enum Extra {
 /// A report, and its page.
 #[derive(Clone, Copy)]
 pub(super) struct Case {
-    /// The texts of `x.js` and `y.js`.
+    /// The texts of `x.js` and `input.js`.
     pub files: (&'static str, &'static str),
     pub form: Form,
     pub level: Level,
@@ -54,10 +54,10 @@ pub(super) fn text(alloc: Global, text: &str) -> Result<String, AllocError> {
     String::from_str(alloc, text)
 }
 
-/// `x.js`, whose first byte has place 1, and `y.js` behind it.
+/// `x.js`, whose first byte has place 1, and `input.js` behind it.
 pub(super) fn files(alloc: Global, texts: (&str, &str)) -> Result<SourceMap, AllocError> {
     let first = FileName::Real(text(alloc, "x.js")?);
-    let second = FileName::Real(text(alloc, "y.js")?);
+    let second = FileName::Real(text(alloc, "input.js")?);
     let texts = (text(alloc, texts.0)?, text(alloc, texts.1)?);
     let mut map = SourceMap::new(alloc);
     let mut globals = Globals::new();

@@ -38,16 +38,32 @@ const SPANS: &[Case] = &[
 
 ",
     },
-    // One that begins behind text.
+    // A whole line.
     Case {
-        files: ("/* @jsxRuntime fast */\nconst x = <a\n  b:c=\"d\"/>;\n", ""),
+        files: ("", "/* @jsxRuntime fast */\nconst x = <a\n  b:c=\"d\"/>;\n"),
         form: Form::Long,
         level: Level::Error,
-        message: "m",
-        span: Some((33, 47)),
+        message: "Runtime must be either `classic` or `automatic`.",
+        span: Some((1, 23)),
         extras: &[],
-        page: "error: m
- --> x.js:2:11
+        page: "error: Runtime must be either `classic` or `automatic`.
+ --> input.js:1:1
+  |
+1 | /* @jsxRuntime fast */
+  | ^^^^^^^^^^^^^^^^^^^^^^
+
+",
+    },
+    // A span that begins behind text.
+    Case {
+        files: ("", "/* @jsxRuntime fast */\nconst x = <a\n  b:c=\"d\"/>;\n"),
+        form: Form::Long,
+        level: Level::Error,
+        message: "JSX Namespace is disabled by default because react does not support it yet. You can specify jsc.transform.react.throwIfNamespace to false to override default behavior",
+        span: Some((34, 48)),
+        extras: &[],
+        page: "error: JSX Namespace is disabled by default because react does not support it yet. You can specify jsc.transform.react.throwIfNamespace to false to override default behavior
+ --> input.js:2:11
   |
 2 |   const x = <a
   |  ___________^
@@ -114,7 +130,7 @@ const SPANS: &[Case] = &[
 1 | a = a;
   |     ^
   | 
- ::: y.js:1:5
+ ::: input.js:1:5
   |
 1 | b = b;
   |     - here
@@ -130,7 +146,7 @@ const SPANS: &[Case] = &[
         span: Some((11, 12)),
         extras: &[Extra::Label((4, 5), "here")],
         page: "error: m
- --> y.js:1:5
+ --> input.js:1:5
   |
 1 | b = b;
   |     ^
@@ -163,6 +179,67 @@ const SPANS: &[Case] = &[
   | ||__- inner
 4 |  | )
   |  |_^ outer
+
+",
+    },
+    // Of three, two that share no line have their bars in one column. Each of them moves the one around
+    // both once, so the column between stays empty.
+    Case {
+        files: ("f(\ng(\n),\nh(\n)\n)\n", ""),
+        form: Form::Long,
+        level: Level::Error,
+        message: "m",
+        span: Some((0, 15)),
+        extras: &[
+            Extra::Label((0, 15), "f"),
+            Extra::Label((3, 7), "g"),
+            Extra::Label((9, 13), "h"),
+        ],
+        page: "error: m
+ --> x.js:1:1
+  |
+1 |   / f(
+2 |   | g(
+  |  _|_-
+3 | | | ),
+  | |_|_- g
+4 |   | h(
+  |  _|_-
+5 | | | )
+  | |_|_- h
+6 |   | )
+  |   |_^ f
+
+",
+    },
+    // Two that share lines have one column where the first of all ends before the later of them begins:
+    // that one then moves none.
+    Case {
+        files: ("a(\n), b(\nx,\nc(\n),\n)\n", ""),
+        form: Form::Long,
+        level: Level::Error,
+        message: "m",
+        span: Some((6, 19)),
+        extras: &[
+            Extra::Label((0, 4), "a"),
+            Extra::Label((6, 19), "b"),
+            Extra::Label((12, 16), "c"),
+        ],
+        page: "error: m
+ --> x.js:2:4
+  |
+1 |  / a(
+2 |  | ), b(
+  |  |_-__^
+  | ||_|
+  | |  a
+3 | |  x,
+4 | |  c(
+  | |__-
+5 | |  ),
+  | |__- c
+6 | |  )
+  | |__^ b
 
 ",
     },
@@ -267,7 +344,7 @@ const NOTES: &[Case] = &[
   |     ^
   |
 note: n
- --> y.js:1:1
+ --> input.js:1:1
   |
 1 | b = b;
   | ^

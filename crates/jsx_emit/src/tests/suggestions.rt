@@ -130,6 +130,133 @@ help: use
 
 ",
     },
+    // The dots that say that lines are left stand in the row of the next text.
+    Case {
+        files: ("a = a;", ""),
+        form: Form::Long,
+        level: Level::Error,
+        message: "m",
+        span: Some((4, 5)),
+        extras: &[Extra::Ways((4, 5), &["1\n2\n3\n4\n5\n6\n7", "b"])],
+        page: "error: m
+ --> x.js:1:5
+  |
+1 | a = a;
+  |     ^
+help: use
+  |
+1 | a = 1
+2 | 2
+3 | 3
+4 | 4
+5 | 5
+6 | 6
+1.| a = b;
+  |     ^
+
+",
+    },
+    // A text of several lines, and one that is its snippet, have a bar in place of marks.
+    Case {
+        files: ("a = a;", ""),
+        form: Form::Long,
+        level: Level::Error,
+        message: "m",
+        span: Some((0, 6)),
+        extras: &[Extra::Ways((0, 6), &["b =\n  a;", " b = a;"])],
+        page: "error: m
+ --> x.js:1:1
+  |
+1 | a = a;
+  | ^^^^^^
+help: use
+  |
+1 | b =
+2 |   a;
+  |
+1 |  b = a;
+  |
+
+",
+    },
+    // The blanks before a snippet have no marks; a tab among them is one column.
+    Case {
+        files: ("a = a;", ""),
+        form: Form::Long,
+        level: Level::Error,
+        message: "m",
+        span: Some((4, 5)),
+        extras: &[Extra::Ways((4, 5), &["  bc ", "\td"])],
+        page: "error: m
+ --> x.js:1:5
+  |
+1 | a = a;
+  |     ^
+help: use
+  |
+1 | a =   bc ;
+  |       ^^
+1 | a =     d;
+  |      ^
+
+",
+    },
+    // The message alone where parts overlap.
+    Case {
+        files: ("a = a;", ""),
+        form: Form::Long,
+        level: Level::Error,
+        message: "m",
+        span: Some((4, 5)),
+        extras: &[Extra::Parts(&[((0, 3), "x"), ((2, 5), "y")])],
+        page: "error: m
+ --> x.js:1:5
+  |
+1 | a = a;
+  |     ^
+help: write
+
+",
+    },
+    // Or where one is outside all files.
+    Case {
+        files: ("a = a;", ""),
+        form: Form::Long,
+        level: Level::Error,
+        message: "m",
+        span: Some((4, 5)),
+        extras: &[Extra::Parts(&[((0, 1), "x"), ((90, 91), "y")])],
+        page: "error: m
+ --> x.js:1:5
+  |
+1 | a = a;
+  |     ^
+help: write
+
+",
+    },
+    // The further lines of a message stand in the rows below, in which the bar and the lines of the text
+    // are drawn too.
+    Case {
+        files: ("a = a;", ""),
+        form: Form::Long,
+        level: Level::Error,
+        message: "m",
+        span: Some((4, 5)),
+        extras: &[Extra::Way((4, 5), "use\nthis\nnow", "1\n2")],
+        page: "error: m
+ --> x.js:1:5
+  |
+1 | a = a;
+  |     ^
+help: use
+  |             this
+1 |             nowa = 1
+2 | 2;
+  |
+
+",
+    },
     // Texts that are written together. The marks of each are moved by what earlier ones added.
     Case {
         files: ("f(a, b)", ""),
