@@ -2,25 +2,25 @@
 use Rattle.std.proofs.Common.{◌≡◌, ℕ, nat_eq, nat_le, Bool, true, false, not, cond, List, [], ◌∷◌, refl, sym, ◌∙◌, ap, subst, arith}
 use Rattle.std.specs.Prelude.{IsTrue, Option, Some, None, ◌&&◌}
 use Rattle.std.proofs.lemmas.Bool.{leb-true, le-leb}
-use Rattle.jsx_base.specs.Token.{Lexeme, Text, Operator, IdentifierName, NumericLiteral, BigIntLiteral, StringLiteral, TokenKind, among, token, same}
-use Rattle.jsx_tree.specs.Signs.{AfterExpr}
-use Rattle.jsx_tree.specs.Kinds.{Module, Var, ConstWord, Declarator, ExprStmt, Assigns, Assign, OpAssign, Void, TypeOf, Positive, Negative, Complement, Not, Unary, Binary, Cond, Call, Member, Index, ImportCall, Element, Kind, program, statement, expression, jsx, Tree, leaf, node, Forest, part}
+use Rattle.jsx_base.specs.Token.{Lexeme, Text, Operator, IdentifierName, NumericLiteral, BigIntLiteral, StringLiteral, TokenKind, breaks, token, same, RegExpLiteral, among}
+use Rattle.jsx_tree.specs.Signs.{Ending, AfterExpr, SameLine}
+use Rattle.jsx_tree.specs.Kinds.{Module, Var, ConstWord, Declarator, ExprStmt, Assigns, Assign, OpAssign, Delete, Void, TypeOf, Positive, Negative, Complement, Not, Unary, Binary, Cond, Call, Member, Index, ImportCall, Parenthesized, Element, Kind, program, statement, expression, jsx, Tree, leaf, node, list, Forest, part, PrefixUpdate, PostfixUpdate, Seq}
 use Rattle.jsx_tree.specs.Nonterminals.{Nonterminal, Expr, NullishLeft, MemberObject, DotObject, SimpleTarget, Pat, TagName, is_bound, homes, in_homes, leaf_in, literal_homes, is_value_word}
-use Rattle.jsx_tree.specs.Grammar.{Part, right_of}
+use Rattle.jsx_tree.specs.Grammar.{Context, Fixed, Part, right_of, pun}
 use Rattle.jsx_tree.specs.Form.{admits, fits_below, is_leaf}
-use Rattle.jsx_tree.specs.Reading.{Place, Lost, At, forth}
+use Rattle.jsx_tree.specs.Reading.{Place, Lost, At, forth, go_if}
 use Rattle.jsx_tree.specs.StaticRules.{Surroundings, rule, stands, has_plain_params}
 use Rattle.jsx_syntax.specs.Stage.{has_kind, limits, leaf_at, value_leaf}
-use Rattle.jsx_tree.specs.Walk.{is_found, one, IsRead, Piece, piece, tail, tree, Walk, next, around, steady}
-use Rattle.jsx_tree.specs.Stops.{going, level_asked}
+use Rattle.jsx_tree.specs.Walk.{is_found, one, Relation, IsRead, Piece, piece, tail, sign, tree, Walk, next, around, steady}
+use Rattle.jsx_tree.specs.Stops.{level_asked}
 use Rattle.jsx_tree.specs.Language.{Whole}
-use Rattle.jsx_tree.specs.Answers.{Moves, Only, Barred, NoRow, Built}
+use Rattle.jsx_tree.specs.Answers.{Moves, Only, Barred, NoRow, NoNode, Built, BuiltNode}
 use Rattle.jsx_tree.specs.Grows.{starts, is_operand, Onward, stay, step, Steps, Decides, Joins, Stays}
-use Rattle.jsx_syntax.specs.SoFar.{Staged, is_number, marks, is_sign, is_mark, ends_so_far, row_so_far, so_far}
+use Rattle.jsx_syntax.specs.SoFar.{Staged, is_number, goes_at, marks, is_sign, is_mark, ends_so_far, row_so_far, so_far, goers}
 use Rattle.jsx_tree.proofs.Tokens.{and_left, and_right, and_both}
 use Rattle.jsx_tree.proofs.Apart.{clash}
-use Rattle.jsx_tree.proofs.Rows.Bridge.{found_at}
-use Rattle.jsx_tree.proofs.Rows.Stopping.{is_not, heeds, covers, sign_stops}
+use Rattle.jsx_tree.proofs.Rows.Bridge.{found_at, found_first}
+use Rattle.jsx_tree.proofs.Rows.Stopping.{stays as stays_on, is_not, heeds, covers, sign_stops}
 use Rattle.jsx_tree.proofs.Rows.Guarded.{guarded, whole_walk, loosen, to_grammar}
 use Rattle.jsx_tree.proofs.Rows.Bodies.{bodiless, plain}
 use Rattle.jsx_tree.proofs.Rows.Firsts.{kind_home}
@@ -30,13 +30,18 @@ use Rattle.jsx_tree.proofs.Rows.Spines.{grows}
 use Rattle.jsx_tree.proofs.Rows.Growing.{grown_only, step_barred, left_barred, step_follows}
 use Rattle.jsx_tree.proofs.Rows.Steps.{on, then', only_sign}
 use Rattle.jsx_syntax.proofs.OfSoFar.{of_so_far}
-use Rattle.jsx_syntax.specs.Growths.{lead, mark, same_sign, has_sign, is_code, levels, is_level, level_of_kind, level, fits_by, fits, is_assignment, is_target_kind, is_target, settled, Climbs}
-use Rattle.jsx_syntax.proofs.Listed.{Listed, listed, code, kinds, every, every_two, of_each, of_two, one_place, every_level, of_level, of_level_kind, implies, implied, agree, agreed}
+use Rattle.jsx_syntax.specs.Growths.{OnLine, begins_line, behind, lead, mark, on_line, past_line, same_sign, has_sign, is_code, levels, is_level, level_of_kind, level, fits_by, fits, takes_target, is_target_kind, is_target, settled, Climbs}
+use Rattle.jsx_syntax.proofs.Listed.{Listed, listed, code, kinds, every, every_two, of_each, of_two, one_place, every_level, of_level, of_level_kind, implies, implied, agree, agreed, is_sequence}
 use Rattle.jsx_syntax.proofs.Marks.{text_of_sign, mark_by, seen_sign, one_sign, by_sign}
-use Rattle.jsx_syntax.proofs.Homes.{Literal, IsName, IsNumber, IsLong, IsString, token_kind, Value, literal, made, value}
-use Rattle.jsx_syntax.proofs.Values.{signed, lead_row, led_sign, literal_level, node_to, leaf_to}
+use Rattle.jsx_syntax.proofs.Homes.{Literal, IsName, IsNumber, IsLong, IsString, IsPattern, token_kind, Value, literal, made, is_single, value}
+use Rattle.jsx_syntax.proofs.Values.{signed, lead_row, led_sign, literal_level, node_to, leaf_to, level_single, or_right}
 
 -- ---- of each kind
+
+-- with a static rule of its own
+abbrev pub is_ruled : Kind → Bool
+is_ruled (expression (Unary Delete)) = true
+is_ruled k = false
 
 abbrev pub grows_on : Kind → Bool
 grows_on k = grows (row_so_far k)
@@ -55,11 +60,12 @@ edge (expression Cond) = Expr 1
 edge (expression Assign) = Expr 1
 edge (expression (OpAssign o)) = Expr 1
 edge (expression (Unary o)) = Expr 15
+edge (expression (PrefixUpdate o)) = Expr 17
 edge k = TagName
 
 -- the places at the left of a step
 abbrev is_side : Nonterminal → Bool
-is_side (Expr n) = nat_le n 18
+is_side (Expr n) = nat_le n 18 && is_single (Expr n)
 is_side NullishLeft = true
 is_side MemberObject = true
 is_side DotObject = true
@@ -78,18 +84,18 @@ takes_number DotObject = false
 takes_number c = true
 
 abbrev taken_literals : Nonterminal → Bool
-taken_literals c = in_homes c (literal_homes NumericLiteral) && (in_homes c (literal_homes BigIntLiteral) && in_homes c (literal_homes StringLiteral))
+taken_literals c = in_homes c (literal_homes NumericLiteral) && (in_homes c (literal_homes BigIntLiteral) && (in_homes c (literal_homes StringLiteral) && in_homes c (literal_homes RegExpLiteral)))
 
 -- which leaves stand at the left
 abbrev leaves_fit : Kind → Bool
-leaves_fit k = cond (is_assignment k) (is_left (side k)) (not (is_left (side k)) && (taken_literals (side k) && (fits_by k 17 false && agree (fits_by k 17 true) (takes_number (side k)))))
+leaves_fit k = cond (takes_target k) (is_left (side k)) (not (is_left (side k)) && (taken_literals (side k) && (fits_by k 17 false && agree (fits_by k 17 true) (takes_number (side k)))))
 
 -- its row begins with a part at such a place, goes on by a mark, and each part of the rest is ended by what stands behind it
 abbrev well_formed : Kind → Bool
 well_formed k =
     implies (grows_on k)
-    ((is_side (side k) && leaves_fit k)
-    && ((is_code (mark k) && (signed (tail (row_so_far k)) && has_sign (mark k) marks)) && ((guarded (edge k) (tail (row_so_far k)) && free (tail (row_so_far k))) && (bodiless (row_so_far k) && (has_kind k && any_operand (homes k))))))
+    ((is_side (side k) && (not (is_ruled k) && leaves_fit k))
+    && ((is_code (mark k) && (signed (past_line (tail (row_so_far k))) && has_sign (mark k) marks)) && ((guarded (edge k) (tail (row_so_far k)) && free (tail (row_so_far k))) && (bodiless (row_so_far k) && (has_kind k && any_operand (homes k))))))
 
 all_well_formed : every well_formed kinds ≡ true
 unfolding marks
@@ -109,14 +115,18 @@ all_apart : every_two apart ≡ true
 all_apart = refl
 
 abbrev fitting : Kind → Kind → Bool
-fitting k l = implies (grows_on k) (agree (cond (is_assignment k) (is_target_kind l) (fits_by k (level_of_kind l) false)) (in_homes (side k) (homes l)))
+fitting k l = implies (grows_on k) (agree (cond (takes_target k) (is_target_kind l) (fits_by k (level_of_kind l) false)) (in_homes (side k) (homes l)))
 
 all_fitting : every_two fitting ≡ true
 all_fitting = refl
 
--- of a level and a kind: whether it is at home there, is the same as whether its mark goes on there
+-- of a level and a kind, with a line end before the mark or without: whether the mark goes on there
+abbrev goes_as : ℕ → Kind → Bool → Bool
+goes_as n k b = agree (goes_at n b (text_of_sign (mark k))) (nat_le n (level_of_kind k) && not (on_line k && b))
+
+-- whether the kind is at home there is the same
 abbrev placed : ℕ → Kind → Bool
-placed n k = agree (in_homes (Expr n) (homes k)) (nat_le n (level_of_kind k)) && (implies (grows_on k) (agree (among (text_of_sign (mark k)) (going n)) (nat_le n (level_of_kind k))) && implies (nat_le n (level_of_kind k)) (covers (level_asked (Expr n)) (level_asked (edge k))))
+placed n k = agree (in_homes (Expr n) (homes k)) (nat_le n (level_of_kind k)) && (implies (grows_on k) (goes_as n k true && goes_as n k false) && implies (nat_le n (level_of_kind k)) (covers (level_asked (Expr n)) (level_asked (edge k))))
 
 all_placed : every_level (λ n. every (placed n) kinds) levels ≡ true
 all_placed = refl
@@ -129,34 +139,38 @@ record Fitting (k : Kind) : Type 0 where
   numbers : in_homes (side k) (literal_homes NumericLiteral) ≡ true
   longs : in_homes (side k) (literal_homes BigIntLiteral) ≡ true
   strings : in_homes (side k) (literal_homes StringLiteral) ≡ true
+  patterns : in_homes (side k) (literal_homes RegExpLiteral) ≡ true
   leaves : fits_by k 17 false ≡ true
   number : fits_by k 17 true ≡ takes_number (side k)
 
 data Leaves (k : Kind) : Type 0 where
-  assigned : is_assignment k ≡ true → is_left (side k) ≡ true → Leaves k
-  fitting_in : is_assignment k ≡ false → Fitting k → Leaves k
+  assigned : takes_target k ≡ true → is_left (side k) ≡ true → Leaves k
+  fitting_in : takes_target k ≡ false → Fitting k → Leaves k
 
-leaves_of : (k : Kind) (b : Bool) → is_assignment k ≡ b → cond b (is_left (side k)) (not (is_left (side k)) && (taken_literals (side k) && (fits_by k 17 false && agree (fits_by k 17 true) (takes_number (side k))))) ≡ true → Leaves k
+leaves_of : (k : Kind) (b : Bool) → takes_target k ≡ b → cond b (is_left (side k)) (not (is_left (side k)) && (taken_literals (side k) && (fits_by k 17 false && agree (fits_by k 17 true) (takes_number (side k))))) ≡ true → Leaves k
 leaves_of k true e h = assigned e h
 leaves_of k false e h =
     let a = and_right (not (is_left (side k))) _ h in
     let b = and_left (taken_literals (side k)) _ a in
     let c = and_right (taken_literals (side k)) _ a in
     let d = and_right (in_homes (side k) (literal_homes NumericLiteral)) _ b in
+    let e' = and_right (in_homes (side k) (literal_homes BigIntLiteral)) _ d in
     fitting_in e (record {
       beside = is_not _ (and_left (not (is_left (side k))) _ h);
       numbers = and_left (in_homes (side k) (literal_homes NumericLiteral)) _ b;
       longs = and_left (in_homes (side k) (literal_homes BigIntLiteral)) _ d;
-      strings = and_right (in_homes (side k) (literal_homes BigIntLiteral)) _ d;
+      strings = and_left (in_homes (side k) (literal_homes StringLiteral)) _ e';
+      patterns = and_right (in_homes (side k) (literal_homes StringLiteral)) _ e';
       leaves = and_left (fits_by k 17 false) _ c;
       number = agreed (fits_by k 17 true) (takes_number (side k)) (and_right (fits_by k 17 false) _ c);
     })
 
 record Formed (k : Kind) : Type 0 where
   sided : is_side (side k) ≡ true
+  unruled : is_ruled k ≡ false
   leaves : Leaves k
   coded : is_code (mark k) ≡ true
-  led : signed (tail (row_so_far k)) ≡ true
+  led : signed (past_line (tail (row_so_far k))) ≡ true
   marked : has_sign (mark k) marks ≡ true
   closed : guarded (edge k) (tail (row_so_far k)) ≡ true
   freed : free (tail (row_so_far k)) ≡ true
@@ -167,20 +181,21 @@ record Formed (k : Kind) : Type 0 where
 formed : (k : Kind) → Listed k → grows_on k ≡ true → Formed k
 formed k m g =
     let a = implied (grows_on k) _ (of_each well_formed all_well_formed k m) g in
-    let b = and_left (is_side (side k) && leaves_fit k) _ a in
-    let c = and_right (is_side (side k) && leaves_fit k) _ a in
-    let c1 = and_left (is_code (mark k) && (signed (tail (row_so_far k)) && has_sign (mark k) marks)) _ c in
-    let c2 = and_right (is_code (mark k) && (signed (tail (row_so_far k)) && has_sign (mark k) marks)) _ c in
+    let b = and_left (is_side (side k) && (not (is_ruled k) && leaves_fit k)) _ a in
+    let c = and_right (is_side (side k) && (not (is_ruled k) && leaves_fit k)) _ a in
+    let c1 = and_left (is_code (mark k) && (signed (past_line (tail (row_so_far k))) && has_sign (mark k) marks)) _ c in
+    let c2 = and_right (is_code (mark k) && (signed (past_line (tail (row_so_far k))) && has_sign (mark k) marks)) _ c in
     let c3 = and_right (is_code (mark k)) _ c1 in
     let c4 = and_left (guarded (edge k) (tail (row_so_far k)) && free (tail (row_so_far k))) _ c2 in
     let c5 = and_right (guarded (edge k) (tail (row_so_far k)) && free (tail (row_so_far k))) _ c2 in
     let c6 = and_right (bodiless (row_so_far k)) _ c5 in
     record {
       sided = and_left (is_side (side k)) _ b;
-      leaves = leaves_of k (is_assignment k) refl (and_right (is_side (side k)) _ b);
+      unruled = is_not _ (and_left (not (is_ruled k)) _ (and_right (is_side (side k)) _ b));
+      leaves = leaves_of k (takes_target k) refl (and_right (not (is_ruled k)) _ (and_right (is_side (side k)) _ b));
       coded = and_left (is_code (mark k)) _ c1;
-      led = and_left (signed (tail (row_so_far k))) _ c3;
-      marked = and_right (signed (tail (row_so_far k))) _ c3;
+      led = and_left (signed (past_line (tail (row_so_far k)))) _ c3;
+      marked = and_right (signed (past_line (tail (row_so_far k)))) _ c3;
       closed = and_left (guarded (edge k) (tail (row_so_far k))) _ c4;
       freed = and_right (guarded (edge k) (tail (row_so_far k))) _ c4;
       bare = and_left (bodiless (row_so_far k)) _ c5;
@@ -199,18 +214,22 @@ sunk l k m n g h =
 
 pub record Level (n : ℕ) (k : Kind) : Type 0 where
   pub home : in_homes (Expr n) (homes k) ≡ nat_le n (level_of_kind k)
-  goes : grows_on k ≡ true → among (text_of_sign (mark k)) (going n) ≡ nat_le n (level_of_kind k)
+  goes : grows_on k ≡ true → (b : Bool) → goes_at n b (text_of_sign (mark k)) ≡ (nat_le n (level_of_kind k) && not (on_line k && b))
   covered : nat_le n (level_of_kind k) ≡ true → covers (level_asked (Expr n)) (level_asked (edge k)) ≡ true
+
+either_way : (p : Bool → Bool) → (p true && p false) ≡ true → (b : Bool) → p b ≡ true
+either_way p e true = and_left (p true) (p false) e
+either_way p e false = and_right (p true) (p false) e
 
 pub at_level : {n : ℕ} → is_level n ≡ true → (k : Kind) → Listed k → Level n k
 at_level {n} h k m =
     let a = of_level_kind placed all_placed h k m in
     let p = agree (in_homes (Expr n) (homes k)) (nat_le n (level_of_kind k)) in
-    let q = implies (grows_on k) (agree (among (text_of_sign (mark k)) (going n)) (nat_le n (level_of_kind k))) in
+    let q = implies (grows_on k) (goes_as n k true && goes_as n k false) in
     let b = and_right p _ a in
     record {
       home = agreed (in_homes (Expr n) (homes k)) (nat_le n (level_of_kind k)) (and_left p _ a);
-      goes = λ g. agreed (among (text_of_sign (mark k)) (going n)) (nat_le n (level_of_kind k)) (implied (grows_on k) _ (and_left q _ b) g);
+      goes = λ g c. agreed (goes_at n c (text_of_sign (mark k))) (nat_le n (level_of_kind k) && not (on_line k && c)) (either_way (goes_as n k) (implied (grows_on k) _ (and_left q _ b) g) c);
       covered = λ e. implied (nat_le n (level_of_kind k)) _ (and_right q _ b) e;
     }
 
@@ -228,31 +247,50 @@ led_row : (ps : List Piece) → grows ps ≡ true → piece [] (Part (side_of (s
 led_row (piece [] (Part d) ∷ ps) g = refl
 led_row _ g = cc
 
+-- a mark that stands on the line
+line_place : (x : Place) → IsTrue (is_found (forth SameLine x)) → forth SameLine x ≡ x
+line_place x f = stays_on SameLine x refl f
+
+mark_found : {R : Relation} {V : List Context → Surroundings} (ps : List Piece) {a y : Place} {ts : Forest} → signed (past_line ps) ≡ true → Walk R V ps a ts y → IsTrue (is_found (forth (lead (past_line ps)) a))
+mark_found (piece [] (Fixed SameLine) ∷ ps) {a} h (next (sign e f) w) = subst (λ p. IsTrue (is_found (forth (lead ps) p))) (sym e ∙ line_place a (found_at e f)) (led_sign ps h w)
+mark_found ps h w = led_sign ps h w
+
+line_kept : {R : Relation} {V : List Context → Surroundings} (ps : List Piece) {a y : Place} {ts : Forest} → begins_line ps ≡ true → Walk R V ps a ts y → forth SameLine a ≡ a
+line_kept (piece [] (Fixed SameLine) ∷ ps) {a} h (next (sign e f) w) = line_place a (found_at e f)
+line_kept _ h w = cc
+
 -- ---- a step
 
-listed_node : {v : Surroundings} {c : Nonterminal} {k : Kind} {x y : Place} {ts : Forest} → is_operand c ≡ true → Staged v false c x (node k ts) y → Listed k
-listed_node {c = c} {k = k} {ts = ts} o r = listed k (and_left (has_kind k) _ r.staged) (homes_operand c (homes k) o (kind_home c k ts (and_left (admits c (node k ts)) (fits_below c (node k ts)) r.reads.is)))
+no_sequence : (k : Kind) {c : Nonterminal} → starts (row_so_far k) ≡ Some c → is_sequence k ≡ false
+no_sequence (expression Seq) b = cc
+no_sequence _ b = refl
 
-node_home : {v : Surroundings} {c : Nonterminal} {k : Kind} {x y : Place} {ts : Forest} → Staged v false c x (node k ts) y → in_homes c (homes k) ≡ true
+listed_node : {v : Surroundings} {c d : Nonterminal} {k : Kind} {x y : Place} {ts : Forest} → is_operand c ≡ true → starts (row_so_far k) ≡ Some d → Staged v false c x (node k ts) y → Listed k
+listed_node {c = c} {k = k} {ts = ts} o b r = listed k (and_left (has_kind k) _ r.staged) (homes_operand c (homes k) o (kind_home c k ts (and_left (admits c (node k ts)) (fits_below c (node k ts)) r.reads.is))) (no_sequence k b)
+
+pub node_home : {v : Surroundings} {c : Nonterminal} {k : Kind} {x y : Place} {ts : Forest} → Staged v false c x (node k ts) y → in_homes c (homes k) ≡ true
 node_home {c = c} {k = k} {ts = ts} r = kind_home c k ts (and_left (admits c (node k ts)) (fits_below c (node k ts)) r.reads.is)
 
 side_is : (k : Kind) {c : Nonterminal} → starts (row_so_far k) ≡ Some c → side k ≡ c
 side_is k e = ap side_of e
 
 step_listed : {v : Surroundings} {c : Nonterminal} {x a y : Place} {t : Tree} {l : Kind} {ts : Forest} → Steps so_far v c x t a l ts y → Listed l
-step_listed p = listed_node p.operand p.reads
+step_listed p = listed_node p.operand p.begins p.reads
 
 step_grows : {v : Surroundings} {c : Nonterminal} {x a y : Place} {t : Tree} {l : Kind} {ts : Forest} → Steps so_far v c x t a l ts y → grows_on l ≡ true
 step_grows {l = l} p = begins_grows (row_so_far l) p.begins
 
 step_sign : {v : Surroundings} {c : Nonterminal} {x a y : Place} {t : Tree} {l : Kind} {ts : Forest} → Steps so_far v c x t a l ts y → IsTrue (is_found (forth (mark l) a))
-step_sign {l = l} p = led_sign (tail (row_so_far l)) (formed l (step_listed p) (step_grows p)).led p.walk
+step_sign {l = l} p = mark_found (tail (row_so_far l)) (formed l (step_listed p) (step_grows p)).led p.walk
 
-operand_side : (k : Kind) → Formed k → is_operand (side k) ≡ true
-operand_side k f = at (side k) f.sided
+step_line : {v : Surroundings} {c : Nonterminal} {x a y : Place} {t : Tree} {l : Kind} {ts : Forest} → Steps so_far v c x t a l ts y → OnLine l a
+step_line {l = l} p = record { stays = λ on. line_kept (tail (row_so_far l)) on p.walk }
+
+single_side : (k : Kind) → Formed k → is_single (side k) ≡ true
+single_side k f = at (side k) f.sided
   where
-    at : (c : Nonterminal) → is_side c ≡ true → is_operand c ≡ true
-    at (Expr n) h = refl
+    at : (c : Nonterminal) → is_side c ≡ true → is_single c ≡ true
+    at (Expr n) h = and_right (nat_le n 18) _ h
     at NullishLeft h = refl
     at MemberObject h = refl
     at DotObject h = refl
@@ -278,17 +316,17 @@ left_low {v} {n} {l} {c} {x} {y} {t} h m b e r =
     let g = begins_grows (row_so_far l) b in
     let f = formed l m g in
     let q : Staged v false (side l) x t y = subst (λ d. Staged v false d x t y) (sym (side_is l b)) r in
-    let w = value t (operand_side l f) q in
+    let w = value t (single_side l f) q in
     value_low h w (value_level n h w (λ k ts is j. below_level n (level_of_kind l) (level_of_kind k) e (sunk l k m j g (node_home (subst (λ u. Staged v false (side l) x u y) is q))).below)) r
 
-node_level : {v : Surroundings} {n : ℕ} {k : Kind} {x y : Place} {ts : Forest} → is_level n ≡ true → Listed k → Staged v false (Expr n) x (node k ts) y → nat_le n (level_of_kind k) ≡ true
+pub node_level : {v : Surroundings} {n : ℕ} {k : Kind} {x y : Place} {ts : Forest} → is_level n ≡ true → Listed k → Staged v false (Expr n) x (node k ts) y → nat_le n (level_of_kind k) ≡ true
 node_level h m r = sym (at_level h _ m).home ∙ node_home r
 
-low : {v : Surroundings} {n : ℕ} {x y z : Place} {t u : Tree} → is_level n ≡ true → Onward so_far v x t y u z → Staged v false (Expr n) x u z → Staged v false (Expr n) x t y
+pub low : {v : Surroundings} {n : ℕ} {x y z : Place} {t u : Tree} → is_level n ≡ true → Onward so_far v x t y u z → Staged v false (Expr n) x u z → Staged v false (Expr n) x t y
 low h stay r = r
 low h (step k c d b i w o q on) r =
     let up = low h on r in
-    let m = listed_node o q in
+    let m = listed_node o b q in
     left_low h m b (node_level h m up) i
 
 step_low : {v : Surroundings} {n : ℕ} {x a y : Place} {t : Tree} {l : Kind} {ts : Forest} → is_level n ≡ true → Steps so_far v (Expr n) x t a l ts y → nat_le n (level_of_kind l) ≡ true
@@ -299,11 +337,11 @@ step_low h p = node_level h (step_listed p) (low h p.onward p.whole.reads)
 pub edge_on : {v : Surroundings} {n : ℕ} {x y z : Place} {u : Tree} {us : Forest} (k : Kind) (m : Tree) → is_level n ≡ true → Listed k → m ≡ node k us → Onward so_far v x m y u z → Whole so_far v false (Expr n) x u z → ends_so_far (edge k) y ≡ true
 edge_on {v} {n} {x} {y} k m h j e stay w = of_so_far.covered (Expr n) (edge k) y ((at_level h k j).covered (node_level h j (subst (λ p. Staged v false (Expr n) x p y) e w.reads))) w.ends_there
 edge_on {v} {n} {x} {y} k m h j e (step l c d b i r o q on) w =
-    let n' = listed_node o q in
+    let n' = listed_node o b q in
     let g = begins_grows (row_so_far l) b in
     let f = formed l n' g in
     let home : in_homes (side l) (homes k) ≡ true = node_home (subst (λ p. Staged v false (side l) x p y) e (subst (λ s. Staged v false s x m y) (sym (side_is l b)) i)) in
-    of_so_far.ends_there (edge k) y (sign_stops (edge k) (mark l) y (sunk l k n' j g home).heard (led_sign (tail (row_so_far l)) f.led r))
+    of_so_far.ends_there (edge k) y (sign_stops (edge k) (mark l) y (sunk l k n' j g home).heard (mark_found (tail (row_so_far l)) f.led r))
 
 step_ends : {v : Surroundings} {n : ℕ} {x a y : Place} {t : Tree} {k : Kind} {ts : Forest} → is_level n ≡ true → Steps so_far v (Expr n) x t a k ts y → Walk (Whole so_far) (steady v) (tail (row_so_far k)) a ts y
 step_ends {v} {t = t} {k} {ts} h p =
@@ -323,10 +361,10 @@ agree_self : (b : Bool) → agree b b ≡ true
 agree_self true = refl
 agree_self false = refl
 
-pub mark_among : (n : ℕ) (k : Kind) → is_level n ≡ true → Listed k → grows_on k ≡ true → (x : Lexeme) → is_sign x (mark k) ≡ true → among x.raw (going n) ≡ nat_le n (level_of_kind k)
-mark_among n k h m g x e =
-    let u = among (text_of_sign (mark k)) (going n) in
-    agreed (among x.raw (going n)) u (by_sign (λ t. agree (among t (going n)) u) (mark k) x (agree_self u) e) ∙ (at_level h k m).goes g
+pub mark_among : (n : ℕ) (k : Kind) → is_level n ≡ true → Listed k → grows_on k ≡ true → (b : Bool) (x : Lexeme) → is_sign x (mark k) ≡ true → goes_at n b x.raw ≡ (nat_le n (level_of_kind k) && not (on_line k && b))
+mark_among n k h m g b x e =
+    let u = goes_at n b (text_of_sign (mark k)) in
+    agreed (goes_at n b x.raw) u (by_sign (λ t. agree (goes_at n b t) u) (mark k) x (agree_self u) e) ∙ (at_level h k m).goes g b
 
 pub mark_is_one : (k : Kind) → Listed k → grows_on k ≡ true → (x : Lexeme) → is_sign x (mark k) ≡ true → is_mark x marks ≡ true
 mark_is_one k m g x e = mark_by (mark k) marks (formed k m g).marked x e
@@ -339,14 +377,25 @@ and_true true = refl
 and_true false = refl
 
 -- a mark that comes next goes on as its level says
-mark_goes : (n : ℕ) (k : Kind) (a : Place) → is_level n ≡ true → Listed k → grows_on k ≡ true → settled a ≡ true → IsTrue (is_found (forth (mark k) a)) → ends_so_far (Expr n) a ≡ not (nat_le n (level_of_kind k))
-mark_goes n k Lost h m g s f = cc
-mark_goes n k (At q AfterExpr text) h m g s f =
+no_break : (k : Kind) (q : Text) (e : Ending) (text : Text) → OnLine k (At q e text) → (on_line k && breaks text) ≡ false
+no_break k q e text o = by_line (on_line k) refl
+  where
+    by_line : (b : Bool) → on_line k ≡ b → (b && breaks text) ≡ false
+    by_line false i = refl
+    by_line true i = kept (breaks text) (o.stays i)
+      where
+        kept : (b : Bool) → go_if (not b) (At q e text) ≡ At q e text → b ≡ false
+        kept true f = let bad : false ≡ true = ap is_found f in cc
+        kept false f = refl
+
+mark_goes : (n : ℕ) (k : Kind) (a : Place) → is_level n ≡ true → Listed k → grows_on k ≡ true → settled a ≡ true → OnLine k a → IsTrue (is_found (forth (mark k) a)) → ends_so_far (Expr n) a ≡ not (nat_le n (level_of_kind k))
+mark_goes n k Lost h m g s o f = cc
+mark_goes n k (At q AfterExpr text) h m g s o f =
     let i = seen_sign (mark k) q AfterExpr text (mark_is_code k m g) f in
-    let raw = mark_among n k h m g (token Operator (same q []) text) i in
-    let there = mark_is_one k m g (token Operator (same q []) text) i in
-    ap (λ b. not (among (token Operator b text).raw (going n) && is_mark (token Operator b text) marks)) (sym (is_not (same q []) s)) ∙ ((λ j. not (raw j && there j)) ∙ ap not (and_true _))
-mark_goes n k (At q _ text) h m g s f = cc
+    let raw = mark_among n k h m g (breaks text) (token Operator (same q []) text) i ∙ ((λ j. nat_le n (level_of_kind k) && not (no_break k q AfterExpr text o j)) ∙ and_true (nat_le n (level_of_kind k))) in
+    let there : is_mark (token Operator (same q []) text) goers ≡ true = or_right (is_sign (token Operator (same q []) text) (pun ",")) _ (mark_is_one k m g (token Operator (same q []) text) i) in
+    ap (λ b. not (goes_at n (breaks text) (token Operator b text).raw && is_mark (token Operator b text) goers)) (sym (is_not (same q []) s)) ∙ ((λ j. not (raw j && there j)) ∙ ap not (and_true _))
+mark_goes n k (At q _ text) h m g s o f = cc
 
 -- ---- what the parser's loop says
 
@@ -354,7 +403,7 @@ mark_goes n k (At q _ text) h m g s f = cc
 pub stays : {v : Surroundings} {n : ℕ} {x a : Place} {t : Tree} → is_level n ≡ true → settled a ≡ true → ends_so_far (Expr n) a ≡ true → Stays so_far v (Expr n) x t a
 stays {n = n} {a = a} h s e = record {
   none_on = λ l ts y p.
-      let b : ends_so_far (Expr n) a ≡ not (nat_le n (level_of_kind l)) = mark_goes n l a h (step_listed p) (step_grows p) s (step_sign p) in
+      let b : ends_so_far (Expr n) a ≡ not (nat_le n (level_of_kind l)) = mark_goes n l a h (step_listed p) (step_grows p) s (step_line p) (step_sign p) in
       clash (nat_le n (level_of_kind l)) (step_low h p) (is_not _ (sym b ∙ e));
 }
 
@@ -362,9 +411,9 @@ pub climb_only : {v : Surroundings} {n : ℕ} {x a : Place} {t : Tree} → is_le
 climb_only h c e = grown_only c.follows (stays h c.ended e) c.reads e
 
 -- a mark that comes next and goes on at the level decides
-decides : {v : Surroundings} {n : ℕ} {x a : Place} {t : Tree} {k : Kind} → is_level n ≡ true → settled a ≡ true → Listed k → grows_on k ≡ true → nat_le n (level_of_kind k) ≡ true → IsTrue (is_found (forth (mark k) a)) → Decides so_far v (Expr n) x t a k
-decides {n = n} {a = a} {k = k} h s m g e f = record {
-  goes = λ i. clash (ends_so_far (Expr n) a) i (mark_goes n k a h m g s f ∙ ap not e);
+decides : {v : Surroundings} {n : ℕ} {x a : Place} {t : Tree} {k : Kind} → is_level n ≡ true → settled a ≡ true → Listed k → grows_on k ≡ true → nat_le n (level_of_kind k) ≡ true → OnLine k a → IsTrue (is_found (forth (mark k) a)) → Decides so_far v (Expr n) x t a k
+decides {n = n} {a = a} {k = k} h s m g e o f = record {
+  goes = λ i. clash (ends_so_far (Expr n) a) i (mark_goes n k a h m g s o f ∙ ap not e);
   kind = λ l ts y p. step_kind m g f p;
   ends = λ ts y p. step_ends h p;
 }
@@ -380,7 +429,7 @@ side_admits (Pat Assigns) l ts h i = i
 side_admits _ l ts h i = cc
 
 side_word : (c : Nonterminal) (t : Text) → is_side c ≡ true → is_left c ≡ false → is_value_word t ≡ true → leaf_in c IdentifierName t ≡ true
-side_word (Expr n) t h l w = and_both _ _ h w
+side_word (Expr n) t h l w = and_both _ _ (and_left (nat_le n 18) _ h) w
 side_word NullishLeft t h l w = w
 side_word MemberObject t h l w = w
 side_word DotObject t h l w = w
@@ -418,24 +467,28 @@ no_literal_left c IsName t h a = refl
 no_literal_left SimpleTarget IsNumber t h a = cc
 no_literal_left SimpleTarget IsLong t h a = cc
 no_literal_left SimpleTarget IsString t h a = cc
+no_literal_left SimpleTarget IsPattern t h a = cc
 no_literal_left (Pat Assigns) IsNumber t h a = cc
 no_literal_left (Pat Assigns) IsLong t h a = cc
 no_literal_left (Pat Assigns) IsString t h a = cc
+no_literal_left (Pat Assigns) IsPattern t h a = cc
 no_literal_left _ l t h a = cc
 
-by_fits : (k : Kind) (t : Tree) (b c : Bool) → is_assignment k ≡ b → fits k t ≡ c → cond b (is_target t) (fits_by k (level t) (is_number t)) ≡ c
+by_fits : (k : Kind) (t : Tree) (b c : Bool) → takes_target k ≡ b → fits k t ≡ c → cond b (is_target t) (fits_by k (level t) (is_number t)) ≡ c
 by_fits k t b c e f = subst (λ d. cond d (is_target t) (fits_by k (level t) (is_number t)) ≡ c) e f
 
 literal_side : {v : Surroundings} {d : Nonterminal} {x y : Place} {t : Text} (k : Kind) (l : Literal) → Formed k → Fitting k → value_leaf true (token_kind l) t ≡ true → fits_by k (level (leaf (token_kind l) t)) (is_number (leaf (token_kind l) t)) ≡ true → Staged v false d x (leaf (token_kind l) t) y → Staged v false (side k) x (leaf (token_kind l) t) y
 literal_side {t = t} k IsName fm fi w f r = leaf_to (side k) IsName (side_word (side k) t fm.sided fi.beside w) (side_leaf (side k) IdentifierName t fm.sided fi.beside ∙ w) r
 literal_side {t = t} k IsLong fm fi w f r = leaf_to (side k) IsLong fi.longs (side_leaf (side k) BigIntLiteral t fm.sided fi.beside) r
 literal_side {t = t} k IsString fm fi w f r = leaf_to (side k) IsString fi.strings (side_leaf (side k) StringLiteral t fm.sided fi.beside) r
+literal_side {t = t} k IsPattern fm fi w f r = leaf_to (side k) IsPattern fi.patterns (side_leaf (side k) RegExpLiteral t fm.sided fi.beside) r
 literal_side {t = t} k IsNumber fm fi w f r = leaf_to (side k) IsNumber fi.numbers (side_leaf (side k) NumericLiteral t fm.sided fi.beside ∙ (ap (λ b. value_leaf b NumericLiteral t) (sym fi.number ∙ f) ∙ w)) r
 
 target_side : {v : Surroundings} {d : Nonterminal} {x y : Place} {t : Text} (k : Kind) (l : Literal) → is_left (side k) ≡ true → is_target (leaf (token_kind l) t) ≡ true → Staged v false d x (leaf (token_kind l) t) y → Staged v false (side k) x (leaf (token_kind l) t) y
 target_side {t = t} k IsName s f r = leaf_to (side k) IsName (left_word (side k) t s f) (left_takes (side k) t s) r
 target_side k IsLong s f r = cc
 target_side k IsString s f r = cc
+target_side k IsPattern s f r = cc
 target_side k IsNumber s f r = cc
 
 leaf_side : {v : Surroundings} {d : Nonterminal} {x y : Place} {t : Text} (k : Kind) (l : Literal) → Formed k → Leaves k → value_leaf true (token_kind l) t ≡ true → fits k (leaf (token_kind l) t) ≡ true → Staged v false d x (leaf (token_kind l) t) y → Staged v false (side k) x (leaf (token_kind l) t) y
@@ -446,12 +499,13 @@ value_side : {v : Surroundings} {d : Nonterminal} {x y : Place} {t : Tree} (k : 
 value_side k m g (literal l {t} w) f r = let fm = formed k m g in leaf_side k l fm fm.leaves w f r
 value_side k m g (made {k = l} {ts} j) f r =
     let fm = formed k m g in
-    node_to (side k) (side_admits (side k) l ts fm.sided (sym (agreed (cond (is_assignment k) (is_target_kind l) (fits_by k (level_of_kind l) false)) (in_homes (side k) (homes l)) (implied (grows_on k) _ (of_two fitting all_fitting k l m j) g)) ∙ f)) r
+    node_to (side k) (side_admits (side k) l ts fm.sided (sym (agreed (cond (takes_target k) (is_target_kind l) (fits_by k (level_of_kind l) false)) (in_homes (side k) (homes l)) (implied (grows_on k) _ (of_two fitting all_fitting k l m j) g)) ∙ f)) r
 
 literal_unfit : {v : Surroundings} {x y : Place} {t : Text} (k : Kind) (l : Literal) → Formed k → Fitting k → value_leaf true (token_kind l) t ≡ true → fits_by k (level (leaf (token_kind l) t)) (is_number (leaf (token_kind l) t)) ≡ false → Staged v false (side k) x (leaf (token_kind l) t) y → ⊥
 literal_unfit k IsName fm fi w f r = clash _ fi.leaves f
 literal_unfit k IsLong fm fi w f r = clash _ fi.leaves f
 literal_unfit k IsString fm fi w f r = clash _ fi.leaves f
+literal_unfit k IsPattern fm fi w f r = clash _ fi.leaves f
 literal_unfit {t = t} k IsNumber fm fi w f r =
     clash (value_leaf (takes_number (side k)) NumericLiteral t) (sym (side_leaf (side k) NumericLiteral t fm.sided fi.beside) ∙ r.staged) (ap (λ b. value_leaf b NumericLiteral t) (sym fi.number ∙ f))
 
@@ -459,6 +513,7 @@ target_unfit : {v : Surroundings} {x y : Place} {t : Text} (k : Kind) (l : Liter
 target_unfit {t = t} k IsName s f r = clash (is_bound t) (bound_left (side k) t s (and_left (leaf_in (side k) IdentifierName t) (is_leaf IdentifierName t) r.reads.is)) f
 target_unfit {t = t} k IsLong s f r = let e = no_literal_left (side k) IsLong t s r.staged in cc
 target_unfit {t = t} k IsString s f r = let e = no_literal_left (side k) IsString t s r.staged in cc
+target_unfit {t = t} k IsPattern s f r = let e = no_literal_left (side k) IsPattern t s r.staged in cc
 target_unfit {t = t} k IsNumber s f r = let e = no_literal_left (side k) IsNumber t s r.staged in cc
 
 leaf_unfit : {v : Surroundings} {x y : Place} {t : Text} (k : Kind) (l : Literal) → Formed k → Leaves k → value_leaf true (token_kind l) t ≡ true → fits k (leaf (token_kind l) t) ≡ false → Staged v false (side k) x (leaf (token_kind l) t) y → ⊥
@@ -468,30 +523,35 @@ leaf_unfit {t = t} k l fm (fitting_in e fi) w f r = literal_unfit k l fm fi w (b
 value_unfit : {v : Surroundings} {x y : Place} {t : Tree} (k : Kind) → Listed k → grows_on k ≡ true → Value t → fits k t ≡ false → Staged v false (side k) x t y → ⊥
 value_unfit k m g (literal l {t} w) f r = let fm = formed k m g in leaf_unfit k l fm fm.leaves w f r
 value_unfit k m g (made {k = l} {ts} j) f r =
-    clash _ (agreed (cond (is_assignment k) (is_target_kind l) (fits_by k (level_of_kind l) false)) (in_homes (side k) (homes l)) (implied (grows_on k) _ (of_two fitting all_fitting k l m j) g) ∙ node_home r) f
+    clash _ (agreed (cond (takes_target k) (is_target_kind l) (fits_by k (level_of_kind l) false)) (in_homes (side k) (homes l)) (implied (grows_on k) _ (of_two fitting all_fitting k l m j) g) ∙ node_home r) f
 
--- the rules of a kind of expression ask nothing of its parts
-pub plain_kind : (k : Kind) (ts : Forest) (v : Surroundings) → has_kind k ≡ true → any_operand (homes k) ≡ true → has_plain_params ts ≡ true → (limits k ts && (rule k ts && stands k ts v)) ≡ true
-plain_kind (expression (Binary o)) ts v h a p = and_both _ _ p refl
-plain_kind (expression Assign) ts v h a p = and_both _ _ p refl
-plain_kind (expression (OpAssign o)) ts v h a p = and_both _ _ p refl
-plain_kind (expression Cond) ts v h a p = and_both _ _ p refl
-plain_kind (expression (Unary Void)) ts v h a p = and_both _ _ p refl
-plain_kind (expression (Unary TypeOf)) ts v h a p = and_both _ _ p refl
-plain_kind (expression (Unary Positive)) ts v h a p = and_both _ _ p refl
-plain_kind (expression (Unary Negative)) ts v h a p = and_both _ _ p refl
-plain_kind (expression (Unary Complement)) ts v h a p = and_both _ _ p refl
-plain_kind (expression (Unary Not)) ts v h a p = and_both _ _ p refl
-plain_kind (expression Call) ts v h a p = and_both _ _ p refl
-plain_kind (expression Member) ts v h a p = and_both _ _ p refl
-plain_kind (expression Index) ts v h a p = and_both _ _ p refl
-plain_kind (expression ImportCall) ts v h a p = and_both _ _ p refl
-plain_kind (jsx Element) ts v h a p = and_both _ _ p refl
-plain_kind (program Module) ts v h a p = cc
-plain_kind (statement ExprStmt) ts v h a p = cc
-plain_kind (statement Declarator) ts v h a p = cc
-plain_kind (statement (Var ConstWord)) ts v h a p = cc
-plain_kind _ ts v h a p = cc
+-- the rules of a kind of expression ask nothing of its parts, but for these
+pub plain_kind : (k : Kind) (ts : Forest) (v : Surroundings) → is_ruled k ≡ false → has_kind k ≡ true → any_operand (homes k) ≡ true → has_plain_params ts ≡ true → (limits k ts && (rule k ts && stands k ts v)) ≡ true
+plain_kind (expression Seq) ts v n h a p = and_both _ _ p refl
+plain_kind (expression (Binary o)) ts v n h a p = and_both _ _ p refl
+plain_kind (expression Assign) ts v n h a p = and_both _ _ p refl
+plain_kind (expression (OpAssign o)) ts v n h a p = and_both _ _ p refl
+plain_kind (expression Cond) ts v n h a p = and_both _ _ p refl
+plain_kind (expression (Unary Delete)) ts v n h a p = cc
+plain_kind (expression (Unary Void)) ts v n h a p = and_both _ _ p refl
+plain_kind (expression (Unary TypeOf)) ts v n h a p = and_both _ _ p refl
+plain_kind (expression (Unary Positive)) ts v n h a p = and_both _ _ p refl
+plain_kind (expression (Unary Negative)) ts v n h a p = and_both _ _ p refl
+plain_kind (expression (Unary Complement)) ts v n h a p = and_both _ _ p refl
+plain_kind (expression (Unary Not)) ts v n h a p = and_both _ _ p refl
+plain_kind (expression Call) ts v n h a p = and_both _ _ p refl
+plain_kind (expression Member) ts v n h a p = and_both _ _ p refl
+plain_kind (expression Index) ts v n h a p = and_both _ _ p refl
+plain_kind (expression (PostfixUpdate o)) ts v n h a p = and_both _ _ p refl
+plain_kind (expression (PrefixUpdate o)) ts v n h a p = and_both _ _ p refl
+plain_kind (expression ImportCall) ts v n h a p = and_both _ _ p refl
+plain_kind (expression Parenthesized) ts v n h a p = and_both _ _ p refl
+plain_kind (jsx Element) ts v n h a p = and_both _ _ p refl
+plain_kind (program Module) ts v n h a p = cc
+plain_kind (statement ExprStmt) ts v n h a p = cc
+plain_kind (statement Declarator) ts v n h a p = cc
+plain_kind (statement (Var ConstWord)) ts v n h a p = cc
+plain_kind _ ts v n h a p = cc
 
 whole_row : {v : Surroundings} {x a y : Place} {t : Tree} {ts : Forest} (k : Kind) → Formed k → grows_on k ≡ true → Staged v false (side k) x t a → Walk (Whole so_far) (steady v) (tail (row_so_far k)) a ts y → Walk Staged (around v (part t ts)) (row_so_far k) x (part t ts) y
 whole_row {v} {x} {y = y} {t} {ts} k fm g s w = subst (λ ps. Walk Staged (around v (part t ts)) ps x (part t ts) y) (led_row (row_so_far k) g) (next (tree s) (loosen (moved (λ a h. sym (free_around a (part t ts) v h)) fm.freed w)))
@@ -500,7 +560,7 @@ grammar_row : {v : Surroundings} {x a y : Place} {t : Tree} {ts : Forest} (k : K
 grammar_row {v} {x} {y = y} {t} {ts} k fm g s w = plain (row_so_far k) fm.bare (subst (λ ps. Walk IsRead (around v (part t ts)) ps x (part t ts) y) (led_row (row_so_far k) g) (next (tree s.reads) (to_grammar of_so_far (moved (λ a h. sym (free_around a (part t ts) v h)) fm.freed w))))
 
 keeps : {v : Surroundings} {x a y : Place} {t : Tree} {ts : Forest} (k : Kind) → Formed k → grows_on k ≡ true → Staged v false (side k) x t a → Walk (Whole so_far) (steady v) (tail (row_so_far k)) a ts y → so_far.keeps k v (part t ts) ≡ true
-keeps {v} {t = t} {ts} k fm g s w = and_both _ _ fm.taken (plain_kind k (part t ts) v fm.taken fm.stood (grammar_row k fm g s w))
+keeps {v} {t = t} {ts} k fm g s w = and_both _ _ fm.taken (plain_kind k (part t ts) v fm.unruled fm.taken fm.stood (grammar_row k fm g s w))
 
 joins : (n : ℕ) {v : Surroundings} {x a : Place} {t : Tree} {k : Kind} → is_level n ≡ true → Listed k → grows_on k ≡ true → nat_le n (level_of_kind k) ≡ true → Staged v false (side k) x t a → Joins so_far v x t a k
 joins n {v} {x} {a} {t} {k} h m g e s =
@@ -520,24 +580,44 @@ joins n {v} {x} {a} {t} {k} h m g e s =
 pub signed_built : {v : Surroundings} {k : Kind} {before : Forest → Forest} {w : Tree} {a b y : Place} (ps : List Piece) → signed ps ≡ true → Moves (lead ps) a b → Built so_far v (tail ps) k before w b y → Built so_far v ps k before w a y
 signed_built {v} {k} {before} {w} {a} {y = y} ps l m b = subst (λ qs. Built so_far v qs k before w a y) (lead_row ps l) (record { parts = b.parts; is = b.is; row = then' (only_sign m) b.row })
 
+pub signed_node : {v : Surroundings} {k : Kind} {w : Tree} {a b y : Place} (ps : List Piece) → signed ps ≡ true → Moves (lead ps) a b → BuiltNode so_far v (tail ps) k w b y → BuiltNode so_far v ps k w a y
+signed_node {v} {k} {w} {a} {y = y} ps l m b = subst (λ qs. BuiltNode so_far v qs k w a y) (lead_row ps l) (record { parts = b.parts; is = b.is; row = then' (only_sign m) b.row; keeps = b.keeps })
+
+pub signed_no_node : {v : Surroundings} {k : Kind} {a b : Place} (ps : List Piece) → signed ps ≡ true → Moves (lead ps) a b → NoNode so_far v (tail ps) k b → NoNode so_far v ps k a
+signed_no_node {v} {k} {a} {b} ps l m n = subst (λ qs. NoNode so_far v qs k a) (lead_row ps l) (record { no = at })
+  where
+    at : (us : Forest) (w : Place) → Walk (Whole so_far) (steady v) (piece [] (Fixed (lead ps)) ∷ tail ps) a us w → so_far.keeps k v us ≡ true → ⊥
+    at us w (next (sign e f) walk) h = n.no us w (subst (λ p. Walk (Whole so_far) (steady v) (tail ps) p us w) (sym e ∙ sym m.is) walk) h
+
 pub signed_none : {v : Surroundings} {a b : Place} (ps : List Piece) → signed ps ≡ true → Moves (lead ps) a b → NoRow so_far v (tail ps) b → NoRow so_far v ps a
 signed_none {v} {a} ps l m n = subst (λ qs. NoRow so_far v qs a) (lead_row ps l) (on (only_sign m) n)
 
+-- the same of a mark, which may have to stand on the line
+marked_built : {v : Surroundings} {k : Kind} {before : Forest → Forest} {w : Tree} {a b y : Place} (ps : List Piece) → signed (past_line ps) ≡ true → (begins_line ps ≡ true → forth SameLine a ≡ a) → Moves (lead (past_line ps)) a b → Built so_far v (tail (past_line ps)) k before w b y → Built so_far v ps k before w a y
+marked_built {a = a} (piece [] (Fixed SameLine) ∷ ps) l o m b =
+    let all = signed_built ps l m b in
+    record { parts = all.parts; is = all.is; row = then' (only_sign (record { is = sym (o refl); found = found_first (lead ps ∷ []) a (found_at (sym m.is) m.found) })) all.row }
+marked_built ps l o m b = signed_built ps l m b
+
+marked_none : {v : Surroundings} {a b : Place} (ps : List Piece) → signed (past_line ps) ≡ true → (begins_line ps ≡ true → forth SameLine a ≡ a) → Moves (lead (past_line ps)) a b → NoRow so_far v (tail (past_line ps)) b → NoRow so_far v ps a
+marked_none {a = a} (piece [] (Fixed SameLine) ∷ ps) l o m n = on (only_sign (record { is = sym (o refl); found = found_first (lead ps ∷ []) a (found_at (sym m.is) m.found) })) (signed_none ps l m n)
+marked_none ps l o m n = signed_none ps l m n
+
 -- the step is read
-pub climb_on : {v : Surroundings} {n : ℕ} {x a b y : Place} {t w : Tree} (k : Kind) → is_level n ≡ true → Listed k → grows_on k ≡ true → Climbs v n x t a → Moves (mark k) a b → nat_le n (level_of_kind k) ≡ true → fits k t ≡ true → Built so_far v (tail (tail (row_so_far k))) k (part t) w b y → settled y ≡ true → Climbs v n x w y
-climb_on {v} {n} {x} {a} {b} {y} {t} {w} k h m g c f e i built s =
+pub climb_on : {v : Surroundings} {n : ℕ} {x a b y : Place} {t w : Tree} (k : Kind) → is_level n ≡ true → Listed k → grows_on k ≡ true → Climbs v n x t a → OnLine k a → Moves (mark k) a b → nat_le n (level_of_kind k) ≡ true → fits k t ≡ true → Built so_far v (behind k) k (part t) w b y → settled y ≡ true → Climbs v n x w y
+climb_on {v} {n} {x} {a} {b} {y} {t} {w} k h m g c o f e i built s =
     let fm = formed k m g in
-    let left = value_side k m g (value t refl c.reads) i c.reads in
-    let all = signed_built (tail (row_so_far k)) fm.led f built in
+    let left = value_side k m g (value t (level_single n h) c.reads) i c.reads in
+    let all = marked_built (tail (row_so_far k)) fm.led o.stays f built in
     record {
-      follows = step_follows of_so_far c.follows (decides h c.ended m g e (found_at (sym f.is) f.found)) (joins n h m g e left) all;
+      follows = step_follows of_so_far c.follows (decides h c.ended m g e o (found_at (sym f.is) f.found)) (joins n h m g e left) all;
       reads = subst (λ u. Staged v false (Expr n) x u y) (sym all.is) (of_so_far.to_node k ((at_level h k m).home ∙ e) (record { walk = whole_row k fm g left all.row.walk; keeps = keeps k fm g left all.row.walk }));
       ended = s;
     }
 
 -- it can't be read, or the tree may not stand at its left
-pub climb_barred : {v : Surroundings} {n : ℕ} {x a b : Place} {t : Tree} (k : Kind) → is_level n ≡ true → Listed k → grows_on k ≡ true → Climbs v n x t a → Moves (mark k) a b → nat_le n (level_of_kind k) ≡ true → NoRow so_far v (tail (tail (row_so_far k))) b → Barred so_far v (Part (Expr n)) x
-climb_barred k h m g c f e n = step_barred c.follows (decides h c.ended m g e (found_at (sym f.is) f.found)) (signed_none (tail (row_so_far k)) (formed k m g).led f n)
+pub climb_barred : {v : Surroundings} {n : ℕ} {x a b : Place} {t : Tree} (k : Kind) → is_level n ≡ true → Listed k → grows_on k ≡ true → Climbs v n x t a → OnLine k a → Moves (mark k) a b → nat_le n (level_of_kind k) ≡ true → NoRow so_far v (behind k) b → Barred so_far v (Part (Expr n)) x
+climb_barred k h m g c o f e n = step_barred c.follows (decides h c.ended m g e o (found_at (sym f.is) f.found)) (marked_none (tail (row_so_far k)) (formed k m g).led o.stays f n)
 
-pub climb_unfit : {v : Surroundings} {n : ℕ} {x a b : Place} {t : Tree} (k : Kind) → is_level n ≡ true → Listed k → grows_on k ≡ true → Climbs v n x t a → Moves (mark k) a b → nat_le n (level_of_kind k) ≡ true → fits k t ≡ false → Barred so_far v (Part (Expr n)) x
-climb_unfit {t = t} k h m g c f e i = left_barred c.follows (decides h c.ended m g e (found_at (sym f.is) f.found)) (begins_side (row_so_far k) g) (λ r. value_unfit k m g (value t (operand_side k (formed k m g)) r) i r)
+pub climb_unfit : {v : Surroundings} {n : ℕ} {x a b : Place} {t : Tree} (k : Kind) → is_level n ≡ true → Listed k → grows_on k ≡ true → Climbs v n x t a → OnLine k a → Moves (mark k) a b → nat_le n (level_of_kind k) ≡ true → fits k t ≡ false → Barred so_far v (Part (Expr n)) x
+climb_unfit {t = t} k h m g c o f e i = left_barred c.follows (decides h c.ended m g e o (found_at (sym f.is) f.found)) (begins_side (row_so_far k) g) (λ r. value_unfit k m g (value t (single_side k (formed k m g)) r) i r)

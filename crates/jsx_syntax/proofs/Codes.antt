@@ -98,6 +98,7 @@ serves_by n e = record {
   raw = n.raw ∙ ap (λ x. x.raw) (sym e);
   spelled = n.spelled;
   rest = n.rest ∙ ap (λ x. x.rest) (sym e);
+  line = λ s. n.line refl;
   end = λ s. n.end refl;
   whole = n.whole;
   read = n.read;

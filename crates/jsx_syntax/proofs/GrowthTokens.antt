@@ -13,6 +13,7 @@ use Rattle.jsx_tree.specs.declared.operator.ShiftOp.TheVariants as shift
 use Rattle.jsx_tree.specs.declared.operator.SumOp.TheVariants as sum
 use Rattle.jsx_tree.specs.declared.operator.ProductOp.TheVariants as product
 use Rattle.jsx_tree.specs.declared.operator.AssignOp.TheVariants as assign
+use Rattle.jsx_tree.specs.declared.operator.UpdateOp.TheVariants as update
 use Rattle.jsx_syntax.specs.SoFar.{marks, is_sign, is_mark}
 use Rattle.jsx_tree.proofs.Tokens.{same_is}
 use Rattle.jsx_syntax.specs.declared.growth.Growth.{Growth}
@@ -84,6 +85,8 @@ growth_mark token.StarEqual t r g s e = by token.StarEqual (spelling token.StarE
 growth_mark token.SlashEqual t r g s e = by token.SlashEqual (spelling token.SlashEqual) r (growth.OpAssign (assign.Product product.Divide)) g t e (s refl) refl
 growth_mark token.PercentEqual t r g s e = by token.PercentEqual (spelling token.PercentEqual) r (growth.OpAssign (assign.Product product.Remainder)) g t e (s refl) refl
 growth_mark token.StarStarEqual t r g s e = by token.StarStarEqual (spelling token.StarStarEqual) r (growth.OpAssign assign.Exponentiate) g t e (s refl) refl
+growth_mark token.PlusPlus t r g s e = by token.PlusPlus (spelling token.PlusPlus) r (growth.Update update.Increment) g t e (s refl) refl
+growth_mark token.MinusMinus t r g s e = by token.MinusMinus (spelling token.MinusMinus) r (growth.Update update.Decrement) g t e (s refl) refl
 growth_mark token.IdentifierName t r g s e = by_word (same t (codes "in")) (same t (codes "instanceof")) g t r refl refl e
 growth_mark _ t r g s e = none_some e
 
@@ -127,8 +130,8 @@ no_mark token.RightParen r p e = refl
 no_mark token.RightBracket r p e = refl
 no_mark token.Semicolon r p e = refl
 no_mark token.Comma r p e = refl
-no_mark token.PlusPlus r p e = refl
-no_mark token.MinusMinus r p e = refl
+no_mark token.PlusPlus r p e = some_none e
+no_mark token.MinusMinus r p e = some_none e
 no_mark token.Not r p e = refl
 no_mark token.Tilde r p e = refl
 no_mark token.QuestionDot r p e = refl
@@ -202,14 +205,16 @@ mark_left token.Percent n0 n1 n2 n3 n4 n5 n6 n7 n8 n9 n10 n11 n12 n13 n14 n15 n1
 mark_left token.StarStar n0 n1 n2 n3 n4 n5 n6 n7 n8 n9 n10 n11 n12 n13 n14 n15 n16 n17 n18 n19 n20 n21 n22 = absurd (n22 refl)
 mark_left _ n0 n1 n2 n3 n4 n5 n6 n7 n8 n9 n10 n11 n12 n13 n14 n15 n16 n17 n18 n19 n20 n21 n22 = refl
 
-pub growth_left : (k : TokenKind) (t : Text) → (k ≡ token.Dot → ⊥) → (k ≡ token.LeftParen → ⊥) → (k ≡ token.LeftBracket → ⊥) → (k ≡ token.Question → ⊥) → (k ≡ token.Equal → ⊥) → (k ≡ token.IdentifierName → ⊥) → growth_by k t ≡ with_operator (binary_by k) (assign_by k)
-growth_left token.Dot t n0 n1 n2 n3 n4 n5 = absurd (n0 refl)
-growth_left token.LeftParen t n0 n1 n2 n3 n4 n5 = absurd (n1 refl)
-growth_left token.LeftBracket t n0 n1 n2 n3 n4 n5 = absurd (n2 refl)
-growth_left token.Question t n0 n1 n2 n3 n4 n5 = absurd (n3 refl)
-growth_left token.Equal t n0 n1 n2 n3 n4 n5 = absurd (n4 refl)
-growth_left token.IdentifierName t n0 n1 n2 n3 n4 n5 = absurd (n5 refl)
-growth_left _ t n0 n1 n2 n3 n4 n5 = refl
+pub growth_left : (k : TokenKind) (t : Text) → (k ≡ token.Dot → ⊥) → (k ≡ token.LeftParen → ⊥) → (k ≡ token.LeftBracket → ⊥) → (k ≡ token.Question → ⊥) → (k ≡ token.Equal → ⊥) → (k ≡ token.PlusPlus → ⊥) → (k ≡ token.MinusMinus → ⊥) → (k ≡ token.IdentifierName → ⊥) → growth_by k t ≡ with_operator (binary_by k) (assign_by k)
+growth_left token.Dot t n0 n1 n2 n3 n4 n5 n6 n7 = absurd (n0 refl)
+growth_left token.LeftParen t n0 n1 n2 n3 n4 n5 n6 n7 = absurd (n1 refl)
+growth_left token.LeftBracket t n0 n1 n2 n3 n4 n5 n6 n7 = absurd (n2 refl)
+growth_left token.Question t n0 n1 n2 n3 n4 n5 n6 n7 = absurd (n3 refl)
+growth_left token.Equal t n0 n1 n2 n3 n4 n5 n6 n7 = absurd (n4 refl)
+growth_left token.PlusPlus t n0 n1 n2 n3 n4 n5 n6 n7 = absurd (n5 refl)
+growth_left token.MinusMinus t n0 n1 n2 n3 n4 n5 n6 n7 = absurd (n6 refl)
+growth_left token.IdentifierName t n0 n1 n2 n3 n4 n5 n6 n7 = absurd (n7 refl)
+growth_left _ t n0 n1 n2 n3 n4 n5 n6 n7 = refl
 
 pub assign_left : (k : TokenKind) → (k ≡ token.QuestionQuestionEqual → ⊥) → (k ≡ token.OrOrEqual → ⊥) → (k ≡ token.AndAndEqual → ⊥) → (k ≡ token.OrEqual → ⊥) → (k ≡ token.CaretEqual → ⊥) → (k ≡ token.AndEqual → ⊥) → (k ≡ token.LessLessEqual → ⊥) → (k ≡ token.GreaterGreaterEqual → ⊥) → (k ≡ token.GreaterGreaterGreaterEqual → ⊥) → (k ≡ token.PlusEqual → ⊥) → (k ≡ token.MinusEqual → ⊥) → (k ≡ token.StarEqual → ⊥) → (k ≡ token.SlashEqual → ⊥) → (k ≡ token.PercentEqual → ⊥) → (k ≡ token.StarStarEqual → ⊥) → assign_by k ≡ None
 assign_left token.QuestionQuestionEqual n0 n1 n2 n3 n4 n5 n6 n7 n8 n9 n10 n11 n12 n13 n14 = absurd (n0 refl)

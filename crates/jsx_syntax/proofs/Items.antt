@@ -3,9 +3,9 @@ use Rattle.std.proofs.Common.{◌≡◌, Bool, true, false, not, cond, List, [],
 use Rattle.std.specs.Prelude.{IsTrue, codes, ◌&&◌}
 use Rattle.jsx_base.specs.Token.{Operand, Operator, IdentifierName, Punctuator, RegExpLiteral, is_token, among, token, same}
 use Rattle.jsx_tree.specs.Signs.{AfterExpr, AfterBinding, Sign, Unless, Ends}
-use Rattle.jsx_tree.specs.Kinds.{ConstWord, Var, Declarator, ExprStmt, Binds, Kind, statement, Tree, leaf, node, list, Forest, none, part}
+use Rattle.jsx_tree.specs.Kinds.{DeclareWord, VarWord, LetWord, ConstWord, Var, Declarator, ExprStmt, Binds, Kind, statement, Tree, leaf, node, list, Forest, none, part}
 use Rattle.jsx_tree.specs.Nonterminals.{Nonterminal, Expr, Pat, Declarators, Item, leaf_in}
-use Rattle.jsx_tree.specs.Grammar.{Part, Fixed, pun, key, heads}
+use Rattle.jsx_tree.specs.Grammar.{Part, Fixed, pun, key, heads, semi}
 use Rattle.jsx_tree.specs.Form.{admits}
 use Rattle.jsx_tree.specs.Reading.{Place, Lost, At, forth}
 use Rattle.jsx_tree.specs.StaticRules.{Surroundings, all_of, list_rule, has_init}
@@ -14,7 +14,7 @@ use Rattle.jsx_tree.specs.Walk.{is_found, nothing, one, Piece, row, tail, Given,
 use Rattle.jsx_tree.specs.Stops.{going}
 use Rattle.jsx_tree.specs.Language.{Language, Whole}
 use Rattle.jsx_tree.specs.Answers.{Moves, Stuck, Only, Barred, OnlyRow, NoRow, NoNode, BuiltNode}
-use Rattle.jsx_syntax.specs.SoFar.{Staged, behind_const, ends_so_far, row_so_far, so_far}
+use Rattle.jsx_syntax.specs.SoFar.{Staged, ends_so_far, row_so_far, so_far}
 use Rattle.jsx_tree.proofs.Tokens.{and_left, and_right, and_both}
 use Rattle.jsx_tree.proofs.Apart.{clash}
 use Rattle.jsx_base.proofs.Fronts.{none_ahead}
@@ -28,19 +28,22 @@ use Rattle.jsx_tree.proofs.Rows.Turns.{Turn, prepend, turn_only, whole_of}
 use Rattle.jsx_tree.proofs.Rows.Lists.{all_with}
 use Rattle.jsx_tree.proofs.Rows.Optionals.{turn_absent, present_last, none_last}
 use Rattle.jsx_tree.proofs.Rows.Laws.{lost_barred, end_found, start_found}
-use Rattle.jsx_tree.proofs.Rows.Placing.{Chosen, OnlyAt, NoneAt, then_at, only_at, barred_at, only_node, barred_node}
+use Rattle.jsx_tree.proofs.Rows.Placing.{Chosen, OnlyAt, NoneAt, then_at, only_at, barred_at}
 use Rattle.jsx_syntax.proofs.OfSoFar.{of_so_far}
-use Rattle.jsx_syntax.proofs.Homes.{IsName, patterns, no_list, Taken, module', constant, bound, evaluation, operand, no_operand_at, taken_by, home_of}
+use Rattle.jsx_syntax.proofs.Homes.{IsName, patterns, no_list, lives, Taken, module', headed, bound, evaluation, sequence, operand, no_operand_at, taken_by, home_of}
+use Rattle.jsx_syntax.specs.Headings.{has_value, heading_kind}
+use Rattle.jsx_syntax.proofs.Headings.{of_heading}
 use Rattle.jsx_syntax.specs.Growths.{settled}
-use Rattle.jsx_syntax.proofs.Values.{settled_token, leaf_full, is_next, found_next, only_whole, barred_whole, no_heads}
+use Rattle.jsx_syntax.proofs.Values.{settled_token, leaf_full, is_next, found_next, no_heads}
 
 -- ---- a variable and its initializer
 
 pub bound_kind : (l : Kind) (ts : Forest) → Taken l → admits Declarators (node l ts) ≡ true → l ≡ statement Declarator
 bound_kind l ts bound h = refl
 bound_kind l ts module' h = cc
-bound_kind l ts constant h = cc
+bound_kind l ts (headed g) h = absurd (clash _ h (is_not _ (of_heading (λ j. not (lives Declarators (heading_kind j))) refl g)))
 bound_kind l ts evaluation h = cc
+bound_kind l ts sequence h = cc
 bound_kind l ts (operand m) h = absurd (no_operand_at Declarators refl m h)
 
 bound_chosen : {v : Surroundings} {x : Place} → Chosen so_far v Declarators (statement Declarator) x
@@ -131,106 +134,91 @@ no_initializer {v} {x} {y} {y1} {y2} o m q b = none_bound (record { no = at })
         let same = o.alone _ _ r in
         last us z (subst (λ p. Walk (Whole so_far) (steady v) (tail (tail (row_so_far (statement Declarator)))) p us z) (sym e ∙ (ap (forth (Ends AfterBinding)) (sym same.1) ∙ sym m.is)) w) h
 
--- ---- a lexical declaration, behind its word and with it
+-- ---- a declaration of variables, behind its word
 
-abbrev pub inits : Forest → Bool
-inits = all_of (has_init ConstWord)
+abbrev pub inits : DeclareWord → Forest → Bool
+inits w = all_of (has_init w)
 
-pub inits_more : (ts : Forest) (t : Tree) → inits ts ≡ true → has_init ConstWord t ≡ true → inits (both ts (part t none)) ≡ true
-inits_more none t a b = and_both _ _ b refl
-inits_more (part u ts) t a b = and_both _ _ (and_left (has_init ConstWord u) _ a) (inits_more ts t (and_right (has_init ConstWord u) _ a) b)
+pub inits_more : (w : DeclareWord) (ts : Forest) (t : Tree) → inits w ts ≡ true → has_init w t ≡ true → inits w (both ts (part t none)) ≡ true
+inits_more w none t a b = and_both _ _ b refl
+inits_more w (part u ts) t a b = and_both _ _ (and_left (has_init w u) _ a) (inits_more w ts t (and_right (has_init w u) _ a) b)
 
-without : (ts : Forest) (t : Tree) (us : Forest) → has_init ConstWord t ≡ false → inits (both ts (part t us)) ≡ true → ⊥
-without none t us n h = clash _ (and_left (has_init ConstWord t) _ h) n
-without (part u ts) t us n h = without ts t us n (and_right (has_init ConstWord u) _ h)
+without : (w : DeclareWord) (ts : Forest) (t : Tree) (us : Forest) → has_init w t ≡ false → inits w (both ts (part t us)) ≡ true → ⊥
+without w none t us n h = clash _ (and_left (has_init w t) _ h) n
+without w (part u ts) t us n h = without w ts t us n (and_right (has_init w u) _ h)
 
-pub const_keeps : (v : Surroundings) (ts : Forest) → inits ts ≡ true → so_far.keeps (statement (Var ConstWord)) v (part (list ts) none) ≡ true
-const_keeps v ts i = and_both _ _ (and_both _ _ i refl) refl
+pub declared_keeps : (w : DeclareWord) (v : Surroundings) (ts : Forest) → inits w ts ≡ true → so_far.keeps (statement (Var w)) v (part (list ts) none) ≡ true
+declared_keeps w v ts i = and_both _ _ (and_both _ _ i refl) refl
 
-list_inits : (v : Surroundings) (ts us : Forest) → so_far.keeps (statement (Var ConstWord)) v (part (list ts) us) ≡ true → inits ts ≡ true
-list_inits v ts us k = and_left (inits ts) _ (and_left (all_of (list_rule inits) (part (list ts) us)) _ k)
+list_inits : (w : DeclareWord) (v : Surroundings) (ts us : Forest) → so_far.keeps (statement (Var w)) v (part (list ts) us) ≡ true → inits w ts ≡ true
+list_inits w v ts us k = and_left (inits w ts) _ (and_left (all_of (list_rule (inits w)) (part (list ts) us)) _ k)
+
+abbrev pub behind_word : DeclareWord → List Piece
+behind_word w = tail (row_so_far (statement (Var w)))
 
 -- one without an initializer
-pub no_init : {v : Surroundings} {x y z : Place} {t : Tree} (ts : Forest) → Turn so_far v behind_const behind_const x y (prepend ts) → Only so_far v (Part Declarators) y (one t) z → has_init ConstWord t ≡ false → NoNode so_far v behind_const (statement (Var ConstWord)) x
-no_init {v} {x} {t = t} ts so o n = record { no = at }
+pub no_init : {v : Surroundings} {x y z : Place} {t : Tree} (w : DeclareWord) (ts : Forest) → Turn so_far v (behind_word w) (behind_word w) x y (prepend ts) → Only so_far v (Part Declarators) y (one t) z → has_init w t ≡ false → NoNode so_far v (behind_word w) (statement (Var w)) x
+no_init {v} {x} {t = t} w ts so o n = record { no = at }
   where
-    at : (us : Forest) (w : Place) → Walk (Whole so_far) (steady v) behind_const x us w → so_far.keeps (statement (Var ConstWord)) v us ≡ true → ⊥
-    at us w walk k =
-        let a = all_with ts so o us w walk in
-        without ts t a.0 n (list_inits v (both ts (part t a.0)) a.1.0 (subst (λ vs. so_far.keeps (statement (Var ConstWord)) v vs ≡ true) a.1.1 k))
+    at : (us : Forest) (z : Place) → Walk (Whole so_far) (steady v) (behind_word w) x us z → so_far.keeps (statement (Var w)) v us ≡ true → ⊥
+    at us z walk k =
+        let a = all_with ts so o us z walk in
+        without w ts t a.0 n (list_inits w v (both ts (part t a.0)) a.1.0 (subst (λ vs. so_far.keeps (statement (Var w)) v vs ≡ true) a.1.1 k))
 
-pub item_kind : (l : Kind) (ts : Forest) {A : Type 0} → Taken l → admits Item (node l ts) ≡ true → (l ≡ statement (Var ConstWord) → A) → (l ≡ statement ExprStmt → A) → A
-item_kind l ts constant h f g = f refl
-item_kind l ts evaluation h f g = g refl
-item_kind l ts module' h f g = cc
-item_kind l ts bound h f g = cc
-item_kind l ts (operand m) h f g = absurd (no_operand_at Item refl m h)
+-- what is bound is a name, which only `const` asks a value of
+name_value : (w : DeclareWord) {v : Surroundings} {x y : Place} (q : Tree) (ts : Forest) → Staged v false (Pat Binds) x q y → has_init w (node (statement Declarator) (part q ts)) ≡ has_value w (node (statement Declarator) (part q ts))
+name_value ConstWord q ts r = refl
+name_value VarWord (leaf IdentifierName t) ts r = refl
+name_value LetWord (leaf IdentifierName t) ts r = refl
+name_value VarWord (leaf _ t) ts r = let bad = r.staged in cc
+name_value LetWord (leaf _ t) ts r = let bad = r.staged in cc
+name_value VarWord (node k us) ts r = absurd (patterns.node k us (taken_by r) (home_of r))
+name_value LetWord (node k us) ts r = absurd (patterns.node k us (taken_by r) (home_of r))
+name_value VarWord (list us) ts r = absurd (no_list r)
+name_value LetWord (list us) ts r = absurd (no_list r)
 
-const_key : Keyed 99 (codes "onst")
-const_key = record { no_less = refl; no_slash = λ s. none_ahead RegExpLiteral Operand 99 s refl refl refl; no_head = refl }
+walk_value : (w : DeclareWord) {V : _} {x y : Place} {ts : Forest} → Walk Staged V (row_so_far (statement Declarator)) x ts y → has_init w (node (statement Declarator) ts) ≡ has_value w (node (statement Declarator) ts)
+walk_value w (next {ts = us} (tree {t = q} r) walk) = name_value w q us r
 
-pub const_sign : {R : _} {V : _} {x y : Place} {ts : Forest} → Walk R V (row_so_far (statement (Var ConstWord))) x ts y → IsTrue (is_found (forth (key "const") x))
-const_sign (next (sign e f) w) = found_at e f
+tree_value : (w : DeclareWord) {v : Surroundings} {x y : Place} (t : Tree) → Staged v false Declarators x t y → has_init w t ≡ has_value w t
+tree_value w (leaf s t) r = let bad = r.staged in cc
+tree_value w (list ts) r = absurd (no_list r)
+tree_value w {v} {x} {y} (node l ts) r =
+    let e = bound_kind l ts (taken_by r) (home_of r) in
+    subst (λ k. has_init w (node k ts) ≡ has_value w (node k ts)) (sym e) (walk_value w (of_so_far.from_node (statement Declarator) (subst (λ k. Staged v false Declarators x (node k ts) y) e r)).walk)
 
-pub no_evaluation : {v : Surroundings} {c : Nonterminal} {x y : Place} {ts : Forest} → IsTrue (is_found (forth (key "const") x)) → Staged v false c x (node (statement ExprStmt) ts) y → ⊥
-no_evaluation f r = let bad = row_key 99 (codes "onst") (row false (statement ExprStmt)) const_key (node_walk false (statement ExprStmt) refl r.reads).walk f in cc
-
-const_chosen : {v : Surroundings} {x : Place} → IsTrue (is_found (forth (key "const") x)) → Chosen so_far v Item (statement (Var ConstWord)) x
-const_chosen {v} {x} f = record {
-  no_leaf = λ s t y w. let bad = w.reads.staged in cc;
-  kind = λ l ts y w. item_kind l ts (taken_by w.reads) (home_of w.reads) (λ e. e) (λ e. absurd (no_evaluation f (subst (λ k. Staged v false Item x (node k ts) y) e w.reads)));
-}
-
-no_const : {v : Surroundings} {x y : Place} {ts : Forest} → forth (key "const") x ≡ Lost → Staged v false Item x (node (statement (Var ConstWord)) ts) y → ⊥
-no_const n r = let bad : IsTrue (is_found Lost) = subst (λ p. IsTrue (is_found p)) n (const_sign (of_so_far.from_node (statement (Var ConstWord)) r).walk) in cc
-
-evaluation_chosen : {v : Surroundings} {x : Place} → forth (key "const") x ≡ Lost → Chosen so_far v Item (statement ExprStmt) x
-evaluation_chosen {v} {x} n = record {
-  no_leaf = λ s t y w. let bad = w.reads.staged in cc;
-  kind = λ l ts y w. item_kind l ts (taken_by w.reads) (home_of w.reads) (λ e. absurd (no_const n (subst (λ k. Staged v false Item x (node k ts) y) e w.reads))) (λ e. e);
-}
-
-pub item_ends : (y : Place) → ends_so_far Item y ≡ true
-item_ends y = of_so_far.ends_there Item y (never_stops Item y refl)
-
-pub const_only : {v : Surroundings} {x y z : Place} {t : Tree} → Moves (key "const") x y → BuiltNode so_far v behind_const (statement (Var ConstWord)) t y z → Only so_far v (Part Item) x (one t) z
-const_only {z = z} m b = only_node of_so_far (const_chosen (found_at (sym m.is) m.found)) refl refl (λ ts. refl) (record { parts = b.parts; is = b.is; row = then' (only_sign m) b.row }) b.keeps (item_ends z)
-
-pub const_barred : {v : Surroundings} {x y : Place} → Moves (key "const") x y → NoNode so_far v behind_const (statement (Var ConstWord)) y → Barred so_far v (Part Item) x
-const_barred {v} {x} {y} m n = barred_node of_so_far (const_chosen (found_at (sym m.is) m.found)) refl refl (record { no = at })
-  where
-    at : (us : Forest) (w : Place) → Walk (Whole so_far) (steady v) (row_so_far (statement (Var ConstWord))) x us w → so_far.keeps (statement (Var ConstWord)) v us ≡ true → ⊥
-    at us w (next {ts = vs} (sign e f) walk) k = n.no vs w (subst (λ p. Walk (Whole so_far) (steady v) behind_const p vs w) (sym e ∙ sym m.is) walk) k
+pub read_value : (w : DeclareWord) {v : Surroundings} {x y : Place} {t : Tree} → Only so_far v (Part Declarators) x (one t) y → has_init w t ≡ has_value w t
+read_value w {t = t} o = tree_value w t (whole_of o.past).reads
 
 -- ---- an expression statement
 
 heads_only : {v : Surroundings} {x : Place} → IsTrue (is_found x) → forth (Unless heads) x ≡ x → Only so_far v (Fixed (Unless heads)) x nothing x
 heads_only f e = only_sign (record { is = sym e; found = f })
 
-statement_row : {v : Surroundings} {x y z : Place} {t : Tree} → Only so_far v (Part (Expr 1)) x (one t) y → Only so_far v (Fixed (pun ";")) y nothing z → OnlyRow so_far v (row_so_far (statement ExprStmt)) x (part t none) z
-statement_row o s = then' (heads_only (start_found of_so_far (whole_of o.past).reads) (no_heads refl (whole_of o.past).reads)) (then' (only_whole o) (then' s (end (sign_found s.past))))
+statement_row : {v : Surroundings} {x y z : Place} {t : Tree} → Only so_far v (Part (Expr 0)) x (one t) y → Only so_far v semi y nothing z → OnlyRow so_far v (row_so_far (statement ExprStmt)) x (part t none) z
+statement_row o s = then' (heads_only (start_found of_so_far (whole_of o.past).reads) (no_heads (whole_of o.past).reads)) (then' o (then' s (end (sign_found s.past))))
   where
     sign_found : {v : Surroundings} {s : Sign} {x y : Place} {g : Given} → Past (Whole so_far) v (Fixed s) x g y → IsTrue (is_found y)
     sign_found (sign e f) = f
 
-pub statement_built : {v : Surroundings} {x y z : Place} {t w : Tree} → Only so_far v (Part (Expr 1)) x (one t) y → is_string t ≡ false → Only so_far v (Fixed (pun ";")) y nothing z → w ≡ node (statement ExprStmt) (part t none) → BuiltNode so_far v (row_so_far (statement ExprStmt)) (statement ExprStmt) w x z
+pub statement_built : {v : Surroundings} {x y z : Place} {t w : Tree} → Only so_far v (Part (Expr 0)) x (one t) y → is_string t ≡ false → Only so_far v semi y nothing z → w ≡ node (statement ExprStmt) (part t none) → BuiltNode so_far v (row_so_far (statement ExprStmt)) (statement ExprStmt) w x z
 statement_built {v} {t = t} o n s is =
     let r = statement_row o s in
     record { parts = part t none; is = is; row = r; keeps = and_both _ _ (not_is _ n) (and_both _ _ (plain (row_so_far (statement ExprStmt)) refl (to_grammar of_so_far r.walk)) refl) }
 
-pub no_value_statement : {v : Surroundings} {x : Place} → Barred so_far v (Part (Expr 1)) x → NoRow so_far v (row_so_far (statement ExprStmt)) x
+pub no_value_statement : {v : Surroundings} {x : Place} → Barred so_far v (Part (Expr 0)) x → NoRow so_far v (row_so_far (statement ExprStmt)) x
 no_value_statement {v} {x} b = record { no = at }
   where
     at : (us : Forest) (w : Place) → Walk (Whole so_far) (steady v) (row_so_far (statement ExprStmt)) x us w → ⊥
-    at us w (next (sign e f) (next {y = z} {g = g} q walk)) = (barred_whole b).no g z (subst (λ p. Past (Whole so_far) v (Part (Expr 0)) p g z) (sym e ∙ stays (Unless heads) x refl (found_at e f)) q)
+    at us w (next (sign e f) (next {y = z} {g = g} q walk)) = b.no g z (subst (λ p. Past (Whole so_far) v (Part (Expr 0)) p g z) (sym e ∙ stays (Unless heads) x refl (found_at e f)) q)
 
-pub unfinished : {v : Surroundings} {x y : Place} {t : Tree} → Only so_far v (Part (Expr 1)) x (one t) y → Barred so_far v (Fixed (pun ";")) y → NoRow so_far v (row_so_far (statement ExprStmt)) x
-unfinished o s = on (heads_only (start_found of_so_far (whole_of o.past).reads) (no_heads refl (whole_of o.past).reads)) (on (only_whole o) (bar s))
+pub unfinished : {v : Surroundings} {x y : Place} {t : Tree} → Only so_far v (Part (Expr 0)) x (one t) y → Barred so_far v semi y → NoRow so_far v (row_so_far (statement ExprStmt)) x
+unfinished o s = on (heads_only (start_found of_so_far (whole_of o.past).reads) (no_heads (whole_of o.past).reads)) (on o (bar s))
 
 string_limits : (t : Tree) (us : Forest) → is_string t ≡ true → limits (statement ExprStmt) (part t us) ≡ false
 string_limits t us e = ap not e
 
-pub string_statement : {v : Surroundings} {x y : Place} {t : Tree} → Only so_far v (Part (Expr 1)) x (one t) y → is_string t ≡ true → NoNode so_far v (row_so_far (statement ExprStmt)) (statement ExprStmt) x
+pub string_statement : {v : Surroundings} {x y : Place} {t : Tree} → Only so_far v (Part (Expr 0)) x (one t) y → is_string t ≡ true → NoNode so_far v (row_so_far (statement ExprStmt)) (statement ExprStmt) x
 string_statement {v} {x} {y} {t} o s = record { no = at }
   where
     one_is : {t u : Tree} → one t ≡ one u → t ≡ u
@@ -239,11 +227,5 @@ string_statement {v} {x} {y} {t} o s = record { no = at }
     at : (us : Forest) (w : Place) → Walk (Whole so_far) (steady v) (row_so_far (statement ExprStmt)) x us w → so_far.keeps (statement ExprStmt) v us ≡ true → ⊥
     at us w (next (sign e f) (next {y = z} {ts = vs} (tree {t = u} q) walk)) k =
         let there = sym e ∙ stays (Unless heads) x refl (found_at e f) in
-        let same = (only_whole o).alone (one u) z (tree (subst (λ p. Whole so_far v false (Expr 0) p u z) there q)) in
+        let same = o.alone (one u) z (tree (subst (λ p. Whole so_far v false (Expr 0) p u z) there q)) in
         clash _ (and_left (limits (statement ExprStmt) (part u vs)) _ k) (string_limits u vs (subst (λ p. is_string p ≡ true) (one_is same.0) s))
-
-pub statement_only : {v : Surroundings} {x z : Place} {t : Tree} → forth (key "const") x ≡ Lost → BuiltNode so_far v (row_so_far (statement ExprStmt)) (statement ExprStmt) t x z → Only so_far v (Part Item) x (one t) z
-statement_only {z = z} n b = only_node of_so_far (evaluation_chosen n) refl refl (λ ts. refl) (record { parts = b.parts; is = b.is; row = b.row }) b.keeps (item_ends z)
-
-pub statement_barred : {v : Surroundings} {x : Place} → forth (key "const") x ≡ Lost → NoNode so_far v (row_so_far (statement ExprStmt)) (statement ExprStmt) x → Barred so_far v (Part Item) x
-statement_barred n b = barred_node of_so_far (evaluation_chosen n) refl refl b

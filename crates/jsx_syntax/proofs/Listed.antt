@@ -2,7 +2,7 @@
 use Rattle.std.proofs.Common.{◌≡◌, ℕ, zero, suc, nat_eq, Bool, true, false, not, List, [], ◌∷◌, refl, sym, ◌∙◌, ap, subst}
 use Rattle.std.specs.Prelude.{Option, Some, None, ◌&&◌}
 use Rattle.std.proofs.lemmas.Bool.{eqb-true}
-use Rattle.jsx_tree.specs.Kinds.{ConstWord, Module, Var, Declarator, ExprStmt, Assign, OpAssign, BinaryOp, Nullish, Or, And, BitOr, BitXor, BitAnd, Equal, Unequal, StrictEqual, StrictUnequal, Less, Greater, AtMost, AtLeast, InOp, InstanceOf, ShiftLeft, ShiftRight, ShiftOut, Add, Subtract, Multiply, Divide, Remainder, Exponentiate, Void, TypeOf, Positive, Negative, Complement, Not, Unary, Binary, Cond, Call, Member, Index, ImportCall, Element, Kind, program, statement, expression, jsx}
+use Rattle.jsx_tree.specs.Kinds.{ConstWord, Module, Var, Declarator, ExprStmt, Assign, OpAssign, BinaryOp, Nullish, Or, And, BitOr, BitXor, BitAnd, Equal, Unequal, StrictEqual, StrictUnequal, Less, Greater, AtMost, AtLeast, InOp, InstanceOf, ShiftLeft, ShiftRight, ShiftOut, Add, Subtract, Multiply, Divide, Remainder, Exponentiate, Void, TypeOf, Positive, Negative, Complement, Not, Unary, Binary, Cond, Call, Member, Index, ImportCall, Parenthesized, Element, Kind, program, statement, expression, jsx, Delete, PrefixUpdate, PostfixUpdate, Increment, Decrement, Seq}
 use Rattle.jsx_tree.specs.Nonterminals.{homes}
 use Rattle.jsx_syntax.specs.Stage.{has_kind}
 use Rattle.jsx_tree.proofs.Tokens.{and_left, and_right}
@@ -11,7 +11,7 @@ use Rattle.jsx_tree.proofs.Rows.Closers.{any_operand}
 use Rattle.jsx_syntax.specs.Growths.{levels, any_number, is_level}
 
 abbrev pub kinds : List Kind
-kinds = expression Assign ∷ expression (OpAssign Nullish) ∷ expression (OpAssign Or) ∷ expression (OpAssign And) ∷ expression (OpAssign BitOr) ∷ expression (OpAssign BitXor) ∷ expression (OpAssign BitAnd) ∷ expression (OpAssign ShiftLeft) ∷ expression (OpAssign ShiftRight) ∷ expression (OpAssign ShiftOut) ∷ expression (OpAssign Add) ∷ expression (OpAssign Subtract) ∷ expression (OpAssign Multiply) ∷ expression (OpAssign Divide) ∷ expression (OpAssign Remainder) ∷ expression (OpAssign Exponentiate) ∷ expression (Binary Nullish) ∷ expression (Binary Or) ∷ expression (Binary And) ∷ expression (Binary BitOr) ∷ expression (Binary BitXor) ∷ expression (Binary BitAnd) ∷ expression (Binary Equal) ∷ expression (Binary Unequal) ∷ expression (Binary StrictEqual) ∷ expression (Binary StrictUnequal) ∷ expression (Binary Less) ∷ expression (Binary Greater) ∷ expression (Binary AtMost) ∷ expression (Binary AtLeast) ∷ expression (Binary InOp) ∷ expression (Binary InstanceOf) ∷ expression (Binary ShiftLeft) ∷ expression (Binary ShiftRight) ∷ expression (Binary ShiftOut) ∷ expression (Binary Add) ∷ expression (Binary Subtract) ∷ expression (Binary Multiply) ∷ expression (Binary Divide) ∷ expression (Binary Remainder) ∷ expression (Binary Exponentiate) ∷ expression Cond ∷ expression Call ∷ expression Member ∷ expression Index ∷ expression (Unary Void) ∷ expression (Unary TypeOf) ∷ expression (Unary Positive) ∷ expression (Unary Negative) ∷ expression (Unary Complement) ∷ expression (Unary Not) ∷ expression ImportCall ∷ jsx Element ∷ []
+kinds = expression Assign ∷ expression (OpAssign Nullish) ∷ expression (OpAssign Or) ∷ expression (OpAssign And) ∷ expression (OpAssign BitOr) ∷ expression (OpAssign BitXor) ∷ expression (OpAssign BitAnd) ∷ expression (OpAssign ShiftLeft) ∷ expression (OpAssign ShiftRight) ∷ expression (OpAssign ShiftOut) ∷ expression (OpAssign Add) ∷ expression (OpAssign Subtract) ∷ expression (OpAssign Multiply) ∷ expression (OpAssign Divide) ∷ expression (OpAssign Remainder) ∷ expression (OpAssign Exponentiate) ∷ expression (Binary Nullish) ∷ expression (Binary Or) ∷ expression (Binary And) ∷ expression (Binary BitOr) ∷ expression (Binary BitXor) ∷ expression (Binary BitAnd) ∷ expression (Binary Equal) ∷ expression (Binary Unequal) ∷ expression (Binary StrictEqual) ∷ expression (Binary StrictUnequal) ∷ expression (Binary Less) ∷ expression (Binary Greater) ∷ expression (Binary AtMost) ∷ expression (Binary AtLeast) ∷ expression (Binary InOp) ∷ expression (Binary InstanceOf) ∷ expression (Binary ShiftLeft) ∷ expression (Binary ShiftRight) ∷ expression (Binary ShiftOut) ∷ expression (Binary Add) ∷ expression (Binary Subtract) ∷ expression (Binary Multiply) ∷ expression (Binary Divide) ∷ expression (Binary Remainder) ∷ expression (Binary Exponentiate) ∷ expression Cond ∷ expression Call ∷ expression Member ∷ expression Index ∷ expression (Unary Void) ∷ expression (Unary TypeOf) ∷ expression (Unary Positive) ∷ expression (Unary Negative) ∷ expression (Unary Complement) ∷ expression (Unary Not) ∷ expression ImportCall ∷ expression Parenthesized ∷ expression (PrefixUpdate Increment) ∷ expression (PrefixUpdate Decrement) ∷ expression (PostfixUpdate Increment) ∷ expression (PostfixUpdate Decrement) ∷ expression (Unary Delete) ∷ jsx Element ∷ []
 
 -- the place of a kind in the list
 abbrev pub code : Kind → ℕ
@@ -67,7 +67,13 @@ code (expression (Unary Negative)) = 48
 code (expression (Unary Complement)) = 49
 code (expression (Unary Not)) = 50
 code (expression ImportCall) = 51
-code (jsx Element) = 52
+code (expression Parenthesized) = 52
+code (expression (PrefixUpdate Increment)) = 53
+code (expression (PrefixUpdate Decrement)) = 54
+code (expression (PostfixUpdate Increment)) = 55
+code (expression (PostfixUpdate Decrement)) = 56
+code (expression (Unary Delete)) = 57
+code (jsx Element) = 58
 code k = 0
 
 abbrev pub nth : ℕ → List Kind → Option Kind
@@ -105,41 +111,53 @@ listed_binary Divide = record { is = refl }
 listed_binary Remainder = record { is = refl }
 listed_binary Exponentiate = record { is = refl }
 
-pub listed : (k : Kind) → has_kind k ≡ true → any_operand (homes k) ≡ true → Listed k
-listed (expression (Binary o)) h a = listed_binary o
-listed (expression Assign) h a = record { is = refl }
-listed (expression (OpAssign Nullish)) h a = record { is = refl }
-listed (expression (OpAssign Or)) h a = record { is = refl }
-listed (expression (OpAssign And)) h a = record { is = refl }
-listed (expression (OpAssign BitOr)) h a = record { is = refl }
-listed (expression (OpAssign BitXor)) h a = record { is = refl }
-listed (expression (OpAssign BitAnd)) h a = record { is = refl }
-listed (expression (OpAssign ShiftLeft)) h a = record { is = refl }
-listed (expression (OpAssign ShiftRight)) h a = record { is = refl }
-listed (expression (OpAssign ShiftOut)) h a = record { is = refl }
-listed (expression (OpAssign Add)) h a = record { is = refl }
-listed (expression (OpAssign Subtract)) h a = record { is = refl }
-listed (expression (OpAssign Multiply)) h a = record { is = refl }
-listed (expression (OpAssign Divide)) h a = record { is = refl }
-listed (expression (OpAssign Remainder)) h a = record { is = refl }
-listed (expression (OpAssign Exponentiate)) h a = record { is = refl }
-listed (expression Cond) h a = record { is = refl }
-listed (expression Call) h a = record { is = refl }
-listed (expression Member) h a = record { is = refl }
-listed (expression Index) h a = record { is = refl }
-listed (expression (Unary Void)) h a = record { is = refl }
-listed (expression (Unary TypeOf)) h a = record { is = refl }
-listed (expression (Unary Positive)) h a = record { is = refl }
-listed (expression (Unary Negative)) h a = record { is = refl }
-listed (expression (Unary Complement)) h a = record { is = refl }
-listed (expression (Unary Not)) h a = record { is = refl }
-listed (expression ImportCall) h a = record { is = refl }
-listed (jsx Element) h a = record { is = refl }
-listed (program Module) h a = cc
-listed (statement (Var ConstWord)) h a = cc
-listed (statement Declarator) h a = cc
-listed (statement ExprStmt) h a = cc
-listed _ h a = cc
+-- all but a sequence, which stands in fewer places
+abbrev pub is_sequence : Kind → Bool
+is_sequence (expression Seq) = true
+is_sequence k = false
+
+pub listed : (k : Kind) → has_kind k ≡ true → any_operand (homes k) ≡ true → is_sequence k ≡ false → Listed k
+listed (expression (Binary o)) h a s = listed_binary o
+listed (expression Assign) h a s = record { is = refl }
+listed (expression (OpAssign Nullish)) h a s = record { is = refl }
+listed (expression (OpAssign Or)) h a s = record { is = refl }
+listed (expression (OpAssign And)) h a s = record { is = refl }
+listed (expression (OpAssign BitOr)) h a s = record { is = refl }
+listed (expression (OpAssign BitXor)) h a s = record { is = refl }
+listed (expression (OpAssign BitAnd)) h a s = record { is = refl }
+listed (expression (OpAssign ShiftLeft)) h a s = record { is = refl }
+listed (expression (OpAssign ShiftRight)) h a s = record { is = refl }
+listed (expression (OpAssign ShiftOut)) h a s = record { is = refl }
+listed (expression (OpAssign Add)) h a s = record { is = refl }
+listed (expression (OpAssign Subtract)) h a s = record { is = refl }
+listed (expression (OpAssign Multiply)) h a s = record { is = refl }
+listed (expression (OpAssign Divide)) h a s = record { is = refl }
+listed (expression (OpAssign Remainder)) h a s = record { is = refl }
+listed (expression (OpAssign Exponentiate)) h a s = record { is = refl }
+listed (expression Cond) h a s = record { is = refl }
+listed (expression Call) h a s = record { is = refl }
+listed (expression Member) h a s = record { is = refl }
+listed (expression Index) h a s = record { is = refl }
+listed (expression (Unary Void)) h a s = record { is = refl }
+listed (expression (Unary TypeOf)) h a s = record { is = refl }
+listed (expression (Unary Positive)) h a s = record { is = refl }
+listed (expression (Unary Negative)) h a s = record { is = refl }
+listed (expression (Unary Complement)) h a s = record { is = refl }
+listed (expression (Unary Not)) h a s = record { is = refl }
+listed (expression ImportCall) h a s = record { is = refl }
+listed (expression Parenthesized) h a s = record { is = refl }
+listed (expression (PrefixUpdate Increment)) h a s = record { is = refl }
+listed (expression (PrefixUpdate Decrement)) h a s = record { is = refl }
+listed (expression (PostfixUpdate Increment)) h a s = record { is = refl }
+listed (expression (PostfixUpdate Decrement)) h a s = record { is = refl }
+listed (expression (Unary Delete)) h a s = record { is = refl }
+listed (jsx Element) h a s = record { is = refl }
+listed (program Module) h a s = cc
+listed (statement (Var ConstWord)) h a s = cc
+listed (statement Declarator) h a s = cc
+listed (statement ExprStmt) h a s = cc
+listed (expression Seq) h a s = cc
+listed _ h a s = cc
 
 some_is : {j k : Kind} → Some j ≡ Some k → j ≡ k
 some_is e = cc

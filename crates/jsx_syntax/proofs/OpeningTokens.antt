@@ -6,6 +6,7 @@ use Rattle.jsx_lex.specs.declared.token.TokenKind.{TokenKind}
 use Rattle.jsx_lex.specs.declared.token.TokenKind.TheVariants as token
 use Rattle.jsx_lex.specs.Kinds.{is_punctuator, spelling}
 use Rattle.jsx_tree.specs.declared.operator.UnaryOp.TheVariants as unary
+use Rattle.jsx_tree.specs.declared.operator.UpdateOp.TheVariants as update
 use Rattle.jsx_syntax.specs.Stage.{has_kind}
 use Rattle.jsx_syntax.specs.SoFar.{is_sign, is_mark}
 use Rattle.jsx_tree.proofs.Tokens.{same_is}
@@ -32,30 +33,35 @@ pub record Fits (k : TokenKind) (t r : Text) (g : Opening) : Type 0 where
 by : (k : TokenKind) (u r : Text) (h g : Opening) (t : Text) → Some h ≡ Some g → t ≡ u → Fits k u r h → Fits k t r g
 by k u r h g t e s i = subst (λ w. Fits k w r g) (sym s) (subst (λ f. Fits k u r f) (some_is e) i)
 
-by_word : (a b d : Bool) (g : Opening) (t r : Text) → same t (codes "void") ≡ a → same t (codes "typeof") ≡ b → same t (codes "import") ≡ d → cond a (Some (opening.Unary unary.Void)) (cond b (Some (opening.Unary unary.TypeOf)) (cond d (Some opening.ImportCall) None)) ≡ Some g → Fits token.IdentifierName t r g
-by_word true b d g t r x y z e = by token.IdentifierName (codes "void") r (opening.Unary unary.Void) g t e (same_is t (codes "void") x) (record { sign = refl; taken = refl })
-by_word false true d g t r x y z e = by token.IdentifierName (codes "typeof") r (opening.Unary unary.TypeOf) g t e (same_is t (codes "typeof") y) (record { sign = refl; taken = refl })
-by_word false false true g t r x y z e = by token.IdentifierName (codes "import") r opening.ImportCall g t e (same_is t (codes "import") z) (record { sign = refl; taken = refl })
-by_word false false false g t r x y z e = none_some e
+by_word : (a b d f : Bool) (g : Opening) (t r : Text) → same t (codes "void") ≡ a → same t (codes "typeof") ≡ b → same t (codes "import") ≡ d → same t (codes "delete") ≡ f → cond a (Some (opening.Unary unary.Void)) (cond b (Some (opening.Unary unary.TypeOf)) (cond d (Some opening.ImportCall) (cond f (Some (opening.Unary unary.Delete)) None))) ≡ Some g → Fits token.IdentifierName t r g
+by_word true b d f g t r x y z o e = by token.IdentifierName (codes "void") r (opening.Unary unary.Void) g t e (same_is t (codes "void") x) (record { sign = refl; taken = refl })
+by_word false true d f g t r x y z o e = by token.IdentifierName (codes "typeof") r (opening.Unary unary.TypeOf) g t e (same_is t (codes "typeof") y) (record { sign = refl; taken = refl })
+by_word false false true f g t r x y z o e = by token.IdentifierName (codes "import") r opening.ImportCall g t e (same_is t (codes "import") z) (record { sign = refl; taken = refl })
+by_word false false false true g t r x y z o e = by token.IdentifierName (codes "delete") r (opening.Unary unary.Delete) g t e (same_is t (codes "delete") o) (record { sign = refl; taken = refl })
+by_word false false false false g t r x y z o e = none_some e
 
 pub opening_fits : (k : TokenKind) (t r : Text) (g : Opening) → (is_punctuator k ≡ true → t ≡ spelling k) → opening_by k t ≡ Some g → Fits k t r g
 opening_fits token.Plus t r g s e = by token.Plus (spelling token.Plus) r (opening.Unary unary.Positive) g t e (s refl) (record { sign = refl; taken = refl })
 opening_fits token.Minus t r g s e = by token.Minus (spelling token.Minus) r (opening.Unary unary.Negative) g t e (s refl) (record { sign = refl; taken = refl })
 opening_fits token.Tilde t r g s e = by token.Tilde (spelling token.Tilde) r (opening.Unary unary.Complement) g t e (s refl) (record { sign = refl; taken = refl })
 opening_fits token.Not t r g s e = by token.Not (spelling token.Not) r (opening.Unary unary.Not) g t e (s refl) (record { sign = refl; taken = refl })
-opening_fits token.IdentifierName t r g s e = by_word (same t (codes "void")) (same t (codes "typeof")) (same t (codes "import")) g t r refl refl refl e
+opening_fits token.LeftParen t r g s e = by token.LeftParen (spelling token.LeftParen) r opening.Paren g t e (s refl) (record { sign = refl; taken = refl })
+opening_fits token.PlusPlus t r g s e = by token.PlusPlus (spelling token.PlusPlus) r (opening.Update update.Increment) g t e (s refl) (record { sign = refl; taken = refl })
+opening_fits token.MinusMinus t r g s e = by token.MinusMinus (spelling token.MinusMinus) r (opening.Update update.Decrement) g t e (s refl) (record { sign = refl; taken = refl })
+opening_fits token.IdentifierName t r g s e = by_word (same t (codes "void")) (same t (codes "typeof")) (same t (codes "import")) (same t (codes "delete")) g t r refl refl refl refl e
 opening_fits _ t r g s e = none_some e
 
-no_word : (a b d : Bool) → cond a (Some (opening.Unary unary.Void)) (cond b (Some (opening.Unary unary.TypeOf)) (cond d (Some opening.ImportCall) None)) ≡ None → (a ≡ false) × ((b ≡ false) × (d ≡ false))
-no_word true b d e = some_none e
-no_word false true d e = some_none e
-no_word false false true e = some_none e
-no_word false false false e = (refl, (refl, refl))
+no_word : (a b d f : Bool) → cond a (Some (opening.Unary unary.Void)) (cond b (Some (opening.Unary unary.TypeOf)) (cond d (Some opening.ImportCall) (cond f (Some (opening.Unary unary.Delete)) None))) ≡ None → (a ≡ false) × ((b ≡ false) × ((d ≡ false) × (f ≡ false)))
+no_word true b d f e = some_none e
+no_word false true d f e = some_none e
+no_word false false true f e = some_none e
+no_word false false false true e = some_none e
+no_word false false false false e = (refl, (refl, (refl, refl)))
 
 no_mark : (k : TokenKind) (r : Text) → is_punctuator k ≡ true → opening_by k (spelling k) ≡ None → is_mark (lexeme k (spelling k) r) opening_signs ≡ false
 unfolding opening_signs
 no_mark token.Dot r p e = refl
-no_mark token.LeftParen r p e = refl
+no_mark token.LeftParen r p e = some_none e
 no_mark token.LeftBracket r p e = refl
 no_mark token.Question r p e = refl
 no_mark token.QuestionQuestion r p e = refl
@@ -87,8 +93,8 @@ no_mark token.RightParen r p e = refl
 no_mark token.RightBracket r p e = refl
 no_mark token.Semicolon r p e = refl
 no_mark token.Comma r p e = refl
-no_mark token.PlusPlus r p e = refl
-no_mark token.MinusMinus r p e = refl
+no_mark token.PlusPlus r p e = some_none e
+no_mark token.MinusMinus r p e = some_none e
 no_mark token.Not r p e = some_none e
 no_mark token.Tilde r p e = some_none e
 no_mark token.QuestionDot r p e = refl
@@ -115,7 +121,7 @@ no_mark _ r p e = cc
 
 plain_mark : (k : TokenKind) (t r : Text) → is_punctuator k ≡ false → opening_by k t ≡ None → is_mark (lexeme k t r) opening_signs ≡ false
 unfolding opening_signs
-plain_mark token.IdentifierName t r p e = let n = no_word (same t (codes "void")) (same t (codes "typeof")) (same t (codes "import")) e in (λ i. n.1.1 i || (n.0 i || (n.1.0 i || false)))
+plain_mark token.IdentifierName t r p e = let n = no_word (same t (codes "void")) (same t (codes "typeof")) (same t (codes "import")) (same t (codes "delete")) e in (λ i. n.1.1.0 i || (n.1.1.1 i || (n.0 i || (n.1.0 i || false))))
 plain_mark token.NumericLiteral t r p e = refl
 plain_mark token.BigIntLiteral t r p e = refl
 plain_mark token.StringLiteral t r p e = refl
@@ -135,10 +141,13 @@ opening_none k t r s e = elim (is_punctuator k) as (λ b. is_punctuator k ≡ b 
     [ true ↦ λ p. subst (λ u. is_mark (lexeme k u r) opening_signs ≡ false) (sym (s p)) (no_mark k r p (ap (opening_by k) (sym (s p)) ∙ e)) | false ↦ λ p. plain_mark k t r p e ] refl
 
 -- the arm of the code that takes what is left
-pub opening_left : (k : TokenKind) (t : Text) → (k ≡ token.Plus → ⊥) → (k ≡ token.Minus → ⊥) → (k ≡ token.Tilde → ⊥) → (k ≡ token.Not → ⊥) → (k ≡ token.IdentifierName → ⊥) → opening_by k t ≡ None
-opening_left token.Plus t n0 n1 n2 n3 n4 = absurd (n0 refl)
-opening_left token.Minus t n0 n1 n2 n3 n4 = absurd (n1 refl)
-opening_left token.Tilde t n0 n1 n2 n3 n4 = absurd (n2 refl)
-opening_left token.Not t n0 n1 n2 n3 n4 = absurd (n3 refl)
-opening_left token.IdentifierName t n0 n1 n2 n3 n4 = absurd (n4 refl)
-opening_left _ t n0 n1 n2 n3 n4 = refl
+pub opening_left : (k : TokenKind) (t : Text) → (k ≡ token.Plus → ⊥) → (k ≡ token.Minus → ⊥) → (k ≡ token.Tilde → ⊥) → (k ≡ token.Not → ⊥) → (k ≡ token.PlusPlus → ⊥) → (k ≡ token.MinusMinus → ⊥) → (k ≡ token.LeftParen → ⊥) → (k ≡ token.IdentifierName → ⊥) → opening_by k t ≡ None
+opening_left token.Plus t n0 n1 n2 n3 n4 n5 n6 n7 = absurd (n0 refl)
+opening_left token.Minus t n0 n1 n2 n3 n4 n5 n6 n7 = absurd (n1 refl)
+opening_left token.Tilde t n0 n1 n2 n3 n4 n5 n6 n7 = absurd (n2 refl)
+opening_left token.Not t n0 n1 n2 n3 n4 n5 n6 n7 = absurd (n3 refl)
+opening_left token.PlusPlus t n0 n1 n2 n3 n4 n5 n6 n7 = absurd (n4 refl)
+opening_left token.MinusMinus t n0 n1 n2 n3 n4 n5 n6 n7 = absurd (n5 refl)
+opening_left token.LeftParen t n0 n1 n2 n3 n4 n5 n6 n7 = absurd (n6 refl)
+opening_left token.IdentifierName t n0 n1 n2 n3 n4 n5 n6 n7 = absurd (n7 refl)
+opening_left _ t n0 n1 n2 n3 n4 n5 n6 n7 = refl

@@ -1,5 +1,5 @@
 -- The places of the nodes that the parser makes: each along its row.
-use Rattle.std.proofs.Common.{◌≡◌, nat_eq, Bool, true, false, List, [], ◌∷◌, map, refl, sym, ◌∙◌, ap, subst, Option, Box, Vec, Global}
+use Rattle.std.proofs.Common.{◌≡◌, nat_eq, Bool, true, false, not, List, [], ◌∷◌, ◌++◌, append_assoc, map, refl, sym, ◌∙◌, ap, subst, Option, Box, Vec, Global}
 use Rattle.std.specs.Prelude.{IsTrue, codes, cond, ◌||◌}
 use Rattle.std.proofs.lemmas.Bool.{eqb-true}
 use Rattle.jsx_base.specs.Token.{Text, Operator, Punctuator, JsxName, IdentifierName, Lexeme, breaks, skip, at_front, token, same, first_is, is_token}
@@ -7,32 +7,31 @@ use Rattle.jsx_base.specs.Lines.{size}
 use Rattle.jsx_base.specs.declared.place.Span.{Span}
 use Rattle.jsx_tree.specs.declared.text.Text.{Text as TreeText}
 use Rattle.jsx_tree.specs.declared.tree.Jsx.{Jsx}
-use Rattle.jsx_tree.specs.Signs.{AfterExpr, AfterBinding, Tok, Semicolon, TrailingComma, Ends}
-use Rattle.jsx_tree.specs.Kinds.{ConstWord, Module, Var, Declarator, ExprStmt, BinaryOp, UnaryOp, Delete, Void, TypeOf, Positive, Negative, Complement, Not, Assign, OpAssign, Unary, Binary, Cond, Call, Member, Index, ImportCall, Element, program, statement, expression, jsx, Tree, leaf, node, list, Forest, none, part}
+use Rattle.jsx_tree.specs.Signs.{End, SameLine, AfterExpr, AfterBinding, AfterWord, AfterDo, Tok, Semicolon, TrailingComma, Ends, Sign}
+use Rattle.jsx_tree.specs.Kinds.{DeclareWord, Module, Block, Var, Declarator, Empty, ExprStmt, If, Do, While, Continue, Break, Throw, Debugger, BinaryOp, Nullish, Exponentiate, UnaryOp, Delete, Void, TypeOf, Positive, Negative, Complement, Not, Assign, OpAssign, Unary, Binary, Cond, Call, Member, Index, ImportCall, Element, program, statement, expression, jsx, Tree, leaf, node, list, Forest, none, part, UpdateOp, Increment, Decrement, PrefixUpdate, PostfixUpdate, Seq}
 use Rattle.jsx_tree.specs.Nonterminals as grammar
-use Rattle.jsx_tree.specs.Grammar.{Commas, NoTrailing, TopLines, Many, Part, p, pun, sp, count, semi, left_of, right_of, production}
+use Rattle.jsx_tree.specs.Grammar.{Commas, NoTrailing, TwoOrMore, TopLines, Many, Part, p, pun, sp, count, semi, left_of, right_of, production}
 use Rattle.jsx_tree.specs.Grows.{operator_sign}
-use Rattle.jsx_tree.specs.Spelling.{mode_of, saids, spelled}
-use Rattle.jsx_tree.specs.Reading.{Place, Lost, At, forth, scan}
-use Rattle.jsx_tree.specs.Spans.{Comes, spans, Told, tells, Tales, no_tales, tale, IsTold, AreTold, starts, places, placed_in}
+use Rattle.jsx_tree.specs.Spelling.{mode_of, between, gathered, each_said, saids, spelled}
+use Rattle.jsx_tree.specs.Reading.{Place, Lost, At, forth, go_if, scan}
+use Rattle.jsx_tree.specs.Spans.{from_first, Comes, spans, Told, tells, Tales, no_tales, tale, IsTold, AreTold, starts, places, placed_in}
 use Rattle.jsx_tree.specs.View.{text_of, inside, forest, directive}
 use Rattle.jsx_tree.specs.Told.{told_list, told_text, told_node, told_jsx, told_directive}
 use Rattle.jsx_tree.specs.Walk.{is_found}
 use Rattle.jsx_syntax.specs.Here.{Here, place_of, sign_of}
 use Rattle.jsx_syntax.specs.declared.lexer.Fixed.TheVariants as fixed
-use Rattle.jsx_syntax.specs.Spans.{Spans, next_of, end_of, Takes, IsPlaced, IsPlacedRow, IsPlacedList}
+use Rattle.jsx_syntax.specs.declared.word.Word.TheVariants as word
+use Rattle.jsx_syntax.specs.Headings.{alternative_symbols, block_symbols}
+use Rattle.jsx_syntax.specs.Spans.{Spans, next_of, end_of, Takes, is_argument, IsPlaced, IsPlacedRow, IsPlacedList}
 use Rattle.jsx_syntax.specs.SoFar.{assign_sign}
-use Rattle.jsx_syntax.specs.Growths.{opening_sign}
+use Rattle.jsx_syntax.specs.Growths.{mark, opening_sign}
 use Rattle.jsx_base.proofs.Fronts.{other_ahead}
 use Rattle.jsx_tree.proofs.Apart.{clash}
-use Rattle.jsx_tree.proofs.Signs.{semi_too, comma_too}
+use Rattle.jsx_tree.proofs.Signs.{comma_too}
 use Rattle.jsx_syntax.proofs.Operators.{operator_is}
-use Rattle.jsx_syntax.proofs.Placing.{row_end, row_sign, row_quiet, row_unless, row_within, row_part, row_list, row_present, row_absent, list_none, node_is, leaf_is, led}
+use Rattle.jsx_syntax.proofs.Placing.{row_end, row_sign, row_quiet, row_unless, row_within, row_part, row_part_as, row_list, row_present, row_absent, row_guarded, row_unguarded, list_none, node_is, leaf_is, led, row_line}
 
--- ---- a semicolon and a trailing comma
-
-pub takes_semicolon : {x y : Here} → Takes (sign_of fixed.Semicolon) x y → Takes Semicolon x y
-takes_semicolon {x} {y} k = record { leads = semi_too (place_of x) (subst (λ v. IsTrue (is_found v)) (sym k.leads) refl) ∙ k.leads; same = k.same }
+-- ---- a trailing comma
 
 pub takes_trailing : {x y : Here} → Takes (sign_of fixed.Comma) x y → scan (place_of x) (TrailingComma ∷ []) ≡ place_of y
 takes_trailing {x} {y} k = comma_too (place_of x) (subst (λ v. IsTrue (is_found v)) (sym k.leads) refl) ∙ k.leads
@@ -99,12 +98,40 @@ conditional_row l question r colon m s =
     node_is (λ c e ps. refl) (led l _) s
     (row_part l (row_quiet (λ q. refl) (row_quiet (λ q. refl) (row_sign question (row_quiet (λ q. refl) (row_part r (row_quiet (λ q. refl) (row_sign colon (row_quiet (λ q. refl) (row_part m row_end))))))))))
 
+left_is : (o : BinaryOp) → is_argument (left_of o) ≡ false
+left_is Nullish = refl
+left_is Exponentiate = refl
+left_is _ = refl
+
 pub binary_row : {at : Option Span} {d e : Told} {t u : Tree} {w z x y : Here} (o : BinaryOp) → IsPlaced d t w z → Takes (operator_sign o) z x → IsPlaced e u x y → Spans at (next_of w) (end_of y)
     → IsPlaced (told_node at (d ∷ e ∷ [])) (node (expression (Binary o)) (part t (part u none))) w y
 binary_row {d = d} {e} {t} {u} {w} {y = y} o l sign r s =
     node_is (λ c e ps. refl) (led l _) s
     (subst (λ q. IsPlacedRow (Part (left_of o) ∷ sp ∷ count ∷ q ∷ sp ∷ Part (grammar.Expr (right_of o)) ∷ []) (tale d (tale e no_tales)) (part t (part u none)) w y) (operator_is o)
-    (row_part l (row_quiet (λ q. refl) (row_quiet (λ q. refl) (row_sign sign (row_quiet (λ q. refl) (row_part r row_end)))))))
+    (row_part_as (left_is o) l (row_quiet (λ q. refl) (row_quiet (λ q. refl) (row_sign sign (row_quiet (λ q. refl) (row_part r row_end)))))))
+
+-- trees that begin with one before which a gap is skipped
+pub record Led (ts : List Tree) : Type 0 where
+  pub first : Tree
+  pub rest : List Tree
+  pub is : ts ≡ first ∷ rest
+  pub begins : (ms : List Sign) (text : Text) → from_first (spelled first ++ ms) text ≡ skip text
+
+pub led_more : {ts us : List Tree} (t : Tree) → Led ts → us ≡ ts ++ t ∷ [] → Led us
+led_more t l e = record { first = l.first; rest = l.rest ++ t ∷ []; is = e ∙ ap (λ vs. vs ++ t ∷ []) l.is; begins = l.begins }
+
+begins_list : (ns ms bs : List Sign) (text : Text) → ((qs : List Sign) (text : Text) → from_first (ns ++ qs) text ≡ skip text) → from_first (((ns ++ bs) ++ End ∷ []) ++ ms) text ≡ skip text
+begins_list ns ms bs text b = ap (λ qs. from_first (qs ++ ms) text) (append_assoc ns bs (End ∷ [])) ∙ (ap (λ qs. from_first qs text) (append_assoc ns (bs ++ End ∷ []) ms) ∙ b ((bs ++ End ∷ []) ++ ms) text)
+
+pub sequence_row : {at : Option Span} {ds : Tales} {ts us : List Tree} {x y : Here} (t : Tree) → Led ts → us ≡ ts ++ t ∷ [] → IsPlacedList TwoOrMore ds (forest us) x y → Spans at (next_of x) (end_of y)
+    → IsPlaced (tells (spans at ∷ []) (tale (tells [] ds) no_tales)) (node (expression Seq) (part (list (forest us)) none)) x y
+sequence_row {at} {ds} {ts} {us} {x} {y} t l e r s =
+    let is : us ≡ l.first ∷ (l.rest ++ t ∷ []) = e ∙ ap (λ vs. vs ++ t ∷ []) l.is in
+    subst (λ vs. IsPlaced (tells (spans at ∷ []) (tale (tells [] ds) no_tales)) (node (expression Seq) (part (list (forest vs)) none)) x y) (sym is) (by l.rest (subst (λ vs. IsPlacedList TwoOrMore ds (forest vs) x y) is r))
+  where
+    by : (rest : List Tree) → IsPlacedList TwoOrMore ds (forest (l.first ∷ (rest ++ t ∷ []))) x y → IsPlaced (tells (spans at ∷ []) (tale (tells [] ds) no_tales)) (node (expression Seq) (part (list (forest (l.first ∷ (rest ++ t ∷ [])))) none)) x y
+    by [] q = node_is (λ c e ps. refl) (λ ms text. begins_list (spelled l.first) ms (between TwoOrMore ++ gathered TwoOrMore (each_said (forest (t ∷ [])))) text l.begins) s (row_list q row_end)
+    by (u ∷ vs) q = node_is (λ c e ps. refl) (λ ms text. begins_list (spelled l.first) ms (between TwoOrMore ++ gathered TwoOrMore (each_said (forest (u ∷ (vs ++ t ∷ []))))) text l.begins) s (row_list q row_end)
 
 pub assign_row : {at : Option Span} {d e : Told} {t u : Tree} {w z x y : Here} → IsPlaced d t w z → Takes (pun "=") z x → IsPlaced e u x y → Spans at (next_of w) (end_of y) → IsPlaced (told_node at (d ∷ e ∷ [])) (node (expression Assign) (part t (part u none))) w y
 assign_row l sign r s = node_is (λ c e ps. refl) (led l _) s (row_part l (row_quiet (λ q. refl) (row_quiet (λ q. refl) (row_sign sign (row_quiet (λ q. refl) (row_part r row_end))))))
@@ -121,6 +148,14 @@ unary_row Negative sign r s = node_is (λ c e ps. refl) (λ ms text. refl) s (ro
 unary_row Complement sign r s = node_is (λ c e ps. refl) (λ ms text. refl) s (row_quiet (λ q. refl) (row_sign sign (row_part r row_end)))
 unary_row Not sign r s = node_is (λ c e ps. refl) (λ ms text. refl) s (row_quiet (λ q. refl) (row_sign sign (row_part r row_end)))
 
+pub postfix_row : {at : Option Span} {d : Told} {t : Tree} {w z x : Here} (o : UpdateOp) → IsPlaced d t w z → Takes (mark (expression (PostfixUpdate o))) z x → Spans at (next_of w) (end_of x) → IsPlaced (told_node at (d ∷ [])) (node (expression (PostfixUpdate o)) (part t none)) w x
+postfix_row Increment l sign s = node_is (λ c e ps. refl) (led l _) s (row_part l (row_line (row_quiet (λ q. refl) (row_sign sign row_end))))
+postfix_row Decrement l sign s = node_is (λ c e ps. refl) (led l _) s (row_part l (row_line (row_quiet (λ q. refl) (row_sign sign row_end))))
+
+pub update_row : {at : Option Span} {e : Told} {u : Tree} {w x y : Here} (o : UpdateOp) → Takes (opening_sign (expression (PrefixUpdate o))) w x → IsPlaced e u x y → Spans at (next_of w) (end_of y) → IsPlaced (told_node at (e ∷ [])) (node (expression (PrefixUpdate o)) (part u none)) w y
+update_row Increment sign r s = node_is (λ c e ps. refl) (λ ms text. refl) s (row_quiet (λ q. refl) (row_sign sign (row_part r row_end)))
+update_row Decrement sign r s = node_is (λ c e ps. refl) (λ ms text. refl) s (row_quiet (λ q. refl) (row_sign sign (row_part r row_end)))
+
 pub import_row : {at : Option Span} {e : Told} {u : Tree} {w x y z v : Here} → Takes (opening_sign (expression ImportCall)) w x → Takes (sign_of fixed.Open) x y → IsPlaced e u y z → Takes (sign_of fixed.Close) z v → Spans at (next_of w) (end_of v) → IsPlaced (told_node at (e ∷ [])) (node (expression ImportCall) (part u none)) w v
 import_row sign bracket r close s = node_is (λ c e ps. refl) (λ ms text. refl) s (row_quiet (λ q. refl) (row_sign sign (row_sign bracket (row_part r (row_sign close row_end)))))
 
@@ -131,12 +166,54 @@ declarator_row l ends equals m s = node_is (λ c e ps. refl) (led l _) s (row_pa
 pub plain_row : {at : Option Span} {d : Told} {t : Tree} {x y z : Here} → IsPlaced d t x y → Takes (Ends AfterBinding) y z → Spans at (next_of x) (end_of z) → IsPlaced (told_node at (d ∷ told_list [] ∷ [])) (node (statement Declarator) (part t (part (list none) none))) x z
 plain_row l ends s = node_is (λ c e ps. refl) (led l _) s (row_part l (row_sign ends (row_absent row_end)))
 
-pub constant_placed : {at : Option Span} {ds : Tales} {ts : Forest} {w x z : Here} → Takes (sign_of fixed.Const) w x → IsPlacedRow (Many NoTrailing grammar.Declarators ∷ semi ∷ []) (tale (tells [] ds) no_tales) (part (list ts) none) x z → Spans at (next_of w) (end_of z)
-    → IsPlaced (tells (spans at ∷ []) (tale (tells [] ds) no_tales)) (node (statement (Var ConstWord)) (part (list ts) none)) w z
-constant_placed const r s = node_is (λ c e ps. refl) (λ ms text. refl) s (row_quiet (λ q. refl) (row_sign const (row_quiet (λ q. refl) r)))
+pub declared_placed : {at : Option Span} {ds : Tales} {ts : Forest} {w x z : Here} (d : DeclareWord) → Takes (opening_sign (statement (Var d))) w x → IsPlacedRow (Many NoTrailing grammar.Declarators ∷ semi ∷ []) (tale (tells [] ds) no_tales) (part (list ts) none) x z → Spans at (next_of w) (end_of z)
+    → IsPlaced (tells (spans at ∷ []) (tale (tells [] ds) no_tales)) (node (statement (Var d)) (part (list ts) none)) w z
+declared_placed d sign r s = node_is (λ c e ps. refl) (λ ms text. refl) s (row_quiet (λ q. refl) (row_sign sign (row_quiet (λ q. refl) r)))
 
-pub evaluation_placed : {at : Option Span} {d : Told} {t : Tree} {x y z : Here} → IsPlaced d t x y → Takes (sign_of fixed.Semicolon) y z → Spans at (next_of x) (end_of z) → IsPlaced (told_node at (d ∷ [])) (node (statement ExprStmt) (part t none)) x z
-evaluation_placed l end s = node_is (λ c e ps. refl) (led l _) s (row_unless (row_part l (row_sign (takes_semicolon end) row_end)))
+pub evaluation_placed : {at : Option Span} {d : Told} {t : Tree} {x y z : Here} → IsPlaced d t x y → Takes Semicolon y z → Spans at (next_of x) (end_of z) → IsPlaced (told_node at (d ∷ [])) (node (statement ExprStmt) (part t none)) x z
+evaluation_placed l end s = node_is (λ c e ps. refl) (led l _) s (row_unless (row_part l (row_sign end row_end)))
+
+pub empty_placed : {at : Option Span} {w x : Here} → Takes (opening_sign (statement Empty)) w x → Spans at (next_of w) (end_of x) → IsPlaced (told_node at []) (node (statement Empty) none) w x
+empty_placed sign s = node_is (λ c e ps. refl) (λ ms text. refl) s (row_quiet (λ q. refl) (row_sign sign row_end))
+
+pub block_placed : {at : Option Span} {ds : Tales} {ts : Forest} {w x y : Here} → Takes (opening_sign (statement Block)) w x → IsPlacedRow block_symbols (tale (tells [] ds) no_tales) (part (list ts) none) x y → Spans at (next_of w) (end_of y)
+    → IsPlaced (tells (spans at ∷ []) (tale (tells [] ds) no_tales)) (node (statement Block) (part (list ts) none)) w y
+block_placed sign r s = node_is (λ c e ps. refl) (λ ms text. refl) s (row_quiet (λ q. refl) (row_sign sign (row_quiet (λ q. refl) r)))
+
+pub if_placed : {at : Option Span} {d e o : Told} {t u v : Tree} {w x y z q r b : Here} → Takes (opening_sign (statement If)) w x → Takes (sign_of fixed.Open) x y → IsPlaced d t y z → Takes (sign_of fixed.Close) z q → IsPlaced e u q r → IsPlacedRow alternative_symbols (tale o no_tales) (part v none) r b → Spans at (next_of w) (end_of b)
+    → IsPlaced (told_node at (d ∷ e ∷ o ∷ [])) (node (statement If) (part t (part u (part v none)))) w b
+if_placed sign bracket test close then other s = node_is (λ c e ps. refl) (λ ms text. refl) s (row_quiet (λ q. refl) (row_sign sign (row_quiet (λ q. refl) (row_sign bracket (row_part test (row_sign close (row_quiet (λ q. refl) (row_part then other))))))))
+
+pub else_placed : {d : Told} {t : Tree} {x y z : Here} → Takes (sign_of (fixed.Word word.Else)) x y → IsPlaced d t y z → IsPlacedRow alternative_symbols (tale (tells [] (tale d no_tales)) no_tales) (part (list (part t none)) none) x z
+else_placed sign l = row_guarded (row_present sign.same sign.leads l row_end)
+
+pub no_else_placed : {x : Here} → IsPlacedRow alternative_symbols (tale (tells [] no_tales) no_tales) (part (list none) none) x x
+no_else_placed = row_unguarded row_end
+
+pub do_placed : {at : Option Span} {d e : Told} {t u : Tree} {w x y z q r b c f : Here} → Takes (opening_sign (statement Do)) w x → IsPlaced d t x y → Takes (sign_of (fixed.Word word.While)) y z → Takes (sign_of fixed.Open) z q → IsPlaced e u q r → Takes (sign_of fixed.Close) r b → Takes (Ends AfterDo) b c → Takes Semicolon c f → Spans at (next_of w) (end_of f)
+    → IsPlaced (told_node at (d ∷ e ∷ [])) (node (statement Do) (part t (part u none))) w f
+do_placed sign body while bracket test close ends end s =
+    node_is (λ c e ps. refl) (λ ms text. refl) s
+    (row_quiet (λ q. refl) (row_sign sign (row_quiet (λ q. refl) (row_within (row_part body (row_quiet (λ q. refl) (row_sign while (row_quiet (λ q. refl) (row_sign bracket (row_part test (row_sign close (row_sign ends (row_sign end row_end)))))))))))))
+
+pub while_placed : {at : Option Span} {d e : Told} {t u : Tree} {w x y z q r : Here} → Takes (opening_sign (statement While)) w x → Takes (sign_of fixed.Open) x y → IsPlaced d t y z → Takes (sign_of fixed.Close) z q → IsPlaced e u q r → Spans at (next_of w) (end_of r)
+    → IsPlaced (told_node at (d ∷ e ∷ [])) (node (statement While) (part t (part u none))) w r
+while_placed sign bracket test close body s = node_is (λ c e ps. refl) (λ ms text. refl) s (row_quiet (λ q. refl) (row_sign sign (row_quiet (λ q. refl) (row_sign bracket (row_part test (row_sign close (row_quiet (λ q. refl) (row_within (row_part body row_end)))))))))
+
+pub break_placed : {at : Option Span} {w x y z : Here} → Takes (opening_sign (statement Break)) w x → Takes (Ends AfterWord) x y → Takes Semicolon y z → Spans at (next_of w) (end_of z) → IsPlaced (told_node at (told_list [] ∷ [])) (node (statement Break) (part (list none) none)) w z
+break_placed sign ends end s = node_is (λ c e ps. refl) (λ ms text. refl) s (row_quiet (λ q. refl) (row_sign sign (row_sign ends (row_absent (row_sign end row_end)))))
+
+pub continue_placed : {at : Option Span} {w x y z : Here} → Takes (opening_sign (statement Continue)) w x → Takes (Ends AfterWord) x y → Takes Semicolon y z → Spans at (next_of w) (end_of z) → IsPlaced (told_node at (told_list [] ∷ [])) (node (statement Continue) (part (list none) none)) w z
+continue_placed sign ends end s = node_is (λ c e ps. refl) (λ ms text. refl) s (row_quiet (λ q. refl) (row_sign sign (row_sign ends (row_absent (row_sign end row_end)))))
+
+pub takes_line : {x : Here} → not (breaks x.rest) ≡ true → Takes SameLine x x
+takes_line {x} n = record { leads = ap (λ b. go_if b (place_of x)) n; same = refl }
+
+pub throw_placed : {at : Option Span} {d : Told} {t : Tree} {w x y z : Here} → Takes (opening_sign (statement Throw)) w x → Takes SameLine x x → IsPlaced d t x y → Takes Semicolon y z → Spans at (next_of w) (end_of z) → IsPlaced (told_node at (d ∷ [])) (node (statement Throw) (part t none)) w z
+throw_placed sign line value end s = node_is (λ c e ps. refl) (λ ms text. refl) s (row_quiet (λ q. refl) (row_sign sign (row_sign line (row_quiet (λ q. refl) (row_part value (row_sign end row_end))))))
+
+pub debugger_placed : {at : Option Span} {w x y z : Here} → Takes (opening_sign (statement Debugger)) w x → Takes (Ends AfterWord) x y → Takes Semicolon y z → Spans at (next_of w) (end_of z) → IsPlaced (told_node at []) (node (statement Debugger) none) w z
+debugger_placed sign ends end s = node_is (λ c e ps. refl) (λ ms text. refl) s (row_quiet (λ q. refl) (row_sign sign (row_sign ends (row_sign end row_end))))
 
 -- ---- a whole module
 

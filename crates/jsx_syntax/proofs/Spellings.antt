@@ -9,6 +9,7 @@ use lib.Utf8.{encode, scalars, encodes}
 use Rattle.jsx_base.specs.Token.{Text, IdentifierName, same, among}
 use Rattle.jsx_tree.specs.Kinds.{leaf}
 use Rattle.jsx_tree.specs.Nonterminals as grammar
+use Rattle.jsx_tree.specs.Reading.{going_on}
 use Rattle.jsx_tree.proofs.Tokens.{and_left, and_right, same_is, same_self}
 
 -- whether the characters of the word are its bytes
@@ -40,6 +41,10 @@ any_among (w ∷ ws) bs u p = λ i. same_bytes w bs u (and_left _ _ p) i || any_
 pub any_reserved : (bs : List ℕ) → IsUtf8 bs → list_any (λ y. bytes_eq y bs) grammar.reserved ≡ among (chars bs) grammar.reserved
 unfolding encode
 any_reserved bs u = any_among grammar.reserved bs u refl
+
+pub any_going_on : (bs : List ℕ) → IsUtf8 bs → list_any (λ y. bytes_eq y bs) going_on ≡ among (chars bs) going_on
+unfolding encode
+any_going_on bs u = any_among going_on bs u refl
 
 pub any_restricted : (bs : List ℕ) → IsUtf8 bs → list_any (λ y. bytes_eq y bs) (codes "eval" ∷ codes "arguments" ∷ []) ≡ among (chars bs) (codes "eval" ∷ codes "arguments" ∷ [])
 unfolding encode

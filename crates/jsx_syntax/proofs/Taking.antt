@@ -4,7 +4,7 @@ use Rattle.std.specs.Prelude.{nat_eq}
 use Rattle.std.specs.Str.{chars}
 use Rattle.std.specs.Bool.{Decides}
 use Rattle.std.proofs.lemmas.Bool.{false≢true, and_parts, eqb-true}
-use Rattle.jsx_base.specs.Token.{Text, Mode, TokenKind as Kind, NoToken, Blank, same, is_kind, kind_number, is_token, skips, skip, breaks, at_front, Punctuator, Operator, Tag, NumericLiteral, BigIntLiteral, StringLiteral, JsxName, IdentifierName}
+use Rattle.jsx_base.specs.Token.{Text, Mode, TokenKind as Kind, NoToken, Blank, same, is_kind, kind_number, is_token, skips, skip, breaks, at_front, Punctuator, Operand, Operator, Tag, NumericLiteral, BigIntLiteral, StringLiteral, RegExpLiteral, JsxName, IdentifierName}
 use Rattle.jsx_base.specs.Lines.{size}
 use Rattle.jsx_tree.specs.Signs.{Ending, Tok, AfterExpr}
 use Rattle.jsx_tree.specs.Reading.{Lost, At, forth, go_if}
@@ -22,6 +22,9 @@ use Rattle.jsx_syntax.specs.Spans.{begin_of, next_of}
 use Rattle.jsx_syntax.specs.Spelled.{IsMarkOf, fixed_mode, fixed_kind, fixed_text, leaf_mode}
 use Rattle.jsx_syntax.specs.declared.lexer.Ending.TheVariants as ending
 use Rattle.jsx_syntax.specs.declared.lexer.Fixed.{Fixed}
+use Rattle.jsx_syntax.specs.declared.word.Word.{Word}
+use Rattle.jsx_syntax.specs.declared.word.Word.TheVariants as word
+use Rattle.jsx_syntax.specs.WordTexts.{word_text}
 use Rattle.jsx_syntax.specs.declared.lexer.Fixed.TheVariants as fixed
 use Rattle.jsx_syntax.specs.declared.lexer.Leaf.{Leaf}
 use Rattle.jsx_syntax.specs.declared.lexer.Leaf.TheVariants as leaf
@@ -79,12 +82,14 @@ kind_some j k e h =
 -- ---- the tokens with one spelling
 
 pub fixed_some : (f : Fixed) → is_kind NoToken (fixed_kind f) ≡ false
-fixed_some fixed.Const = refl
+fixed_some (fixed.Word w) = refl
 fixed_some fixed.Equals = refl
 fixed_some fixed.Semicolon = refl
 fixed_some fixed.Open = refl
 fixed_some fixed.Close = refl
 fixed_some fixed.CloseBracket = refl
+fixed_some fixed.OpenBrace = refl
+fixed_some fixed.CloseBrace = refl
 fixed_some fixed.Comma = refl
 fixed_some fixed.Colon = refl
 fixed_some fixed.Dot = refl
@@ -93,12 +98,14 @@ fixed_some fixed.TagSlash = refl
 fixed_some fixed.TagGreater = refl
 
 pub fixed_skips : (f : Fixed) → skips (fixed_mode f) ≡ true
-fixed_skips fixed.Const = refl
+fixed_skips (fixed.Word w) = refl
 fixed_skips fixed.Equals = refl
 fixed_skips fixed.Semicolon = refl
 fixed_skips fixed.Open = refl
 fixed_skips fixed.Close = refl
 fixed_skips fixed.CloseBracket = refl
+fixed_skips fixed.OpenBrace = refl
+fixed_skips fixed.CloseBrace = refl
 fixed_skips fixed.Comma = refl
 fixed_skips fixed.Colon = refl
 fixed_skips fixed.Dot = refl
@@ -107,12 +114,14 @@ fixed_skips fixed.TagSlash = refl
 fixed_skips fixed.TagGreater = refl
 
 pub sign_is : (f : Fixed) → sign_of f ≡ Tok (fixed_mode f) (fixed_kind f) (fixed_text f)
-sign_is fixed.Const = refl
+sign_is (fixed.Word w) = refl
 sign_is fixed.Equals = refl
 sign_is fixed.Semicolon = refl
 sign_is fixed.Open = refl
 sign_is fixed.Close = refl
 sign_is fixed.CloseBracket = refl
+sign_is fixed.OpenBrace = refl
+sign_is fixed.CloseBrace = refl
 sign_is fixed.Comma = refl
 sign_is fixed.Colon = refl
 sign_is fixed.Dot = refl
@@ -123,13 +132,28 @@ sign_is fixed.TagGreater = refl
 pub fixed_kind_is : (f : Fixed) (t : Token) → is_it t (fixed_kind f) (fixed_text f) ≡ true → is_kind (kind_of t.kind) NoToken ≡ false
 fixed_kind_is f t i = kind_some (kind_of t.kind) (fixed_kind f) (fixed_some f) ((and_parts (is_kind (kind_of t.kind) (fixed_kind f)) _ i).0)
 
+pub word_full : (w : Word) → same (word_text w) [] ≡ false
+word_full word.Break = refl
+word_full word.Const = refl
+word_full word.Continue = refl
+word_full word.Debugger = refl
+word_full word.Do = refl
+word_full word.Else = refl
+word_full word.If = refl
+word_full word.Let = refl
+word_full word.Throw = refl
+word_full word.Var = refl
+word_full word.While = refl
+
 fixed_full : (f : Fixed) → same (fixed_text f) [] ≡ false
-fixed_full fixed.Const = refl
+fixed_full (fixed.Word w) = word_full w
 fixed_full fixed.Equals = refl
 fixed_full fixed.Semicolon = refl
 fixed_full fixed.Open = refl
 fixed_full fixed.Close = refl
 fixed_full fixed.CloseBracket = refl
+fixed_full fixed.OpenBrace = refl
+fixed_full fixed.CloseBrace = refl
 fixed_full fixed.Comma = refl
 fixed_full fixed.Colon = refl
 fixed_full fixed.Dot = refl
@@ -162,6 +186,7 @@ leaf_some leaf.Name = refl
 leaf_some leaf.Num = refl
 leaf_some leaf.BigInt = refl
 leaf_some leaf.Str = refl
+leaf_some leaf.RegExp = refl
 leaf_some leaf.JsxName = refl
 
 pub leaf_skips : (l : Leaf) → skips (leaf_mode l) ≡ true
@@ -169,6 +194,7 @@ leaf_skips leaf.Name = refl
 leaf_skips leaf.Num = refl
 leaf_skips leaf.BigInt = refl
 leaf_skips leaf.Str = refl
+leaf_skips leaf.RegExp = refl
 leaf_skips leaf.JsxName = refl
 
 whole_leaf : (m : Mode) (k : Kind) (h : Here) → skips m ≡ true → is_kind NoToken k ≡ false → is_kind Punctuator k ≡ false → is_kind (at_front m (same h.last [] || breaks h.rest) (skip h.rest)).kind k ≡ true → IsAlone m k (at_front m (same h.last [] || breaks h.rest) (skip h.rest)).raw
@@ -179,6 +205,7 @@ leaf_whole leaf.Name h e = let w = whole_leaf Operator IdentifierName h refl ref
 leaf_whole leaf.Num h e = let w = whole_leaf Operator NumericLiteral h refl refl refl e in and_both _ _ w.it w.ends
 leaf_whole leaf.BigInt h e = let w = whole_leaf Operator BigIntLiteral h refl refl refl e in and_both _ _ w.it w.ends
 leaf_whole leaf.Str h e = let w = whole_leaf Operator StringLiteral h refl refl refl e in and_both _ _ w.it w.ends
+leaf_whole leaf.RegExp h e = let w = whole_leaf Operand RegExpLiteral h refl refl refl e in and_both _ _ w.it w.ends
 leaf_whole leaf.JsxName h e = let w = whole_leaf Tag JsxName h refl refl refl e in and_both _ _ w.it w.ends
 
 pub leaf_by : (l : Leaf) {h : Here} {t : Token} {b : Tokens} → IsNext (leaf_mode l) h t b → is_kind (kind_of t.kind) (leaf_kind l) ≡ true → is_leaf (leaf_kind l) (chars t.raw.now) ≡ true
@@ -190,6 +217,7 @@ leaf_full leaf.Name [] e = absurd (false≢true e)
 leaf_full leaf.Num [] e = absurd (false≢true e)
 leaf_full leaf.BigInt [] e = absurd (false≢true e)
 leaf_full leaf.Str [] e = absurd (false≢true e)
+leaf_full leaf.RegExp [] e = absurd (false≢true e)
 leaf_full leaf.JsxName [] e = absurd (false≢true e)
 
 pub leaf_it : (l : Leaf) (t : Token) → is_kind (kind_of t.kind) (leaf_kind l) ≡ true → is_it t (leaf_kind l) (chars t.raw.now) ≡ true
@@ -201,4 +229,4 @@ leaf_not l t text e = ap (λ x. x && same (chars t.raw.now) text) e
 -- ---- what a missing semicolon would stand behind is nothing to the next token
 
 pub ends_on : {m : Mode} {h : Here} {t : Token} {b : Tokens} (e : Ending) → IsNext m h t b → IsNext m (record h { ending = e }) t b
-ends_on e n = record { kind = n.kind; raw = n.raw; spelled = n.spelled; rest = n.rest; end = n.end; whole = n.whole; read = n.read; unsettled = n.unsettled }
+ends_on e n = record { kind = n.kind; raw = n.raw; spelled = n.spelled; rest = n.rest; line = n.line; end = n.end; whole = n.whole; read = n.read; unsettled = n.unsettled }

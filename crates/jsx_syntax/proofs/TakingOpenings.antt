@@ -14,11 +14,12 @@ use Rattle.jsx_syntax.specs.Here.{Here, place_of}
 use Rattle.jsx_syntax.specs.Seen.{IsNext, NoNext, next_token}
 use Rattle.jsx_syntax.specs.declared.opening.Opening.{Opening}
 use Rattle.jsx_syntax.specs.declared.opening.Opening.TheVariants as opening
-use Rattle.jsx_tree.specs.ViewOperators.{unary_of}
+use Rattle.jsx_tree.specs.ViewOperators.{unary_of, step_of}
 use Rattle.jsx_tree.specs.declared.operator.UnaryOp.{UnaryOp}
 use Rattle.jsx_tree.specs.declared.operator.UnaryOp.TheVariants as unary
-use Rattle.jsx_tree.specs.Kinds.{Unary, ImportCall, expression}
-use Rattle.jsx_syntax.specs.Growths.{opening_kind, opening_sign, opening_signs, is_code, NoOpening}
+use Rattle.jsx_tree.specs.Kinds.{Unary, ImportCall, Parenthesized, expression, Kind, PrefixUpdate}
+use Rattle.jsx_syntax.specs.Growths.{opening_kind, opening_sign, opening_signs, is_code, NoOpening, has_sign}
+use Rattle.jsx_tree.specs.declared.operator.UpdateOp.TheVariants as update
 use Rattle.jsx_syntax.specs.GrowthTokens.{opening_by}
 use Rattle.jsx_syntax.proofs.Listed.{Listed, listed}
 use Rattle.jsx_syntax.proofs.Marks.{mark_by}
@@ -51,18 +52,21 @@ other_opens {h} {t} e g = no_signs h (subst (λ x. is_mark x opening_signs ≡ f
 pub opening_taken : {h : Here} {t : Token} {b : Tokens} (g : Opening) → IsNext Operator h t b → opening_by t.kind (chars t.raw.now) ≡ Some g → has_kind (opening_kind g) ≡ true
 opening_taken {h} {t} g e is = (opening_fits t.kind (chars t.raw.now) (next_token Operator h).rest g e.spelled is).taken
 
-unary_listed : (o : UnaryOp) → has_kind (expression (Unary (unary_of o))) ≡ true → Listed (expression (Unary (unary_of o)))
-unary_listed unary.Delete h = cc
-unary_listed unary.Void h = listed (expression (Unary (unary_of unary.Void))) refl refl
-unary_listed unary.TypeOf h = listed (expression (Unary (unary_of unary.TypeOf))) refl refl
-unary_listed unary.Positive h = listed (expression (Unary (unary_of unary.Positive))) refl refl
-unary_listed unary.Negative h = listed (expression (Unary (unary_of unary.Negative))) refl refl
-unary_listed unary.Complement h = listed (expression (Unary (unary_of unary.Complement))) refl refl
-unary_listed unary.Not h = listed (expression (Unary (unary_of unary.Not))) refl refl
+pub unary_listed : (o : UnaryOp) → has_kind (expression (Unary (unary_of o))) ≡ true → Listed (expression (Unary (unary_of o)))
+unary_listed unary.Delete h = listed (expression (Unary (unary_of unary.Delete))) refl refl refl
+unary_listed unary.Void h = listed (expression (Unary (unary_of unary.Void))) refl refl refl
+unary_listed unary.TypeOf h = listed (expression (Unary (unary_of unary.TypeOf))) refl refl refl
+unary_listed unary.Positive h = listed (expression (Unary (unary_of unary.Positive))) refl refl refl
+unary_listed unary.Negative h = listed (expression (Unary (unary_of unary.Negative))) refl refl refl
+unary_listed unary.Complement h = listed (expression (Unary (unary_of unary.Complement))) refl refl refl
+unary_listed unary.Not h = listed (expression (Unary (unary_of unary.Not))) refl refl refl
 
 pub opening_listed : (g : Opening) → has_kind (opening_kind g) ≡ true → Listed (opening_kind g)
-opening_listed opening.ImportCall h = listed (expression ImportCall) refl refl
+opening_listed opening.ImportCall h = listed (expression ImportCall) refl refl refl
+opening_listed opening.Paren h = listed (expression Parenthesized) refl refl refl
 opening_listed (opening.Unary o) h = unary_listed o h
+opening_listed (opening.Update update.Increment) h = listed (expression (PrefixUpdate (step_of update.Increment))) refl refl refl
+opening_listed (opening.Update update.Decrement) h = listed (expression (PrefixUpdate (step_of update.Decrement))) refl refl refl
 
 unary_opens : (o : UnaryOp) → grows_on (expression (Unary (unary_of o))) ≡ false
 unary_opens unary.Delete = refl
@@ -75,10 +79,13 @@ unary_opens unary.Not = refl
 
 pub opening_opens : (g : Opening) → grows_on (opening_kind g) ≡ false
 opening_opens opening.ImportCall = refl
+opening_opens opening.Paren = refl
 opening_opens (opening.Unary o) = unary_opens o
+opening_opens (opening.Update o) = refl
 
 sign_code : (g : Opening) → is_code (opening_sign (opening_kind g)) ≡ true
 sign_code opening.ImportCall = refl
+sign_code opening.Paren = refl
 sign_code (opening.Unary unary.Delete) = refl
 sign_code (opening.Unary unary.Void) = refl
 sign_code (opening.Unary unary.TypeOf) = refl
@@ -86,6 +93,8 @@ sign_code (opening.Unary unary.Positive) = refl
 sign_code (opening.Unary unary.Negative) = refl
 sign_code (opening.Unary unary.Complement) = refl
 sign_code (opening.Unary unary.Not) = refl
+sign_code (opening.Update update.Increment) = refl
+sign_code (opening.Update update.Decrement) = refl
 
 pub opening_took : {h : Here} {t : Token} {b : Tokens} (g : Opening) → IsNext Operator h t b → opening_by t.kind (chars t.raw.now) ≡ Some g → Took h (opening_sign (opening_kind g)) t b
 opening_took {h} {t} g e is = took (next_token Operator h).rest (opening_sign (opening_kind g)) (sign_code g) e (opening_fits t.kind (chars t.raw.now) (next_token Operator h).rest g e.spelled is).sign

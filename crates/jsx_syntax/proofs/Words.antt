@@ -9,6 +9,9 @@ use Rattle.std.proofs.lemmas.Slice.Eq.{bytes_eq-Decides}
 use Rattle.std.proofs.lemmas.Bool.{false≢true, and_parts, eqb-true}
 use Rattle.std.proofs.lemmas.Str.{encodes-chars, IsUtf8-from_is_utf8}
 use Rattle.jsx_base.specs.Token.{Text, same}
+use Rattle.jsx_syntax.specs.declared.word.Word.{Word}
+use Rattle.jsx_syntax.specs.declared.word.Word.TheVariants as word
+use Rattle.jsx_syntax.specs.WordTexts.{word_text}
 use Rattle.jsx_tree.proofs.Tokens.{same_self}
 
 pub same_is : (s t : Text) → same s t ≡ true → s ≡ t
@@ -33,9 +36,9 @@ spells w s raw u = (
 is_word : (w : List ℕ) → Spelled w → (raw : List ℕ) → IsUtf8 raw → bytes_eq raw w ≡ same (chars raw) w
 is_word w s raw u = same_from_decides _ _ (bytes_eq-Decides raw w) (spells w s raw u)
 
-word_const : Spelled (codes "const")
+word_arrow : Spelled (codes "=>")
 unfolding chars is_utf8 encode
-word_const = record { same = refl; text = IsUtf8-from_is_utf8 (codes "const") refl }
+word_arrow = record { same = refl; text = IsUtf8-from_is_utf8 (codes "=>") refl }
 
 word_in : Spelled (codes "in")
 unfolding chars is_utf8 encode
@@ -53,12 +56,13 @@ word_typeof : Spelled (codes "typeof")
 unfolding chars is_utf8 encode
 word_typeof = record { same = refl; text = IsUtf8-from_is_utf8 (codes "typeof") refl }
 
+word_delete : Spelled (codes "delete")
+unfolding chars is_utf8 encode
+word_delete = record { same = refl; text = IsUtf8-from_is_utf8 (codes "delete") refl }
+
 word_import : Spelled (codes "import")
 unfolding chars is_utf8 encode
 word_import = record { same = refl; text = IsUtf8-from_is_utf8 (codes "import") refl }
-
-pub is_const : (raw : List ℕ) → IsUtf8 raw → bytes_eq raw (codes "const") ≡ same (chars raw) (codes "const")
-is_const = is_word (codes "const") word_const
 
 pub is_in : (raw : List ℕ) → IsUtf8 raw → bytes_eq raw (codes "in") ≡ same (chars raw) (codes "in")
 is_in = is_word (codes "in") word_in
@@ -72,5 +76,50 @@ is_void = is_word (codes "void") word_void
 pub is_typeof : (raw : List ℕ) → IsUtf8 raw → bytes_eq raw (codes "typeof") ≡ same (chars raw) (codes "typeof")
 is_typeof = is_word (codes "typeof") word_typeof
 
+pub is_delete : (raw : List ℕ) → IsUtf8 raw → bytes_eq raw (codes "delete") ≡ same (chars raw) (codes "delete")
+is_delete = is_word (codes "delete") word_delete
+
 pub is_import : (raw : List ℕ) → IsUtf8 raw → bytes_eq raw (codes "import") ≡ same (chars raw) (codes "import")
 is_import = is_word (codes "import") word_import
+
+word_comma : Spelled (codes ",")
+unfolding chars is_utf8 encode
+word_comma = record { same = refl; text = IsUtf8-from_is_utf8 (codes ",") refl }
+
+word_equals : Spelled (codes "=")
+unfolding chars is_utf8 encode
+word_equals = record { same = refl; text = IsUtf8-from_is_utf8 (codes "=") refl }
+
+word_right_brace : Spelled (codes "}")
+unfolding chars is_utf8 encode
+word_right_brace = record { same = refl; text = IsUtf8-from_is_utf8 (codes "}") refl }
+
+pub is_comma : (raw : List ℕ) → IsUtf8 raw → bytes_eq raw (codes ",") ≡ same (chars raw) (codes ",")
+is_comma = is_word (codes ",") word_comma
+
+pub is_equals : (raw : List ℕ) → IsUtf8 raw → bytes_eq raw (codes "=") ≡ same (chars raw) (codes "=")
+is_equals = is_word (codes "=") word_equals
+
+pub is_right_brace : (raw : List ℕ) → IsUtf8 raw → bytes_eq raw (codes "}") ≡ same (chars raw) (codes "}")
+is_right_brace = is_word (codes "}") word_right_brace
+
+pub is_arrow : (raw : List ℕ) → IsUtf8 raw → bytes_eq raw (codes "=>") ≡ same (chars raw) (codes "=>")
+is_arrow = is_word (codes "=>") word_arrow
+
+-- each word of the grammar
+reserved : (w : Word) → Spelled (word_text w)
+unfolding chars is_utf8 encode
+reserved word.Break = record { same = refl; text = IsUtf8-from_is_utf8 (codes "break") refl }
+reserved word.Const = record { same = refl; text = IsUtf8-from_is_utf8 (codes "const") refl }
+reserved word.Continue = record { same = refl; text = IsUtf8-from_is_utf8 (codes "continue") refl }
+reserved word.Debugger = record { same = refl; text = IsUtf8-from_is_utf8 (codes "debugger") refl }
+reserved word.Do = record { same = refl; text = IsUtf8-from_is_utf8 (codes "do") refl }
+reserved word.Else = record { same = refl; text = IsUtf8-from_is_utf8 (codes "else") refl }
+reserved word.If = record { same = refl; text = IsUtf8-from_is_utf8 (codes "if") refl }
+reserved word.Let = record { same = refl; text = IsUtf8-from_is_utf8 (codes "let") refl }
+reserved word.Throw = record { same = refl; text = IsUtf8-from_is_utf8 (codes "throw") refl }
+reserved word.Var = record { same = refl; text = IsUtf8-from_is_utf8 (codes "var") refl }
+reserved word.While = record { same = refl; text = IsUtf8-from_is_utf8 (codes "while") refl }
+
+pub is_reserved : (w : Word) (raw : List ℕ) → IsUtf8 raw → bytes_eq raw (word_text w) ≡ same (chars raw) (word_text w)
+is_reserved w = is_word (word_text w) (reserved w)

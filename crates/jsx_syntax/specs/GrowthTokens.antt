@@ -16,6 +16,7 @@ use Rattle.jsx_tree.specs.declared.operator.ProductOp.TheVariants as product
 use Rattle.jsx_syntax.specs.declared.growth.Growth.{Growth}
 use Rattle.jsx_syntax.specs.declared.growth.Growth.TheVariants as growth
 use Rattle.jsx_tree.specs.declared.operator.UnaryOp.TheVariants as unary
+use Rattle.jsx_tree.specs.declared.operator.UpdateOp.TheVariants as update
 use Rattle.jsx_syntax.specs.declared.opening.Opening.{Opening}
 use Rattle.jsx_syntax.specs.declared.opening.Opening.TheVariants as opening
 
@@ -77,18 +78,23 @@ growth_by token.LeftParen t = Some growth.Call
 growth_by token.LeftBracket t = Some growth.Index
 growth_by token.Question t = Some growth.Cond
 growth_by token.Equal t = Some growth.Assign
+growth_by token.PlusPlus t = Some (growth.Update update.Increment)
+growth_by token.MinusMinus t = Some (growth.Update update.Decrement)
 growth_by token.IdentifierName t = word_by t
 growth_by k t = with_operator (binary_by k) (assign_by k)
 
 -- ---- with which one begins
 
 abbrev pub opening_word : Text → Option Opening
-opening_word t = cond (same t (codes "void")) (Some (opening.Unary unary.Void)) (cond (same t (codes "typeof")) (Some (opening.Unary unary.TypeOf)) (cond (same t (codes "import")) (Some opening.ImportCall) None))
+opening_word t = cond (same t (codes "void")) (Some (opening.Unary unary.Void)) (cond (same t (codes "typeof")) (Some (opening.Unary unary.TypeOf)) (cond (same t (codes "import")) (Some opening.ImportCall) (cond (same t (codes "delete")) (Some (opening.Unary unary.Delete)) None)))
 
 abbrev pub opening_by : TokenKind → Text → Option Opening
 opening_by token.Plus t = Some (opening.Unary unary.Positive)
 opening_by token.Minus t = Some (opening.Unary unary.Negative)
 opening_by token.Tilde t = Some (opening.Unary unary.Complement)
 opening_by token.Not t = Some (opening.Unary unary.Not)
+opening_by token.PlusPlus t = Some (opening.Update update.Increment)
+opening_by token.MinusMinus t = Some (opening.Update update.Decrement)
+opening_by token.LeftParen t = Some opening.Paren
 opening_by token.IdentifierName t = opening_word t
 opening_by _ t = None

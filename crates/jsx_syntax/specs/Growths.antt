@@ -1,17 +1,17 @@
 -- What goes on with an expression to the right, and how tightly each expression binds.
-use Rattle.std.specs.Prelude.{◌≡◌, ℕ, List, [], ◌∷◌, Bool, true, false, not, nat_le, nat_eq, cond, ◌&&◌, ◌||◌}
+use Rattle.std.specs.Prelude.{◌≡◌, ℕ, List, [], ◌∷◌, Bool, true, false, not, nat_le, nat_eq, cond, IsTrue, ◌&&◌, ◌||◌}
 use Rattle.jsx_base.specs.Token.{Operator, IdentifierName, NoToken, is_kind, same, kind_number}
-use Rattle.jsx_tree.specs.Signs.{AfterExpr, Sign, Semicolon, Tok}
-use Rattle.jsx_tree.specs.Kinds.{BinaryOp, Nullish, Exponentiate, ExpressionKind, Seq, Assign, OpAssign, Arrow, ArrowBlock, BareArrow, BareArrowBlock, Cond, Binary, Unary, PrefixUpdate, PostfixUpdate, Call, Member, Index, SuperMember, SuperIndex, ImportCall, Kind, expression, Tree, leaf, node}
+use Rattle.jsx_tree.specs.Signs.{AfterExpr, Sign, Semicolon, Tok, SameLine}
+use Rattle.jsx_tree.specs.Kinds.{BinaryOp, Nullish, Exponentiate, ExpressionKind, Seq, Assign, OpAssign, Arrow, ArrowBlock, BareArrow, BareArrowBlock, Cond, Binary, Unary, PrefixUpdate, PostfixUpdate, Call, Member, Index, SuperMember, SuperIndex, ImportCall, Parenthesized, Kind, expression, Tree, leaf, node, UnaryOp, Delete}
 use Rattle.jsx_tree.specs.Nonterminals.{Expr, level_of, is_bound}
 use Rattle.jsx_tree.specs.Grammar.{Fixed, Part, key, pun}
 use Rattle.jsx_tree.specs.Reading.{Place, Lost, At, forth}
-use Rattle.jsx_tree.specs.StaticRules.{Surroundings}
+use Rattle.jsx_tree.specs.StaticRules.{Surroundings, is_name}
 use Rattle.jsx_tree.specs.Answers.{Barred}
 use Rattle.jsx_tree.specs.Grows.{Follows}
 use Rattle.jsx_tree.specs.Walk.{Piece, piece, tail}
 use Rattle.jsx_syntax.specs.SoFar.{Staged, is_number, row_so_far, so_far}
-use Rattle.jsx_tree.specs.ViewOperators.{assign_of, binary_of, unary_of}
+use Rattle.jsx_tree.specs.ViewOperators.{assign_of, binary_of, unary_of, step_of}
 use Rattle.jsx_syntax.specs.declared.growth.Growth as code
 use Rattle.jsx_syntax.specs.declared.growth.Growth.TheVariants as growth
 use Rattle.jsx_syntax.specs.declared.opening.Opening as opening_code
@@ -25,14 +25,35 @@ growth_kind growth.Cond = expression Cond
 growth_kind growth.Call = expression Call
 growth_kind growth.Member = expression Member
 growth_kind growth.Index = expression Index
+growth_kind (growth.Update o) = expression (PostfixUpdate (step_of o))
 
 -- the sign that a row begins with, and the one with which a kind goes on behind its first part
 abbrev pub lead : List Piece → Sign
 lead (piece a (Fixed s) ∷ ps) = s
 lead ps = Semicolon
 
+-- whether it stands on the line of that part
+abbrev pub begins_line : List Piece → Bool
+begins_line (piece [] (Fixed SameLine) ∷ ps) = true
+begins_line ps = false
+
+abbrev pub on_line : Kind → Bool
+on_line k = begins_line (tail (row_so_far k))
+
+abbrev pub past_line : List Piece → List Piece
+past_line (piece [] (Fixed SameLine) ∷ ps) = ps
+past_line ps = ps
+
 abbrev pub mark : Kind → Sign
-mark k = lead (tail (row_so_far k))
+mark k = lead (past_line (tail (row_so_far k)))
+
+-- what stands behind the mark
+abbrev pub behind : Kind → List Piece
+behind k = tail (past_line (tail (row_so_far k)))
+
+-- where the mark stands on the line that it has to stand on
+pub record OnLine (k : Kind) (x : Place) : Type 0 where
+  pub stays : IsTrue (on_line k) → forth SameLine x ≡ x
 
 -- ---- signs by their texts and kinds
 
@@ -49,9 +70,9 @@ abbrev pub is_code : Sign → Bool
 is_code (Tok Operator k (d ∷ t)) = not (is_kind NoToken k)
 is_code s = false
 
--- the levels at which a parser asks for an expression
+-- the levels at which a parser asks for an expression that is no sequence
 abbrev pub levels : List ℕ
-levels = 1 ∷ 5 ∷ 6 ∷ 7 ∷ 8 ∷ 9 ∷ 10 ∷ 11 ∷ 12 ∷ 13 ∷ 14 ∷ 15 ∷ []
+levels = 1 ∷ 5 ∷ 6 ∷ 7 ∷ 8 ∷ 9 ∷ 10 ∷ 11 ∷ 12 ∷ 13 ∷ 14 ∷ 15 ∷ 17 ∷ []
 
 abbrev pub any_number : ℕ → List ℕ → Bool
 any_number n [] = false
@@ -97,11 +118,12 @@ fits_by (expression Cond) n m = nat_le 3 n
 fits_by (expression Member) n m = nat_le 17 n && not m
 fits_by k n m = nat_le 17 n
 
--- what an assignment stands before: a name that may be bound, or one of these
-abbrev pub is_assignment : Kind → Bool
-is_assignment (expression Assign) = true
-is_assignment (expression (OpAssign o)) = true
-is_assignment k = false
+-- what these stand behind is a name that may be bound, or a member
+abbrev pub takes_target : Kind → Bool
+takes_target (expression Assign) = true
+takes_target (expression (OpAssign o)) = true
+takes_target (expression (PostfixUpdate o)) = true
+takes_target k = false
 
 abbrev pub is_target_kind : Kind → Bool
 is_target_kind (expression Member) = true
@@ -116,7 +138,12 @@ is_target (node k ts) = is_target_kind k
 is_target t = false
 
 abbrev pub fits : Kind → Tree → Bool
-fits k t = cond (is_assignment k) (is_target t) (fits_by k (level t) (is_number t))
+fits k t = cond (takes_target k) (is_target t) (fits_by k (level t) (is_number t))
+
+-- a name alone isn't deleted
+abbrev pub deletes_name : UnaryOp → Tree → Bool
+deletes_name Delete t = is_name t
+deletes_name o t = false
 
 -- ---- what a parser knows of an expression that it has read so far
 
@@ -131,9 +158,10 @@ pub record Climbs (v : Surroundings) (n : ℕ) (x : Place) (t : Tree) (a : Place
   pub reads : Staged v false (Expr n) x t a
   pub ended : settled a ≡ true
 
--- so at every level; at no level does anything stand there
+-- so at every level up to that of the tree, and above it nothing is read; at no level does anything stand there
 pub record Begins (v : Surroundings) (x : Place) (t : Tree) (a : Place) : Type 0 where
-  pub on : (n : ℕ) → is_level n ≡ true → Climbs v n x t a
+  pub on : (n : ℕ) → is_level n ≡ true → nat_le n (level t) ≡ true → Climbs v n x t a
+  pub low : (n : ℕ) → is_level n ≡ true → nat_le n (level t) ≡ false → Barred so_far v (Part (Expr n)) x
 
 pub record NoneBegins (v : Surroundings) (x : Place) : Type 0 where
   pub on : (n : ℕ) → is_level n ≡ true → Barred so_far v (Part (Expr n)) x
@@ -142,7 +170,9 @@ pub record NoneBegins (v : Surroundings) (x : Place) : Type 0 where
 
 abbrev pub opening_kind : opening_code.Opening → Kind
 opening_kind opening.ImportCall = expression ImportCall
+opening_kind opening.Paren = expression Parenthesized
 opening_kind (opening.Unary o) = expression (Unary (unary_of o))
+opening_kind (opening.Update o) = expression (PrefixUpdate (step_of o))
 
 -- the sign with which its row begins
 abbrev pub opening_sign : Kind → Sign
@@ -150,7 +180,7 @@ opening_sign k = lead (row_so_far k)
 
 -- these signs
 unfoldable pub opening_signs : List Sign
-opening_signs = key "import" ∷ key "void" ∷ key "typeof" ∷ pun "+" ∷ pun "-" ∷ pun "~" ∷ pun "!" ∷ []
+opening_signs = key "import" ∷ key "delete" ∷ key "void" ∷ key "typeof" ∷ pun "+" ∷ pun "-" ∷ pun "~" ∷ pun "!" ∷ pun "++" ∷ pun "--" ∷ pun "(" ∷ []
 
 -- none of them stands there
 pub record NoOpening (x : Place) : Type 0 where

@@ -1,5 +1,6 @@
 pub mod Stage
 pub mod SoFar
+pub mod Around
 pub mod Here
 pub mod NodeSpans
 pub mod Spans
@@ -7,5 +8,8 @@ pub mod Seen
 pub mod Answers
 pub mod Gaps
 pub mod Spelled
+pub mod WordTexts
+pub mod Headings
 pub mod Growths
 pub mod GrowthTokens
+pub mod Semicolons

@@ -2,7 +2,7 @@
 use Rattle.std.specs.Prelude.{◌≡◌, ◌↔◌, ℕ, List, Option, Bool, false, IsTrue, IsFalse, length, [], ◌&&◌}
 use Rattle.std.specs.Option.{ForSome}
 use Rattle.std.specs.Str.{chars}
-use Rattle.jsx_base.specs.Token.{Text, Mode, Lexeme, NoToken, is_end, same, skips, token, is_kind, TokenKind as Kind}
+use Rattle.jsx_base.specs.Token.{Text, Mode, Lexeme, NoToken, is_end, breaks, same, skips, token, is_kind, TokenKind as Kind}
 use Rattle.jsx_lex.specs.declared.lexer.Lexer.{Lexer as Tokens}
 use Rattle.jsx_lex.specs.declared.token.Token.{Token}
 use Rattle.jsx_lex.specs.declared.token.TokenKind.TheVariants as token_kind
@@ -26,6 +26,7 @@ pub record IsNext (m : Mode) (h : Here) (t : Token) (behind : Tokens) : Type 0 w
   pub raw : chars t.raw.now ≡ (next_token m h).raw
   pub spelled : IsTrue (is_punctuator t.kind) → chars t.raw.now ≡ spelling t.kind
   pub rest : rest_of behind ≡ (next_token m h).rest
+  pub line : IsTrue (skips m) → t.new_line ≡ breaks h.rest
   pub end : IsTrue (skips m) → ((t.kind ≡ token_kind.End) ↔ IsTrue (is_end h.rest))
   pub whole : length behind.text.now ≡ h.end
   pub read : behind.is_first ≡ false

@@ -1,5 +1,5 @@
 -- The places of tokens, in bytes from the text's begin, and the spans of nodes that were read.
-use Rattle.std.specs.Prelude.{◌≡◌, ◌-◌, ◌++◌, ℕ, List, [], ◌∷◌, Option, Some, IsTrue, false}
+use Rattle.std.specs.Prelude.{◌≡◌, ◌-◌, ◌++◌, ℕ, suc, List, [], ◌∷◌, Option, Some, IsTrue, Bool, true, false, cond}
 use Rattle.jsx_base.specs.Token.{Text, skip}
 use Rattle.jsx_base.specs.Lines.{size}
 use Rattle.jsx_base.specs.declared.place.BytePos.{BytePos}
@@ -10,14 +10,14 @@ use Rattle.jsx_tree.specs.declared.program.Program.TheVariants as programs
 use Rattle.jsx_syntax.specs.declared.error.ParseError.{ParseError}
 use Rattle.jsx_syntax.specs.declared.error.ParseError.TheVariants.{Syntax}
 use Rattle.jsx_tree.specs.Signs.{Sign}
-use Rattle.jsx_tree.specs.Kinds.{Tree, Forest}
-use Rattle.jsx_tree.specs.Nonterminals.{Nonterminal}
+use Rattle.jsx_tree.specs.Kinds.{Parenthesized, expression, Tree, node, Forest, part}
+use Rattle.jsx_tree.specs.Nonterminals.{Nonterminal, Argument}
 use Rattle.jsx_tree.specs.Grammar.{ListShape, Production}
 use Rattle.jsx_tree.specs.Spelling.{gathered, walk, saids, each_said, spelled}
 use Rattle.jsx_tree.specs.Reading.{forth, scan}
 use Rattle.jsx_tree.specs.View.{view_expr}
 use Rattle.jsx_tree.specs.Told.{told_expr}
-use Rattle.jsx_tree.specs.Spans.{from_first, is_text, start, list_starts, starts, placed, places, each_placed, Told, Tales, IsTold, AreTold}
+use Rattle.jsx_tree.specs.Spans.{from_first, extent, is_text, start, list_starts, starts, placed, places, each_placed, within, Claim, spans, comes, Holds, Told, tells, Tales, IsTold, AreTold}
 use Rattle.jsx_tree.specs.Walk.{is_found}
 use Rattle.jsx_syntax.specs.Here.{Here, place_of}
 use Rattle.jsx_syntax.specs.NodeSpans.{expr_at}
@@ -65,13 +65,45 @@ pub record Takes (s : Sign) (x y : Here) : Type 0 where
   pub leads : forth s (place_of x) ≡ place_of y
   pub same : y.end ≡ x.end
 
--- Where the tree's signs can be read from the one place, they lead to the other, and all that is told of its places is so.
-pub record IsPlaced (d : Told) (t : Tree) (x y : Here) : Type 0 where
+-- whether what stands at a place is an argument, which stands where its parentheses do
+abbrev pub is_argument : Nonterminal → Bool
+is_argument Argument = true
+is_argument c = false
+
+-- what is told, with another span in place of the tree's own
+abbrev pub spanned_claims : Option Span → List Claim → List Claim
+spanned_claims at [] = []
+spanned_claims at (spans s ∷ cs) = spans at ∷ spanned_claims at cs
+spanned_claims at (comes t ∷ cs) = comes t ∷ spanned_claims at cs
+
+abbrev pub spanned : Option Span → Told → Told
+spanned at (tells cs ds) = tells (spanned_claims at cs) ds
+
+abbrev pub is_parens : Tree → Bool
+is_parens (node (expression Parenthesized) ts) = true
+is_parens t = false
+
+-- how many pairs of parentheses stand round a tree
+abbrev pub pairs_round : Tree → ℕ
+pairs_round (node (expression Parenthesized) (part t ts)) = suc (pairs_round t)
+pairs_round t = 0
+
+-- what is told of an expression with a span as an argument, of what is told elsewhere
+abbrev pub as_argument : Tree → Option Span → Told → Told
+as_argument t at d = cond (is_parens t) (spanned at d) d
+
+-- Where the tree's signs can be read from the one place, they lead to the other, and all that is told of its places is so: as an argument, or anywhere else.
+pub record IsPlacedAs (a : Bool) (d : Told) (t : Tree) (x y : Here) : Type 0 where
   pub same : y.end ≡ x.end
   -- it begins with a token before which a gap is skipped
   pub begins : (ms : List Sign) (text : Text) → from_first (spelled t ++ ms) text ≡ skip text
   pub leads : IsTrue (is_found (scan (place_of x) (spelled t))) → scan (place_of x) (spelled t) ≡ place_of y
-  pub told : IsTrue (is_found (scan (place_of x) (spelled t))) → (c : Nonterminal) → IsTold d (placed x.end (start c false (place_of x ∷ [])) t)
+  pub told : IsTrue (is_found (scan (place_of x) (spelled t))) → (c : Nonterminal) → is_argument c ≡ a → IsTold d (placed x.end (start c false (place_of x ∷ [])) t)
+  -- and so it is in another place's stead
+  pub moved : a ≡ false → IsTrue (is_found (scan (place_of x) (spelled t))) → (c : Nonterminal) → is_argument c ≡ false → (lo hi : ℕ) (at : Option Span) → Holds (extent lo hi) lo (spans at) → IsTold (spanned at d) (within (extent lo hi) (placed x.end (start c false (place_of x ∷ [])) t))
+
+abbrev pub IsPlaced : Told → Tree → Here → Here → Type 0
+IsPlaced d t x y = IsPlacedAs false d t x y
 
 -- the same of a row's rest and its parts
 pub record IsPlacedRow (ps : Production) (ds : Tales) (ts : Forest) (x y : Here) : Type 0 where
@@ -79,11 +111,14 @@ pub record IsPlacedRow (ps : Production) (ds : Tales) (ts : Forest) (x y : Here)
   pub leads : IsTrue (is_found (scan (place_of x) (walk ps (saids ts)))) → scan (place_of x) (walk ps (saids ts)) ≡ place_of y
   pub told : IsTrue (is_found (scan (place_of x) (walk ps (saids ts)))) → AreTold ds (places x.end (starts (place_of x) ps (saids ts)) ts)
 
--- the same of a list
-pub record IsPlacedList (s : ListShape) (ds : Tales) (ts : Forest) (x y : Here) : Type 0 where
+-- the same of a list, of arguments or of anything else
+pub record IsPlacedListAs (a : Bool) (s : ListShape) (ds : Tales) (ts : Forest) (x y : Here) : Type 0 where
   pub same : y.end ≡ x.end
   pub leads : IsTrue (is_found (scan (place_of x) (gathered s (each_said ts)))) → scan (place_of x) (gathered s (each_said ts)) ≡ place_of y
-  pub told : IsTrue (is_found (scan (place_of x) (gathered s (each_said ts)))) → (c : Nonterminal) → AreTold ds (each_placed x.end c (is_text s) (list_starts s (place_of x) (each_said ts)) ts)
+  pub told : IsTrue (is_found (scan (place_of x) (gathered s (each_said ts)))) → (c : Nonterminal) → is_argument c ≡ a → AreTold ds (each_placed x.end c (is_text s) (list_starts s (place_of x) (each_said ts)) ts)
+
+abbrev pub IsPlacedList : ListShape → Tales → Forest → Here → Here → Type 0
+IsPlacedList s ds ts x y = IsPlacedListAs false s ds ts x y
 
 -- an expression that goes on from one that ended before a sign, behind which it stands
 pub record IsPlacedOn (s : Sign) (first : Expr) (x : Here) (whole : Expr) (y : Here) : Type 0 where

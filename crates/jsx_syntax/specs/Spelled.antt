@@ -8,14 +8,17 @@ use Rattle.jsx_lex.specs.declared.token.TokenKind.{TokenKind as MarkKind}
 use Rattle.jsx_lex.specs.Kinds.{is_punctuator, spelling}
 use Rattle.jsx_tree.specs.Spelling.{mode_of}
 use Rattle.jsx_syntax.specs.Here.{leaf_kind}
+use Rattle.jsx_syntax.specs.WordTexts.{word_text}
 
 abbrev pub fixed_mode : Fixed → Mode
-fixed_mode fixed.Const = Operator
+fixed_mode (fixed.Word w) = Operator
 fixed_mode fixed.Equals = Operator
 fixed_mode fixed.Semicolon = Operator
 fixed_mode fixed.Open = Operator
 fixed_mode fixed.Close = Operator
 fixed_mode fixed.CloseBracket = Operator
+fixed_mode fixed.OpenBrace = Operator
+fixed_mode fixed.CloseBrace = Operator
 fixed_mode fixed.Comma = Operator
 fixed_mode fixed.Colon = Operator
 fixed_mode fixed.Dot = Operator
@@ -24,16 +27,18 @@ fixed_mode fixed.TagSlash = Tag
 fixed_mode fixed.TagGreater = Tag
 
 abbrev pub fixed_kind : Fixed → TokenKind
-fixed_kind fixed.Const = IdentifierName
+fixed_kind (fixed.Word w) = IdentifierName
 fixed_kind _ = Punctuator
 
 abbrev pub fixed_text : Fixed → Text
-fixed_text fixed.Const = codes "const"
+fixed_text (fixed.Word w) = word_text w
 fixed_text fixed.Equals = codes "="
 fixed_text fixed.Semicolon = codes ";"
 fixed_text fixed.Open = codes "("
 fixed_text fixed.Close = codes ")"
 fixed_text fixed.CloseBracket = codes "]"
+fixed_text fixed.OpenBrace = codes "{"
+fixed_text fixed.CloseBrace = codes "}"
 fixed_text fixed.Comma = codes ","
 fixed_text fixed.Colon = codes ":"
 fixed_text fixed.Dot = codes "."

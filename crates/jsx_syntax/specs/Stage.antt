@@ -1,32 +1,43 @@
 -- What of the language the compiler takes so far: a table over kinds, leaves and a few further limits. Widening the language widens this table.
 use Rattle.std.specs.Prelude.{List, [], ◌∷◌, codes, Bool, true, false, IsTrue, not, ◌&&◌}
 use Rattle.std.specs.Char.{is_ascii_alphabetic}
-use Rattle.jsx_base.specs.Token.{Text, Operator, TokenKind, IdentifierName, Punctuator, NumericLiteral, BigIntLiteral, StringLiteral, JsxName, same, first_is}
+use Rattle.jsx_base.specs.Token.{Text, TokenKind, IdentifierName, NumericLiteral, BigIntLiteral, StringLiteral, RegExpLiteral, JsxName, same, first_is}
 use Rattle.jsx_tree.specs.declared.text.Goal.TheVariants as goals
-use Rattle.jsx_tree.specs.Signs.{Sign, Tok, Semicolon, AfterExpr}
-use Rattle.jsx_tree.specs.Kinds.{ConstWord, Module, Var, Declarator, ExprStmt, Assign, OpAssign, Void, TypeOf, Positive, Negative, Complement, Not, Unary, Binary, Cond, Call, Member, Index, ImportCall, Element, Kind, program, statement, expression, jsx, Tree, leaf, node, list, Forest, none, part}
+use Rattle.jsx_tree.specs.Kinds.{Module, Block, Var, Declarator, Empty, ExprStmt, If, Do, While, Continue, Break, Throw, Debugger, Assign, OpAssign, Void, TypeOf, Positive, Negative, Complement, Not, Unary, Binary, Cond, Call, Member, Index, ImportCall, Parenthesized, Element, Kind, program, statement, expression, jsx, Tree, leaf, node, list, Forest, none, part, Delete, PrefixUpdate, PostfixUpdate, Seq}
 use Rattle.jsx_tree.specs.Nonterminals.{Nonterminal, Expr, MemberObject, NullishLeft, Name, Pat, SimpleTarget, Argument, TagName, WholeProgram, DotObject, assigns, is_value_word, has_dash}
 use Rattle.jsx_tree.specs.Form.{Position, position, positions}
-use Rattle.jsx_tree.specs.Spelling.{spelled}
-use Rattle.jsx_tree.specs.Reading.{At, scan, ended_at}
 use Rattle.jsx_tree.specs.Program.{Reads}
 
 abbrev pub has_kind : Kind → Bool
 has_kind (program Module) = true
-has_kind (statement (Var ConstWord)) = true
+has_kind (statement Block) = true
+has_kind (statement (Var v)) = true
 has_kind (statement Declarator) = true
+has_kind (statement Empty) = true
 has_kind (statement ExprStmt) = true
+has_kind (statement If) = true
+has_kind (statement Do) = true
+has_kind (statement While) = true
+has_kind (statement Continue) = true
+has_kind (statement Break) = true
+has_kind (statement Throw) = true
+has_kind (statement Debugger) = true
+has_kind (expression Seq) = true
 has_kind (expression (Binary o)) = true
 has_kind (expression Assign) = true
 has_kind (expression (OpAssign o)) = assigns o
 has_kind (expression Cond) = true
+has_kind (expression (Unary Delete)) = true
 has_kind (expression (Unary Void)) = true
 has_kind (expression (Unary TypeOf)) = true
 has_kind (expression (Unary Positive)) = true
 has_kind (expression (Unary Negative)) = true
 has_kind (expression (Unary Complement)) = true
 has_kind (expression (Unary Not)) = true
+has_kind (expression (PrefixUpdate o)) = true
+has_kind (expression (PostfixUpdate o)) = true
 has_kind (expression ImportCall) = true
+has_kind (expression Parenthesized) = true
 has_kind (expression Call) = true
 has_kind (expression Member) = true
 has_kind (expression Index) = true
@@ -37,12 +48,13 @@ has_kind k = false
 abbrev pub is_plain_tag : Text → Bool
 is_plain_tag t = first_is is_ascii_alphabetic t && (not (has_dash t) && not (same t (codes "this")))
 
--- an expression that is one token: a name or `this`, `null`, `true` and `false`, a number where one may stand, a long number, or a string
+-- an expression that is one token: a name or `this`, `null`, `true` and `false`, a number where one may stand, a long number, a string, or a regular expression
 abbrev pub value_leaf : Bool → TokenKind → Text → Bool
 value_leaf n IdentifierName t = is_value_word t
 value_leaf n NumericLiteral t = n
 value_leaf n BigIntLiteral t = true
 value_leaf n StringLiteral t = true
+value_leaf n RegExpLiteral t = true
 value_leaf n k t = false
 
 -- which leaves may stand at a place; no number stands before a `.`
@@ -82,14 +94,7 @@ abbrev mutual
   each_in_stage c none = true
   each_in_stage c (part t ts) = in_stage c t && each_in_stage c ts
 
--- no semicolon may be missing yet
-abbrev pub with_semicolons : List Sign → List Sign
-with_semicolons [] = []
-with_semicolons (Semicolon ∷ ss) = Tok Operator Punctuator (codes ";") ∷ with_semicolons ss
-with_semicolons (s ∷ ss) = s ∷ with_semicolons ss
-
 -- the text reads as this module, which the compiler takes so far
 pub record ReadsSoFar (text : Text) (t : Tree) : Type 0 where
   pub reads : Reads goals.Module text t
   pub staged : IsTrue (in_stage WholeProgram t)
-  pub semicolons : IsTrue (ended_at (scan (At [] AfterExpr text) (with_semicolons (spelled t))))

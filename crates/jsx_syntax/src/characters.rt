@@ -2,7 +2,8 @@
 
 ghost use Rattle.std.specs.Prelude.{◌≡◌, [], codes, nat_eq, true, MatchOption};
 ghost use Rattle.std.specs.Str.{chars};
-ghost use Rattle.jsx_base.specs.Token.{same, first_is};
+ghost use Rattle.jsx_base.specs.Token.{same, first_is, is_blank, is_line_end};
+ghost use Rattle.jsx_lex.specs.Characters.{Follows};
 ghost use Rattle.jsx_base.specs.Lines.{size};
 
 /// How many bytes the text has.
@@ -23,6 +24,77 @@ pub fn first(text: &str) -> Option<char>
         Some(c) => Some(c),
         None => None,
     }
+}
+
+/// The first character and the text behind it.
+pub fn split_first(text: &str) -> Option<(char, &str)>
+    ensures { MatchOption result (chars text.now ≡ []) (λ (c, rest). Follows text.now c rest.now) }
+{
+    let mut chars = text.chars();
+    match chars.next() {
+        Some(c) => Some((c, chars.as_str())),
+        None => None,
+    }
+}
+
+/// Whether the text begins with this character.
+pub fn begins_with(text: &str, c: char) -> bool
+    ensures { result ≡ first_is (nat_eq c) (chars text.now) }
+{
+    match split_first(text) {
+        Some((d, _)) => c == d,
+        None => false,
+    }
+}
+
+/// Whether the character ends a line (ECMA-262 section 12.3).
+pub fn is_line_end(c: char) -> bool
+    ensures { result ≡ is_line_end c }
+{
+    c == '\n' || c == '\r' || c == '\u{2028}' || c == '\u{2029}'
+}
+
+/// Whether the character is a blank in a line (ECMA-262 section 12.2).
+pub fn is_blank(c: char) -> bool
+    ensures { result ≡ is_blank c }
+{
+    matches!(
+        c,
+        ' ' | '\t'
+            | '\u{B}'
+            | '\u{C}'
+            | '\u{A0}'
+            | '\u{1680}'
+            | '\u{202F}'
+            | '\u{205F}'
+            | '\u{3000}'
+            | '\u{FEFF}'
+            | '\u{2000}'..='\u{200A}'
+    )
+}
+
+/// Whether the token is `,`.
+#[inline]
+pub fn is_comma(raw: &str) -> bool
+    ensures { result ≡ same (chars raw.now) (codes ",") }
+{
+    raw == ","
+}
+
+/// Whether the token is `=`.
+#[inline]
+pub fn is_equals(raw: &str) -> bool
+    ensures { result ≡ same (chars raw.now) (codes "=") }
+{
+    raw == "="
+}
+
+/// Whether the token is `}`.
+#[inline]
+pub fn is_right_brace(raw: &str) -> bool
+    ensures { result ≡ same (chars raw.now) (codes "}") }
+{
+    raw == "}"
 }
 
 /// Whether the word is `in`.
@@ -57,6 +129,14 @@ pub fn is_typeof(word: &str) -> bool
     word == "typeof"
 }
 
+/// Whether the word is `delete`.
+#[inline]
+pub fn is_delete(word: &str) -> bool
+    ensures { result ≡ same (chars word.now) (codes "delete") }
+{
+    word == "delete"
+}
+
 /// Whether the word is `import`.
 #[inline]
 pub fn is_import(word: &str) -> bool
@@ -65,10 +145,10 @@ pub fn is_import(word: &str) -> bool
     word == "import"
 }
 
-/// Whether the word is `const`.
+/// Whether the token is `=>`.
 #[inline]
-pub fn is_const(word: &str) -> bool
-    ensures { result ≡ same (chars word.now) (codes "const") }
+pub fn is_arrow(token: &str) -> bool
+    ensures { result ≡ same (chars token.now) (codes "=>") }
 {
-    word == "const"
+    token == "=>"
 }

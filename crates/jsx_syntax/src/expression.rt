@@ -1,24 +1,28 @@
 //! Expressions.
 
-ghost use Rattle.std.specs.Prelude.{◌≡◌, ◌<◌, ◌≤◌, [], ◌∷◌, IfOk, OnOk, IsTrue, map};
-ghost use Rattle.jsx_tree.specs.Kinds.{Role, Assign, OpAssign, Unary, Binary, Cond, Call, Member, Index, ImportCall, Element, expression, jsx, list, none, part};
+ghost use Rattle.std.specs.Prelude.{◌≡◌, ◌<◌, ◌≤◌, [], ◌∷◌, IfOk, OnOk, IsTrue, map, true};
+ghost use Rattle.jsx_tree.specs.Kinds.{Role, Assign, OpAssign, Unary, Binary, Cond, Call, Member, Index, ImportCall, Parenthesized, Element, expression, jsx, list, none, part, PrefixUpdate, PostfixUpdate};
 ghost use Rattle.jsx_tree.specs.Nonterminals as grammar;
 ghost use Rattle.jsx_tree.specs.Grammar.{Commas, Many, Part, p};
 ghost use Rattle.jsx_tree.specs.View.{forest, inside, text_of, view_access, view_expr, view_operation, view_pattern};
-ghost use Rattle.jsx_tree.specs.ViewOperators.{assign_of, binary_of, unary_of};
+ghost use Rattle.jsx_tree.specs.ViewOperators.{assign_of, binary_of, unary_of, step_of};
+ghost use Rattle.jsx_tree.specs.StaticRules.{is_name};
 ghost use Rattle.jsx_tree.specs.Spans.{no_tales, tale};
 ghost use Rattle.jsx_tree.specs.Told.{told_expr, told_list, told_pat};
 ghost use Rattle.jsx_tree.specs.Walk.{one, tail};
-ghost use Rattle.jsx_tree.specs.Answers.{Only, Barred, OnlyRow, NoRow, Built};
-ghost use Rattle.jsx_syntax.specs.SoFar.{in_module, is_number, row_so_far, so_far};
+ghost use Rattle.jsx_tree.specs.Answers.{Only, Barred, OnlyRow, NoRow, Built, NoNode, BuiltNode};
+ghost use Rattle.jsx_syntax.specs.Around.{around_of};
+ghost use Rattle.jsx_syntax.specs.SoFar.{is_number, row_so_far, so_far};
 ghost use Rattle.jsx_syntax.specs.Here.{place_of, left, sign_of};
 ghost use Rattle.jsx_syntax.specs.declared.lexer.Fixed.TheVariants as fixed;
 ghost use Rattle.jsx_syntax.specs.Answers.{Refused};
 ghost use Rattle.jsx_syntax.specs.Growths as growths;
-ghost use Rattle.jsx_syntax.specs.Growths.{Begins, NoOpening, NoneBegins, growth_kind, is_level, mark, opening_kind, opening_sign, settled};
+ghost use Rattle.jsx_syntax.specs.Growths.{Begins, NoOpening, behind, NoneBegins, growth_kind, is_level, mark, opening_kind, opening_sign, settled};
 ghost use Rattle.jsx_syntax.specs.NodeSpans.{access_at, expr_at, jsx_at, operation_at};
-ghost use Rattle.jsx_syntax.specs.Spans.{Extends, IsPlaced, IsPlacedBehind, IsPlacedOn, IsPlacedRow, Spans, Starts, begin_of, end_of, next_of};
+ghost use Rattle.jsx_syntax.specs.Spans.{Extends, IsPlaced, IsPlacedAs, IsPlacedBehind, IsPlacedOn, IsPlacedRow, Spans, Starts, begin_of, end_of, next_of};
 
+use crate::argument::place_argument;
+use crate::around::Context;
 use crate::error::ParseError;
 use crate::growth::{self, Growth};
 use crate::identifiers::{is_bound, is_reserved, value_word};
@@ -29,6 +33,7 @@ use crate::parser::{expect, give_up, identifier_name, span_to, tag_name};
 use jsx_base::{BytePos, Span};
 use jsx_tree::{
     Access, AssignOp, BinaryOp, Expr, Ident, Jsx, LiteralKind, Operation, Pat, Tag, Text, UnaryOp,
+    UpdateOp,
 };
 use std::alloc::{AllocError, Global};
 
@@ -38,60 +43,73 @@ pub const ASSIGNMENT: u8 = 1;
 /// The level of a unary expression.
 const UNARY: u8 = 15;
 
+/// The level of calls and members, and of what may be assigned to.
+const MEMBER: u8 = 17;
+
 /// A JSX element with neither attributes nor children: `<a/>`.
-fn element<'s>(alloc: Global, lexer: &mut Lexer<'s>) -> Result<Box<Expr<'s>>, ParseError>
-    ensures read { IfOk result (λ e. Built so_far in_module (row_so_far (jsx Element)) (jsx Element) (λ ts. ts) (view_expr e.value) (place_of lexer.old) (place_of lexer.new)) }
+fn element<'s>(context: Context, lexer: &mut Lexer<'s>) -> Result<Box<Expr<'s>>, ParseError>
+    ensures read { IfOk result (λ e. Built so_far (around_of context.entry.around) (row_so_far (jsx Element)) (jsx Element) (λ ts. ts) (view_expr e.value) (place_of lexer.old) (place_of lexer.new)) }
     ensures span { IfOk result (λ e. Spans (expr_at e.value) (next_of lexer.old) (end_of lexer.new)) }
     ensures placed { IfOk result (λ e. IsPlaced (told_expr e.value) (view_expr e.value) lexer.old lexer.new) }
     ensures shorter { OnOk result (left lexer.new < left lexer.old) }
     ensures ended { OnOk result (IsTrue (settled (place_of lexer.new))) }
-    ensures refused { Refused result (NoRow so_far in_module (row_so_far (jsx Element)) (place_of lexer.old)) }
+    ensures refused { Refused result (NoRow so_far (around_of context.entry.around) (row_so_far (jsx Element)) (place_of lexer.old)) }
 {
-    expect(lexer, Fixed::Less)?;
+    expect(context, lexer, Fixed::Less)?;
     let lo = lexer.last_place();
-    let name = tag_name(lexer)?;
-    expect(lexer, Fixed::TagSlash)?;
-    expect(lexer, Fixed::TagGreater)?;
+    let name = tag_name(context, lexer)?;
+    expect(context, lexer, Fixed::TagSlash)?;
+    expect(context, lexer, Fixed::TagGreater)?;
     let span = span_to(lo, lexer);
-    Ok(make::element(alloc, span, Tag::Name(name), Vec::new(alloc))?)
+    Ok(make::element(
+        context.alloc,
+        span,
+        Tag::Name(name),
+        Vec::new(context.alloc),
+    )?)
 }
 
 /// A primary expression: an identifier, a literal or an element.
-fn primary<'s>(alloc: Global, lexer: &mut Lexer<'s>) -> Result<Box<Expr<'s>>, ParseError>
+fn primary<'s>(context: Context, lexer: &mut Lexer<'s>) -> Result<Box<Expr<'s>>, ParseError>
     requires { NoOpening (place_of lexer.old) }
-    ensures read { IfOk result (λ e. Begins in_module (place_of lexer.old) (view_expr e.value) (place_of lexer.new)) }
+    ensures read { IfOk result (λ e. Begins (around_of context.entry.around) (place_of lexer.old) (view_expr e.value) (place_of lexer.new)) }
     ensures span { IfOk result (λ e. Spans (expr_at e.value) (next_of lexer.old) (end_of lexer.new)) }
     ensures placed { IfOk result (λ e. IsPlaced (told_expr e.value) (view_expr e.value) lexer.old lexer.new) }
     ensures shorter { OnOk result (left lexer.new < left lexer.old) }
-    ensures refused { Refused result (NoneBegins in_module (place_of lexer.old)) }
+    ensures refused { Refused result (NoneBegins (around_of context.entry.around) (place_of lexer.old)) }
 {
     if let Some(raw) = lexer.leaf(Leaf::Name) {
         let lo = lexer.last_place();
         if let Some(word) = value_word(raw) {
-            return Ok(make::constant(alloc, span_to(lo, lexer), word)?);
+            return Ok(make::constant(context.alloc, span_to(lo, lexer), word)?);
         }
         if is_reserved(raw) {
             return Err(give_up(lexer));
         }
         let text = Text::Read(raw, lo);
-        return Ok(make::name(alloc, span_to(lo, lexer), Ident { text })?);
+        return Ok(make::name(context.alloc, span_to(lo, lexer), Ident { text })?);
     }
     if let Some(raw) = lexer.leaf(Leaf::Str) {
         let lo = lexer.last_place();
         let text = Text::Read(raw, lo);
-        return Ok(make::literal(alloc, span_to(lo, lexer), LiteralKind::Str, text)?);
+        return Ok(make::literal(context.alloc, span_to(lo, lexer), LiteralKind::Str, text)?);
     }
     if let Some(raw) = lexer.leaf(Leaf::Num) {
         let lo = lexer.last_place();
         let text = Text::Read(raw, lo);
-        return Ok(make::literal(alloc, span_to(lo, lexer), LiteralKind::Num, text)?);
+        return Ok(make::literal(context.alloc, span_to(lo, lexer), LiteralKind::Num, text)?);
     }
     if let Some(raw) = lexer.leaf(Leaf::BigInt) {
         let lo = lexer.last_place();
         let text = Text::Read(raw, lo);
-        return Ok(make::literal(alloc, span_to(lo, lexer), LiteralKind::BigInt, text)?);
+        return Ok(make::literal(context.alloc, span_to(lo, lexer), LiteralKind::BigInt, text)?);
     }
-    Ok(element(alloc, lexer)?)
+    if let Some(raw) = lexer.leaf(Leaf::RegExp) {
+        let lo = lexer.last_place();
+        let text = Text::Read(raw, lo);
+        return Ok(make::literal(context.alloc, span_to(lo, lexer), LiteralKind::RegExp, text)?);
+    }
+    Ok(element(context, lexer)?)
 }
 
 fn is_number(expr: &Expr) -> bool
@@ -145,6 +163,7 @@ fn fits(growth: Growth, left: &Expr) -> bool
         Growth::Call => level(left) >= 17,
         Growth::Member => level(left) >= 17 && !is_number(left),
         Growth::Index => level(left) >= 17,
+        Growth::Update(_) => is_target(left),
     }
 }
 
@@ -198,6 +217,46 @@ fn is_target_access(access: &Access) -> bool
     )
 }
 
+fn is_name_text(text: &Text) -> bool
+    ensures { result ≡ grammar.is_ident (text_of text.now) }
+{
+    match text {
+        Text::Read(raw, _) => !is_reserved(raw),
+        Text::Made(made, _) => !is_reserved(made),
+    }
+}
+
+/// Whether an expression is a name, in parentheses or not.
+#[cycle(name)]
+#[tactic(auto, using(crate::proofs::Naming::naming))]
+fn is_name(expr: &Expr) -> bool
+    ensures { result ≡ is_name (view_expr expr.now) }
+{
+    match expr {
+        Expr::Ident(_, name) => is_name_text(&name.text),
+        Expr::Paren(_, inside) => is_name(inside),
+        Expr::Literal(_, _, _) => false,
+        Expr::Word(_, _) => false,
+        Expr::Operation(_) => false,
+        Expr::Access(_) => false,
+        Expr::Array(_, _) => false,
+        Expr::Object(_, _) => false,
+        Expr::Template(_, _, _) => false,
+        Expr::Function(_, _, _, _, _) => false,
+        Expr::Class(_, _, _, _) => false,
+        Expr::Jsx(_) => false,
+    }
+}
+
+fn deletes_name(operator: UnaryOp, operand: &Expr) -> bool
+    ensures { result ≡ growths.deletes_name (unary_of operator) (view_expr operand.now) }
+{
+    match operator {
+        UnaryOp::Delete => is_name(operand),
+        _ => false,
+    }
+}
+
 /// Where an expression that was read begins.
 pub fn start_of(expr: &Expr) -> BytePos
     ensures { Starts (expr_at expr.now) result }
@@ -208,7 +267,8 @@ pub fn start_of(expr: &Expr) -> BytePos
     }
 }
 
-fn span_of(expr: &Expr) -> Option<Span>
+/// The place of an expression.
+pub fn span_of(expr: &Expr) -> Option<Span>
     ensures { result ≡ expr_at expr.now }
 {
     match expr {
@@ -282,38 +342,51 @@ fn span_of_jsx(jsx: &Jsx) -> Option<Span>
 
 /// A member behind its `.`: `a.b`.
 fn member<'s>(
-    alloc: Global,
+    context: Context,
     lexer: &mut Lexer<'s>,
     object: Box<Expr<'s>>,
 ) -> Result<Box<Expr<'s>>, ParseError>
-    ensures read { IfOk result (λ e. Built so_far in_module (tail (tail (row_so_far (expression Member)))) (expression Member) (part (view_expr object.entry.value)) (view_expr e.value) (place_of lexer.old) (place_of lexer.new)) }
+    ensures read { IfOk result (λ e. Built so_far (around_of context.entry.around) (tail (tail (row_so_far (expression Member)))) (expression Member) (part (view_expr object.entry.value)) (view_expr e.value) (place_of lexer.old) (place_of lexer.new)) }
     ensures span { IfOk result (λ e. Extends (expr_at object.entry.value) (expr_at e.value) (end_of lexer.new)) }
     ensures placed { IfOk result (λ e. IsPlacedOn (sign_of fixed.Dot) object.entry.value lexer.old e.value lexer.new) }
     ensures shorter { OnOk result (left lexer.new < left lexer.old) }
     ensures ended { OnOk result (IsTrue (settled (place_of lexer.new))) }
-    ensures refused { Refused result (NoRow so_far in_module (tail (tail (row_so_far (expression Member)))) (place_of lexer.old)) }
+    ensures refused { Refused result (NoRow so_far (around_of context.entry.around) (tail (tail (row_so_far (expression Member)))) (place_of lexer.old)) }
 {
-    let raw = identifier_name(lexer)?;
+    let raw = identifier_name(context, lexer)?;
     let span = span_to(start_of(&object), lexer);
     let name = Text::Read(raw, lexer.last_place());
-    Ok(make::member(alloc, span, object, name)?)
+    Ok(make::member(context.alloc, span, object, name)?)
+}
+
+/// An argument, which stands where its parentheses do, where it has some.
+#[cycle(expression)]
+fn argument<'s>(context: Context, lexer: &mut Lexer<'s>) -> Result<Box<Expr<'s>>, ParseError>
+    ensures read { IfOk result (λ e. Only so_far (around_of context.entry.around) (Part (grammar.Expr 1)) (place_of lexer.old) (one (view_expr e.value)) (place_of lexer.new)) }
+    ensures placed { IfOk result (λ e. IsPlacedAs true (told_expr e.value) (view_expr e.value) lexer.old lexer.new) }
+    ensures shorter { OnOk result (left lexer.new < left lexer.old) }
+    ensures refused { Refused result (Barred so_far (around_of context.entry.around) (Part (grammar.Expr 1)) (place_of lexer.old)) }
+{
+    let mut argument = expression(context, lexer, ASSIGNMENT)?;
+    place_argument(&mut argument);
+    Ok(argument)
 }
 
 /// Arguments behind their `(`, with the `)`: `a, b)`.
 #[cycle(expression)]
-fn arguments<'s>(alloc: Global, lexer: &mut Lexer<'s>) -> Result<Vec<Box<Expr<'s>>>, ParseError>
-    ensures read { IfOk result (λ v. OnlyRow so_far in_module (tail (tail (row_so_far (expression Call)))) (place_of lexer.old) (part (list (forest (map (inside view_expr) v.items))) none) (place_of lexer.new)) }
+fn arguments<'s>(context: Context, lexer: &mut Lexer<'s>) -> Result<Vec<Box<Expr<'s>>>, ParseError>
+    ensures read { IfOk result (λ v. OnlyRow so_far (around_of context.entry.around) (tail (tail (row_so_far (expression Call)))) (place_of lexer.old) (part (list (forest (map (inside view_expr) v.items))) none) (place_of lexer.new)) }
     ensures placed { IfOk result (λ v. IsPlacedRow (Many Commas grammar.Argument ∷ p ")" ∷ []) (tale (told_list (map (inside told_expr) v.items)) no_tales) (part (list (forest (map (inside view_expr) v.items))) none) lexer.old lexer.new) }
     ensures shorter { OnOk result (left lexer.new < left lexer.old) }
     ensures ended { OnOk result (IsTrue (settled (place_of lexer.new))) }
-    ensures refused { Refused result (NoRow so_far in_module (tail (tail (row_so_far (expression Call)))) (place_of lexer.old)) }
+    ensures refused { Refused result (NoRow so_far (around_of context.entry.around) (tail (tail (row_so_far (expression Call)))) (place_of lexer.old)) }
 {
-    let mut all = Vec::new(alloc);
+    let mut all = Vec::new(context.alloc);
     'arguments: while !lexer.take(Fixed::Close) {
-        let argument = expression(alloc, lexer, ASSIGNMENT)?;
+        let argument = argument(context, lexer)?;
         all.push(argument)?;
         if !lexer.take(Fixed::Comma) {
-            expect(lexer, Fixed::Close)?;
+            expect(context, lexer, Fixed::Close)?;
             return Ok(all);
         }
     }
@@ -323,81 +396,81 @@ fn arguments<'s>(alloc: Global, lexer: &mut Lexer<'s>) -> Result<Vec<Box<Expr<'s
 /// A call behind its `(`: `a(b, c)`.
 #[cycle(expression)]
 fn call<'s>(
-    alloc: Global,
+    context: Context,
     lexer: &mut Lexer<'s>,
     callee: Box<Expr<'s>>,
 ) -> Result<Box<Expr<'s>>, ParseError>
-    ensures read { IfOk result (λ e. Built so_far in_module (tail (tail (row_so_far (expression Call)))) (expression Call) (part (view_expr callee.entry.value)) (view_expr e.value) (place_of lexer.old) (place_of lexer.new)) }
+    ensures read { IfOk result (λ e. Built so_far (around_of context.entry.around) (tail (tail (row_so_far (expression Call)))) (expression Call) (part (view_expr callee.entry.value)) (view_expr e.value) (place_of lexer.old) (place_of lexer.new)) }
     ensures span { IfOk result (λ e. Extends (expr_at callee.entry.value) (expr_at e.value) (end_of lexer.new)) }
     ensures placed { IfOk result (λ e. IsPlacedOn (sign_of fixed.Open) callee.entry.value lexer.old e.value lexer.new) }
     ensures shorter { OnOk result (left lexer.new < left lexer.old) }
     ensures ended { OnOk result (IsTrue (settled (place_of lexer.new))) }
-    ensures refused { Refused result (NoRow so_far in_module (tail (tail (row_so_far (expression Call)))) (place_of lexer.old)) }
+    ensures refused { Refused result (NoRow so_far (around_of context.entry.around) (tail (tail (row_so_far (expression Call)))) (place_of lexer.old)) }
 {
-    let all = arguments(alloc, lexer)?;
+    let all = arguments(context, lexer)?;
     let span = span_to(start_of(&callee), lexer);
-    Ok(make::call(alloc, span, callee, all)?)
+    Ok(make::call(context.alloc, span, callee, all)?)
 }
 
 /// A member behind its `[`: `a[b]`.
 #[cycle(expression)]
 fn index<'s>(
-    alloc: Global,
+    context: Context,
     lexer: &mut Lexer<'s>,
     object: Box<Expr<'s>>,
 ) -> Result<Box<Expr<'s>>, ParseError>
-    ensures read { IfOk result (λ e. Built so_far in_module (tail (tail (row_so_far (expression Index)))) (expression Index) (part (view_expr object.entry.value)) (view_expr e.value) (place_of lexer.old) (place_of lexer.new)) }
+    ensures read { IfOk result (λ e. Built so_far (around_of context.entry.around) (tail (tail (row_so_far (expression Index)))) (expression Index) (part (view_expr object.entry.value)) (view_expr e.value) (place_of lexer.old) (place_of lexer.new)) }
     ensures span { IfOk result (λ e. Extends (expr_at object.entry.value) (expr_at e.value) (end_of lexer.new)) }
     ensures placed { IfOk result (λ e. IsPlacedOn (mark (expression Index)) object.entry.value lexer.old e.value lexer.new) }
     ensures shorter { OnOk result (left lexer.new < left lexer.old) }
     ensures ended { OnOk result (IsTrue (settled (place_of lexer.new))) }
-    ensures refused { Refused result (NoRow so_far in_module (tail (tail (row_so_far (expression Index)))) (place_of lexer.old)) }
+    ensures refused { Refused result (NoRow so_far (around_of context.entry.around) (tail (tail (row_so_far (expression Index)))) (place_of lexer.old)) }
 {
-    let inner = expression(alloc, lexer, ASSIGNMENT)?;
-    expect(lexer, Fixed::CloseBracket)?;
+    let inner = sequence(context, lexer)?;
+    expect(context, lexer, Fixed::CloseBracket)?;
     let span = span_to(start_of(&object), lexer);
-    Ok(make::index(alloc, span, object, inner)?)
+    Ok(make::index(context.alloc, span, object, inner)?)
 }
 
 /// A conditional expression behind its `?`: `a ? b : c` (ECMA-262 section 13.14).
 #[cycle(expression)]
 fn conditional<'s>(
-    alloc: Global,
+    context: Context,
     lexer: &mut Lexer<'s>,
     test: Box<Expr<'s>>,
 ) -> Result<Box<Expr<'s>>, ParseError>
-    ensures read { IfOk result (λ e. Built so_far in_module (tail (tail (row_so_far (expression Cond)))) (expression Cond) (part (view_expr test.entry.value)) (view_expr e.value) (place_of lexer.old) (place_of lexer.new)) }
+    ensures read { IfOk result (λ e. Built so_far (around_of context.entry.around) (tail (tail (row_so_far (expression Cond)))) (expression Cond) (part (view_expr test.entry.value)) (view_expr e.value) (place_of lexer.old) (place_of lexer.new)) }
     ensures span { IfOk result (λ e. Extends (expr_at test.entry.value) (expr_at e.value) (end_of lexer.new)) }
     ensures placed { IfOk result (λ e. IsPlacedOn (mark (expression Cond)) test.entry.value lexer.old e.value lexer.new) }
     ensures shorter { OnOk result (left lexer.new < left lexer.old) }
     ensures ended { OnOk result (IsTrue (settled (place_of lexer.new))) }
-    ensures refused { Refused result (NoRow so_far in_module (tail (tail (row_so_far (expression Cond)))) (place_of lexer.old)) }
+    ensures refused { Refused result (NoRow so_far (around_of context.entry.around) (tail (tail (row_so_far (expression Cond)))) (place_of lexer.old)) }
 {
-    let then = expression(alloc, lexer, ASSIGNMENT)?;
-    expect(lexer, Fixed::Colon)?;
-    let other = expression(alloc, lexer, ASSIGNMENT)?;
+    let then = expression(context, lexer, ASSIGNMENT)?;
+    expect(context, lexer, Fixed::Colon)?;
+    let other = expression(context, lexer, ASSIGNMENT)?;
     let span = span_to(start_of(&test), lexer);
-    Ok(make::conditional(alloc, span, test, then, other)?)
+    Ok(make::conditional(context.alloc, span, test, then, other)?)
 }
 
 /// A binary expression behind its operator: `a + b` (ECMA-262 sections 13.6 to 13.13).
 #[cycle(expression)]
 fn binary<'s>(
-    alloc: Global,
+    context: Context,
     lexer: &mut Lexer<'s>,
     operator: BinaryOp,
     first: Box<Expr<'s>>,
 ) -> Result<Box<Expr<'s>>, ParseError>
-    ensures read { IfOk result (λ e. Built so_far in_module (tail (tail (row_so_far (expression (Binary (binary_of operator)))))) (expression (Binary (binary_of operator))) (part (view_expr first.entry.value)) (view_expr e.value) (place_of lexer.old) (place_of lexer.new)) }
+    ensures read { IfOk result (λ e. Built so_far (around_of context.entry.around) (tail (tail (row_so_far (expression (Binary (binary_of operator)))))) (expression (Binary (binary_of operator))) (part (view_expr first.entry.value)) (view_expr e.value) (place_of lexer.old) (place_of lexer.new)) }
     ensures span { IfOk result (λ e. Extends (expr_at first.entry.value) (expr_at e.value) (end_of lexer.new)) }
     ensures placed { IfOk result (λ e. IsPlacedOn (mark (expression (Binary (binary_of operator)))) first.entry.value lexer.old e.value lexer.new) }
     ensures shorter { OnOk result (left lexer.new < left lexer.old) }
     ensures ended { OnOk result (IsTrue (settled (place_of lexer.new))) }
-    ensures refused { Refused result (NoRow so_far in_module (tail (tail (row_so_far (expression (Binary (binary_of operator)))))) (place_of lexer.old)) }
+    ensures refused { Refused result (NoRow so_far (around_of context.entry.around) (tail (tail (row_so_far (expression (Binary (binary_of operator)))))) (place_of lexer.old)) }
 {
-    let right = expression(alloc, lexer, growth::right_level(operator))?;
+    let right = expression(context, lexer, growth::right_level(operator))?;
     let span = span_to(start_of(&first), lexer);
-    Ok(make::binary(alloc, span, operator, first, right)?)
+    Ok(make::binary(context.alloc, span, operator, first, right)?)
 }
 
 /// What is assigned to, of an expression: a name, or `a.b`.
@@ -417,156 +490,223 @@ fn target_of<'s>(alloc: Global, expr: Box<Expr<'s>>) -> Result<Box<Pat<'s>>, All
 /// An assignment behind its `=`: `a = b` (ECMA-262 section 13.15).
 #[cycle(expression)]
 fn assignment<'s>(
-    alloc: Global,
+    context: Context,
     lexer: &mut Lexer<'s>,
     first: Box<Expr<'s>>,
 ) -> Result<Box<Expr<'s>>, ParseError>
-    ensures read { IfOk result (λ e. Built so_far in_module (tail (tail (row_so_far (expression Assign)))) (expression Assign) (part (view_expr first.entry.value)) (view_expr e.value) (place_of lexer.old) (place_of lexer.new)) }
+    ensures read { IfOk result (λ e. Built so_far (around_of context.entry.around) (tail (tail (row_so_far (expression Assign)))) (expression Assign) (part (view_expr first.entry.value)) (view_expr e.value) (place_of lexer.old) (place_of lexer.new)) }
     ensures span { IfOk result (λ e. Extends (expr_at first.entry.value) (expr_at e.value) (end_of lexer.new)) }
     ensures placed { IfOk result (λ e. IsPlacedOn (mark (expression Assign)) first.entry.value lexer.old e.value lexer.new) }
     ensures shorter { OnOk result (left lexer.new < left lexer.old) }
     ensures ended { OnOk result (IsTrue (settled (place_of lexer.new))) }
-    ensures refused { Refused result (NoRow so_far in_module (tail (tail (row_so_far (expression Assign)))) (place_of lexer.old)) }
+    ensures refused { Refused result (NoRow so_far (around_of context.entry.around) (tail (tail (row_so_far (expression Assign)))) (place_of lexer.old)) }
 {
-    let value = expression(alloc, lexer, ASSIGNMENT)?;
+    let value = expression(context, lexer, ASSIGNMENT)?;
     let span = span_to(start_of(&first), lexer);
-    let target = target_of(alloc, first)?;
-    Ok(make::assign(alloc, span, target, value)?)
+    let target = target_of(context.alloc, first)?;
+    Ok(make::assign(context.alloc, span, target, value)?)
 }
 
 /// An assignment with an operator, behind that: `a += b` (ECMA-262 section 13.15).
 #[cycle(expression)]
 fn operator_assignment<'s>(
-    alloc: Global,
+    context: Context,
     lexer: &mut Lexer<'s>,
     operator: AssignOp,
     first: Box<Expr<'s>>,
 ) -> Result<Box<Expr<'s>>, ParseError>
-    ensures read { IfOk result (λ e. Built so_far in_module (tail (tail (row_so_far (expression (OpAssign (assign_of operator)))))) (expression (OpAssign (assign_of operator))) (part (view_expr first.entry.value)) (view_expr e.value) (place_of lexer.old) (place_of lexer.new)) }
+    ensures read { IfOk result (λ e. Built so_far (around_of context.entry.around) (tail (tail (row_so_far (expression (OpAssign (assign_of operator)))))) (expression (OpAssign (assign_of operator))) (part (view_expr first.entry.value)) (view_expr e.value) (place_of lexer.old) (place_of lexer.new)) }
     ensures span { IfOk result (λ e. Extends (expr_at first.entry.value) (expr_at e.value) (end_of lexer.new)) }
     ensures placed { IfOk result (λ e. IsPlacedOn (mark (expression (OpAssign (assign_of operator)))) first.entry.value lexer.old e.value lexer.new) }
     ensures shorter { OnOk result (left lexer.new < left lexer.old) }
     ensures ended { OnOk result (IsTrue (settled (place_of lexer.new))) }
-    ensures refused { Refused result (NoRow so_far in_module (tail (tail (row_so_far (expression (OpAssign (assign_of operator)))))) (place_of lexer.old)) }
+    ensures refused { Refused result (NoRow so_far (around_of context.entry.around) (tail (tail (row_so_far (expression (OpAssign (assign_of operator)))))) (place_of lexer.old)) }
 {
-    let value = expression(alloc, lexer, ASSIGNMENT)?;
+    let value = expression(context, lexer, ASSIGNMENT)?;
     let span = span_to(start_of(&first), lexer);
-    Ok(make::op_assign(alloc, span, operator, first, value)?)
+    Ok(make::op_assign(context.alloc, span, operator, first, value)?)
+}
+
+/// An update expression behind its operator: `a++` (ECMA-262 section 13.4).
+fn postfix_update<'s>(
+    context: Context,
+    lexer: &Lexer<'s>,
+    operator: UpdateOp,
+    operand: Box<Expr<'s>>,
+) -> Result<Box<Expr<'s>>, ParseError>
+    ensures read { IfOk result (λ e. Built so_far (around_of context.entry.around) (behind (expression (PostfixUpdate (step_of operator)))) (expression (PostfixUpdate (step_of operator))) (part (view_expr operand.entry.value)) (view_expr e.value) (place_of lexer.now) (place_of lexer.now)) }
+    ensures span { IfOk result (λ e. Extends (expr_at operand.entry.value) (expr_at e.value) (end_of lexer.now)) }
+    ensures placed { IfOk result (λ e. IsPlacedOn (mark (expression (PostfixUpdate (step_of operator)))) operand.entry.value lexer.now e.value lexer.now) }
+    ensures refused { Refused result (NoRow so_far (around_of context.entry.around) (behind (expression (PostfixUpdate (step_of operator)))) (place_of lexer.now)) }
+{
+    let span = span_to(start_of(&operand), lexer);
+    Ok(make::postfix_update(context.alloc, span, operator, operand)?)
 }
 
 /// What goes on with an expression, behind its first token.
 #[cycle(expression)]
 fn grow<'s>(
-    alloc: Global,
+    context: Context,
     lexer: &mut Lexer<'s>,
     growth: Growth,
     first: Box<Expr<'s>>,
 ) -> Result<Box<Expr<'s>>, ParseError>
-    ensures read { IfOk result (λ e. Built so_far in_module (tail (tail (row_so_far (growth_kind growth)))) (growth_kind growth) (part (view_expr first.entry.value)) (view_expr e.value) (place_of lexer.old) (place_of lexer.new)) }
+    requires { IsTrue (settled (place_of lexer.old)) }
+    ensures read { IfOk result (λ e. Built so_far (around_of context.entry.around) (behind (growth_kind growth)) (growth_kind growth) (part (view_expr first.entry.value)) (view_expr e.value) (place_of lexer.old) (place_of lexer.new)) }
     ensures span { IfOk result (λ e. Extends (expr_at first.entry.value) (expr_at e.value) (end_of lexer.new)) }
     ensures placed { IfOk result (λ e. IsPlacedOn (mark (growth_kind growth)) first.entry.value lexer.old e.value lexer.new) }
-    ensures shorter { OnOk result (left lexer.new < left lexer.old) }
+    ensures within { OnOk result (left lexer.new ≤ left lexer.old) }
     ensures ended { OnOk result (IsTrue (settled (place_of lexer.new))) }
-    ensures refused { Refused result (NoRow so_far in_module (tail (tail (row_so_far (growth_kind growth)))) (place_of lexer.old)) }
+    ensures refused { Refused result (NoRow so_far (around_of context.entry.around) (behind (growth_kind growth)) (place_of lexer.old)) }
 {
     match growth {
-        Growth::Binary(operator) => Ok(binary(alloc, lexer, operator, first)?),
-        Growth::Assign => Ok(assignment(alloc, lexer, first)?),
-        Growth::OpAssign(operator) => Ok(operator_assignment(alloc, lexer, operator, first)?),
-        Growth::Cond => Ok(conditional(alloc, lexer, first)?),
-        Growth::Call => Ok(call(alloc, lexer, first)?),
-        Growth::Member => Ok(member(alloc, lexer, first)?),
-        Growth::Index => Ok(index(alloc, lexer, first)?),
+        Growth::Binary(operator) => Ok(binary(context, lexer, operator, first)?),
+        Growth::Assign => Ok(assignment(context, lexer, first)?),
+        Growth::OpAssign(operator) => Ok(operator_assignment(context, lexer, operator, first)?),
+        Growth::Cond => Ok(conditional(context, lexer, first)?),
+        Growth::Call => Ok(call(context, lexer, first)?),
+        Growth::Member => Ok(member(context, lexer, first)?),
+        Growth::Index => Ok(index(context, lexer, first)?),
+        Growth::Update(operator) => Ok(postfix_update(context, lexer, operator, first)?),
     }
 }
 
-/// A unary expression behind its operator: `-a` (ECMA-262 section 13.5).
+/// A unary expression behind its operator: `-a` (ECMA-262 section 13.5). A name alone isn't deleted.
 #[cycle(expression)]
 fn unary<'s>(
-    alloc: Global,
+    context: Context,
     lexer: &mut Lexer<'s>,
     operator: UnaryOp,
 ) -> Result<Box<Expr<'s>>, ParseError>
-    ensures read { IfOk result (λ e. Built so_far in_module (tail (row_so_far (expression (Unary (unary_of operator))))) (expression (Unary (unary_of operator))) (λ ts. ts) (view_expr e.value) (place_of lexer.old) (place_of lexer.new)) }
+    ensures read { IfOk result (λ e. BuiltNode so_far (around_of context.entry.around) (tail (row_so_far (expression (Unary (unary_of operator))))) (expression (Unary (unary_of operator))) (view_expr e.value) (place_of lexer.old) (place_of lexer.new)) }
     ensures span { IfOk result (λ e. Spans (expr_at e.value) (begin_of lexer.old) (end_of lexer.new)) }
     ensures placed { IfOk result (λ e. IsPlacedBehind (opening_sign (expression (Unary (unary_of operator)))) lexer.old (told_expr e.value) (view_expr e.value) lexer.new) }
     ensures shorter { OnOk result (left lexer.new < left lexer.old) }
     ensures ended { OnOk result (IsTrue (settled (place_of lexer.new))) }
-    ensures refused { Refused result (NoRow so_far in_module (tail (row_so_far (expression (Unary (unary_of operator))))) (place_of lexer.old)) }
+    ensures refused { Refused result (NoNode so_far (around_of context.entry.around) (tail (row_so_far (expression (Unary (unary_of operator))))) (expression (Unary (unary_of operator))) (place_of lexer.old)) }
 {
     let lo = lexer.last_place();
-    let operand = expression(alloc, lexer, UNARY)?;
-    Ok(make::unary(alloc, span_to(lo, lexer), operator, operand)?)
+    let operand = expression(context, lexer, UNARY)?;
+    if deletes_name(operator, &operand) {
+        return Err(give_up(lexer));
+    }
+    Ok(make::unary(context.alloc, span_to(lo, lexer), operator, operand)?)
+}
+
+/// An update expression behind its operator: `++a` (ECMA-262 section 13.4).
+#[cycle(expression)]
+fn prefix_update<'s>(
+    context: Context,
+    lexer: &mut Lexer<'s>,
+    operator: UpdateOp,
+) -> Result<Box<Expr<'s>>, ParseError>
+    ensures read { IfOk result (λ e. Built so_far (around_of context.entry.around) (tail (row_so_far (expression (PrefixUpdate (step_of operator))))) (expression (PrefixUpdate (step_of operator))) (λ ts. ts) (view_expr e.value) (place_of lexer.old) (place_of lexer.new)) }
+    ensures span { IfOk result (λ e. Spans (expr_at e.value) (begin_of lexer.old) (end_of lexer.new)) }
+    ensures placed { IfOk result (λ e. IsPlacedBehind (opening_sign (expression (PrefixUpdate (step_of operator)))) lexer.old (told_expr e.value) (view_expr e.value) lexer.new) }
+    ensures shorter { OnOk result (left lexer.new < left lexer.old) }
+    ensures ended { OnOk result (IsTrue (settled (place_of lexer.new))) }
+    ensures refused { Refused result (NoRow so_far (around_of context.entry.around) (tail (row_so_far (expression (PrefixUpdate (step_of operator))))) (place_of lexer.old)) }
+{
+    let lo = lexer.last_place();
+    let operand = expression(context, lexer, MEMBER)?;
+    if !is_target(&operand) {
+        return Err(give_up(lexer));
+    }
+    Ok(make::prefix_update(context.alloc, span_to(lo, lexer), operator, operand)?)
 }
 
 /// An import call behind its word: `import(a)` (ECMA-262 section 13.3.10).
 #[cycle(expression)]
-fn import_call<'s>(alloc: Global, lexer: &mut Lexer<'s>) -> Result<Box<Expr<'s>>, ParseError>
-    ensures read { IfOk result (λ e. Built so_far in_module (tail (row_so_far (expression ImportCall))) (expression ImportCall) (λ ts. ts) (view_expr e.value) (place_of lexer.old) (place_of lexer.new)) }
+fn import_call<'s>(context: Context, lexer: &mut Lexer<'s>) -> Result<Box<Expr<'s>>, ParseError>
+    ensures read { IfOk result (λ e. Built so_far (around_of context.entry.around) (tail (row_so_far (expression ImportCall))) (expression ImportCall) (λ ts. ts) (view_expr e.value) (place_of lexer.old) (place_of lexer.new)) }
     ensures span { IfOk result (λ e. Spans (expr_at e.value) (begin_of lexer.old) (end_of lexer.new)) }
     ensures placed { IfOk result (λ e. IsPlacedBehind (opening_sign (expression ImportCall)) lexer.old (told_expr e.value) (view_expr e.value) lexer.new) }
     ensures shorter { OnOk result (left lexer.new < left lexer.old) }
     ensures ended { OnOk result (IsTrue (settled (place_of lexer.new))) }
-    ensures refused { Refused result (NoRow so_far in_module (tail (row_so_far (expression ImportCall))) (place_of lexer.old)) }
+    ensures refused { Refused result (NoRow so_far (around_of context.entry.around) (tail (row_so_far (expression ImportCall))) (place_of lexer.old)) }
 {
     let lo = lexer.last_place();
-    expect(lexer, Fixed::Open)?;
-    let source = expression(alloc, lexer, ASSIGNMENT)?;
-    expect(lexer, Fixed::Close)?;
-    Ok(make::import_call(alloc, span_to(lo, lexer), source)?)
+    expect(context, lexer, Fixed::Open)?;
+    let source = expression(context, lexer, ASSIGNMENT)?;
+    expect(context, lexer, Fixed::Close)?;
+    Ok(make::import_call(context.alloc, span_to(lo, lexer), source)?)
+}
+
+/// An expression in parentheses behind its `(`: `(a)` (ECMA-262 section 13.2.9). No `=>` comes behind it.
+#[cycle(expression)]
+fn parenthesized<'s>(context: Context, lexer: &mut Lexer<'s>) -> Result<Box<Expr<'s>>, ParseError>
+    ensures read { IfOk result (λ e. Built so_far (around_of context.entry.around) (tail (row_so_far (expression Parenthesized))) (expression Parenthesized) (λ ts. ts) (view_expr e.value) (place_of lexer.old) (place_of lexer.new)) }
+    ensures span { IfOk result (λ e. Spans (expr_at e.value) (begin_of lexer.old) (end_of lexer.new)) }
+    ensures placed { IfOk result (λ e. IsPlacedBehind (opening_sign (expression Parenthesized)) lexer.old (told_expr e.value) (view_expr e.value) lexer.new) }
+    ensures shorter { OnOk result (left lexer.new < left lexer.old) }
+    ensures ended { OnOk result (IsTrue (settled (place_of lexer.new))) }
+    ensures refused { Refused result (NoRow so_far (around_of context.entry.around) (tail (row_so_far (expression Parenthesized))) (place_of lexer.old)) }
+{
+    let lo = lexer.last_place();
+    let inner = sequence(context, lexer)?;
+    expect(context, lexer, Fixed::Close)?;
+    if lexer.is_before_arrow() {
+        return Err(give_up(lexer));
+    }
+    Ok(make::paren(context.alloc, span_to(lo, lexer), inner)?)
 }
 
 /// What an expression is, behind its first token.
 #[cycle(expression)]
 fn open<'s>(
-    alloc: Global,
+    context: Context,
     lexer: &mut Lexer<'s>,
     opening: Opening,
 ) -> Result<Box<Expr<'s>>, ParseError>
-    ensures read { IfOk result (λ e. Built so_far in_module (tail (row_so_far (opening_kind opening))) (opening_kind opening) (λ ts. ts) (view_expr e.value) (place_of lexer.old) (place_of lexer.new)) }
+    ensures read { IfOk result (λ e. BuiltNode so_far (around_of context.entry.around) (tail (row_so_far (opening_kind opening))) (opening_kind opening) (view_expr e.value) (place_of lexer.old) (place_of lexer.new)) }
     ensures span { IfOk result (λ e. Spans (expr_at e.value) (begin_of lexer.old) (end_of lexer.new)) }
     ensures placed { IfOk result (λ e. IsPlacedBehind (opening_sign (opening_kind opening)) lexer.old (told_expr e.value) (view_expr e.value) lexer.new) }
     ensures shorter { OnOk result (left lexer.new < left lexer.old) }
     ensures ended { OnOk result (IsTrue (settled (place_of lexer.new))) }
-    ensures refused { Refused result (NoRow so_far in_module (tail (row_so_far (opening_kind opening))) (place_of lexer.old)) }
+    ensures refused { Refused result (NoNode so_far (around_of context.entry.around) (tail (row_so_far (opening_kind opening))) (opening_kind opening) (place_of lexer.old)) }
 {
     match opening {
-        Opening::ImportCall => Ok(import_call(alloc, lexer)?),
-        Opening::Unary(operator) => Ok(unary(alloc, lexer, operator)?),
+        Opening::ImportCall => Ok(import_call(context, lexer)?),
+        Opening::Paren => Ok(parenthesized(context, lexer)?),
+        Opening::Unary(operator) => Ok(unary(context, lexer, operator)?),
+        Opening::Update(operator) => Ok(prefix_update(context, lexer, operator)?),
     }
 }
 
 /// An expression that begins with no other.
 #[cycle(expression)]
-fn beginning<'s>(alloc: Global, lexer: &mut Lexer<'s>) -> Result<Box<Expr<'s>>, ParseError>
-    ensures read { IfOk result (λ e. Begins in_module (place_of lexer.old) (view_expr e.value) (place_of lexer.new)) }
+fn beginning<'s>(context: Context, lexer: &mut Lexer<'s>) -> Result<Box<Expr<'s>>, ParseError>
+    ensures read { IfOk result (λ e. Begins (around_of context.entry.around) (place_of lexer.old) (view_expr e.value) (place_of lexer.new)) }
     ensures span { IfOk result (λ e. Spans (expr_at e.value) (next_of lexer.old) (end_of lexer.new)) }
     ensures placed { IfOk result (λ e. IsPlaced (told_expr e.value) (view_expr e.value) lexer.old lexer.new) }
     ensures shorter { OnOk result (left lexer.new < left lexer.old) }
-    ensures refused { Refused result (NoneBegins in_module (place_of lexer.old)) }
+    ensures refused { Refused result (NoneBegins (around_of context.entry.around) (place_of lexer.old)) }
 {
     let Some(opening) = lexer.opening() else {
-        return Ok(primary(alloc, lexer)?);
+        return Ok(primary(context, lexer)?);
     };
-    Ok(open(alloc, lexer, opening)?)
+    Ok(open(context, lexer, opening)?)
 }
 
 /// An expression of a level or more, up to where it doesn't go on: `a.b(c) + d`.
 #[cycle(expression)]
 pub fn expression<'s>(
-    alloc: Global,
+    context: Context,
     lexer: &mut Lexer<'s>,
     level: u8,
 ) -> Result<Box<Expr<'s>>, ParseError>
     requires { IsTrue (is_level level) }
-    ensures read { IfOk result (λ e. Only so_far in_module (Part (grammar.Expr level)) (place_of lexer.old) (one (view_expr e.value)) (place_of lexer.new)) }
+    ensures read { IfOk result (λ e. Only so_far (around_of context.entry.around) (Part (grammar.Expr level)) (place_of lexer.old) (one (view_expr e.value)) (place_of lexer.new)) }
     ensures span { IfOk result (λ e. Spans (expr_at e.value) (next_of lexer.old) (end_of lexer.new)) }
     ensures placed { IfOk result (λ e. IsPlaced (told_expr e.value) (view_expr e.value) lexer.old lexer.new) }
     ensures shorter { OnOk result (left lexer.new < left lexer.old) }
     ensures ended { OnOk result (IsTrue (settled (place_of lexer.new))) }
-    ensures refused { Refused result (Barred so_far in_module (Part (grammar.Expr level)) (place_of lexer.old)) }
+    ensures refused { Refused result (Barred so_far (around_of context.entry.around) (Part (grammar.Expr level)) (place_of lexer.old)) }
 {
-    let mut expr = beginning(alloc, lexer)?;
+    let mut expr = beginning(context, lexer)?;
+    if self::level(&expr) < level {
+        return Err(give_up(lexer));
+    }
     'steps: loop {
         let Some(growth) = lexer.growth(level) else {
             return Ok(expr);
@@ -574,6 +714,32 @@ pub fn expression<'s>(
         if !fits(growth, &expr) {
             return Err(give_up(lexer));
         }
-        expr = grow(alloc, lexer, growth, expr)?;
+        expr = grow(context, lexer, growth, expr)?;
+    }
+}
+
+/// An expression, or several with commas between: `a, b` (ECMA-262 section 13.16).
+#[cycle(expression)]
+pub fn sequence<'s>(context: Context, lexer: &mut Lexer<'s>) -> Result<Box<Expr<'s>>, ParseError>
+    ensures read { IfOk result (λ e. Only so_far (around_of context.entry.around) (Part (grammar.Expr 0)) (place_of lexer.old) (one (view_expr e.value)) (place_of lexer.new)) }
+    ensures span { IfOk result (λ e. Spans (expr_at e.value) (next_of lexer.old) (end_of lexer.new)) }
+    ensures placed { IfOk result (λ e. IsPlaced (told_expr e.value) (view_expr e.value) lexer.old lexer.new) }
+    ensures shorter { OnOk result (left lexer.new < left lexer.old) }
+    ensures ended { OnOk result (IsTrue (settled (place_of lexer.new))) }
+    ensures refused { Refused result (Barred so_far (around_of context.entry.around) (Part (grammar.Expr 0)) (place_of lexer.old)) }
+{
+    let first = expression(context, lexer, ASSIGNMENT)?;
+    if !lexer.take(Fixed::Comma) {
+        return Ok(first);
+    }
+    let lo = start_of(&first);
+    let mut all = Vec::with_capacity(context.alloc, 2)?;
+    all.push(first)?;
+    'items: loop {
+        let next = expression(context, lexer, ASSIGNMENT)?;
+        all.push(next)?;
+        if !lexer.take(Fixed::Comma) {
+            return Ok(make::sequence(context.alloc, span_to(lo, lexer), all)?);
+        }
     }
 }

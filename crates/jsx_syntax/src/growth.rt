@@ -1,6 +1,6 @@
 //! What goes on with an expression to the right, and how tightly it binds (ECMA-262 sections 13.3 and 13.6 to 13.15).
 
-ghost use Rattle.std.specs.Prelude.{◌≡◌};
+ghost use Rattle.std.specs.Prelude.{◌≡◌, ◌&&◌};
 ghost use Rattle.std.specs.Str.{chars};
 ghost use Rattle.jsx_tree.specs.Nonterminals as grammar;
 ghost use Rattle.jsx_tree.specs.Grammar.{right_of};
@@ -11,7 +11,9 @@ ghost use Rattle.jsx_syntax.specs.GrowthTokens.{binary_by, assign_by, with_opera
 
 use crate::characters::{is_in, is_instanceof};
 use jsx_lex::{Token, TokenKind};
-use jsx_tree::{AssignOp, BinaryOp, BitOp, EqualityOp, ProductOp, RelationOp, ShiftOp, SumOp};
+use jsx_tree::{
+    AssignOp, BinaryOp, BitOp, EqualityOp, ProductOp, RelationOp, ShiftOp, SumOp, UpdateOp,
+};
 
 #[derive(Clone, Copy)]
 pub enum Growth {
@@ -29,6 +31,8 @@ pub enum Growth {
     Member,
     /// `a[b]`
     Index,
+    /// `a++`
+    Update(UpdateOp),
 }
 
 impl Growth {
@@ -44,6 +48,17 @@ impl Growth {
             Growth::Call => 17,
             Growth::Member => 17,
             Growth::Index => 17,
+            Growth::Update(_) => 16,
+        }
+    }
+
+    /// Whether a line ends before it, where none may.
+    pub fn is_late(self, new_line: bool) -> bool
+        ensures { result ≡ (growths.on_line (growths.growth_kind self) && new_line) }
+    {
+        match self {
+            Growth::Update(_) => new_line,
+            _ => false,
         }
     }
 }
@@ -199,6 +214,8 @@ pub fn growth_of(token: &Token) -> Option<Growth>
         TokenKind::LeftBracket => Some(Growth::Index),
         TokenKind::Question => Some(Growth::Cond),
         TokenKind::Equal => Some(Growth::Assign),
+        TokenKind::PlusPlus => Some(Growth::Update(UpdateOp::Increment)),
+        TokenKind::MinusMinus => Some(Growth::Update(UpdateOp::Decrement)),
         TokenKind::IdentifierName => word(token.raw),
         _ => operator(token.kind),
     }

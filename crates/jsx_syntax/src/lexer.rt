@@ -1,24 +1,30 @@
 //! The tokens that the grammar so far asks for, one at a time from the front of the text.
 
-ghost use Rattle.std.specs.Prelude.{◌≡◌, ◌<◌, ◌^◌, ◌&&◌, IsTrue, IsFalse, IfSome, IfNone, MatchOption, Some, false, true, length, nat_le, []};
+ghost use Rattle.std.specs.Prelude.{◌≡◌, ◌<◌, ◌≤◌, ◌^◌, ◌&&◌, IsTrue, IsFalse, IfSome, IfNone, MatchOption, Some, false, true, length, not, nat_le, [], codes};
 ghost use Rattle.std.specs.Str.{chars};
-ghost use Rattle.jsx_base.specs.Token.{Text, Operator, same, is_kind};
-ghost use Rattle.jsx_tree.specs.Signs.{AfterExpr};
-ghost use Rattle.jsx_tree.specs.Reading.{Lost, forth, ended_at};
+ghost use Rattle.jsx_base.specs.Token.{Text, IdentifierName, Operator, breaks, same, is_kind};
+ghost use Rattle.jsx_tree.specs.Signs.{AfterExpr, Semicolon};
+ghost use Rattle.jsx_tree.specs.Reading.{Lost, forth, go_if, ended_at};
 ghost use Rattle.jsx_tree.specs.Form.{is_leaf};
 ghost use Rattle.jsx_syntax.specs.SoFar.{goes_on_so_far};
 ghost use Rattle.jsx_syntax.specs.Stage.{has_kind};
 ghost use Rattle.jsx_lex.specs.Kinds.{is_punctuator, mode_of as mode_read, kind_of, spelling};
+ghost use Rattle.jsx_syntax.specs.declared.lexer.Fixed.TheVariants as fixed;
 ghost use Rattle.jsx_syntax.specs.Here.{Here, place_of, ending_of, left, sign_of, leaf_kind, leaf_sign};
-ghost use Rattle.jsx_syntax.specs.Growths.{NoOpening, growth_kind, is_level, level_of_kind, mark, opening_kind, opening_sign};
+ghost use Rattle.jsx_syntax.specs.Growths.{NoOpening, growth_kind, is_level, level_of_kind, mark, opening_kind, opening_sign, OnLine, settled};
+ghost use Rattle.jsx_syntax.specs.Headings.{NoHeading, heading_sign};
 ghost use Rattle.jsx_syntax.specs.Seen.{IsNext, IsSeen, NoNext, here_of, is_it, next_token};
 ghost use Rattle.jsx_syntax.specs.Spans.{Takes, begin_of, end_of, next_of};
 ghost use Rattle.jsx_syntax.specs.Spelled.{IsMarkOf, fixed_mode, fixed_kind, fixed_text, leaf_mode};
 
-use crate::characters::{bytes, is_const};
+use crate::characters::{bytes, is_arrow};
+use crate::gap::breaks;
 use crate::growth::{Growth, growth_of};
+use crate::heading::{Heading, heading_of};
 use crate::opening::{Opening, opening_of};
 use crate::seen::{Seen, serves};
+use crate::semicolon::lacks;
+use crate::word::Word;
 use jsx_base::BytePos;
 use jsx_lex::{Lexer as Tokens, Mode, Token, TokenKind};
 use std::marker::Model;
@@ -29,19 +35,26 @@ pub enum Ending {
     Expr,
     /// A name or pattern that is declared.
     Binding,
+    /// A word that a line end always ends, as `break`, with what it names.
+    Word,
+    /// The `)` of a `do`.
+    Do,
 }
 
 /// A token with one spelling.
 #[derive(Clone, Copy, Debug, PartialEq, Eq)]
 pub enum Fixed {
-    /// The word `const`.
-    Const,
+    Word(Word),
     Equals,
     Semicolon,
     Open,
     Close,
     /// `]`
     CloseBracket,
+    /// `{`
+    OpenBrace,
+    /// `}`
+    CloseBrace,
     Comma,
     Colon,
     Dot,
@@ -61,6 +74,7 @@ pub enum Leaf {
     Num,
     BigInt,
     Str,
+    RegExp,
     JsxName,
 }
 
@@ -80,15 +94,17 @@ impl Fixed {
     /// The punctuator that it is, if it isn't a word.
     #[inline(always)]
     fn mark(self) -> Option<TokenKind>
-        ensures { MatchOption result (self ≡ Fixed.Const) (λ k. IsMarkOf k self) }
+        ensures { MatchOption result (fixed_kind self ≡ IdentifierName) (λ k. IsMarkOf k self) }
     {
         Some(match self {
-            Fixed::Const => return None,
+            Fixed::Word(_) => return None,
             Fixed::Equals => TokenKind::Equal,
             Fixed::Semicolon => TokenKind::Semicolon,
             Fixed::Open => TokenKind::LeftParen,
             Fixed::Close => TokenKind::RightParen,
             Fixed::CloseBracket => TokenKind::RightBracket,
+            Fixed::OpenBrace => TokenKind::LeftBrace,
+            Fixed::CloseBrace => TokenKind::RightBrace,
             Fixed::Comma => TokenKind::Comma,
             Fixed::Colon => TokenKind::Colon,
             Fixed::Dot => TokenKind::Dot,
@@ -104,10 +120,13 @@ impl Fixed {
         requires { IsTrue (is_punctuator token.now.kind) → chars token.now.raw.now ≡ spelling token.now.kind }
         ensures { result ≡ is_it token.now (fixed_kind self) (fixed_text self) }
     {
-        match self.mark() {
-            Some(mark) => token.kind == mark,
-            None => token.kind == TokenKind::IdentifierName && is_const(token.raw),
+        if let Fixed::Word(word) = self {
+            return token.kind == TokenKind::IdentifierName && word.is(token.raw);
         }
+        let Some(mark) = self.mark() else {
+            return false;
+        };
+        token.kind == mark
     }
 }
 
@@ -119,6 +138,7 @@ impl Leaf {
     {
         match self {
             Leaf::JsxName => Mode::Tag,
+            Leaf::RegExp => Mode::Operand,
             Leaf::Name | Leaf::Num | Leaf::BigInt | Leaf::Str => Mode::Operator,
         }
     }
@@ -133,6 +153,7 @@ impl Leaf {
             Leaf::Num => TokenKind::NumericLiteral,
             Leaf::BigInt => TokenKind::BigIntLiteral,
             Leaf::Str => TokenKind::StringLiteral,
+            Leaf::RegExp => TokenKind::RegExpLiteral,
             Leaf::JsxName => TokenKind::JsxName,
         };
         token.kind == kind
@@ -251,6 +272,17 @@ impl<'s> Lexer<'s> {
         }
     }
 
+    /// Whether the next token is `=>`.
+    pub fn is_before_arrow(&mut self) -> bool
+        ensures ahead { result ≡ same (next_token Operator self.old).raw (codes "=>") }
+        ensures stays { self.new ≡ self.old }
+    {
+        let Some(seen) = self.look(Mode::Operator) else {
+            return false;
+        };
+        is_arrow(seen.token.raw)
+    }
+
     /// Takes the next token if it is this one.
     #[inline]
     pub fn take(&mut self, fixed: Fixed) -> bool
@@ -269,6 +301,42 @@ impl<'s> Lexer<'s> {
         }
         self.step(&seen);
         true
+    }
+
+    /// Whether a semicolon may be missing, where none comes next.
+    fn may_lack(&mut self) -> bool
+        requires { forth (sign_of fixed.Semicolon) (place_of self.old) ≡ Lost }
+        ensures lacks { forth Semicolon (place_of self.old) ≡ go_if result (place_of self.old) }
+        ensures stays { self.new ≡ self.old }
+    {
+        let Some(seen) = self.look(Mode::Operator) else {
+            return lacks(self.ending, "", breaks(self.here.rest()));
+        };
+        match seen.token.kind {
+            TokenKind::End => true,
+            _ => lacks(self.ending, seen.token.raw, seen.token.new_line),
+        }
+    }
+
+    /// Takes a semicolon, or nothing where it may be missing (ECMA-262 section 12.10).
+    pub fn semicolon(&mut self) -> bool
+        ensures taken { IsTrue result → place_of self.new ≡ forth Semicolon (place_of self.old) }
+        ensures takes { IsTrue result → Takes Semicolon self.old self.new }
+        ensures within { IsTrue result → left self.new ≤ left self.old }
+        ensures missing { IsFalse result → forth Semicolon (place_of self.old) ≡ Lost }
+        ensures stays { IsFalse result → self.new ≡ self.old }
+    {
+        if self.take(Fixed::Semicolon) {
+            return true;
+        }
+        self.may_lack()
+    }
+
+    /// Whether no line ends before the next token.
+    pub fn is_on_line(&self) -> bool
+        ensures { result ≡ not (breaks self.now.rest) }
+    {
+        !breaks(self.here.rest())
     }
 
     /// Takes the next token if it is of this kind, and gives its text.
@@ -297,9 +365,11 @@ impl<'s> Lexer<'s> {
         requires { IsTrue (is_level level) }
         ensures taken { IfSome result (λ g. place_of self.new ≡ forth (mark (growth_kind g)) (place_of self.old)) }
         ensures takes { IfSome result (λ g. Takes (mark (growth_kind g)) self.old self.new) }
+        ensures on_line { IfSome result (λ g. OnLine (growth_kind g) (place_of self.old)) }
+        ensures ended { IfSome result (λ _. IsTrue (settled (place_of self.new))) }
         ensures reaches { IfSome result (λ g. IsTrue (nat_le level (level_of_kind (growth_kind g)))) }
         ensures shorter { IfSome result (λ g. left self.new < left self.old) }
-        ensures missing { IfNone result (goes_on_so_far (Some level) AfterExpr (next_token Operator self.old) ≡ false) }
+        ensures missing { IfNone result (goes_on_so_far (Some level) AfterExpr (breaks self.old.rest) (next_token Operator self.old) ≡ false) }
         ensures stays { IfNone result (self.new ≡ self.old) }
     {
         let Some(seen) = self.look(Mode::Operator) else {
@@ -309,6 +379,9 @@ impl<'s> Lexer<'s> {
             return None;
         };
         if growth.level() < level {
+            return None;
+        }
+        if growth.is_late(seen.token.new_line) {
             return None;
         }
         self.step(&seen);
@@ -335,6 +408,25 @@ impl<'s> Lexer<'s> {
         Some(opening)
     }
 
+    /// Takes the next token if a statement begins with it that begins as no expression does.
+    pub fn heading(&mut self) -> Option<Heading>
+        ensures taken { IfSome result (λ h. place_of self.new ≡ forth (heading_sign h) (place_of self.old)) }
+        ensures takes { IfSome result (λ h. Takes (heading_sign h) self.old self.new) }
+        ensures begins { IfSome result (λ h. begin_of self.new ≡ next_of self.old) }
+        ensures shorter { IfSome result (λ h. left self.new < left self.old) }
+        ensures missing { IfNone result (NoHeading (place_of self.old)) }
+        ensures stays { IfNone result (self.new ≡ self.old) }
+    {
+        let Some(seen) = self.look(Mode::Operator) else {
+            return None;
+        };
+        let Some(heading) = heading_of(&seen.token) else {
+            return None;
+        };
+        self.step(&seen);
+        Some(heading)
+    }
+
     /// The place behind the token that was taken last, in bytes from the text's begin.
     pub fn place(&self) -> BytePos
         ensures { result.0 ≡ end_of self.now }
@@ -358,6 +450,7 @@ impl<'s> Lexer<'s> {
 #[cfg(test)]
 mod tests {
     use super::{Fixed, Leaf, Lexer};
+    use crate::word::Word;
 
     fn takes(text: &str, fixed: Fixed) -> bool {
         text.len() < 100 && Lexer::new(text).take(fixed)
@@ -377,8 +470,8 @@ mod tests {
     #[test]
     fn takes_marks(rt: HostRuntime) {
         for (text, fixed, want) in &[
-            ("const a", Fixed::Const, true),
-            ("constant", Fixed::Const, false),
+            ("const a", Fixed::Word(Word::Const), true),
+            ("constant", Fixed::Word(Word::Const), false),
             ("= 1", Fixed::Equals, true),
             ("== 1", Fixed::Equals, false),
             ("=> 1", Fixed::Equals, false),
@@ -420,6 +513,9 @@ mod tests {
             ),
             ("'\\u{110000}'", Leaf::Str, ""),
             ("'a\nb'", Leaf::Str, ""),
+            ("/[/]\\/b/g;", Leaf::RegExp, "/[/]\\/b/g"),
+            ("/a\n/", Leaf::RegExp, ""),
+            ("//a/", Leaf::RegExp, ""),
         ] {
             assert!(rt; leaf(text, *kind) == *want, "at {text}");
         }

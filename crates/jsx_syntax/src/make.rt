@@ -2,16 +2,16 @@
 //! by value much.
 
 ghost use Rattle.std.specs.Prelude.{◌≡◌, [], ◌∷◌, IfOk, map};
-ghost use Rattle.jsx_tree.specs.Kinds.{Role, Declarator, Var, Assigns, ExprStmt, Assign, OpAssign, Unary, Binary, Cond, Call, Member, Index, ImportCall, Element, statement, expression, jsx, leaf, node, list, none, part};
-ghost use Rattle.jsx_tree.specs.View.{text_of, word, view_word, name_of, kind_of_literal, word_of, inside, forest, optional_of, view_tag, view_expr, view_pattern, view_pat, view_stmt, view_jsx};
-ghost use Rattle.jsx_tree.specs.ViewOperators.{assign_of, binary_of, unary_of};
-ghost use Rattle.jsx_tree.specs.Told.{told_list, told_optional, told_text, told_leaf, told_node, told_tag, told_expr, told_pat, told_stmt, told_jsx};
+ghost use Rattle.jsx_tree.specs.Kinds.{Role, Block, Var, Declarator, Empty, If, Do, While, Continue, Break, Throw, Debugger, Assigns, ExprStmt, Assign, OpAssign, Unary, Binary, Cond, Call, Member, Index, ImportCall, Parenthesized, Element, statement, expression, jsx, leaf, node, list, none, part, PrefixUpdate, PostfixUpdate, Seq};
+ghost use Rattle.jsx_tree.specs.View.{text_of, word, view_word, name_of, kind_of_literal, word_of, inside, forest, optional_name, optional_of, view_tag, view_expr, view_pattern, view_pat, view_stmt, view_jsx};
+ghost use Rattle.jsx_tree.specs.ViewOperators.{assign_of, binary_of, unary_of, step_of};
+ghost use Rattle.jsx_tree.specs.Told.{told_list, told_name, told_optional, told_text, told_leaf, told_node, told_tag, told_expr, told_pat, told_stmt, told_jsx};
 ghost use Rattle.jsx_syntax.specs.NodeSpans.{expr_at, pat_at, stmt_at};
 
 use jsx_base::Span;
 use jsx_tree::{
-    Access, AssignOp, BinaryOp, DeclareWord, Expr, Ident, Jsx, LiteralKind, Operation, Pat, Stmt,
-    Tag, Text, UnaryOp, Word,
+    Access, AssignOp, BinaryOp, Control, DeclareWord, Expr, Ident, Jsx, LiteralKind, Operation,
+    Pat, Stmt, Tag, Text, UnaryOp, UpdateOp, UpdateSide, Word,
 };
 use std::alloc::{AllocError, Global};
 
@@ -63,6 +63,32 @@ pub fn literal<'s>(
     ensures span { IfOk result (λ e. expr_at e.value ≡ at) }
 {
     boxed(alloc, Expr::Literal(at, kind, text))
+}
+
+/// `(a)`
+pub fn paren<'s>(
+    alloc: Global,
+    at: Option<Span>,
+    inner: Box<Expr<'s>>,
+) -> Result<Box<Expr<'s>>, AllocError>
+    ensures view { IfOk result (λ e. view_expr e.value ≡ node (expression Parenthesized) (part (view_expr inner.entry.value) none)) }
+    ensures told { IfOk result (λ e. told_expr e.value ≡ told_expr inner.entry.value) }
+    ensures span { IfOk result (λ e. expr_at e.value ≡ at) }
+{
+    boxed(alloc, Expr::Paren(at, inner))
+}
+
+/// `a, b`
+pub fn sequence<'s>(
+    alloc: Global,
+    at: Option<Span>,
+    exprs: Vec<Box<Expr<'s>>>,
+) -> Result<Box<Expr<'s>>, AllocError>
+    ensures view { IfOk result (λ e. view_expr e.value ≡ node (expression Seq) (part (list (forest (map (inside view_expr) exprs.entry.items))) none)) }
+    ensures told { IfOk result (λ e. told_expr e.value ≡ told_node at (told_list (map (inside told_expr) exprs.entry.items) ∷ [])) }
+    ensures span { IfOk result (λ e. expr_at e.value ≡ at) }
+{
+    boxed(alloc, Expr::Operation(Operation::Seq(at, exprs)))
 }
 
 /// `a(b, c)`
@@ -229,6 +255,40 @@ pub fn unary<'s>(
     )
 }
 
+/// `a++`
+pub fn postfix_update<'s>(
+    alloc: Global,
+    at: Option<Span>,
+    operator: UpdateOp,
+    operand: Box<Expr<'s>>,
+) -> Result<Box<Expr<'s>>, AllocError>
+    ensures view { IfOk result (λ e. view_expr e.value ≡ node (expression (PostfixUpdate (step_of operator))) (part (view_expr operand.entry.value) none)) }
+    ensures told { IfOk result (λ e. told_expr e.value ≡ told_node at (told_expr operand.entry.value ∷ [])) }
+    ensures span { IfOk result (λ e. expr_at e.value ≡ at) }
+{
+    boxed(
+        alloc,
+        Expr::Operation(Operation::Update(at, operator, UpdateSide::After, operand)),
+    )
+}
+
+/// `++a`
+pub fn prefix_update<'s>(
+    alloc: Global,
+    at: Option<Span>,
+    operator: UpdateOp,
+    operand: Box<Expr<'s>>,
+) -> Result<Box<Expr<'s>>, AllocError>
+    ensures view { IfOk result (λ e. view_expr e.value ≡ node (expression (PrefixUpdate (step_of operator))) (part (view_expr operand.entry.value) none)) }
+    ensures told { IfOk result (λ e. told_expr e.value ≡ told_node at (told_expr operand.entry.value ∷ [])) }
+    ensures span { IfOk result (λ e. expr_at e.value ≡ at) }
+{
+    boxed(
+        alloc,
+        Expr::Operation(Operation::Update(at, operator, UpdateSide::Before, operand)),
+    )
+}
+
 /// `import(a)`
 pub fn import_call<'s>(
     alloc: Global,
@@ -280,4 +340,117 @@ pub fn target<'s>(alloc: Global, expr: Box<Expr<'s>>) -> Result<Box<Pat<'s>>, Al
     ensures told { IfOk result (λ p. told_pat p.value ≡ told_expr expr.entry.value) }
 {
     boxed(alloc, Pat::Target(expr))
+}
+
+/// `;`
+pub fn empty_statement<'s>(alloc: Global, at: Option<Span>) -> Result<Box<Stmt<'s>>, AllocError>
+    ensures view { IfOk result (λ s. view_stmt s.value ≡ node (statement Empty) none) }
+    ensures told { IfOk result (λ s. told_stmt s.value ≡ told_node at []) }
+    ensures span { IfOk result (λ s. stmt_at s.value ≡ at) }
+{
+    boxed(alloc, Stmt::Empty(at))
+}
+
+/// `{ a; }`
+pub fn block<'s>(
+    alloc: Global,
+    at: Option<Span>,
+    body: Vec<Box<Stmt<'s>>>,
+) -> Result<Box<Stmt<'s>>, AllocError>
+    ensures view { IfOk result (λ s. view_stmt s.value ≡ node (statement Block) (part (list (forest (map (inside view_stmt) body.entry.items))) none)) }
+    ensures told { IfOk result (λ s. told_stmt s.value ≡ told_node at (told_list (map (inside told_stmt) body.entry.items) ∷ [])) }
+    ensures span { IfOk result (λ s. stmt_at s.value ≡ at) }
+{
+    boxed(alloc, Stmt::Block(at, body))
+}
+
+/// `continue a;`
+pub fn continue_statement<'s>(
+    alloc: Global,
+    at: Option<Span>,
+    label: Option<Ident<'s>>,
+) -> Result<Box<Stmt<'s>>, AllocError>
+    ensures view { IfOk result (λ s. view_stmt s.value ≡ node (statement Continue) (part (optional_name label.entry) none)) }
+    ensures told { IfOk result (λ s. told_stmt s.value ≡ told_node at (told_name label.entry ∷ [])) }
+    ensures span { IfOk result (λ s. stmt_at s.value ≡ at) }
+{
+    boxed(alloc, Stmt::Continue(at, label))
+}
+
+/// `break a;`
+pub fn break_statement<'s>(
+    alloc: Global,
+    at: Option<Span>,
+    label: Option<Ident<'s>>,
+) -> Result<Box<Stmt<'s>>, AllocError>
+    ensures view { IfOk result (λ s. view_stmt s.value ≡ node (statement Break) (part (optional_name label.entry) none)) }
+    ensures told { IfOk result (λ s. told_stmt s.value ≡ told_node at (told_name label.entry ∷ [])) }
+    ensures span { IfOk result (λ s. stmt_at s.value ≡ at) }
+{
+    boxed(alloc, Stmt::Break(at, label))
+}
+
+/// `throw a;`
+pub fn throw_statement<'s>(
+    alloc: Global,
+    at: Option<Span>,
+    value: Box<Expr<'s>>,
+) -> Result<Box<Stmt<'s>>, AllocError>
+    ensures view { IfOk result (λ s. view_stmt s.value ≡ node (statement Throw) (part (view_expr value.entry.value) none)) }
+    ensures told { IfOk result (λ s. told_stmt s.value ≡ told_node at (told_expr value.entry.value ∷ [])) }
+    ensures span { IfOk result (λ s. stmt_at s.value ≡ at) }
+{
+    boxed(alloc, Stmt::Throw(at, value))
+}
+
+/// `debugger;`
+pub fn debugger_statement<'s>(alloc: Global, at: Option<Span>) -> Result<Box<Stmt<'s>>, AllocError>
+    ensures view { IfOk result (λ s. view_stmt s.value ≡ node (statement Debugger) none) }
+    ensures told { IfOk result (λ s. told_stmt s.value ≡ told_node at []) }
+    ensures span { IfOk result (λ s. stmt_at s.value ≡ at) }
+{
+    boxed(alloc, Stmt::Debugger(at))
+}
+
+/// `if (a) b; else c;`
+pub fn if_statement<'s>(
+    alloc: Global,
+    at: Option<Span>,
+    test: Box<Expr<'s>>,
+    then: Box<Stmt<'s>>,
+    other: Option<Box<Stmt<'s>>>,
+) -> Result<Box<Stmt<'s>>, AllocError>
+    ensures view { IfOk result (λ s. view_stmt s.value ≡ node (statement If) (part (view_expr test.entry.value) (part (view_stmt then.entry.value) (part (optional_of view_stmt other.entry) none)))) }
+    ensures told { IfOk result (λ s. told_stmt s.value ≡ told_node at (told_expr test.entry.value ∷ told_stmt then.entry.value ∷ told_optional told_stmt other.entry ∷ [])) }
+    ensures span { IfOk result (λ s. stmt_at s.value ≡ at) }
+{
+    boxed(alloc, Stmt::Control(Control::If(at, test, then, other)))
+}
+
+/// `do a; while (b);`
+pub fn do_statement<'s>(
+    alloc: Global,
+    at: Option<Span>,
+    body: Box<Stmt<'s>>,
+    test: Box<Expr<'s>>,
+) -> Result<Box<Stmt<'s>>, AllocError>
+    ensures view { IfOk result (λ s. view_stmt s.value ≡ node (statement Do) (part (view_stmt body.entry.value) (part (view_expr test.entry.value) none))) }
+    ensures told { IfOk result (λ s. told_stmt s.value ≡ told_node at (told_stmt body.entry.value ∷ told_expr test.entry.value ∷ [])) }
+    ensures span { IfOk result (λ s. stmt_at s.value ≡ at) }
+{
+    boxed(alloc, Stmt::Control(Control::Do(at, body, test)))
+}
+
+/// `while (a) b;`
+pub fn while_statement<'s>(
+    alloc: Global,
+    at: Option<Span>,
+    test: Box<Expr<'s>>,
+    body: Box<Stmt<'s>>,
+) -> Result<Box<Stmt<'s>>, AllocError>
+    ensures view { IfOk result (λ s. view_stmt s.value ≡ node (statement While) (part (view_expr test.entry.value) (part (view_stmt body.entry.value) none))) }
+    ensures told { IfOk result (λ s. told_stmt s.value ≡ told_node at (told_expr test.entry.value ∷ told_stmt body.entry.value ∷ [])) }
+    ensures span { IfOk result (λ s. stmt_at s.value ≡ at) }
+{
+    boxed(alloc, Stmt::Control(Control::While(at, test, body)))
 }

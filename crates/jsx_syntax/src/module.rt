@@ -11,10 +11,12 @@ ghost use Rattle.jsx_tree.specs.Told.{tales, told, told_item};
 ghost use Rattle.jsx_syntax.specs.Here.{place_of};
 ghost use Rattle.jsx_tree.specs.Nonterminals as grammar;
 ghost use Rattle.jsx_tree.specs.Answers.{OnlyToEnd, NoneToEnd};
-ghost use Rattle.jsx_syntax.specs.SoFar.{in_module, so_far};
+ghost use Rattle.jsx_syntax.specs.Around.{around_of};
+ghost use Rattle.jsx_syntax.specs.SoFar.{so_far};
 ghost use Rattle.jsx_syntax.specs.Answers.{Refused, NoTree, IsWithin};
 ghost use Rattle.jsx_syntax.specs.Spans.{IsPlacedList, Spans, program_at};
 
+use crate::around::{Around, Context, Labels};
 use crate::error::ParseError;
 use crate::lexer::Lexer;
 use crate::statement::statement;
@@ -23,14 +25,14 @@ use jsx_tree::{Item, Module, Program};
 use std::alloc::Global;
 
 /// The statements up to the end of the text.
-fn items<'s>(alloc: Global, lexer: &mut Lexer<'s>) -> Result<Vec<Item<'s>>, ParseError>
-    ensures read { IfOk result (λ v. OnlyToEnd so_far in_module grammar.Item (place_of lexer.old) (forest (map view_item v.items))) }
+fn items<'s>(context: Context, lexer: &mut Lexer<'s>) -> Result<Vec<Item<'s>>, ParseError>
+    ensures read { IfOk result (λ v. OnlyToEnd so_far (around_of context.entry.around) grammar.Item (place_of lexer.old) (forest (map view_item v.items))) }
     ensures placed { IfOk result (λ v. IsPlacedList TopLines (tales (map told_item v.items)) (forest (map view_item v.items)) lexer.old lexer.new) }
-    ensures refused { Refused result (NoneToEnd so_far in_module grammar.Item (place_of lexer.old)) }
+    ensures refused { Refused result (NoneToEnd so_far (around_of context.entry.around) grammar.Item (place_of lexer.old)) }
 {
-    let mut items = Vec::new(alloc);
+    let mut items = Vec::new(context.alloc);
     'statements: while !lexer.is_at_end() {
-        let statement = statement(alloc, lexer)?;
+        let statement = statement(context, lexer)?;
         items.push(Item::Stmt(statement))?;
     }
     Ok(items)
@@ -49,8 +51,10 @@ pub fn parse<'s>(alloc: Global, text: &'s str) -> Result<Program<'s>, ParseError
     ensures placed { IfOk result (λ program. IsTold (told program) (placed_in (chars text.now) (view program))) }
 {
     let end = BytePos(text.len() as u32);
+    let labels = Labels::None;
+    let around = Around::of_module(&labels);
     let mut lexer = Lexer::new(text);
-    match items(alloc, &mut lexer) {
+    match items(Context { alloc, around }, &mut lexer) {
         Ok(body) => Ok(Program::Module(Module {
             span: Span {
                 lo: BytePos(0),
@@ -99,6 +103,35 @@ mod tests {
             ("-a + !b * ~c;typeof a.b in c;void 0;- -+a;", 4),
             ("import('a').b(import(c ? d : e));", 1),
             ("a = b = c ? d : e;a.b += c;a[b] ??= c || d;", 3),
+            ("(a + b) * c;f((a), ((b)), (c = d));(<a/>);((a)).b[(c)];", 4),
+            ("(-a) ** b;(a ?? b) || c;(a).b = (c);", 3),
+            (
+                "a, b;(a, b), c;f((a, b), c);a[b, c];x = a, b;if (a, b) c, d;",
+                6,
+            ),
+            ("while (a, b) throw c, d;do a; while (b, c);", 2),
+            ("x = a / b / /[/]\\/c/g;/=/.d;f(/a/, -/b/ / /c/)", 3),
+            ("const a = <b/>", 1),
+            ("a\nb", 2),
+            ("a\n(b)\n[c]\n.d\n+ e\n", 1),
+            ("const a = 1\nconst b = 2\nc = d", 3),
+            ("a /* \n */ b // c\nd", 3),
+            ("a\nin\nb\u{2028}c", 2),
+            (";;{}{;a;{b;}}", 4),
+            ("var a, b = 1;let c, d = a;const e = 2;", 3),
+            ("if (a) b;if (c) {} else if (d) e; else {const f = 1;}", 2),
+            ("if (a) if (b) c; else d;", 1),
+            ("while (a) {break;continue;}do a; while (b);", 2),
+            ("while (a) do {if (b) break;} while (c);debugger;", 2),
+            ("if (a) throw b; else throw c + d;", 1),
+            ("++a ** b;- --a.b[c] + 1;", 2),
+            ("a++;a.b-- ** c;-a++;a\n++\nb", 5),
+            (
+                "delete a.b;delete a[b] + c;delete this;delete delete a();",
+                4,
+            ),
+            ("(a++) ** (++b).c;(a)\n++b;delete (a.b);delete (a).b;", 5),
+            ("if (a) ++b; else c--;while (a++) delete b.c;", 2),
         ] {
             assert!(rt; read(rt.alloc(), text) == Ok(*want), "at {text}");
         }
@@ -149,6 +182,7 @@ mod tests {
             ("a in b < c;", (10, 17)),
             ("-a + typeof b;", (15, 15)),
             ("a + b ? c : d ? e : f;", (12, 2)),
+            ("(a + b) * (c = d);", (17, 17)),
             ("a.b += c ? d : e = f;", (17, 2)),
         ] {
             assert!(rt; sides(rt.alloc(), text) == *want, "at {text}");
@@ -158,10 +192,15 @@ mod tests {
     #[test]
     fn refuses_what_no_tree_reads(rt: HostRuntime) {
         for (text, place) in &[
-            ("const a = <b/>", 13),
             ("const eval = a;", 6),
             ("a(,);", 1),
             ("a(b,,);", 3),
+            ("a,;", 1),
+            ("a, b,;", 4),
+            ("(a, b) = c;", 7),
+            ("const a = b, c + d;", 13),
+            ("a ? b, c : d;", 4),
+            ("import(a, b);", 7),
             ("'use strict';", 0),
             ("1 .a;", 2),
             ("new;", 0),
@@ -171,16 +210,58 @@ mod tests {
             ("a ? b;", 4),
             ("a +;", 2),
             ("-a ** b;", 3),
+            ("++a();", 4),
+            ("++-a;", 3),
+            ("a++ = b;", 4),
+            ("a() ++;", 4),
+            ("a++ ++;", 4),
+            ("a\n++;", 2),
+            ("--1;", 2),
             ("a + b = c;", 6),
             ("eval = a;", 5),
             ("a() += b;", 4),
             ("1 = a;", 2),
-            ("a = b", 4),
+            ("a b", 0),
+            ("a /* b */ c", 0),
+            ("const a = b const c = d", 10),
+            ("a\n?.b", 0),
+            ("a\n`b`", 0),
+            ("a\n\"b", 0),
+            ("a /* \n", 0),
             ("import a;", 0),
             ("import();", 6),
-            ("delete a;", 0),
+            ("delete a;", 7),
+            ("- delete a;", 9),
+            ("delete (a);", 9),
+            ("- delete ((a)) + b;", 13),
+            ("if (a) delete b;", 14),
+            ("(a)++;", 3),
+            ("++(a);", 4),
+            ("(a++)++;", 5),
+            ("a++\n(b);", 4),
+            ("();", 0),
+            ("(a;", 1),
+            ("(a) => b;", 2),
+            ("(a) = b;", 4),
+            ("/a;", 0),
+            ("a\n/b/", 4),
+            ("/a/ = b;", 4),
             ("typeof;", 0),
             ("a; /* b", 1),
+            ("{a;", 2),
+            ("};", 0),
+            ("var eval;", 4),
+            ("if (a) const b = 1;", 7),
+            ("while (a) let b;", 10),
+            ("if (a) else b;", 7),
+            ("else a;", 0),
+            ("while a;", 0),
+            ("break;", 0),
+            ("{continue;}", 1),
+            ("while (a) b;break;", 12),
+            ("debugger a;", 0),
+            ("throw\na;", 0),
+            ("throw;", 0),
         ] {
             let want = Err(ParseError::Syntax(BytePos(*place)));
             assert!(rt; read(rt.alloc(), text) == want, "at {text}");

@@ -1,92 +1,107 @@
 //! Statements.
 
-ghost use Rattle.std.specs.Prelude.{◌≡◌, ◌<◌, [], ◌∷◌, IfOk, OnOk, IsTrue, map};
-ghost use Rattle.jsx_tree.specs.Kinds.{ConstWord, Var, ExprStmt, statement, list, none, part};
+ghost use Rattle.std.specs.Prelude.{◌≡◌, ◌<◌, ◌≤◌, [], ◌∷◌, IfOk, OnOk, IsTrue, map};
+ghost use Rattle.jsx_tree.specs.Kinds.{Block, Var, Empty, ExprStmt, If, Do, While, Continue, Break, Throw, Debugger, statement, list, none, part};
 ghost use Rattle.jsx_tree.specs.Nonterminals as grammar;
 ghost use Rattle.jsx_tree.specs.Grammar.{Many, NoTrailing, Part, semi};
 ghost use Rattle.jsx_tree.specs.StaticRules.{all_of, has_init};
 ghost use Rattle.jsx_syntax.specs.Stage.{is_string};
-ghost use Rattle.jsx_tree.specs.View.{forest, inside, view_expr, view_pat, view_stmt};
+ghost use Rattle.jsx_tree.specs.View.{forest, inside, optional_of, view_expr, view_pat, view_stmt, word_of};
 ghost use Rattle.jsx_tree.specs.Spans.{no_tales, tale};
-ghost use Rattle.jsx_tree.specs.Told.{told_list, told_pat, told_stmt};
-ghost use Rattle.jsx_tree.specs.Walk.{one};
-ghost use Rattle.jsx_tree.specs.Answers.{Only, Barred, OnlyRow, NoNode, BuiltNode};
-ghost use Rattle.jsx_syntax.specs.SoFar.{behind_const, in_module, row_so_far, so_far};
-ghost use Rattle.jsx_syntax.specs.Here.{place_of, left, sign_of};
-ghost use Rattle.jsx_syntax.specs.declared.lexer.Fixed.TheVariants as fixed;
+ghost use Rattle.jsx_tree.specs.Told.{told_list, told_optional, told_pat, told_stmt};
+ghost use Rattle.jsx_tree.specs.Walk.{one, tail};
+ghost use Rattle.jsx_tree.specs.Answers.{Only, Barred, OnlyRow, NoRow, NoNode, BuiltNode};
+ghost use Rattle.jsx_syntax.specs.Around.{around_of};
+ghost use Rattle.jsx_syntax.specs.SoFar.{row_so_far, so_far};
+ghost use Rattle.jsx_syntax.specs.Here.{place_of, left};
+ghost use Rattle.jsx_syntax.specs.Growths.{opening_sign};
+ghost use Rattle.jsx_syntax.specs.Headings.{Closes, alternative_row, alternative_symbols, block_symbols, has_value, heading_kind, heading_sign};
 ghost use Rattle.jsx_syntax.specs.Answers.{Refused};
+ghost use Rattle.jsx_syntax.specs.Semicolons.{in_list};
 ghost use Rattle.jsx_syntax.specs.NodeSpans.{pat_at, stmt_at};
 ghost use Rattle.jsx_syntax.specs.Spans.{IsPlaced, IsPlacedBehind, IsPlacedRow, Spans, begin_of, end_of, next_of};
 
+use crate::around::Context;
 use crate::error::ParseError;
-use crate::expression::{ASSIGNMENT, expression, start_of};
+use crate::expression::{ASSIGNMENT, expression, sequence, start_of};
+use crate::heading::Heading;
 use crate::lexer::{Ending, Fixed, Lexer};
 use crate::make;
-use crate::parser::{binding_identifier, expect, give_up, span_to};
+use crate::parser::{binding_identifier, expect, give_up, semicolon, span_to};
+use crate::word::Word;
 use jsx_tree::{DeclareWord, Expr, LiteralKind, Pat, Stmt};
-use std::alloc::Global;
 
 /// A variable, with an initializer or without: `a = b`.
-fn declarator<'s>(alloc: Global, lexer: &mut Lexer<'s>) -> Result<Box<Pat<'s>>, ParseError>
-    ensures read { IfOk result (λ p. Only so_far in_module (Part grammar.Declarators) (place_of lexer.old) (one (view_pat p.value)) (place_of lexer.new)) }
+fn declarator<'s>(context: Context, lexer: &mut Lexer<'s>) -> Result<Box<Pat<'s>>, ParseError>
+    ensures read { IfOk result (λ p. Only so_far (around_of context.entry.around) (Part grammar.Declarators) (place_of lexer.old) (one (view_pat p.value)) (place_of lexer.new)) }
     ensures span { IfOk result (λ p. Spans (pat_at p.value) (next_of lexer.old) (end_of lexer.new)) }
     ensures placed { IfOk result (λ p. IsPlaced (told_pat p.value) (view_pat p.value) lexer.old lexer.new) }
     ensures shorter { OnOk result (left lexer.new < left lexer.old) }
-    ensures refused { Refused result (Barred so_far in_module (Part grammar.Declarators) (place_of lexer.old)) }
+    ensures behind { OnOk result (IsTrue (in_list (place_of lexer.new))) }
+    ensures refused { Refused result (Barred so_far (around_of context.entry.around) (Part grammar.Declarators) (place_of lexer.old)) }
 {
-    let name = binding_identifier(alloc, lexer)?;
+    let name = binding_identifier(context, lexer)?;
     let lo = lexer.last_place();
     lexer.ends(Ending::Binding);
     if !lexer.take(Fixed::Equals) {
-        return Ok(make::declarator(alloc, span_to(lo, lexer), name, None)?);
+        return Ok(make::declarator(context.alloc, span_to(lo, lexer), name, None)?);
     }
-    let value = expression(alloc, lexer, ASSIGNMENT)?;
-    Ok(make::declarator(alloc, span_to(lo, lexer), name, Some(value))?)
+    let value = expression(context, lexer, ASSIGNMENT)?;
+    Ok(make::declarator(context.alloc, span_to(lo, lexer), name, Some(value))?)
 }
 
-/// Whether a variable has an initializer.
-fn is_initialized(declarator: &Pat) -> bool
-    ensures { result ≡ has_init ConstWord (view_pat declarator.now) }
+/// Whether a variable has an initializer where its word wants one: so far only names are bound.
+fn is_initialized(word: DeclareWord, declarator: &Pat) -> bool
+    ensures { result ≡ has_value (word_of word) (view_pat declarator.now) }
 {
-    !matches!(declarator, Pat::Binding(_, _, None))
+    match word {
+        DeclareWord::Const => !matches!(declarator, Pat::Binding(_, _, None)),
+        DeclareWord::Var => true,
+        DeclareWord::Let => true,
+    }
 }
 
-/// One declarator or more behind the word `const`, with commas between, and the semicolon: `a = b, c = d;`.
-fn declarators<'s>(alloc: Global, lexer: &mut Lexer<'s>) -> Result<Vec<Box<Pat<'s>>>, ParseError>
-    ensures read { IfOk result (λ v. OnlyRow so_far in_module behind_const (place_of lexer.old) (part (list (forest (map (inside view_pat) v.items))) none) (place_of lexer.new)) }
-    ensures initialized { IfOk result (λ v. IsTrue (all_of (has_init ConstWord) (forest (map (inside view_pat) v.items)))) }
+/// One declarator or more behind the word, with commas between, and the semicolon: `a = b, c = d;`.
+fn declarators<'s>(
+    context: Context,
+    lexer: &mut Lexer<'s>,
+    word: DeclareWord,
+) -> Result<Vec<Box<Pat<'s>>>, ParseError>
+    ensures read { IfOk result (λ v. OnlyRow so_far (around_of context.entry.around) (tail (row_so_far (statement (Var (word_of word))))) (place_of lexer.old) (part (list (forest (map (inside view_pat) v.items))) none) (place_of lexer.new)) }
+    ensures initialized { IfOk result (λ v. IsTrue (all_of (has_init (word_of word)) (forest (map (inside view_pat) v.items)))) }
     ensures placed { IfOk result (λ v. IsPlacedRow (Many NoTrailing grammar.Declarators ∷ semi ∷ []) (tale (told_list (map (inside told_pat) v.items)) no_tales) (part (list (forest (map (inside view_pat) v.items))) none) lexer.old lexer.new) }
     ensures shorter { OnOk result (left lexer.new < left lexer.old) }
-    ensures refused { Refused result (NoNode so_far in_module behind_const (statement (Var ConstWord)) (place_of lexer.old)) }
+    ensures refused { Refused result (NoNode so_far (around_of context.entry.around) (tail (row_so_far (statement (Var (word_of word))))) (statement (Var (word_of word))) (place_of lexer.old)) }
 {
-    let mut all = Vec::with_capacity(alloc, 1)?;
+    let mut all = Vec::with_capacity(context.alloc, 1)?;
     'declarators: loop {
-        let next = declarator(alloc, lexer)?;
-        if !is_initialized(&next) {
+        let next = declarator(context, lexer)?;
+        if !is_initialized(word, &next) {
             return Err(give_up(lexer));
         }
         all.push(next)?;
         if !lexer.take(Fixed::Comma) {
-            expect(lexer, Fixed::Semicolon)?;
+            semicolon(context, lexer)?;
             return Ok(all);
         }
     }
 }
 
-/// A lexical declaration behind its word: `const a = b, c = d;`.
-fn lexical_declaration<'s>(
-    alloc: Global,
+/// A declaration of variables behind its word: `const a = b, c = d;` (ECMA-262 sections 14.3.1 and 14.3.2).
+fn declaration<'s>(
+    context: Context,
     lexer: &mut Lexer<'s>,
+    word: DeclareWord,
 ) -> Result<Box<Stmt<'s>>, ParseError>
-    ensures read { IfOk result (λ s. BuiltNode so_far in_module behind_const (statement (Var ConstWord)) (view_stmt s.value) (place_of lexer.old) (place_of lexer.new)) }
+    ensures read { IfOk result (λ s. BuiltNode so_far (around_of context.entry.around) (tail (row_so_far (statement (Var (word_of word))))) (statement (Var (word_of word))) (view_stmt s.value) (place_of lexer.old) (place_of lexer.new)) }
     ensures span { IfOk result (λ s. Spans (stmt_at s.value) (begin_of lexer.old) (end_of lexer.new)) }
-    ensures placed { IfOk result (λ s. IsPlacedBehind (sign_of fixed.Const) lexer.old (told_stmt s.value) (view_stmt s.value) lexer.new) }
-    ensures shorter { OnOk result (left lexer.new < left lexer.old) }
-    ensures refused { Refused result (NoNode so_far in_module behind_const (statement (Var ConstWord)) (place_of lexer.old)) }
+    ensures placed { IfOk result (λ s. IsPlacedBehind (opening_sign (statement (Var (word_of word)))) lexer.old (told_stmt s.value) (view_stmt s.value) lexer.new) }
+    ensures within { OnOk result (left lexer.new ≤ left lexer.old) }
+    ensures refused { Refused result (NoNode so_far (around_of context.entry.around) (tail (row_so_far (statement (Var (word_of word))))) (statement (Var (word_of word))) (place_of lexer.old)) }
 {
     let lo = lexer.last_place();
-    let all = declarators(alloc, lexer)?;
-    Ok(make::variables(alloc, span_to(lo, lexer), DeclareWord::Const, all)?)
+    let all = declarators(context, lexer, word)?;
+    Ok(make::variables(context.alloc, span_to(lo, lexer), word, all)?)
 }
 
 fn is_string(expr: &Expr) -> bool
@@ -97,35 +112,271 @@ fn is_string(expr: &Expr) -> bool
 
 /// An expression statement: `a(b);`. A string alone isn't one.
 fn expression_statement<'s>(
-    alloc: Global,
+    context: Context,
     lexer: &mut Lexer<'s>,
 ) -> Result<Box<Stmt<'s>>, ParseError>
-    ensures read { IfOk result (λ s. BuiltNode so_far in_module (row_so_far (statement ExprStmt)) (statement ExprStmt) (view_stmt s.value) (place_of lexer.old) (place_of lexer.new)) }
+    ensures read { IfOk result (λ s. BuiltNode so_far (around_of context.entry.around) (row_so_far (statement ExprStmt)) (statement ExprStmt) (view_stmt s.value) (place_of lexer.old) (place_of lexer.new)) }
     ensures span { IfOk result (λ s. Spans (stmt_at s.value) (next_of lexer.old) (end_of lexer.new)) }
     ensures placed { IfOk result (λ s. IsPlaced (told_stmt s.value) (view_stmt s.value) lexer.old lexer.new) }
     ensures shorter { OnOk result (left lexer.new < left lexer.old) }
-    ensures refused { Refused result (NoNode so_far in_module (row_so_far (statement ExprStmt)) (statement ExprStmt) (place_of lexer.old)) }
+    ensures refused { Refused result (NoNode so_far (around_of context.entry.around) (row_so_far (statement ExprStmt)) (statement ExprStmt) (place_of lexer.old)) }
 {
-    let expr = expression(alloc, lexer, ASSIGNMENT)?;
+    let expr = sequence(context, lexer)?;
     if is_string(&expr) {
         return Err(give_up(lexer));
     }
-    expect(lexer, Fixed::Semicolon)?;
+    semicolon(context, lexer)?;
     let span = span_to(start_of(&expr), lexer);
-    Ok(make::expression_statement(alloc, span, expr)?)
+    Ok(make::expression_statement(context.alloc, span, expr)?)
 }
 
-/// A statement.
-pub fn statement<'s>(alloc: Global, lexer: &mut Lexer<'s>) -> Result<Box<Stmt<'s>>, ParseError>
-    ensures read { IfOk result (λ s. Only so_far in_module (Part grammar.Item) (place_of lexer.old) (one (view_stmt s.value)) (place_of lexer.new)) }
+/// An empty statement, behind its `;` (ECMA-262 section 14.4).
+fn empty_statement<'s>(context: Context, lexer: &Lexer<'s>) -> Result<Box<Stmt<'s>>, ParseError>
+    ensures read { IfOk result (λ s. BuiltNode so_far (around_of context.entry.around) (tail (row_so_far (statement Empty))) (statement Empty) (view_stmt s.value) (place_of lexer.now) (place_of lexer.now)) }
+    ensures span { IfOk result (λ s. Spans (stmt_at s.value) (begin_of lexer.now) (end_of lexer.now)) }
+    ensures placed { IfOk result (λ s. IsPlacedBehind (opening_sign (statement Empty)) lexer.now (told_stmt s.value) (view_stmt s.value) lexer.now) }
+    ensures refused { Refused result (NoNode so_far (around_of context.entry.around) (tail (row_so_far (statement Empty))) (statement Empty) (place_of lexer.now)) }
+{
+    let lo = lexer.last_place();
+    Ok(make::empty_statement(context.alloc, span_to(lo, lexer))?)
+}
+
+/// A `throw` statement behind its word, with its expression on the same line (ECMA-262 section 14.14).
+fn throw_statement<'s>(context: Context, lexer: &mut Lexer<'s>) -> Result<Box<Stmt<'s>>, ParseError>
+    ensures read { IfOk result (λ s. BuiltNode so_far (around_of context.entry.around) (tail (row_so_far (statement Throw))) (statement Throw) (view_stmt s.value) (place_of lexer.old) (place_of lexer.new)) }
+    ensures span { IfOk result (λ s. Spans (stmt_at s.value) (begin_of lexer.old) (end_of lexer.new)) }
+    ensures placed { IfOk result (λ s. IsPlacedBehind (opening_sign (statement Throw)) lexer.old (told_stmt s.value) (view_stmt s.value) lexer.new) }
+    ensures within { OnOk result (left lexer.new ≤ left lexer.old) }
+    ensures refused { Refused result (NoNode so_far (around_of context.entry.around) (tail (row_so_far (statement Throw))) (statement Throw) (place_of lexer.old)) }
+{
+    if !lexer.is_on_line() {
+        return Err(give_up(lexer));
+    }
+    let lo = lexer.last_place();
+    let value = sequence(context, lexer)?;
+    semicolon(context, lexer)?;
+    let span = span_to(lo, lexer);
+    Ok(make::throw_statement(context.alloc, span, value)?)
+}
+
+/// A `debugger` statement behind its word (ECMA-262 section 14.16).
+fn debugger_statement<'s>(
+    context: Context,
+    lexer: &mut Lexer<'s>,
+) -> Result<Box<Stmt<'s>>, ParseError>
+    ensures read { IfOk result (λ s. BuiltNode so_far (around_of context.entry.around) (tail (row_so_far (statement Debugger))) (statement Debugger) (view_stmt s.value) (place_of lexer.old) (place_of lexer.new)) }
+    ensures span { IfOk result (λ s. Spans (stmt_at s.value) (begin_of lexer.old) (end_of lexer.new)) }
+    ensures placed { IfOk result (λ s. IsPlacedBehind (opening_sign (statement Debugger)) lexer.old (told_stmt s.value) (view_stmt s.value) lexer.new) }
+    ensures within { OnOk result (left lexer.new ≤ left lexer.old) }
+    ensures refused { Refused result (NoNode so_far (around_of context.entry.around) (tail (row_so_far (statement Debugger))) (statement Debugger) (place_of lexer.old)) }
+{
+    let lo = lexer.last_place();
+    lexer.ends(Ending::Word);
+    semicolon(context, lexer)?;
+    Ok(make::debugger_statement(context.alloc, span_to(lo, lexer))?)
+}
+
+/// A `break` statement behind its word, without a label (ECMA-262 section 14.9).
+fn break_statement<'s>(context: Context, lexer: &mut Lexer<'s>) -> Result<Box<Stmt<'s>>, ParseError>
+    ensures read { IfOk result (λ s. BuiltNode so_far (around_of context.entry.around) (tail (row_so_far (statement Break))) (statement Break) (view_stmt s.value) (place_of lexer.old) (place_of lexer.new)) }
+    ensures span { IfOk result (λ s. Spans (stmt_at s.value) (begin_of lexer.old) (end_of lexer.new)) }
+    ensures placed { IfOk result (λ s. IsPlacedBehind (opening_sign (statement Break)) lexer.old (told_stmt s.value) (view_stmt s.value) lexer.new) }
+    ensures within { OnOk result (left lexer.new ≤ left lexer.old) }
+    ensures refused { Refused result (NoNode so_far (around_of context.entry.around) (tail (row_so_far (statement Break))) (statement Break) (place_of lexer.old)) }
+{
+    if !context.around.breakable {
+        return Err(give_up(lexer));
+    }
+    let lo = lexer.last_place();
+    lexer.ends(Ending::Word);
+    semicolon(context, lexer)?;
+    Ok(make::break_statement(context.alloc, span_to(lo, lexer), None)?)
+}
+
+/// A `continue` statement behind its word, without a label (ECMA-262 section 14.8).
+fn continue_statement<'s>(
+    context: Context,
+    lexer: &mut Lexer<'s>,
+) -> Result<Box<Stmt<'s>>, ParseError>
+    ensures read { IfOk result (λ s. BuiltNode so_far (around_of context.entry.around) (tail (row_so_far (statement Continue))) (statement Continue) (view_stmt s.value) (place_of lexer.old) (place_of lexer.new)) }
+    ensures span { IfOk result (λ s. Spans (stmt_at s.value) (begin_of lexer.old) (end_of lexer.new)) }
+    ensures placed { IfOk result (λ s. IsPlacedBehind (opening_sign (statement Continue)) lexer.old (told_stmt s.value) (view_stmt s.value) lexer.new) }
+    ensures within { OnOk result (left lexer.new ≤ left lexer.old) }
+    ensures refused { Refused result (NoNode so_far (around_of context.entry.around) (tail (row_so_far (statement Continue))) (statement Continue) (place_of lexer.old)) }
+{
+    if !context.around.in_loop {
+        return Err(give_up(lexer));
+    }
+    let lo = lexer.last_place();
+    lexer.ends(Ending::Word);
+    semicolon(context, lexer)?;
+    Ok(make::continue_statement(context.alloc, span_to(lo, lexer), None)?)
+}
+
+/// The statements of a block, behind its `{` and with its `}`: `a; b; }`.
+#[cycle(statement)]
+fn statements<'s>(context: Context, lexer: &mut Lexer<'s>) -> Result<Vec<Box<Stmt<'s>>>, ParseError>
+    ensures read { IfOk result (λ v. OnlyRow so_far (around_of context.entry.around) (tail (row_so_far (statement Block))) (place_of lexer.old) (part (list (forest (map (inside view_stmt) v.items))) none) (place_of lexer.new)) }
+    ensures placed { IfOk result (λ v. IsPlacedRow block_symbols (tale (told_list (map (inside told_stmt) v.items)) no_tales) (part (list (forest (map (inside view_stmt) v.items))) none) lexer.old lexer.new) }
+    ensures within { OnOk result (left lexer.new ≤ left lexer.old) }
+    ensures refused { Refused result (NoRow so_far (around_of context.entry.around) (tail (row_so_far (statement Block))) (place_of lexer.old)) }
+{
+    let mut all = Vec::new(context.alloc);
+    'statements: while !lexer.take(Fixed::CloseBrace) {
+        let next = statement(context, lexer)?;
+        all.push(next)?;
+    }
+    Ok(all)
+}
+
+/// A block behind its `{`: `{ a; }` (ECMA-262 section 14.2).
+#[cycle(statement)]
+fn block<'s>(context: Context, lexer: &mut Lexer<'s>) -> Result<Box<Stmt<'s>>, ParseError>
+    ensures read { IfOk result (λ s. BuiltNode so_far (around_of context.entry.around) (tail (row_so_far (statement Block))) (statement Block) (view_stmt s.value) (place_of lexer.old) (place_of lexer.new)) }
+    ensures span { IfOk result (λ s. Spans (stmt_at s.value) (begin_of lexer.old) (end_of lexer.new)) }
+    ensures placed { IfOk result (λ s. IsPlacedBehind (opening_sign (statement Block)) lexer.old (told_stmt s.value) (view_stmt s.value) lexer.new) }
+    ensures within { OnOk result (left lexer.new ≤ left lexer.old) }
+    ensures refused { Refused result (NoNode so_far (around_of context.entry.around) (tail (row_so_far (statement Block))) (statement Block) (place_of lexer.old)) }
+{
+    let lo = lexer.last_place();
+    let body = statements(context, lexer)?;
+    Ok(make::block(context.alloc, span_to(lo, lexer), body)?)
+}
+
+/// What an `if` has behind its first statement: `else a`, or nothing.
+#[cycle(statement)]
+fn alternative<'s>(
+    context: Context,
+    lexer: &mut Lexer<'s>,
+) -> Result<Option<Box<Stmt<'s>>>, ParseError>
+    ensures read { IfOk result (λ o. OnlyRow so_far (around_of context.entry.around) alternative_row (place_of lexer.old) (part (optional_of view_stmt o) none) (place_of lexer.new)) }
+    ensures closed { IfOk result (λ o. Closes o (place_of lexer.old)) }
+    ensures placed { IfOk result (λ o. IsPlacedRow alternative_symbols (tale (told_optional told_stmt o) no_tales) (part (optional_of view_stmt o) none) lexer.old lexer.new) }
+    ensures within { OnOk result (left lexer.new ≤ left lexer.old) }
+    ensures refused { Refused result (NoRow so_far (around_of context.entry.around) alternative_row (place_of lexer.old)) }
+{
+    if !lexer.take(Fixed::Word(Word::Else)) {
+        return Ok(None);
+    }
+    let other = nested(context, lexer)?;
+    Ok(Some(other))
+}
+
+/// An `if` statement behind its word: `if (a) b; else c;` (ECMA-262 section 14.6).
+#[cycle(statement)]
+fn if_statement<'s>(context: Context, lexer: &mut Lexer<'s>) -> Result<Box<Stmt<'s>>, ParseError>
+    ensures read { IfOk result (λ s. BuiltNode so_far (around_of context.entry.around) (tail (row_so_far (statement If))) (statement If) (view_stmt s.value) (place_of lexer.old) (place_of lexer.new)) }
+    ensures span { IfOk result (λ s. Spans (stmt_at s.value) (begin_of lexer.old) (end_of lexer.new)) }
+    ensures placed { IfOk result (λ s. IsPlacedBehind (opening_sign (statement If)) lexer.old (told_stmt s.value) (view_stmt s.value) lexer.new) }
+    ensures within { OnOk result (left lexer.new ≤ left lexer.old) }
+    ensures refused { Refused result (NoNode so_far (around_of context.entry.around) (tail (row_so_far (statement If))) (statement If) (place_of lexer.old)) }
+{
+    let lo = lexer.last_place();
+    expect(context, lexer, Fixed::Open)?;
+    let test = sequence(context, lexer)?;
+    expect(context, lexer, Fixed::Close)?;
+    let then = nested(context, lexer)?;
+    let other = alternative(context, lexer)?;
+    let span = span_to(lo, lexer);
+    Ok(make::if_statement(context.alloc, span, test, then, other)?)
+}
+
+/// A loop behind its word: `do a; while (b);` (ECMA-262 section 14.7.2).
+#[cycle(statement)]
+fn do_statement<'s>(context: Context, lexer: &mut Lexer<'s>) -> Result<Box<Stmt<'s>>, ParseError>
+    ensures read { IfOk result (λ s. BuiltNode so_far (around_of context.entry.around) (tail (row_so_far (statement Do))) (statement Do) (view_stmt s.value) (place_of lexer.old) (place_of lexer.new)) }
+    ensures span { IfOk result (λ s. Spans (stmt_at s.value) (begin_of lexer.old) (end_of lexer.new)) }
+    ensures placed { IfOk result (λ s. IsPlacedBehind (opening_sign (statement Do)) lexer.old (told_stmt s.value) (view_stmt s.value) lexer.new) }
+    ensures within { OnOk result (left lexer.new ≤ left lexer.old) }
+    ensures refused { Refused result (NoNode so_far (around_of context.entry.around) (tail (row_so_far (statement Do))) (statement Do) (place_of lexer.old)) }
+{
+    let lo = lexer.last_place();
+    let context = context.of_loop();
+    let body = nested(context, lexer)?;
+    expect(context, lexer, Fixed::Word(Word::While))?;
+    expect(context, lexer, Fixed::Open)?;
+    let test = sequence(context, lexer)?;
+    expect(context, lexer, Fixed::Close)?;
+    lexer.ends(Ending::Do);
+    semicolon(context, lexer)?;
+    let span = span_to(lo, lexer);
+    Ok(make::do_statement(context.alloc, span, body, test)?)
+}
+
+/// A loop behind its word: `while (a) b;` (ECMA-262 section 14.7.3).
+#[cycle(statement)]
+fn while_statement<'s>(context: Context, lexer: &mut Lexer<'s>) -> Result<Box<Stmt<'s>>, ParseError>
+    ensures read { IfOk result (λ s. BuiltNode so_far (around_of context.entry.around) (tail (row_so_far (statement While))) (statement While) (view_stmt s.value) (place_of lexer.old) (place_of lexer.new)) }
+    ensures span { IfOk result (λ s. Spans (stmt_at s.value) (begin_of lexer.old) (end_of lexer.new)) }
+    ensures placed { IfOk result (λ s. IsPlacedBehind (opening_sign (statement While)) lexer.old (told_stmt s.value) (view_stmt s.value) lexer.new) }
+    ensures within { OnOk result (left lexer.new ≤ left lexer.old) }
+    ensures refused { Refused result (NoNode so_far (around_of context.entry.around) (tail (row_so_far (statement While))) (statement While) (place_of lexer.old)) }
+{
+    let lo = lexer.last_place();
+    expect(context, lexer, Fixed::Open)?;
+    let test = sequence(context, lexer)?;
+    expect(context, lexer, Fixed::Close)?;
+    let body = nested(context.of_loop(), lexer)?;
+    let span = span_to(lo, lexer);
+    Ok(make::while_statement(context.alloc, span, test, body)?)
+}
+
+/// A statement behind its first token.
+#[cycle(statement)]
+fn headed<'s>(
+    context: Context,
+    lexer: &mut Lexer<'s>,
+    heading: Heading,
+) -> Result<Box<Stmt<'s>>, ParseError>
+    ensures read { IfOk result (λ s. BuiltNode so_far (around_of context.entry.around) (tail (row_so_far (heading_kind heading))) (heading_kind heading) (view_stmt s.value) (place_of lexer.old) (place_of lexer.new)) }
+    ensures span { IfOk result (λ s. Spans (stmt_at s.value) (begin_of lexer.old) (end_of lexer.new)) }
+    ensures placed { IfOk result (λ s. IsPlacedBehind (heading_sign heading) lexer.old (told_stmt s.value) (view_stmt s.value) lexer.new) }
+    ensures within { OnOk result (left lexer.new ≤ left lexer.old) }
+    ensures refused { Refused result (NoNode so_far (around_of context.entry.around) (tail (row_so_far (heading_kind heading))) (heading_kind heading) (place_of lexer.old)) }
+{
+    match heading {
+        Heading::Empty => Ok(empty_statement(context, lexer)?),
+        Heading::Block => Ok(block(context, lexer)?),
+        Heading::Var(word) => Ok(declaration(context, lexer, word)?),
+        Heading::If => Ok(if_statement(context, lexer)?),
+        Heading::Do => Ok(do_statement(context, lexer)?),
+        Heading::While => Ok(while_statement(context, lexer)?),
+        Heading::Continue => Ok(continue_statement(context, lexer)?),
+        Heading::Break => Ok(break_statement(context, lexer)?),
+        Heading::Throw => Ok(throw_statement(context, lexer)?),
+        Heading::Debugger => Ok(debugger_statement(context, lexer)?),
+    }
+}
+
+/// A statement that is a part of another, as the body of a loop: no lexical declaration.
+#[cycle(statement)]
+fn nested<'s>(context: Context, lexer: &mut Lexer<'s>) -> Result<Box<Stmt<'s>>, ParseError>
+    ensures read { IfOk result (λ s. Only so_far (around_of context.entry.around) (Part grammar.SubStmt) (place_of lexer.old) (one (view_stmt s.value)) (place_of lexer.new)) }
     ensures span { IfOk result (λ s. Spans (stmt_at s.value) (next_of lexer.old) (end_of lexer.new)) }
     ensures placed { IfOk result (λ s. IsPlaced (told_stmt s.value) (view_stmt s.value) lexer.old lexer.new) }
     ensures shorter { OnOk result (left lexer.new < left lexer.old) }
-    ensures refused { Refused result (Barred so_far in_module (Part grammar.Item) (place_of lexer.old)) }
+    ensures refused { Refused result (Barred so_far (around_of context.entry.around) (Part grammar.SubStmt) (place_of lexer.old)) }
 {
-    if lexer.take(Fixed::Const) {
-        Ok(lexical_declaration(alloc, lexer)?)
-    } else {
-        Ok(expression_statement(alloc, lexer)?)
+    let Some(heading) = lexer.heading() else {
+        return Ok(expression_statement(context, lexer)?);
+    };
+    if heading.is_lexical() {
+        return Err(give_up(lexer));
     }
+    Ok(headed(context, lexer, heading)?)
+}
+
+/// A statement, also a declaration.
+#[cycle(statement)]
+pub fn statement<'s>(context: Context, lexer: &mut Lexer<'s>) -> Result<Box<Stmt<'s>>, ParseError>
+    ensures read { IfOk result (λ s. Only so_far (around_of context.entry.around) (Part grammar.Stmt) (place_of lexer.old) (one (view_stmt s.value)) (place_of lexer.new)) }
+    ensures span { IfOk result (λ s. Spans (stmt_at s.value) (next_of lexer.old) (end_of lexer.new)) }
+    ensures placed { IfOk result (λ s. IsPlaced (told_stmt s.value) (view_stmt s.value) lexer.old lexer.new) }
+    ensures shorter { OnOk result (left lexer.new < left lexer.old) }
+    ensures refused { Refused result (Barred so_far (around_of context.entry.around) (Part grammar.Stmt) (place_of lexer.old)) }
+{
+    let Some(heading) = lexer.heading() else {
+        return Ok(expression_statement(context, lexer)?);
+    };
+    Ok(headed(context, lexer, heading)?)
 }

@@ -1,15 +1,14 @@
--- The trees that the compiler takes so far are ones that it lowers.
+-- The trees that the compiler takes so far are ones that it lowers, and none of their targets is in parentheses.
 use Rattle.std.proofs.Common.{◌≡◌, List, [], ◌∷◌, Bool, true, false, cond, sym, refl, ap, ◌∙◌}
 use Rattle.std.proofs.lemmas.Bool.{and_parts, and_from, false≢true}
 use Rattle.std.specs.Prelude.{◌&&◌}
 use Rattle.jsx_base.specs.Token.{Text, TokenKind, JsxName}
-use Rattle.jsx_tree.specs.Kinds.{BinaryOp, Nullish, Kind, program, statement, function, expression, jsx, Module, Var, ConstWord, Declarator, ExprStmt, Assign, OpAssign, Binary, Unary, Cond, ImportCall, Call, Member, Index, Parenthesized, ParenTarget, Element, Tree, leaf, node, list, Forest, none, part}
+use Rattle.jsx_tree.specs.Kinds.{BinaryOp, Nullish, Kind, program, statement, function, expression, jsx, Module, Block, Var, VarWord, LetWord, ConstWord, Declarator, Empty, ExprStmt, If, Do, While, Continue, Break, Throw, Debugger, Seq, Assign, OpAssign, Binary, Unary, Cond, ImportCall, Call, Member, Index, Parenthesized, ParenTarget, Element, Tree, leaf, node, list, Forest, none, part, PrefixUpdate, PostfixUpdate}
 use Rattle.jsx_tree.specs.Nonterminals.{Nonterminal, TagName, Attributes, WholeProgram, assigns, expr, in_homes, homes}
 use Rattle.jsx_tree.specs.Form.{Position, position, positions, shaped, last_only, admits, fits_below, fit_slots, fit_each, is}
-use Rattle.jsx_tree.specs.Normal.{remades, unwrapped_node, without_parentheses}
-use Rattle.jsx_tree.specs.Sound.{each_nodes}
+use Rattle.jsx_tree.specs.Sound.{each_node, each_nodes}
 use Rattle.jsx_syntax.specs.Stage.{has_kind, limits, leaf_at, in_stage, in_stages, each_in_stage, ReadsSoFar}
-use Rattle.react_compile.specs.Lowering.{is_lowerable, can_lower}
+use Rattle.react_compile.specs.Lowering.{is_lowerable, can_lower, is_bare_target, has_bare_targets}
 
 -- no kind that is taken is a tag's name or an attribute
 record NoTag (k : Kind) : Type 0 where
@@ -27,15 +26,30 @@ assign_no_tag false = (refl, refl)
 
 no_tag : (k : Kind) → has_kind k ≡ true → NoTag k
 no_tag (program Module) h = record { name = refl; attribute = refl }
+no_tag (statement Block) h = record { name = refl; attribute = refl }
+no_tag (statement (Var VarWord)) h = record { name = refl; attribute = refl }
+no_tag (statement (Var LetWord)) h = record { name = refl; attribute = refl }
 no_tag (statement (Var ConstWord)) h = record { name = refl; attribute = refl }
+no_tag (statement Empty) h = record { name = refl; attribute = refl }
+no_tag (statement If) h = record { name = refl; attribute = refl }
+no_tag (statement Do) h = record { name = refl; attribute = refl }
+no_tag (statement While) h = record { name = refl; attribute = refl }
+no_tag (statement Continue) h = record { name = refl; attribute = refl }
+no_tag (statement Break) h = record { name = refl; attribute = refl }
+no_tag (statement Throw) h = record { name = refl; attribute = refl }
+no_tag (statement Debugger) h = record { name = refl; attribute = refl }
 no_tag (statement Declarator) h = record { name = refl; attribute = refl }
 no_tag (statement ExprStmt) h = record { name = refl; attribute = refl }
+no_tag (expression Seq) h = record { name = refl; attribute = refl }
 no_tag (expression (Binary o)) h = binary_no_tag o
 no_tag (expression Assign) h = record { name = refl; attribute = refl }
 no_tag (expression (OpAssign o)) h = let p = assign_no_tag (assigns o) in record { name = p.0; attribute = p.1 }
 no_tag (expression Cond) h = record { name = refl; attribute = refl }
 no_tag (expression (Unary o)) h = record { name = refl; attribute = refl }
+no_tag (expression (PrefixUpdate o)) h = record { name = refl; attribute = refl }
+no_tag (expression (PostfixUpdate o)) h = record { name = refl; attribute = refl }
 no_tag (expression ImportCall) h = record { name = refl; attribute = refl }
+no_tag (expression Parenthesized) h = record { name = refl; attribute = refl }
 no_tag (expression Call) h = record { name = refl; attribute = refl }
 no_tag (expression Member) h = record { name = refl; attribute = refl }
 no_tag (expression Index) h = record { name = refl; attribute = refl }
@@ -71,63 +85,44 @@ node_lowers (jsx Element) (part (list ts) us) h f s = absurd (false≢true f)
 node_lowers (jsx j) cs h f s = absurd (false≢true h)
 node_lowers k cs h f s = refl
 
+-- a test that all nodes of the kinds that are taken pass
+record Passes (p : Kind → Forest → Bool) : Type 0 where
+  on : (k : Kind) (cs : Forest) → has_kind k ≡ true → fit_slots (positions k) cs ≡ true → in_stages (positions k) cs ≡ true → p k cs ≡ true
+
 mutual
-  staged_lowers : (c : Nonterminal) (t : Tree) → fits_below c t ≡ true → in_stage c t ≡ true → can_lower t ≡ true
-  staged_lowers c (leaf k x) f s = refl
-  staged_lowers c (list ts) f s = each_lowers c ts f s
-  staged_lowers c (node k cs) f s =
-      let p = and_parts (has_kind k) (limits k cs && in_stages (positions k) cs) s in
-      let q = and_parts (limits k cs) (in_stages (positions k) cs) p.1 in
-      and_from _ _ (node_lowers k cs p.0 f q.1) (slots_lower (positions k) cs f q.1)
+  staged_pass : (p : Kind → Forest → Bool) → Passes p → (c : Nonterminal) (t : Tree) → fits_below c t ≡ true → in_stage c t ≡ true → each_node p t ≡ true
+  staged_pass p h c (leaf k x) f s = refl
+  staged_pass p h c (list ts) f s = each_pass p h c ts f s
+  staged_pass p h c (node k cs) f s =
+      let a = and_parts (has_kind k) (limits k cs && in_stages (positions k) cs) s in
+      let b = and_parts (limits k cs) (in_stages (positions k) cs) a.1 in
+      and_from _ _ (h.on k cs a.0 f b.1) (slots_pass p h (positions k) cs f b.1)
 
-  slots_lower : (ss : List Position) (cs : Forest) → fit_slots ss cs ≡ true → in_stages ss cs ≡ true → each_nodes is_lowerable cs ≡ true
-  slots_lower ss none f s = refl
-  slots_lower [] (part t ts) f s = absurd (false≢true f)
-  slots_lower (position d c g b a ∷ ss) (part t ts) f s =
-      let p = and_parts (fits_below c t) (fit_slots ss ts) (and_parts (shaped d c t) (fits_below c t && fit_slots ss ts) f).1 in
-      let q = and_parts (in_stage c t) (in_stages ss ts) s in
-      and_from _ _ (staged_lowers c t p.0 q.0) (slots_lower ss ts p.1 q.1)
+  slots_pass : (p : Kind → Forest → Bool) → Passes p → (ss : List Position) (cs : Forest) → fit_slots ss cs ≡ true → in_stages ss cs ≡ true → each_nodes p cs ≡ true
+  slots_pass p h ss none f s = refl
+  slots_pass p h [] (part t ts) f s = absurd (false≢true f)
+  slots_pass p h (position d c g b a ∷ ss) (part t ts) f s =
+      let q = and_parts (fits_below c t) (fit_slots ss ts) (and_parts (shaped d c t) (fits_below c t && fit_slots ss ts) f).1 in
+      let r = and_parts (in_stage c t) (in_stages ss ts) s in
+      and_from _ _ (staged_pass p h c t q.0 r.0) (slots_pass p h ss ts q.1 r.1)
 
-  each_lowers : (c : Nonterminal) (ts : Forest) → fit_each c ts ≡ true → each_in_stage c ts ≡ true → each_nodes is_lowerable ts ≡ true
-  each_lowers c none f s = refl
-  each_lowers c (part t ts) f s =
-      let p = and_parts (fits_below c t) (fit_each c ts) (and_parts (admits c t) (fits_below c t && fit_each c ts) f).1 in
-      let q = and_parts (in_stage c t) (each_in_stage c ts) s in
-      and_from _ _ (staged_lowers c t p.0 q.0) (each_lowers c ts p.1 q.1)
+  each_pass : (p : Kind → Forest → Bool) → Passes p → (c : Nonterminal) (ts : Forest) → fit_each c ts ≡ true → each_in_stage c ts ≡ true → each_nodes p ts ≡ true
+  each_pass p h c none f s = refl
+  each_pass p h c (part t ts) f s =
+      let q = and_parts (fits_below c t) (fit_each c ts) (and_parts (admits c t) (fits_below c t && fit_each c ts) f).1 in
+      let r = and_parts (in_stage c t) (each_in_stage c ts) s in
+      and_from _ _ (staged_pass p h c t q.0 r.0) (each_pass p h c ts q.1 r.1)
+
+so_far_pass : (p : Kind → Forest → Bool) → Passes p → (text : Text) (t : Tree) → ReadsSoFar text t → each_node p t ≡ true
+so_far_pass p h text t r = staged_pass p h WholeProgram t (and_parts (admits WholeProgram t) (fits_below WholeProgram t) (and_parts (is WholeProgram t) _ r.reads.read).0).1 r.staged
 
 pub so_far_lowers : (text : Text) (t : Tree) → ReadsSoFar text t → can_lower t ≡ true
-so_far_lowers text t h = staged_lowers WholeProgram t (and_parts (admits WholeProgram t) (fits_below WholeProgram t) (and_parts (is WholeProgram t) _ h.reads.read).0).1 h.staged
+so_far_lowers text t r = so_far_pass is_lowerable (record { on = node_lowers }) text t r
 
--- ---- and they have no parentheses
+-- no target is in parentheses
+target_bare : (k : Kind) (cs : Forest) → has_kind k ≡ true → fit_slots (positions k) cs ≡ true → in_stages (positions k) cs ≡ true → is_bare_target k cs ≡ true
+target_bare (function ParenTarget) cs h f s = absurd (false≢true h)
+target_bare k cs h f s = refl
 
-node_bare : (k : Kind) (cs : Forest) → has_kind k ≡ true → unwrapped_node k cs ≡ node k cs
-node_bare (expression Parenthesized) cs h = absurd (false≢true h)
-node_bare (function ParenTarget) cs h = absurd (false≢true h)
-node_bare k cs h = refl
-
-mutual
-  staged_bare : (c : Nonterminal) (t : Tree) → fits_below c t ≡ true → in_stage c t ≡ true → without_parentheses t ≡ t
-  staged_bare c (leaf k x) f s = refl
-  staged_bare c (list ts) f s = ap list (each_bare c ts f s)
-  staged_bare c (node k cs) f s =
-      let p = and_parts (has_kind k) (limits k cs && in_stages (positions k) cs) s in
-      let q = and_parts (limits k cs) (in_stages (positions k) cs) p.1 in
-      node_bare k (remades unwrapped_node cs) p.0 ∙ ap (node k) (slots_bare (positions k) cs f q.1)
-
-  slots_bare : (ss : List Position) (cs : Forest) → fit_slots ss cs ≡ true → in_stages ss cs ≡ true → remades unwrapped_node cs ≡ cs
-  slots_bare ss none f s = refl
-  slots_bare [] (part t ts) f s = absurd (false≢true f)
-  slots_bare (position d c g b a ∷ ss) (part t ts) f s =
-      let p = and_parts (fits_below c t) (fit_slots ss ts) (and_parts (shaped d c t) (fits_below c t && fit_slots ss ts) f).1 in
-      let q = and_parts (in_stage c t) (in_stages ss ts) s in
-      ap (λ u. part u (remades unwrapped_node ts)) (staged_bare c t p.0 q.0) ∙ ap (part t) (slots_bare ss ts p.1 q.1)
-
-  each_bare : (c : Nonterminal) (ts : Forest) → fit_each c ts ≡ true → each_in_stage c ts ≡ true → remades unwrapped_node ts ≡ ts
-  each_bare c none f s = refl
-  each_bare c (part t ts) f s =
-      let p = and_parts (fits_below c t) (fit_each c ts) (and_parts (admits c t) (fits_below c t && fit_each c ts) f).1 in
-      let q = and_parts (in_stage c t) (each_in_stage c ts) s in
-      ap (λ u. part u (remades unwrapped_node ts)) (staged_bare c t p.0 q.0) ∙ ap (part t) (each_bare c ts p.1 q.1)
-
-pub so_far_bare : (text : Text) (t : Tree) → ReadsSoFar text t → without_parentheses t ≡ t
-so_far_bare text t h = staged_bare WholeProgram t (and_parts (admits WholeProgram t) (fits_below WholeProgram t) (and_parts (is WholeProgram t) _ h.reads.read).0).1 h.staged
+pub so_far_bare : (text : Text) (t : Tree) → ReadsSoFar text t → has_bare_targets t ≡ true
+so_far_bare text t r = so_far_pass is_bare_target (record { on = target_bare }) text t r

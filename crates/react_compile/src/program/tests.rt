@@ -103,6 +103,10 @@ fn code_of_sources(rt: HostRuntime) -> Result<(), Fail> {
         ),
         ("x=a+b*-c;y??=- -z;", "x = a + b * -c;\ny ??= - -z;\n"),
         (
+            "a,b;(a,b),f((c,d));x=(y,z)",
+            "a, b;\n(a, b), f((c, d));\nx = (y, z);\n",
+        ),
+        (
             "a?b:<c/>+<D/>;",
             "a ? b : /*#__PURE__*/ React.createElement(\"c\", null) + /*#__PURE__*/ React.createElement(D, null);\n",
         ),
@@ -114,10 +118,34 @@ fn code_of_sources(rt: HostRuntime) -> Result<(), Fail> {
             "import('a')['b'](void 0x1f,10n,this,null,!0);",
             "import('a')['b'](void 0x1f, 10n, this, null, !0);\n",
         ),
+        ("x = a / b / /[/]\\/c/g", "x = a / b / /[/]\\/c/g;\n"),
         ("1.5;0x1;null;f(this);", "1.5;\n0x1;\nnull;\nf(this);\n"),
         ("a=b=c in d instanceof e;", "a = b = c in d instanceof e;\n"),
+        ("x = a ?? (b || c)", "x = a ?? (b || c);\n"),
+        ("(\"use x\"); y", "(\"use x\");\ny;\n"),
+        ("a\n(b)\nc // d\n/* e\n*/ f", "a(b);\nc;\nf;\n"),
+        (
+            "(a+b)*c;((d));f((e),(<a/>),(g()));",
+            "(a + b) * c;\nd;\nf(e, /*#__PURE__*/ React.createElement(\"a\", null), g());\n",
+        ),
+        (
+            "x=(-a)**b;(a??b)||c;(a=b).c;(1).d;('e').f;",
+            "x = (-a) ** b;\n(a ?? b) || c;\n(a = b).c;\n(1).d;\n'e'.f;\n",
+        ),
+        (
+            "a\n++\nb;c++**d;- --e.f;(a++).b",
+            "a;\n++b;\nc++ ** d;\n- --e.f;\n(a++).b;\n",
+        ),
+        (
+            "delete a.b;delete(a).b+-(c++);delete(a[b])",
+            "delete a.b;\ndelete a.b + -c++;\ndelete a[b];\n",
+        ),
     ] {
         assert_runs(&rt, &plain(source.as_bytes()), (Status::Done, code, ""))?;
+        // Code without marks, which are comments, is its own code.
+        if !code.contains("/*#__PURE__*/") {
+            assert_runs(&rt, &plain(code.as_bytes()), (Status::Done, code, ""))?;
+        }
     }
     Ok(())
 }
@@ -125,15 +153,12 @@ fn code_of_sources(rt: HostRuntime) -> Result<(), Fail> {
 #[test]
 fn sources_that_do_not_read(rt: HostRuntime) -> Result<(), Fail> {
     let rows: &[&[u8]] = &[
-        b"c",
         b"const",
         b"const x",
         b"const x =",
         b"const x = <",
         b"const x = <a",
         b"const x = <a/",
-        b"const x = <a/>",
-        b"const x = <a/>\nconst y = <b/>;",
         b"const x == <a/>;",
         b"const const = <a/>;",
         b"const eval = <a/>;",
@@ -145,9 +170,9 @@ fn sources_that_do_not_read(rt: HostRuntime) -> Result<(), Fail> {
         b"const x = <a/>; \0",
         b"constx a = <a/>;",
         b"\"use strict\";",
-        b"a",
         b"a b;",
-        b"a\n++\nb;",
+        b"a++ ++;",
+        b"++a();",
         b"-x ** y;",
         b"1.x;",
         b"1 .x;",
@@ -162,12 +187,17 @@ fn sources_that_do_not_read(rt: HostRuntime) -> Result<(), Fail> {
         b"a() = b;",
         b"1 = a;",
         b"eval = a;",
-        b"a, b;",
-        b"delete a.b;",
+        b"a, b,;",
+        b"delete a;",
+        b"delete (a);",
         b"const a;",
         b"const a = 1,;",
         b"const {a} = b;",
-        b"(a);",
+        b"(a",
+        b"()",
+        b"(a) => b;",
+        b"(a) = b;",
+        b"const x = <a/> const y = <b/>;",
         b"f(\"a\nb\");",
         b"<a></a>;",
         b"\xff",
@@ -244,13 +274,13 @@ fn code_goes_out_in_one_write(rt: HostRuntime) -> Result<(), Fail> {
 #[test]
 fn a_line_goes_out_in_one_write(rt: HostRuntime) -> Result<(), Fail> {
     let line_write = Given {
-        source: b"c",
+        source: b"c d",
         bad_lines: &[0],
         ..WELL
     };
     assert_runs(&rt, &line_write, (Status::Write, "", ""))?;
     let later_write = Given {
-        source: b"c",
+        source: b"c d",
         bad_lines: &[1],
         bad_writes: &[0],
         ..WELL

@@ -1,40 +1,53 @@
-use Rattle.std.proofs.Common.{◌≡◌, true, arith, map, refl, sym, ◌∙◌, ap, subst, [], ◌∷◌}
+use Rattle.std.proofs.Common.{◌≡◌, ◌++◌, true, arith, map, refl, sym, ◌∙◌, ap, subst, [], ◌∷◌, nat_le}
 use Rattle.std.specs.Prelude.{codes}
 use Rattle.jsx_base.specs.Token.{Operator, Punctuator}
-use Rattle.jsx_tree.specs.Kinds.{Assigns, Assign, expression, node, none, part}
+use Rattle.jsx_tree.specs.Kinds.{Assigns, Assign, expression, node, none, part, Tree}
 use Rattle.jsx_tree.specs.Nonterminals.{Expr}
 use Rattle.jsx_tree.specs.Grammar.{Commas, Part}
 use Rattle.jsx_tree.specs.View.{forest, inside, view_expr}
 use Rattle.jsx_tree.specs.Told.{tales, told_expr, told_node}
-use Rattle.jsx_tree.specs.Walk.{one}
-use Rattle.jsx_tree.specs.Answers.{Only}
-use Rattle.jsx_syntax.specs.SoFar.{in_module, so_far}
+use Rattle.jsx_tree.specs.Reading.{Place}
+use Rattle.jsx_tree.specs.StaticRules.{Surroundings}
+use Rattle.jsx_tree.specs.Walk.{one, tail}
+use Rattle.jsx_tree.specs.Answers.{Only, NoRow, NoNode, BuiltNode}
+use Rattle.jsx_syntax.specs.SoFar.{so_far, row_so_far}
+use Rattle.jsx_syntax.specs.Around.{around_of}
 use Rattle.jsx_syntax.specs.Here.{place_of, left}
 use Rattle.jsx_syntax.specs.NodeSpans.{expr_at}
-use Rattle.jsx_syntax.specs.Growths.{NoOpening, growth_kind, opening_kind, fits, is_level, settled}
-use Rattle.jsx_tree.specs.ViewOperators.{assign_of, binary_of, unary_of}
-use Rattle.jsx_syntax.specs.Spans.{IsPlacedList, Spans, Takes, end_of, next_of}
+use Rattle.jsx_syntax.specs.Growths.{NoOpening, growth_kind, opening_kind, fits, is_level, settled, is_target, level, deletes_name}
+use Rattle.jsx_tree.specs.ViewOperators.{assign_of, binary_of, unary_of, step_of}
+use Rattle.jsx_syntax.specs.Spans.{IsPlacedListAs, Spans, Takes, end_of, next_of}
 use Rattle.jsx_syntax.proofs.OfSoFar.{of_so_far}
-use Rattle.jsx_tree.proofs.Rows.Steps.{bar, on, built_1, built_2, built_3}
+use Rattle.jsx_tree.proofs.Rows.Steps.{both, bar, no_sign, on, only_sign, built_1, built_2, built_3}
 use Rattle.jsx_tree.proofs.Rows.Lists.{begun, ended, ended_behind, no_more, not_closed, item_more, round}
-use Rattle.jsx_syntax.proofs.Values.{only_argument, barred_argument, only_whole, barred_whole, settled_token, sign_ended}
-use Rattle.jsx_syntax.proofs.Operators.{binary_built, binary_none, unary_built, unary_none, mark_is, right_is_level, growth_listed, growth_grows}
+use Rattle.jsx_syntax.proofs.Values.{only_argument, barred_argument, settled_token, sign_ended}
+use Rattle.jsx_syntax.proofs.Operators.{binary_built, binary_none, unary_none, mark_is, right_is_level, growth_listed, growth_grows, unary_built}
 use Rattle.jsx_syntax.proofs.Climbing.{climb_only, climb_on, climb_barred, climb_unfit}
-use Rattle.jsx_syntax.proofs.Openings.{signed_follows, unread_opening}
+use Rattle.jsx_tree.proofs.Rows.Placing.{no_node}
+use Rattle.jsx_syntax.proofs.Openings.{kept_behind, signed_follows, unread_opening}
+use Rattle.jsx_syntax.proofs.Deleting.{no_deleted, unary_node}
+use Rattle.jsx_syntax.specs.declared.opening.Opening.{Opening}
+use Rattle.jsx_syntax.specs.declared.opening.Opening.TheVariants as opening
+use Rattle.jsx_syntax.proofs.Targets.{only_target, no_target, unfit_target}
+use Rattle.std.proofs.lemmas.Bool.{le-leb, lt-leb}
 use Rattle.jsx_syntax.proofs.TakingOpenings.{opening_listed, opening_opens}
 use Rattle.jsx_syntax.proofs.TakingGrowths.{ended as stopped}
 use Rattle.jsx_syntax.proofs.Places.{spans_from}
 use Rattle.jsx_syntax.proofs.Steps.{passed}
+use Rattle.jsx_syntax.proofs.Ahead.{an_arrow, no_arrow}
+use Rattle.jsx_syntax.proofs.Arguments.{paren_placed, argument_placed}
+use Rattle.jsx_syntax.proofs.Homes.{never_list}
 use Rattle.jsx_syntax.proofs.Trees.{pushed}
-use Rattle.jsx_syntax.proofs.Placing.{PlacedFront, plain_commas, row_end, row_sign, row_list, list_none, front_none, front_more, front_last, list_to, map_pushed, placed_as, placed_from, placed_to}
-use Rattle.jsx_syntax.proofs.PlacedNodes.{no_trailing, takes_trailing, call_row, index_row, conditional_row, binary_row, assign_row, op_assign_row, unary_row, import_row}
+use Rattle.jsx_syntax.proofs.Sequences.{Listing, whole_only, whole_barred, listing_one, listing_more, sequence_only, sequence_barred}
+use Rattle.jsx_syntax.proofs.Placing.{PlacedFront, plain_commas, plain_two, row_end, row_sign, row_list, list_none, front_none, front_more, front_last, list_to, map_pushed, placed_as, placed_from, placed_to}
+use Rattle.jsx_syntax.proofs.PlacedNodes.{led_more, sequence_row, no_trailing, takes_trailing, call_row, index_row, conditional_row, binary_row, assign_row, op_assign_row, unary_row, update_row, import_row}
 use Rattle.jsx_syntax.proofs.expression.+expression.Goals as goal
 
 pub arguments-arguments-init : goal.arguments-arguments-init
 arguments-arguments-init t c = record {
   so_far = begun _ (ap (λ xs. forest (map (inside view_expr) xs)) c.new-all.ensures.items);
-  placed = subst (λ xs. PlacedFront Commas (map (inside told_expr) xs) (map (inside view_expr) xs) c.args.lexer.now c.args.lexer.now) (sym c.new-all.ensures.items) front_none;
-  closed = subst (λ xs. IsPlacedList Commas (tales (map (inside told_expr) xs)) (forest (map (inside view_expr) xs)) c.args.lexer.now c.args.lexer.now) (sym c.new-all.ensures.items) list_none;
+  placed = subst (λ xs. PlacedFront true Commas (map (inside told_expr) xs) (map (inside view_expr) xs) c.args.lexer.now c.args.lexer.now) (sym c.new-all.ensures.items) front_none;
+  closed = subst (λ xs. IsPlacedListAs true Commas (tales (map (inside told_expr) xs)) (forest (map (inside view_expr) xs)) c.args.lexer.now c.args.lexer.now) (sym c.new-all.ensures.items) list_none;
   within = omega arith;
 }
 
@@ -96,13 +109,13 @@ pub arguments-returns-then-not-take-clause-ended : goal.arguments-returns-then-n
 arguments-returns-then-not-take-clause-ended t c = sign_ended c.in_ok-expect.ensures.read.past
 
 pub index-returns-in_err-inner-clause-refused : goal.index-returns-in_err-inner-clause-refused
-index-returns-in_err-inner-clause-refused t c = passed _ c.in_err-inner.ensures.refused c.from_residual.ensures.1 (λ b. bar (barred_whole b))
+index-returns-in_err-inner-clause-refused t c = passed _ c.in_err-inner.ensures.refused c.from_residual.ensures.1 (λ b. bar b)
 
 pub index-returns-in_err-expect-clause-refused : goal.index-returns-in_err-expect-clause-refused
-index-returns-in_err-expect-clause-refused t c = passed _ c.in_err-expect.ensures.refused c.from_residual-in_err-expect.ensures.1 (λ b. on (only_whole c.in_ok-inner.ensures.read) (bar b))
+index-returns-in_err-expect-clause-refused t c = passed _ c.in_err-expect.ensures.refused c.from_residual-in_err-expect.ensures.1 (λ b. on c.in_ok-inner.ensures.read (bar b))
 
 pub index-returns-clause-read : goal.index-returns-clause-read
-index-returns-clause-read t c = built_2 refl (only_whole c.in_ok-inner.ensures.read) c.in_ok-expect.ensures.read c.in_ok-index.ensures.view
+index-returns-clause-read t c = built_2 refl c.in_ok-inner.ensures.read c.in_ok-expect.ensures.read c.in_ok-index.ensures.view
 
 pub index-returns-clause-ended : goal.index-returns-clause-ended
 index-returns-clause-ended t c = sign_ended c.in_ok-expect.ensures.read.past
@@ -156,14 +169,24 @@ binary-returns-clause-placed t c = record {
 }
 
 pub expression-steps-init : goal.expression-steps-init
-expression-steps-init t c = record { so_far = c.in_ok-expr.ensures.read.on c.args.level c.requires; span = c.in_ok-expr.ensures.span; placed = c.in_ok-expr.ensures.placed; within = c.in_ok-expr.ensures.shorter }
+expression-steps-init t c = record {
+  so_far = c.in_ok-expr.ensures.read.on c.args.level c.requires (ap (λ e. nat_le c.args.level (level (view_expr e))) (sym c.deref.ensures) ∙ le-leb c.args.level (level (view_expr c.deref.result.now)) (omega (arith, c.level.ensures, c.if-level.false)));
+  span = c.in_ok-expr.ensures.span;
+  placed = c.in_ok-expr.ensures.placed;
+  within = c.in_ok-expr.ensures.shorter;
+}
+
+pub expression-returns-then-level-clause-refused : goal.expression-returns-then-level-clause-refused
+expression-returns-then-level-clause-refused t c = record {
+  bars = λ _ _. c.in_ok-expr.ensures.read.low c.args.level c.requires (ap (λ e. nat_le c.args.level (level (view_expr e))) (sym c.deref.ensures) ∙ lt-leb c.args.level (level (view_expr c.deref.result.now)) (omega (arith, c.level.ensures, c.if-level.true)));
+}
 
 pub expression-returns-in_err-expr-clause-refused : goal.expression-returns-in_err-expr-clause-refused
 expression-returns-in_err-expr-clause-refused t c = passed _ c.in_err-expr.ensures.refused c.from_residual.ensures.1 (λ n. n.on c.args.level c.requires)
 
 pub expression-returns-in_default-clause-read : goal.expression-returns-in_default-clause-read
 expression-returns-in_default-clause-read t c =
-    subst (λ p. Only so_far in_module (Part (Expr c.args.level)) (place_of c.args.lexer.now) (one (view_expr c.steps.expr.value)) p) (sym (ap place_of c.in_default.ensures.stays))
+    subst (λ p. Only so_far (around_of c.args.context.around) (Part (Expr c.args.level)) (place_of c.args.lexer.now) (one (view_expr c.steps.expr.value)) p) (sym (ap place_of c.in_default.ensures.stays))
     (climb_only c.requires c.steps.invariant.so_far (stopped c.args.level c.steps.lexer c.steps.invariant.so_far.ended c.in_default.ensures.missing))
 
 pub expression-returns-in_default-clause-span : goal.expression-returns-in_default-clause-span
@@ -179,31 +202,34 @@ pub expression-returns-then-not-fits-clause-refused : goal.expression-returns-th
 expression-returns-then-not-fits-clause-refused t c = record {
   bars = λ _ _.
       let g = c.in-Some.growth in
-      climb_unfit (growth_kind g) c.requires (growth_listed g) (growth_grows g) c.steps.invariant.so_far (record { is = c.in-Some.ensures.taken; found = refl }) c.in-Some.ensures.reaches
-      (ap (λ e. fits (growth_kind g) (view_expr e)) (sym c.deref.ensures) ∙ (sym c.fits.ensures ∙ c.if-not-fits.true));
+      climb_unfit (growth_kind g) c.requires (growth_listed g) (growth_grows g) c.steps.invariant.so_far c.in-Some.ensures.on_line (record { is = c.in-Some.ensures.taken; found = refl }) c.in-Some.ensures.reaches
+      (ap (λ e. fits (growth_kind g) (view_expr e)) (sym c.deref-in-steps.ensures) ∙ (sym c.fits.ensures ∙ c.if-not-fits.true));
 }
 
 pub expression-returns-in_err-expr-2-clause-refused : goal.expression-returns-in_err-expr-2-clause-refused
 expression-returns-in_err-expr-2-clause-refused t c =
     let g = c.in-Some.growth in
-    passed _ c.in_err-expr-2.ensures.refused c.from_residual-in_err-expr-2.ensures.1 (λ n. climb_barred (growth_kind g) c.requires (growth_listed g) (growth_grows g) c.steps.invariant.so_far (record { is = c.in-Some.ensures.taken; found = refl }) c.in-Some.ensures.reaches n)
+    passed _ c.in_err-expr-2.ensures.refused c.from_residual-in_err-expr-2.ensures.1 (λ n. climb_barred (growth_kind g) c.requires (growth_listed g) (growth_grows g) c.steps.invariant.so_far c.in-Some.ensures.on_line (record { is = c.in-Some.ensures.taken; found = refl }) c.in-Some.ensures.reaches n)
 
 pub expression-steps-preserved : goal.expression-steps-preserved
 expression-steps-preserved t c =
     let g = c.in-Some.growth in
     record {
-      so_far = climb_on (growth_kind g) c.requires (growth_listed g) (growth_grows g) c.steps.invariant.so_far (record { is = c.in-Some.ensures.taken; found = refl }) c.in-Some.ensures.reaches
-          (ap (λ e. fits (growth_kind g) (view_expr e)) (sym c.deref.ensures) ∙ (sym c.fits.ensures ∙ c.if-not-fits.false)) c.in_ok-expr-2.ensures.read c.in_ok-expr-2.ensures.ended;
+      so_far = climb_on (growth_kind g) c.requires (growth_listed g) (growth_grows g) c.steps.invariant.so_far c.in-Some.ensures.on_line (record { is = c.in-Some.ensures.taken; found = refl }) c.in-Some.ensures.reaches
+          (ap (λ e. fits (growth_kind g) (view_expr e)) (sym c.deref-in-steps.ensures) ∙ (sym c.fits.ensures ∙ c.if-not-fits.false)) c.in_ok-expr-2.ensures.read c.in_ok-expr-2.ensures.ended;
       span = c.in_ok-expr-2.ensures.span.on _ _ c.steps.invariant.span;
       placed = c.in_ok-expr-2.ensures.placed.on _ _ c.steps.invariant.span c.steps.invariant.placed c.in-Some.ensures.takes;
-      within = omega (arith, c.in_ok-expr-2.ensures.shorter, c.in-Some.ensures.shorter, c.steps.invariant.within);
+      within = omega (arith, c.in_ok-expr-2.ensures.within, c.in-Some.ensures.shorter, c.steps.invariant.within);
     }
 
 pub unary-returns-in_err-operand-clause-refused : goal.unary-returns-in_err-operand-clause-refused
-unary-returns-in_err-operand-clause-refused t c = passed _ c.in_err-operand.ensures.refused c.from_residual.ensures.1 (λ b. unary_none (unary_of c.args.operator) b)
+unary-returns-in_err-operand-clause-refused t c = passed _ c.in_err-operand.ensures.refused c.from_residual.ensures.1 (λ b. no_node (unary_none (unary_of c.args.operator) b))
 
 pub unary-returns-clause-read : goal.unary-returns-clause-read
-unary-returns-clause-read t c = unary_built (unary_of c.args.operator) c.in_ok-operand.ensures.read refl c.in_ok-unary.ensures.view
+unary-returns-clause-read t c = unary_node (unary_of c.args.operator) (ap (λ e. deletes_name (unary_of c.args.operator) (view_expr e)) (sym c.deref.ensures) ∙ (sym c.deletes_name.ensures ∙ c.if-deletes_name.false)) c.in_ok-operand.ensures.read refl c.in_ok-unary.ensures.view
+
+pub unary-returns-then-deletes_name-clause-refused : goal.unary-returns-then-deletes_name-clause-refused
+unary-returns-then-deletes_name-clause-refused t c = record { bars = λ _ _. no_deleted (unary_of c.args.operator) (ap (λ e. deletes_name (unary_of c.args.operator) (view_expr e)) (sym c.deref.ensures) ∙ (sym c.deletes_name.ensures ∙ c.if-deletes_name.true)) c.in_ok-operand.ensures.read }
 
 pub unary-returns-clause-ended : goal.unary-returns-clause-ended
 unary-returns-clause-ended t c = c.in_ok-operand.ensures.ended
@@ -234,6 +260,35 @@ import_call-returns-clause-placed t c = record {
   on = λ w sign begins.
       placed_as c.in_ok-import_call.ensures.told c.in_ok-import_call.ensures.view (import_row sign c.in_ok-expect.ensures.takes c.in_ok-source.ensures.placed c.in_ok-expect-2.ensures.takes (spans_from c.span_to.ensures refl (c.last_place-lo.ensures ∙ begins) refl));
 }
+
+-- what begins so is the node of what was found, and where that is none, nothing
+opened_node : {v : Surroundings} {x y : Place} {t : Tree} (g h : Opening) → g ≡ h → BuiltNode so_far v (tail (row_so_far (opening_kind h))) (opening_kind h) t x y → BuiltNode so_far v (tail (row_so_far (opening_kind g))) (opening_kind g) t x y
+opened_node {v} {x} {y} {t} g h e b = subst (λ o. BuiltNode so_far v (tail (row_so_far (opening_kind o))) (opening_kind o) t x y) (sym e) b
+
+opened_none : {v : Surroundings} {x : Place} (g h : Opening) → g ≡ h → NoRow so_far v (tail (row_so_far (opening_kind h))) x → NoNode so_far v (tail (row_so_far (opening_kind g))) (opening_kind g) x
+opened_none {v} {x} g h e n = subst (λ o. NoNode so_far v (tail (row_so_far (opening_kind o))) (opening_kind o) x) (sym e) (no_node n)
+
+pub open-returns-in_ok-import_call-in-ImportCall-clause-read : goal.open-returns-in_ok-import_call-in-ImportCall-clause-read
+open-returns-in_ok-import_call-in-ImportCall-clause-read t c =
+    opened_node c.args.opening opening.ImportCall c.in-ImportCall.is (kept_behind (opening_kind opening.ImportCall) (opening_listed opening.ImportCall refl) refl refl c.in_ok-import_call-in-ImportCall.ensures.read)
+
+pub open-returns-in_err-import_call-in-ImportCall-clause-refused : goal.open-returns-in_err-import_call-in-ImportCall-clause-refused
+open-returns-in_err-import_call-in-ImportCall-clause-refused t c = passed _ c.in_err-import_call-in-ImportCall.ensures.refused c.from_residual.ensures.1 (λ n. opened_none c.args.opening opening.ImportCall c.in-ImportCall.is n)
+
+pub open-returns-in_ok-parenthesized-in-Paren-clause-read : goal.open-returns-in_ok-parenthesized-in-Paren-clause-read
+open-returns-in_ok-parenthesized-in-Paren-clause-read t c =
+    opened_node c.args.opening opening.Paren c.in-Paren.is (kept_behind (opening_kind opening.Paren) (opening_listed opening.Paren refl) refl refl c.in_ok-parenthesized-in-Paren.ensures.read)
+
+pub open-returns-in_err-parenthesized-in-Paren-clause-refused : goal.open-returns-in_err-parenthesized-in-Paren-clause-refused
+open-returns-in_err-parenthesized-in-Paren-clause-refused t c = passed _ c.in_err-parenthesized-in-Paren.ensures.refused c.from_residual-in_err-parenthesized-in-Paren.ensures.1 (λ n. opened_none c.args.opening opening.Paren c.in-Paren.is n)
+
+pub open-returns-in_ok-prefix_update-in-Update-clause-read : goal.open-returns-in_ok-prefix_update-in-Update-clause-read
+open-returns-in_ok-prefix_update-in-Update-clause-read t c =
+    let g = opening.Update c.in-Update.operator in
+    opened_node c.args.opening g c.in-Update.is (kept_behind (opening_kind g) (opening_listed g refl) (opening_opens g) refl c.in_ok-prefix_update-in-Update.ensures.read)
+
+pub open-returns-in_err-prefix_update-in-Update-clause-refused : goal.open-returns-in_err-prefix_update-in-Update-clause-refused
+open-returns-in_err-prefix_update-in-Update-clause-refused t c = passed _ c.in_err-prefix_update-in-Update.ensures.refused c.from_residual-in_err-prefix_update-in-Update.ensures.1 (λ n. opened_none c.args.opening (opening.Update c.in-Update.operator) c.in-Update.is n)
 
 pub beginning-primary-requires : goal.beginning-primary-requires
 beginning-primary-requires t c = subst (λ h. NoOpening (place_of h)) (sym c.in_default.ensures.stays) c.in_default.ensures.missing
@@ -281,3 +336,113 @@ operator_assignment-returns-clause-placed t c = record {
       placed_as c.in_ok-op_assign.ensures.told c.in_ok-op_assign.ensures.view (op_assign_row (assign_of c.args.operator) l sign c.in_ok-value.ensures.placed
       (spans_from c.span_to-span.ensures refl (c.start_of.ensures.on _ _ (subst (λ e. Spans (expr_at e) (next_of w) (end_of z)) (sym c.deref.ensures) s)) refl));
 }
+
+pub parenthesized-returns-in_err-inner-clause-refused : goal.parenthesized-returns-in_err-inner-clause-refused
+parenthesized-returns-in_err-inner-clause-refused t c = passed _ c.in_err-inner.ensures.refused c.from_residual.ensures.1 (λ b. bar b)
+
+pub parenthesized-returns-in_err-expect-clause-refused : goal.parenthesized-returns-in_err-expect-clause-refused
+parenthesized-returns-in_err-expect-clause-refused t c = passed _ c.in_err-expect.ensures.refused c.from_residual-in_err-expect.ensures.1 (λ b. on c.in_ok-inner.ensures.read (bar b))
+
+pub parenthesized-returns-then-is_before_arrow-clause-refused : goal.parenthesized-returns-then-is_before_arrow-clause-refused
+parenthesized-returns-then-is_before_arrow-clause-refused t c = record {
+  bars = λ _ _. on c.in_ok-inner.ensures.read (on c.in_ok-expect.ensures.read (bar (no_sign (record { is = an_arrow c.expect.new.lexer (sign_ended c.in_ok-expect.ensures.read.past) (sym c.is_before_arrow.ensures.ahead ∙ c.if-is_before_arrow.true) }))));
+}
+
+pub parenthesized-returns-clause-read : goal.parenthesized-returns-clause-read
+parenthesized-returns-clause-read t c = built_3 refl c.in_ok-inner.ensures.read c.in_ok-expect.ensures.read
+    (only_sign (record { is = ap place_of c.is_before_arrow.ensures.stays ∙ sym (no_arrow c.expect.new.lexer (sign_ended c.in_ok-expect.ensures.read.past) (sym c.is_before_arrow.ensures.ahead ∙ c.if-is_before_arrow.false)); found = refl })) c.in_ok-paren.ensures.view
+
+pub parenthesized-returns-clause-ended : goal.parenthesized-returns-clause-ended
+parenthesized-returns-clause-ended t c = subst (λ h. settled (place_of h) ≡ true) (sym c.is_before_arrow.ensures.stays) (sign_ended c.in_ok-expect.ensures.read.past)
+
+pub parenthesized-returns-clause-placed : goal.parenthesized-returns-clause-placed
+parenthesized-returns-clause-placed t c = record {
+  on = λ w sign begins. placed_to c.is_before_arrow.ensures.stays (placed_as c.in_ok-paren.ensures.told c.in_ok-paren.ensures.view (paren_placed sign c.in_ok-inner.ensures.placed c.in_ok-expect.ensures.takes));
+}
+
+pub argument-returns-clause-placed : goal.argument-returns-clause-placed
+argument-returns-clause-placed t c = placed_as c.place_argument.ensures.told c.place_argument.ensures.view (argument_placed _ _ (λ ts e. never_list c.in_ok-argument.ensures.read ts e) c.in_ok-argument.ensures.placed c.in_ok-argument.ensures.span)
+
+pub prefix_update-returns-in_err-operand-clause-refused : goal.prefix_update-returns-in_err-operand-clause-refused
+prefix_update-returns-in_err-operand-clause-refused t c = passed _ c.in_err-operand.ensures.refused c.from_residual.ensures.1 (λ b. bar (no_target b))
+
+pub prefix_update-returns-then-not-is_target-clause-refused : goal.prefix_update-returns-then-not-is_target-clause-refused
+prefix_update-returns-then-not-is_target-clause-refused t c = record { bars = λ _ _. bar (unfit_target (ap (λ e. is_target (view_expr e)) (sym c.deref.ensures) ∙ (sym c.is_target.ensures ∙ c.if-not-is_target.true)) c.in_ok-operand.ensures.read) }
+
+pub prefix_update-returns-clause-read : goal.prefix_update-returns-clause-read
+prefix_update-returns-clause-read t c = built_1 refl (only_target (ap (λ e. is_target (view_expr e)) (sym c.deref.ensures) ∙ (sym c.is_target.ensures ∙ c.if-not-is_target.false)) c.in_ok-operand.ensures.read) c.in_ok-prefix_update.ensures.view
+
+pub prefix_update-returns-clause-ended : goal.prefix_update-returns-clause-ended
+prefix_update-returns-clause-ended t c = c.in_ok-operand.ensures.ended
+
+pub prefix_update-returns-clause-placed : goal.prefix_update-returns-clause-placed
+prefix_update-returns-clause-placed t c = record {
+  on = λ w sign begins.
+      placed_as c.in_ok-prefix_update.ensures.told c.in_ok-prefix_update.ensures.view (update_row (step_of c.args.operator) sign c.in_ok-operand.ensures.placed (spans_from c.span_to.ensures refl (c.last_place-lo.ensures ∙ begins) refl));
+}
+
+pub sequence-returns-in_err-first-clause-refused : goal.sequence-returns-in_err-first-clause-refused
+sequence-returns-in_err-first-clause-refused t c = passed _ c.in_err-first.ensures.refused c.from_residual.ensures.1 (λ b. whole_barred b)
+
+pub sequence-returns-then-not-take-clause-read : goal.sequence-returns-then-not-take-clause-read
+sequence-returns-then-not-take-clause-read t c =
+    subst (λ p. Only so_far (around_of c.args.context.around) (Part (Expr 0)) (place_of c.args.lexer.now) (one (view_expr c.in_ok-first.first.value)) p) (sym (ap place_of (c.take.ensures.stays c.if-not-take.true)))
+    (whole_only c.in_ok-first.ensures.read c.in_ok-first.ensures.ended (c.take.ensures.missing c.if-not-take.true))
+
+pub sequence-returns-then-not-take-clause-span : goal.sequence-returns-then-not-take-clause-span
+sequence-returns-then-not-take-clause-span t c = spans_from c.in_ok-first.ensures.span refl refl (sym (ap end_of (c.take.ensures.stays c.if-not-take.true)))
+
+pub sequence-returns-then-not-take-clause-placed : goal.sequence-returns-then-not-take-clause-placed
+sequence-returns-then-not-take-clause-placed t c = placed_to (c.take.ensures.stays c.if-not-take.true) c.in_ok-first.ensures.placed
+
+pub sequence-returns-then-not-take-clause-ended : goal.sequence-returns-then-not-take-clause-ended
+sequence-returns-then-not-take-clause-ended t c = subst (λ h. settled (place_of h) ≡ true) (sym (c.take.ensures.stays c.if-not-take.true)) c.in_ok-first.ensures.ended
+
+pub sequence-items-init : goal.sequence-items-init
+sequence-items-init t c =
+    let items = c.in_ok-push.ensures.items ∙ ap (λ xs. xs ++ c.in_ok-first.first ∷ []) c.in_ok-all.ensures.items in
+    let comma = c.take.ensures.takes c.if-not-take.false in
+    record {
+      so_far = subst (λ xs. Listing (around_of c.args.context.around) (place_of c.args.lexer.now) (forest (map (inside view_expr) xs)) (place_of c.take.new.self)) (sym items)
+          (listing_one c.in_ok-first.ensures.read c.in_ok-first.ensures.ended (record { is = c.take.ensures.taken c.if-not-take.false; found = refl }));
+      led = record { first = view_expr c.in_ok-first.first.value; rest = []; is = ap (map (inside view_expr)) items; begins = c.in_ok-first.ensures.placed.begins };
+      lo = c.start_of-lo.ensures.on _ _ (subst (λ e. Spans (expr_at e) (next_of c.args.lexer.now) (end_of c.expression.new.lexer)) (sym c.deref.ensures) c.in_ok-first.ensures.span);
+      placed = front_more plain_two front_none c.in_ok-first.ensures.placed comma.same comma.leads (ap (map (inside told_expr)) items) (ap (map (inside view_expr)) items);
+      within = omega (arith, c.take.ensures.shorter c.if-not-take.false, c.in_ok-first.ensures.shorter);
+    }
+
+pub sequence-returns-in_err-next-clause-refused : goal.sequence-returns-in_err-next-clause-refused
+sequence-returns-in_err-next-clause-refused t c =
+    passed _ c.in_err-next.ensures.refused c.from_residual-in_err-next.ensures.1
+    (λ b. sequence_barred (subst (λ ts. Listing (around_of c.args.context.around) (place_of c.args.lexer.now) (forest ts) (place_of c.items.lexer)) c.items.invariant.led.is c.items.invariant.so_far) b)
+
+pub sequence-items-preserved : goal.sequence-items-preserved
+sequence-items-preserved t c =
+    let comma = c.take-in-items.ensures.takes c.if-not-take-2.false in
+    let views = map_pushed (inside view_expr) c.items.all.items _ c.in_ok-next.next _ c.in_ok-push-2.ensures.items refl in
+    record {
+      so_far = listing_more c.items.invariant.so_far c.in_ok-next.ensures.read c.in_ok-next.ensures.ended (record { is = c.take-in-items.ensures.taken c.if-not-take-2.false; found = refl }) (pushed (inside view_expr) _ _ _ c.in_ok-push-2.ensures.items);
+      led = led_more _ c.items.invariant.led views;
+      lo = c.items.invariant.lo;
+      placed = front_more plain_two c.items.invariant.placed c.in_ok-next.ensures.placed comma.same comma.leads (map_pushed (inside told_expr) c.items.all.items _ c.in_ok-next.next _ c.in_ok-push-2.ensures.items refl) views;
+      within = omega (arith, c.take-in-items.ensures.shorter c.if-not-take-2.false, c.in_ok-next.ensures.shorter, c.items.invariant.within);
+    }
+
+pub sequence-returns-then-not-take-2-clause-read : goal.sequence-returns-then-not-take-2-clause-read
+sequence-returns-then-not-take-2-clause-read t c =
+    let is = c.items.invariant.led.is in
+    subst (λ p. Only so_far (around_of c.args.context.around) (Part (Expr 0)) (place_of c.args.lexer.now) (one (view_expr c.in_ok-sequence.field-0.value)) p) (sym (ap place_of (c.take-in-items.ensures.stays c.if-not-take-2.true)))
+    (sequence_only (subst (λ ts. Listing (around_of c.args.context.around) (place_of c.args.lexer.now) (forest ts) (place_of c.items.lexer)) is c.items.invariant.so_far) c.in_ok-next.ensures.read c.in_ok-next.ensures.ended (c.take-in-items.ensures.missing c.if-not-take-2.true)
+    (pushed (inside view_expr) _ _ _ c.in_ok-push-2.ensures.items ∙ ap (λ ts. both (forest ts) (part (view_expr c.in_ok-next.next.value) none)) is) c.in_ok-sequence.ensures.view)
+
+pub sequence-returns-then-not-take-2-clause-span : goal.sequence-returns-then-not-take-2-clause-span
+sequence-returns-then-not-take-2-clause-span t c = spans_from c.span_to.ensures c.in_ok-sequence.ensures.span c.items.invariant.lo refl
+
+pub sequence-returns-then-not-take-2-clause-placed : goal.sequence-returns-then-not-take-2-clause-placed
+sequence-returns-then-not-take-2-clause-placed t c =
+    let views = map_pushed (inside view_expr) c.items.all.items _ c.in_ok-next.next _ c.in_ok-push-2.ensures.items refl in
+    placed_as c.in_ok-sequence.ensures.told c.in_ok-sequence.ensures.view
+    (sequence_row _ c.items.invariant.led views (list_to (c.take-in-items.ensures.stays c.if-not-take-2.true) (front_last plain_two c.items.invariant.placed c.in_ok-next.ensures.placed refl refl (map_pushed (inside told_expr) c.items.all.items _ c.in_ok-next.next _ c.in_ok-push-2.ensures.items refl) views)) (spans_from c.span_to.ensures refl c.items.invariant.lo refl))
+
+pub sequence-returns-then-not-take-2-clause-ended : goal.sequence-returns-then-not-take-2-clause-ended
+sequence-returns-then-not-take-2-clause-ended t c = subst (λ h. settled (place_of h) ≡ true) (sym (c.take-in-items.ensures.stays c.if-not-take-2.true)) c.in_ok-next.ensures.ended

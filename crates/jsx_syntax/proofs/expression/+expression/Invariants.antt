@@ -1,23 +1,26 @@
-use Rattle.std.proofs.Common.{◌+◌, ◌*◌, ◌<◌, ◌≤◌, map}
+use Rattle.std.proofs.Common.{◌≡◌, ◌+◌, ◌*◌, ◌<◌, ◌≤◌, map, true, false}
 use Rattle.jsx_tree.specs.Kinds.{Call, expression}
-use Rattle.jsx_tree.specs.Grammar.{Commas}
+use Rattle.jsx_tree.specs.Grammar.{Commas, TwoOrMore}
 use Rattle.jsx_tree.specs.Told.{tales, told_expr}
 use Rattle.jsx_tree.specs.View.{forest, inside, view_expr}
 use Rattle.jsx_tree.specs.Walk.{tail}
-use Rattle.jsx_syntax.specs.SoFar.{in_module, row_so_far, so_far}
+use Rattle.jsx_syntax.specs.SoFar.{row_so_far, so_far}
+use Rattle.jsx_syntax.specs.Around.{around_of}
 use Rattle.jsx_syntax.specs.Here.{place_of, left}
 use Rattle.jsx_syntax.specs.Growths.{Climbs}
 use Rattle.jsx_syntax.specs.NodeSpans.{expr_at}
-use Rattle.jsx_syntax.specs.Spans.{IsPlaced, IsPlacedList, Spans, end_of, next_of}
+use Rattle.jsx_syntax.specs.Spans.{IsPlaced, IsPlacedListAs, Spans, end_of, next_of}
 use Rattle.jsx_tree.proofs.Rows.Turns.{Turn, prepend}
 use Rattle.jsx_syntax.proofs.Placing.{PlacedFront}
+use Rattle.jsx_syntax.proofs.PlacedNodes.{Led}
+use Rattle.jsx_syntax.proofs.Sequences.{Listing}
 use Rattle.jsx_syntax.proofs.expression.+expression.Given as goal
 
 abbrev pub decreases-expression : goal.decreases-expression
 decreases-expression l = 6 * left l.lexer.now + 1
 
 abbrev pub decreases-call : goal.decreases-call
-decreases-call l = 6 * left l.lexer.now + 3
+decreases-call l = 6 * left l.lexer.now + 4
 
 abbrev pub decreases-index : goal.decreases-index
 decreases-index l = 6 * left l.lexer.now + 3
@@ -35,7 +38,7 @@ abbrev pub decreases-binary : goal.decreases-binary
 decreases-binary l = 6 * left l.lexer.now + 3
 
 abbrev pub decreases-grow : goal.decreases-grow
-decreases-grow l = 6 * left l.lexer.now + 4
+decreases-grow l = 6 * left l.lexer.now + 5
 
 abbrev pub decreases-beginning : goal.decreases-beginning
 decreases-beginning l = 6 * left l.lexer.now
@@ -46,17 +49,26 @@ decreases-open l = 6 * left l.lexer.now + 4
 abbrev pub decreases-unary : goal.decreases-unary
 decreases-unary l = 6 * left l.lexer.now + 3
 
+abbrev pub decreases-parenthesized : goal.decreases-parenthesized
+decreases-parenthesized l = 6 * left l.lexer.now + 3
+
+abbrev pub decreases-argument : goal.decreases-argument
+decreases-argument l = 6 * left l.lexer.now + 2
+
+abbrev pub decreases-prefix_update : goal.decreases-prefix_update
+decreases-prefix_update l = 6 * left l.lexer.now + 3
+
 abbrev pub decreases-import_call : goal.decreases-import_call
 decreases-import_call l = 6 * left l.lexer.now + 3
 
 abbrev pub decreases-arguments : goal.decreases-arguments
-decreases-arguments l = 6 * left l.lexer.now + 2
+decreases-arguments l = 6 * left l.lexer.now + 3
 
 abbrev pub invariant-arguments-arguments : goal.invariant-arguments-arguments
 invariant-arguments-arguments l = record {
-  so_far : Turn so_far in_module (tail (tail (row_so_far (expression Call)))) (tail (tail (row_so_far (expression Call)))) (place_of l.fn.lexer) (place_of l.lexer) (prepend (forest (map (inside view_expr) l.all.items)));
-  placed : PlacedFront Commas (map (inside told_expr) l.all.items) (map (inside view_expr) l.all.items) l.fn.lexer l.lexer;
-  closed : IsPlacedList Commas (tales (map (inside told_expr) l.all.items)) (forest (map (inside view_expr) l.all.items)) l.fn.lexer l.lexer;
+  so_far : Turn so_far (around_of l.context.around) (tail (tail (row_so_far (expression Call)))) (tail (tail (row_so_far (expression Call)))) (place_of l.fn.lexer) (place_of l.lexer) (prepend (forest (map (inside view_expr) l.all.items)));
+  placed : PlacedFront true Commas (map (inside told_expr) l.all.items) (map (inside view_expr) l.all.items) l.fn.lexer l.lexer;
+  closed : IsPlacedListAs true Commas (tales (map (inside told_expr) l.all.items)) (forest (map (inside view_expr) l.all.items)) l.fn.lexer l.lexer;
   within : left l.lexer ≤ left l.fn.lexer;
 }
 
@@ -65,7 +77,7 @@ decreases-arguments-arguments l = left l.lexer
 
 abbrev pub invariant-expression-steps : goal.invariant-expression-steps
 invariant-expression-steps l = record {
-  so_far : Climbs in_module l.level (place_of l.fn.lexer) (view_expr l.expr.value) (place_of l.lexer);
+  so_far : Climbs (around_of l.context.around) l.level (place_of l.fn.lexer) (view_expr l.expr.value) (place_of l.lexer);
   span : Spans (expr_at l.expr.value) (next_of l.fn.lexer) (end_of l.lexer);
   placed : IsPlaced (told_expr l.expr.value) (view_expr l.expr.value) l.fn.lexer l.lexer;
   within : left l.lexer < left l.fn.lexer;
@@ -73,3 +85,18 @@ invariant-expression-steps l = record {
 
 abbrev pub decreases-expression-steps : goal.decreases-expression-steps
 decreases-expression-steps l = left l.lexer
+
+abbrev pub decreases-sequence : goal.decreases-sequence
+decreases-sequence l = 6 * left l.lexer.now + 2
+
+abbrev pub invariant-sequence-items : goal.invariant-sequence-items
+invariant-sequence-items l = record {
+  so_far : Listing (around_of l.context.around) (place_of l.fn.lexer) (forest (map (inside view_expr) l.all.items)) (place_of l.lexer);
+  led : Led (map (inside view_expr) l.all.items);
+  lo : l.lo.0 ≡ next_of l.fn.lexer;
+  placed : PlacedFront false TwoOrMore (map (inside told_expr) l.all.items) (map (inside view_expr) l.all.items) l.fn.lexer l.lexer;
+  within : left l.lexer < left l.fn.lexer;
+}
+
+abbrev pub decreases-sequence-items : goal.decreases-sequence-items
+decreases-sequence-items l = left l.lexer

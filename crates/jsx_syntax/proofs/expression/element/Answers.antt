@@ -1,11 +1,13 @@
+use Rattle.jsx_syntax.specs.Around.{around_of}
 use Rattle.std.proofs.Common.{refl, ◌∙◌}
 use Rattle.jsx_tree.specs.Grammar.{Spaced, Many}
 use Rattle.jsx_tree.specs.Kinds.{list, none}
 use Rattle.jsx_tree.specs.Nonterminals.{Attributes}
 use Rattle.jsx_tree.specs.Walk.{one, is_found}
 use Rattle.jsx_tree.specs.Answers.{Only}
+use Rattle.jsx_tree.specs.StaticRules.{Surroundings}
 use Rattle.jsx_tree.specs.Reading.{Place}
-use Rattle.jsx_syntax.specs.SoFar.{in_module, so_far}
+use Rattle.jsx_syntax.specs.SoFar.{so_far}
 use Rattle.std.specs.Prelude.{IsTrue}
 use Rattle.jsx_tree.proofs.Rows.Steps.{built_5}
 use Rattle.jsx_tree.proofs.Rows.Lists.{only_none}
@@ -18,7 +20,7 @@ use Rattle.jsx_syntax.proofs.Placing.{placed_as}
 use Rattle.jsx_syntax.proofs.PlacedNodes.{element_row, element_told}
 use Rattle.jsx_syntax.proofs.expression.element.Goals as goal
 
-without : {x : Place} → IsTrue (is_found x) → Only so_far in_module (Many Spaced Attributes) x (one (list none)) x
+without : {v : Surroundings} {x : Place} → IsTrue (is_found x) → Only so_far v (Many Spaced Attributes) x (one (list none)) x
 without f = only_none refl f no_attributes (λ t y w. w)
 
 pub returns-in_err-name-clause-refused : goal.returns-in_err-name-clause-refused

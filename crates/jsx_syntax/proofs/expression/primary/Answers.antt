@@ -1,25 +1,27 @@
 use Rattle.std.proofs.Common.{◌≡◌, not, refl, sym, ◌∙◌, ap, subst}
 use Rattle.std.specs.Prelude.{◌||◌}
 use Rattle.std.specs.Str.{chars}
-use Rattle.jsx_base.specs.Token.{Operator, NumericLiteral, BigIntLiteral, StringLiteral}
+use Rattle.jsx_base.specs.Token.{Operand, Operator, NumericLiteral, BigIntLiteral, StringLiteral, RegExpLiteral}
 use Rattle.jsx_tree.specs.Kinds.{Element, Tree, jsx}
 use Rattle.jsx_tree.specs.Signs.{Tok}
 use Rattle.jsx_tree.specs.Reading.{Place, forth}
+use Rattle.jsx_tree.specs.StaticRules.{Surroundings}
 use Rattle.jsx_tree.specs.View.{view_expr}
 use Rattle.jsx_tree.specs.Answers.{NoRow, Built}
-use Rattle.jsx_syntax.specs.SoFar.{in_module, row_so_far, so_far}
+use Rattle.jsx_syntax.specs.SoFar.{row_so_far, so_far}
+use Rattle.jsx_syntax.specs.Around.{around_of}
 use Rattle.jsx_syntax.specs.Here.{place_of}
 use Rattle.jsx_syntax.specs.Growths.{Begins}
-use Rattle.jsx_syntax.proofs.Homes.{IsName, IsNumber, IsLong, IsString}
+use Rattle.jsx_syntax.proofs.Homes.{IsName, IsNumber, IsLong, IsString, IsPattern}
 use Rattle.jsx_syntax.proofs.Listed.{listed}
 use Rattle.jsx_syntax.proofs.Values.{literal_follows, or_left}
-use Rattle.jsx_syntax.proofs.Openings.{opened_follows, unfit_literal, no_value}
+use Rattle.jsx_syntax.proofs.Openings.{kept_whole, opened_follows, unfit_literal, no_value}
 use Rattle.jsx_syntax.proofs.Steps.{passed}
 use Rattle.jsx_syntax.proofs.expression.primary.Goals as goal
 
 -- the same tree in the code
-seen : {x y : Place} {t u : Tree} → u ≡ t → Begins in_module x t y → Begins in_module x u y
-seen {x} {y} e f = subst (λ t. Begins in_module x t y) (sym e) f
+seen : {v : Surroundings} {x y : Place} {t u : Tree} → u ≡ t → Begins v x t y → Begins v x u y
+seen {v} {x} {y} e f = subst (λ t. Begins v x t y) (sym e) f
 
 pub returns-in-Some-value_word-clause-read : goal.returns-in-Some-value_word-clause-read
 returns-in-Some-value_word-clause-read c = seen (c.in_ok-constant.ensures.view ∙ c.in-Some-value_word.ensures.view)
@@ -52,10 +54,16 @@ returns-in-Some-leaf-3-clause-read c =
     seen c.in_ok-literal-3.ensures.view
     (literal_follows IsLong (chars c.in-Some-leaf-3.raw.now) refl c.in-Some-leaf-3.ensures.whole (c.in-Some-leaf-3.ensures.taken ∙ ap (forth (Tok Operator BigIntLiteral (chars c.in-Some-leaf-3.raw.now))) stays) refl)
 
+pub returns-in-Some-leaf-4-clause-read : goal.returns-in-Some-leaf-4-clause-read
+returns-in-Some-leaf-4-clause-read c =
+    let stays : place_of c.leaf-4.new.self ≡ place_of c.args.lexer.now = ap place_of c.in_default-leaf-3.ensures.stays ∙ (ap place_of c.in_default-leaf-2.ensures.stays ∙ (ap place_of c.in_default-leaf.ensures.stays ∙ ap place_of c.in_default.ensures.stays)) in
+    seen c.in_ok-literal-4.ensures.view
+    (literal_follows IsPattern (chars c.in-Some-leaf-4.raw.now) refl c.in-Some-leaf-4.ensures.whole (c.in-Some-leaf-4.ensures.taken ∙ ap (forth (Tok Operand RegExpLiteral (chars c.in-Some-leaf-4.raw.now))) stays) refl)
+
 pub returns-clause-read : goal.returns-clause-read
 returns-clause-read c =
-    let stays : c.leaf-4.new.self ≡ c.args.lexer.now = c.in_default-leaf-3.ensures.stays ∙ (c.in_default-leaf-2.ensures.stays ∙ (c.in_default-leaf.ensures.stays ∙ c.in_default.ensures.stays)) in
-    opened_follows (jsx Element) (listed (jsx Element) refl refl) refl (subst (λ p. Built so_far in_module (row_so_far (jsx Element)) (jsx Element) (λ ts. ts) (view_expr c.in_ok-element.field-0.value) p (place_of c.element.new.lexer)) (ap place_of stays) c.in_ok-element.ensures.read) c.in_ok-element.ensures.ended
+    let stays : c.leaf-5.new.self ≡ c.args.lexer.now = c.in_default-leaf-4.ensures.stays ∙ (c.in_default-leaf-3.ensures.stays ∙ (c.in_default-leaf-2.ensures.stays ∙ (c.in_default-leaf.ensures.stays ∙ c.in_default.ensures.stays))) in
+    opened_follows (jsx Element) (listed (jsx Element) refl refl refl) refl (kept_whole (jsx Element) (listed (jsx Element) refl refl refl) refl refl refl (subst (λ p. Built so_far (around_of c.args.context.around) (row_so_far (jsx Element)) (jsx Element) (λ ts. ts) (view_expr c.in_ok-element.field-0.value) p (place_of c.element.new.lexer)) (ap place_of stays) c.in_ok-element.ensures.read)) c.in_ok-element.ensures.ended
 
 pub returns-in_err-element-clause-refused : goal.returns-in_err-element-clause-refused
 returns-in_err-element-clause-refused c =
@@ -63,9 +71,11 @@ returns-in_err-element-clause-refused c =
     let stays' : place_of c.leaf-2.new.self ≡ place_of c.args.lexer.now = ap place_of c.in_default-leaf.ensures.stays ∙ stays in
     let stays'' : place_of c.leaf-3.new.self ≡ place_of c.args.lexer.now = ap place_of c.in_default-leaf-2.ensures.stays ∙ stays' in
     let stays''' : place_of c.leaf-4.new.self ≡ place_of c.args.lexer.now = ap place_of c.in_default-leaf-3.ensures.stays ∙ stays'' in
+    let stays'''' : place_of c.leaf-5.new.self ≡ place_of c.args.lexer.now = ap place_of c.in_default-leaf-4.ensures.stays ∙ stays''' in
     passed _ c.in_err-element.ensures.refused c.from_residual-in_err-element.ensures.1
     (λ n. no_value c.requires c.in_default.ensures.missing
     (λ t. ap (forth (Tok Operator NumericLiteral t)) (sym stays') ∙ c.in_default-leaf-2.ensures.missing t)
     (λ t. ap (forth (Tok Operator BigIntLiteral t)) (sym stays'') ∙ c.in_default-leaf-3.ensures.missing t)
     (λ t. ap (forth (Tok Operator StringLiteral t)) (sym stays) ∙ c.in_default-leaf.ensures.missing t)
-    (subst (NoRow so_far in_module (row_so_far (jsx Element))) stays''' n))
+    (λ t. ap (forth (Tok Operand RegExpLiteral t)) (sym stays''') ∙ c.in_default-leaf-4.ensures.missing t)
+    (subst (NoRow so_far (around_of c.args.context.around) (row_so_far (jsx Element))) stays'''' n))

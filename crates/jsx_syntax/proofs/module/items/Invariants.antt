@@ -1,4 +1,4 @@
-use Rattle.std.proofs.Common.{map}
+use Rattle.std.proofs.Common.{map, false}
 use Rattle.jsx_tree.specs.Nonterminals.{Item}
 use Rattle.jsx_tree.specs.Grammar.{TopLines}
 use Rattle.jsx_tree.specs.View.{forest}
@@ -6,15 +6,16 @@ use Rattle.jsx_tree.specs.ViewProgram.{view_item}
 use Rattle.jsx_tree.specs.Told.{tales, told_item}
 use Rattle.jsx_syntax.specs.Spans.{IsPlacedList}
 use Rattle.jsx_syntax.proofs.Placing.{PlacedFront}
-use Rattle.jsx_syntax.specs.SoFar.{in_module, so_far}
+use Rattle.jsx_syntax.specs.SoFar.{so_far}
+use Rattle.jsx_syntax.specs.Around.{around_of}
 use Rattle.jsx_syntax.specs.Here.{place_of, left}
 use Rattle.jsx_tree.proofs.Rows.Lines.{Onto}
 use Rattle.jsx_syntax.proofs.module.items.Given as goal
 
 abbrev pub invariant-statements : goal.invariant-statements
 invariant-statements l = record {
-  so_far : Onto so_far in_module Item (place_of l.fn.lexer) (place_of l.lexer) (forest (map view_item l.items.items));
-  placed : PlacedFront TopLines (map told_item l.items.items) (map view_item l.items.items) l.fn.lexer l.lexer;
+  so_far : Onto so_far (around_of l.context.around) Item (place_of l.fn.lexer) (place_of l.lexer) (forest (map view_item l.items.items));
+  placed : PlacedFront false TopLines (map told_item l.items.items) (map view_item l.items.items) l.fn.lexer l.lexer;
   closed : IsPlacedList TopLines (tales (map told_item l.items.items)) (forest (map view_item l.items.items)) l.fn.lexer l.lexer;
 }
 

@@ -11,12 +11,12 @@ use Rattle.jsx_syntax.proofs.PlacedNodes.{module_placed}
 use Rattle.jsx_syntax.proofs.module.parse.Goals as goal
 
 pub returns-in-Ok-clause-read : goal.returns-in-Ok-clause-read
-returns-in-Ok-clause-read c = whole (λ i. At (c.new-lexer.ensures.last i) (c.new-lexer.ensures.ending i) (c.new-lexer.ensures.rest i)) c.in-Ok.ensures.read (ap (map directive) c.new.ensures.items)
+returns-in-Ok-clause-read c = whole c.of_module-around.ensures (λ i. At (c.new-lexer.ensures.last i) (c.new-lexer.ensures.ending i) (c.new-lexer.ensures.rest i)) c.in-Ok.ensures.read (ap (map directive) c.new.ensures.items)
 
 pub returns-in-Err-Syntax-clause-refused : goal.returns-in-Err-Syntax-clause-refused
 returns-in-Err-Syntax-clause-refused c = record {
   bars = λ at e.
-      unread (λ i. At (c.new-lexer.ensures.last i) (c.new-lexer.ensures.ending i) (c.new-lexer.ensures.rest i)) (c.in-Err-Syntax.ensures.refused.bars c.in-Err-Syntax.at (ap Err c.in-Err-Syntax.field-0-is));
+      unread c.of_module-around.ensures (λ i. At (c.new-lexer.ensures.last i) (c.new-lexer.ensures.ending i) (c.new-lexer.ensures.rest i)) (c.in-Err-Syntax.ensures.refused.bars c.in-Err-Syntax.at (ap Err c.in-Err-Syntax.field-0-is));
 }
 
 pub returns-in-Ok-clause-placed : goal.returns-in-Ok-clause-placed

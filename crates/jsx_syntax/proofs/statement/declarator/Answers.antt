@@ -5,10 +5,13 @@ use Rattle.jsx_tree.specs.Nonterminals.{Declarators}
 use Rattle.jsx_tree.specs.Grammar.{Part}
 use Rattle.jsx_tree.specs.Walk.{one}
 use Rattle.jsx_tree.specs.Answers.{Only}
-use Rattle.jsx_syntax.specs.SoFar.{in_module, so_far}
+use Rattle.jsx_syntax.specs.SoFar.{so_far}
+use Rattle.jsx_syntax.specs.Around.{around_of}
 use Rattle.jsx_syntax.specs.Here.{place_of}
 use Rattle.jsx_syntax.specs.Spans.{end_of}
 use Rattle.jsx_syntax.proofs.Items.{initialized, uninitialized, no_binding, no_initializer}
+use Rattle.jsx_syntax.specs.Semicolons.{in_list}
+use Rattle.jsx_syntax.proofs.Semicolons.{settled_in_list}
 use Rattle.jsx_syntax.proofs.Steps.{passed}
 use Rattle.jsx_syntax.proofs.Places.{spans_from}
 use Rattle.jsx_syntax.proofs.Placing.{placed_as, placed_to, takes_ends}
@@ -19,7 +22,7 @@ pub returns-in_err-name-clause-refused : goal.returns-in_err-name-clause-refused
 returns-in_err-name-clause-refused c = passed _ c.in_err-name.ensures.refused c.from_residual.ensures.1 (λ b. no_binding b)
 
 pub returns-then-not-take-clause-read : goal.returns-then-not-take-clause-read
-returns-then-not-take-clause-read c = subst (λ p. Only so_far in_module (Part Declarators) (place_of c.args.lexer.now) (one (view_pat c.in_ok-declarator.field-0.value)) p) (sym (ap place_of (c.take.ensures.stays c.if-not-take.true)))
+returns-then-not-take-clause-read c = subst (λ p. Only so_far (around_of c.args.context.around) (Part Declarators) (place_of c.args.lexer.now) (one (view_pat c.in_ok-declarator.field-0.value)) p) (sym (ap place_of (c.take.ensures.stays c.if-not-take.true)))
     (uninitialized c.in_ok-name.ensures.read (record { is = ap place_of c.ends.ensures; found = refl }) (record { is = c.take.ensures.missing c.if-not-take.true }) (c.in_ok-declarator.ensures.view Binds))
 
 pub returns-in_err-value-clause-refused : goal.returns-in_err-value-clause-refused
@@ -39,3 +42,9 @@ pub returns-clause-placed : goal.returns-clause-placed
 returns-clause-placed c =
     placed_as c.in_ok-declarator-2.ensures.told (c.in_ok-declarator-2.ensures.view Binds) (declarator_row c.in_ok-name.ensures.placed (takes_ends c.ends.ensures)
     (c.take.ensures.takes c.if-not-take.false) c.in_ok-value.ensures.placed (spans_from c.span_to-2.ensures refl (c.last_place-lo.ensures ∙ c.in_ok-name.ensures.begins) refl))
+
+pub returns-then-not-take-clause-behind : goal.returns-then-not-take-clause-behind
+returns-then-not-take-clause-behind c = ap (λ h. in_list (place_of h)) (c.take.ensures.stays c.if-not-take.true ∙ c.ends.ensures)
+
+pub returns-clause-behind : goal.returns-clause-behind
+returns-clause-behind c = settled_in_list (place_of c.expression.new.lexer) c.in_ok-value.ensures.ended

@@ -17,13 +17,13 @@ returns-in_err-expr-clause-refused c = passed _ c.in_err-expr.ensures.refused c.
 pub returns-then-is_string-clause-refused : goal.returns-then-is_string-clause-refused
 returns-then-is_string-clause-refused c = record { bars = λ _ _. string_statement c.in_ok-expr.ensures.read (ap (λ e. is_string (view_expr e)) (sym c.deref.ensures) ∙ (sym c.is_string.ensures ∙ c.if-is_string.true)) }
 
-pub returns-in_err-expect-clause-refused : goal.returns-in_err-expect-clause-refused
-returns-in_err-expect-clause-refused c = passed _ c.in_err-expect.ensures.refused c.from_residual-in_err-expect.ensures.1 (λ b. no_node (unfinished c.in_ok-expr.ensures.read b))
+pub returns-in_err-semicolon-clause-refused : goal.returns-in_err-semicolon-clause-refused
+returns-in_err-semicolon-clause-refused c = passed _ c.in_err-semicolon.ensures.refused c.from_residual-in_err-semicolon.ensures.1 (λ b. no_node (unfinished c.in_ok-expr.ensures.read b))
 
 pub returns-clause-read : goal.returns-clause-read
-returns-clause-read c = statement_built c.in_ok-expr.ensures.read (ap (λ e. is_string (view_expr e)) (sym c.deref.ensures) ∙ (sym c.is_string.ensures ∙ c.if-is_string.false)) c.in_ok-expect.ensures.read c.in_ok-expression_statement.ensures.view
+returns-clause-read c = statement_built c.in_ok-expr.ensures.read (ap (λ e. is_string (view_expr e)) (sym c.deref.ensures) ∙ (sym c.is_string.ensures ∙ c.if-is_string.false)) c.in_ok-semicolon.ensures.read c.in_ok-expression_statement.ensures.view
 
 pub returns-clause-placed : goal.returns-clause-placed
 returns-clause-placed c =
     placed_as c.in_ok-expression_statement.ensures.told c.in_ok-expression_statement.ensures.view
-    (evaluation_placed c.in_ok-expr.ensures.placed c.in_ok-expect.ensures.takes (spans_from c.span_to-span.ensures refl (c.start_of.ensures.on _ _ (subst (λ e. Spans (expr_at e) (next_of c.args.lexer.now) (end_of c.expression.new.lexer)) (sym c.deref-2.ensures) c.in_ok-expr.ensures.span)) refl))
+    (evaluation_placed c.in_ok-expr.ensures.placed c.in_ok-semicolon.ensures.takes (spans_from c.span_to-span.ensures refl (c.start_of.ensures.on _ _ (subst (λ e. Spans (expr_at e) (next_of c.args.lexer.now) (end_of c.sequence.new.lexer)) (sym c.deref-2.ensures) c.in_ok-expr.ensures.span)) refl))

@@ -1,0 +1,193 @@
+-- What an `if` has behind its first statement, and which `if` an `else` belongs to: the nearest.
+use Rattle.std.proofs.Common.{◌≡◌, ℕ, nat_eq, Bool, true, false, not, cond, [], ◌∷◌, refl, sym, ◌∙◌, ap, subst, Option, Some, None, Box, Global}
+use Rattle.std.specs.Prelude.{IsTrue, codes, ◌&&◌, ◌||◌}
+use Rattle.std.proofs.lemmas.Bool.{eqb-true, eq-eqb}
+use Rattle.jsx_base.specs.Token.{Text, Operator, IdentifierName, State, InName, Dead, accepts, ended, is_dead, is_kind, is_part, is_token, last_state, among, at_front, breaks, skip, token, same, first_is}
+use Rattle.jsx_base.proofs.Fronts.{other_ahead}
+use Rattle.jsx_tree.specs.Signs.{AfterExpr, Tok, Unless}
+use Rattle.jsx_tree.specs.Kinds.{If, While, Kind, statement, Tree, leaf, node, list, Forest, none, part}
+use Rattle.jsx_tree.specs.Nonterminals.{Nonterminal, Expr, SubStmt}
+use Rattle.jsx_tree.specs.Grammar.{Fixed, Part, key, pun}
+use Rattle.jsx_tree.specs.Reading.{Place, Lost, At, forth, go_if, scan}
+use Rattle.jsx_tree.specs.StaticRules.{Surroundings, open_if}
+use Rattle.jsx_tree.specs.View.{optional_of, view_stmt}
+use Rattle.jsx_tree.specs.declared.tree.Stmt.{Stmt}
+use Rattle.jsx_tree.specs.Walk.{is_found, one, nothing, tail, sign, tree, absent, present, Walk, done, next, steady}
+use Rattle.jsx_tree.specs.Language.{Whole}
+use Rattle.jsx_tree.specs.Answers.{Moves, Only, Barred, OnlyRow, NoRow, BuiltNode}
+use Rattle.jsx_tree.proofs.Tokens.{and_both, same_is, same_self}
+use Rattle.jsx_tree.proofs.Apart.{by_not, clash}
+use Rattle.jsx_tree.proofs.Rows.Bridge.{found_at}
+use Rattle.jsx_tree.proofs.Rows.Stopping.{stays}
+use Rattle.jsx_tree.proofs.Rows.Laws.{end_found, lost_barred}
+use Rattle.jsx_tree.proofs.Rows.Optionals.{turn_absent, turn_present}
+use Rattle.jsx_tree.proofs.Rows.Steps.{end, then'}
+use Rattle.jsx_tree.proofs.Rows.Turns.{turn_none, turn_only, whole_of}
+use Rattle.jsx_syntax.specs.SoFar.{Staged, row_so_far, so_far}
+use Rattle.jsx_syntax.specs.Headings.{Closes, alternative_row, heading_kind}
+use Rattle.jsx_syntax.specs.declared.heading.Heading.{Heading}
+use Rattle.jsx_syntax.specs.declared.heading.Heading.TheVariants as heading
+use Rattle.jsx_syntax.proofs.OfSoFar.{of_so_far}
+use Rattle.jsx_syntax.proofs.Homes.{no_list, taken_by, home_of}
+use Rattle.jsx_syntax.proofs.Statements.{Spot, subs, spot_kind, unless_lost}
+
+-- ---- a token that is spelled `else` is that word
+
+letters : (text : Text) → is_kind (accepts (last_state InName text)) IdentifierName ≡ true
+letters [] = refl
+letters (c ∷ text) = by (is_part c) (letters text)
+  where
+    by : (b : Bool) → is_kind (accepts (last_state InName text)) IdentifierName ≡ true → is_kind (accepts (cond (is_dead (cond b InName Dead)) InName (last_state (cond b InName Dead) text))) IdentifierName ≡ true
+    by true h = h
+    by false h = refl
+
+ended_name : (k : _) (raw rest : Text) → is_kind k IdentifierName ≡ true → is_kind (ended k raw rest).kind IdentifierName ≡ true
+ended_name IdentifierName raw rest h = refl
+ended_name _ raw rest h = cc
+
+word_front : (f : Bool) (s : Text) → is_kind (at_front Operator f (101 ∷ s)).kind IdentifierName ≡ true
+word_front true s = ended_name (accepts (last_state InName s)) _ _ (letters s)
+word_front false s = ended_name (accepts (last_state InName s)) _ _ (letters s)
+
+raw_first : (t : Text) (f : Bool) (s : Text) → (at_front Operator f s).raw ≡ 101 ∷ t → first_is (nat_eq 101) s ≡ true
+raw_first t f s e = by (first_is (nat_eq 101) s) refl
+  where
+    by : (b : Bool) → first_is (nat_eq 101) s ≡ b → first_is (nat_eq 101) s ≡ true
+    by true h = h
+    by false h =
+        let x = at_front Operator f s in
+        absurd (clash (is_token x x.kind (101 ∷ t)) (and_both _ _ (eq-eqb _ _ refl) (subst (λ r. same r (101 ∷ t) ≡ true) (sym e) (same_self (101 ∷ t)))) ((other_ahead x.kind 101 t Operator s h).not_it f))
+
+front_word : (f : Bool) (s : Text) → first_is (nat_eq 101) s ≡ true → is_kind (at_front Operator f s).kind IdentifierName ≡ true
+front_word f [] h = cc
+front_word f (c ∷ s) h = subst (λ d. is_kind (at_front Operator f (d ∷ s)).kind IdentifierName ≡ true) (eqb-true 101 c h) (word_front f s)
+
+either_flag : (f g : Bool) (s : Text) → at_front Operator f (101 ∷ s) ≡ at_front Operator g (101 ∷ s)
+either_flag true true s = refl
+either_flag true false s = refl
+either_flag false true s = refl
+either_flag false false s = refl
+
+same_front : (f g : Bool) (s : Text) → first_is (nat_eq 101) s ≡ true → at_front Operator f s ≡ at_front Operator g s
+same_front f g [] h = cc
+same_front f g (c ∷ s) h = subst (λ d. at_front Operator f (d ∷ s) ≡ at_front Operator g (d ∷ s)) (eqb-true 101 c h) (either_flag f g s)
+
+else_there : (q text : Text) → same (token Operator false text).raw (codes "else") ≡ true → is_token (token Operator (same q []) text) IdentifierName (codes "else") ≡ true
+else_there q text h =
+    let first = raw_first (codes "lse") (breaks text) (skip text) (same_is (token Operator false text).raw (codes "else") h) in
+    ap (λ x. is_token x IdentifierName (codes "else")) (same_front (same q [] || breaks text) (breaks text) (skip text) first) ∙ and_both _ _ (front_word (breaks text) (skip text) first) h
+
+or_false : (a : Bool) → (a || false) ≡ true → a ≡ true
+or_false true e = refl
+or_false false e = e
+
+unless_else : (x : Place) → forth (key "else") x ≡ Lost → IsTrue (is_found x) → forth (Unless (codes "else" ∷ [])) x ≡ x
+unless_else Lost n f = cc
+unless_else (At q e text) n f = ap (λ b. go_if (not b) (At q e text)) (by_not _ bad)
+  where
+    bad : among (token Operator false text).raw (codes "else" ∷ []) ≡ true → ⊥
+    bad h =
+        let there = else_there q text (or_false _ h) in
+        let gone : At (codes "else") AfterExpr (token Operator (same q []) text).rest ≡ Lost = ap (λ b. go_if b (At (codes "else") AfterExpr (token Operator (same q []) text).rest)) (sym there) ∙ n in cc
+
+-- ---- behind the first statement
+
+pub no_else : {v : Surroundings} {x : Place} → forth (key "else") x ≡ Lost → IsTrue (is_found x) → OnlyRow so_far v alternative_row x (part (list none) none) x
+no_else {x = x} n f = turn_only (turn_absent (unless_else x n f) f (lost_barred of_so_far n)) (end f)
+
+lost_end : {v : Surroundings} {x : Place} → x ≡ Lost → NoRow so_far v [] x
+lost_end {v} {x} e = record { no = at }
+  where
+    at : (ts : Forest) (y : Place) → Walk (Whole so_far) (steady v) [] x ts y → ⊥
+    at ts y (done f) = let bad : IsTrue (is_found Lost) = subst (λ p. IsTrue (is_found p)) e f in cc
+
+guarded_else : {x y : Place} → Moves (key "else") x y → forth (Unless (codes "else" ∷ [])) x ≡ Lost
+guarded_else {x} m = unless_lost (codes "else" ∷ []) IdentifierName 101 (codes "lse") x refl refl (found_at (sym m.is) m.found)
+
+pub some_else : {v : Surroundings} {x y z : Place} {t : Tree} → Moves (key "else") x y → Only so_far v (Part SubStmt) y (one t) z → OnlyRow so_far v alternative_row x (part (list (part t none)) none) z
+some_else m o = let f = end_found of_so_far (whole_of o.past).reads in turn_only (turn_present (sym m.is) o refl f (lost_end (guarded_else m))) (end f)
+
+pub none_else : {v : Surroundings} {x y : Place} → Moves (key "else") x y → Barred so_far v (Part SubStmt) y → NoRow so_far v alternative_row x
+none_else {v} {x} {y} m b = record { no = at }
+  where
+    at : (ts : Forest) (z : Place) → Walk (Whole so_far) (steady v) alternative_row x ts z → ⊥
+    at ts z (next (absent e f) w) = let bad : IsTrue (is_found Lost) = subst (λ p. IsTrue (is_found p)) (sym e ∙ guarded_else m) f in cc
+    at ts z (next (present {t = t} d q e f) w) = (subst (λ p. Barred so_far v (Part SubStmt) p) (m.is ∙ d) b).no (one t) _ (tree q)
+
+-- ---- a statement before an `else` ends with no `if` that it could belong to
+
+abbrev Ahead : Place → Type 0
+Ahead y = IsTrue (is_found (forth (key "else") y))
+
+record Closed (t : Tree) : Type 0 where
+  on : {v : Surroundings} {c : Nonterminal} {x y : Place} → Spot c → Staged v false c x t y → Ahead y → open_if t ≡ false
+
+-- what is said of each tree, and of those of each list in it
+data AllClosed : Forest → Type 0 where
+  nil : AllClosed none
+  cons : {t : Tree} {ts : Forest} → Closed t → ((us : Forest) → t ≡ list us → AllClosed us) → AllClosed ts → AllClosed (part t ts)
+
+first_closed : {t : Tree} {ts : Forest} → AllClosed (part t ts) → Closed t
+first_closed (cons g i a) = g
+
+rest_closed : {t : Tree} {ts : Forest} → AllClosed (part t ts) → AllClosed ts
+rest_closed (cons g i a) = a
+
+in_closed : {us ts : Forest} → AllClosed (part (list us) ts) → AllClosed us
+in_closed (cons g i a) = i _ refl
+
+absent_not : (x : Place) {y : Place} → forth (Unless (codes "else" ∷ [])) x ≡ y → IsTrue (is_found y) → Ahead y → ⊥
+absent_not x {y} e f a =
+    let same' : forth (Unless (codes "else" ∷ [])) x ≡ x = stays (Unless (codes "else" ∷ [])) x refl (found_at e f) in
+    let bad : IsTrue (is_found Lost) = subst (λ p. IsTrue (is_found p)) (sym e ∙ unless_lost (codes "else" ∷ []) IdentifierName 101 (codes "lse") x refl refl (subst (λ p. IsTrue (is_found (forth (key "else") p))) (sym e ∙ same') a)) f in cc
+
+if_closed : {V : _} {x y : Place} {ts : Forest} → AllClosed ts → Walk Staged V (row_so_far (statement If)) x ts y → Ahead y → open_if (node (statement If) ts) ≡ false
+if_closed a (next (sign e1 f1) (next (sign e2 f2) (next (tree q) (next (sign e3 f3) (next (tree r) (next {x = p} (absent e4 f4) (done f5))))))) h = absurd (absent_not p e4 f4 h)
+if_closed a (next (sign e1 f1) (next (sign e2 f2) (next (tree q) (next (sign e3 f3) (next (tree r) (next (present d s e4 f4) (done f5))))))) h = (first_closed (in_closed (rest_closed (rest_closed a)))).on subs s (subst Ahead (sym e4) h)
+
+while_closed : {V : _} {x y : Place} {ts : Forest} → AllClosed ts → Walk Staged V (row_so_far (statement While)) x ts y → Ahead y → open_if (node (statement While) ts) ≡ false
+while_closed a (next (sign e1 f1) (next (sign e2 f2) (next (tree q) (next (sign e3 f3) (next (tree r) (done f5)))))) h = (first_closed (rest_closed a)).on subs r h
+
+heading_closed : (g : Heading) {V : _} {x y : Place} {ts : Forest} → AllClosed ts → Walk Staged V (row_so_far (heading_kind g)) x ts y → Ahead y → open_if (node (heading_kind g) ts) ≡ false
+heading_closed heading.If a w h = if_closed a w h
+heading_closed heading.While a w h = while_closed a w h
+heading_closed heading.Empty a w h = refl
+heading_closed heading.Block a w h = refl
+heading_closed (heading.Var d) a w h = refl
+heading_closed heading.Do a w h = refl
+heading_closed heading.Continue a w h = refl
+heading_closed heading.Break a w h = refl
+heading_closed heading.Throw a w h = refl
+heading_closed heading.Debugger a w h = refl
+
+node_closed : (k : Kind) (ts : Forest) → AllClosed ts → Closed (node k ts)
+node_closed k ts a = record {
+  on = λ {v} {c} {x} {y} s r h. spot_kind s k ts (taken_by r) (home_of r)
+      (λ g e. ap (λ l. open_if (node l ts)) e ∙ heading_closed g a (of_so_far.from_node (heading_kind g) (subst (λ l. Staged v false c x (node l ts) y) e r)).walk h)
+      (λ e. ap (λ l. open_if (node l ts)) e);
+}
+
+list_is : {us vs : Forest} → list us ≡ list vs → us ≡ vs
+list_is e = cc
+
+mutual
+  tree_closed : (t : Tree) → Closed t
+  tree_closed (leaf k s) = record { on = λ s r h. refl }
+  tree_closed (list ts) = record { on = λ s r h. absurd (no_list r) }
+  tree_closed (node k ts) = node_closed k ts (all_closed ts)
+
+  all_closed : (ts : Forest) → AllClosed ts
+  all_closed none = nil
+  all_closed (part (leaf k s) ts) = cons (tree_closed (leaf k s)) (λ us e. cc) (all_closed ts)
+  all_closed (part (node k us) ts) = cons (tree_closed (node k us)) (λ vs e. cc) (all_closed ts)
+  all_closed (part (list us) ts) = cons (record { on = λ s r h. absurd (no_list r) }) (λ vs e. subst AllClosed (list_is e) (all_closed us)) (all_closed ts)
+
+-- ---- an `if` behind its word
+
+if_keeps : (v : Surroundings) {u : Surroundings} {x y : Place} (e : Tree) {s : Tree} (o : Option (Box Stmt Global)) → Closes o y → Staged u false SubStmt x s y → so_far.keeps (statement If) v (part e (part s (part (optional_of view_stmt o) none))) ≡ true
+if_keeps v e None h r = refl
+if_keeps v e {s} (Some b) h r = ap (λ a. not a && true) ((tree_closed s).on subs r h)
+
+pub if_built : {v : Surroundings} {x x1 x2 x3 x4 z : Place} {e s t : Tree} (o : Option (Box Stmt Global)) → Only so_far v (Fixed (pun "(")) x nothing x1 → Only so_far v (Part (Expr 0)) x1 (one e) x2 → Only so_far v (Fixed (pun ")")) x2 nothing x3 → Only so_far v (Part SubStmt) x3 (one s) x4 → Closes o x4
+    → OnlyRow so_far v alternative_row x4 (part (optional_of view_stmt o) none) z → t ≡ node (statement If) (part e (part s (part (optional_of view_stmt o) none))) → BuiltNode so_far v (tail (row_so_far (statement If))) (statement If) t x z
+if_built {v} {e = e} o a b c d h r is = record { parts = _; is = is; row = then' a (then' b (then' c (then' d r))); keeps = if_keeps v e o h (whole_of d.past).reads }
