@@ -21,14 +21,15 @@ use Rattle.jsx_tree.proofs.Rows.Closers.{closes}
 use Rattle.jsx_tree.proofs.Rows.Lists.{brace, closed}
 use Rattle.jsx_tree.proofs.Rows.Steps.{bar, both, no_sign}
 use Rattle.jsx_tree.proofs.Rows.Turns.{From, Turn, cons, early, item_of, no_rest, prepend, prepend_cons, turn_as, turn_both, turn_none, turn_only, whole_of}
-use Rattle.jsx_syntax.specs.SoFar.{Staged, row_so_far, so_far}
-use Rattle.jsx_syntax.specs.Growths.{same_sign}
-use Rattle.jsx_syntax.specs.Headings.{heading_kind, heading_sign}
-use Rattle.jsx_syntax.specs.declared.heading.Heading.{Heading}
-use Rattle.jsx_syntax.specs.declared.heading.Heading.TheVariants as heading
+use Rattle.jsx_syntax.specs.SoFar.{Staged, so_far}
+use Rattle.jsx_token.specs.Marks.{row_so_far}
+use Rattle.jsx_token.specs.Growths.{same_sign}
+use Rattle.jsx_token.specs.Headings.{heading_kind, heading_sign}
+use Rattle.jsx_token.specs.declared.heading.Heading.{Heading}
+use Rattle.jsx_token.specs.declared.heading.Heading.TheVariants as heading
 use Rattle.jsx_syntax.proofs.OfSoFar.{of_so_far}
-use Rattle.jsx_syntax.proofs.Headings.{of_heading}
-use Rattle.jsx_syntax.proofs.Marks.{one_sign}
+use Rattle.jsx_token.proofs.Headings.{of_heading}
+use Rattle.jsx_token.proofs.Marks.{one_sign}
 use Rattle.jsx_syntax.proofs.Homes.{no_list, taken_by, home_of}
 use Rattle.jsx_syntax.proofs.Statements.{coded, none_begins, spot_kind, stmts}
 

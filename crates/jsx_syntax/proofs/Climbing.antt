@@ -1,105 +1,43 @@
 -- An expression that grows to the right at some level: which step comes next, and where none does. Each fact on the kinds is one test of all of them.
 use Rattle.std.proofs.Common.{◌≡◌, ℕ, nat_eq, nat_le, Bool, true, false, not, cond, List, [], ◌∷◌, refl, sym, ◌∙◌, ap, subst, arith}
-use Rattle.std.specs.Prelude.{IsTrue, Option, Some, None, ◌&&◌}
+use Rattle.std.specs.Prelude.{IsTrue, Some, ◌&&◌}
 use Rattle.std.proofs.lemmas.Bool.{leb-true, le-leb}
-use Rattle.jsx_base.specs.Token.{Lexeme, Text, Operator, IdentifierName, NumericLiteral, BigIntLiteral, StringLiteral, TokenKind, breaks, token, same, RegExpLiteral, among}
+use Rattle.jsx_base.specs.Token.{Lexeme, Text, Operator, IdentifierName, NumericLiteral, BigIntLiteral, StringLiteral, TokenKind, breaks, token, same, RegExpLiteral}
 use Rattle.jsx_tree.specs.Signs.{Ending, AfterExpr, SameLine}
-use Rattle.jsx_tree.specs.Kinds.{Module, Var, ConstWord, Declarator, ExprStmt, Assigns, Assign, OpAssign, Delete, Void, TypeOf, Positive, Negative, Complement, Not, Unary, Binary, Cond, Call, Member, Index, ImportCall, Parenthesized, Element, Kind, program, statement, expression, jsx, Tree, leaf, node, list, Forest, part, PrefixUpdate, PostfixUpdate, Seq}
-use Rattle.jsx_tree.specs.Nonterminals.{Nonterminal, Expr, NullishLeft, MemberObject, DotObject, SimpleTarget, Pat, TagName, is_bound, homes, in_homes, leaf_in, literal_homes, is_value_word}
-use Rattle.jsx_tree.specs.Grammar.{Context, Fixed, Part, right_of, pun}
+use Rattle.jsx_tree.specs.Kinds.{Module, Var, ConstWord, Declarator, ExprStmt, Assigns, Assign, OpAssign, Delete, Void, TypeOf, Positive, Negative, Complement, Not, Unary, Binary, Cond, Call, Member, Index, ImportCall, Parenthesized, Element, Kind, program, statement, expression, jsx, Tree, leaf, node, Forest, part, PrefixUpdate, PostfixUpdate, Seq}
+use Rattle.jsx_tree.specs.Nonterminals.{Nonterminal, Expr, NullishLeft, MemberObject, DotObject, SimpleTarget, Pat, is_bound, homes, in_homes, leaf_in, is_value_word}
+use Rattle.jsx_tree.specs.Grammar.{Context, Fixed, Part, pun}
 use Rattle.jsx_tree.specs.Form.{admits, fits_below, is_leaf}
 use Rattle.jsx_tree.specs.Reading.{Place, Lost, At, forth, go_if}
 use Rattle.jsx_tree.specs.StaticRules.{Surroundings, rule, stands, has_plain_params}
-use Rattle.jsx_syntax.specs.Stage.{has_kind, limits, leaf_at, value_leaf}
+use Rattle.jsx_token.specs.Stage.{has_kind, limits, leaf_at, value_leaf}
 use Rattle.jsx_tree.specs.Walk.{is_found, one, Relation, IsRead, Piece, piece, tail, sign, tree, Walk, next, around, steady}
-use Rattle.jsx_tree.specs.Stops.{level_asked}
 use Rattle.jsx_tree.specs.Language.{Whole}
 use Rattle.jsx_tree.specs.Answers.{Moves, Only, Barred, NoRow, NoNode, Built, BuiltNode}
 use Rattle.jsx_tree.specs.Grows.{starts, is_operand, Onward, stay, step, Steps, Decides, Joins, Stays}
-use Rattle.jsx_syntax.specs.SoFar.{Staged, is_number, goes_at, marks, is_sign, is_mark, ends_so_far, row_so_far, so_far, goers}
+use Rattle.jsx_syntax.specs.SoFar.{Staged, is_number, so_far}
+use Rattle.jsx_token.specs.Marks.{goes_at, marks, is_sign, is_mark, ends_so_far, row_so_far, goers}
 use Rattle.jsx_tree.proofs.Tokens.{and_left, and_right, and_both}
 use Rattle.jsx_tree.proofs.Apart.{clash}
 use Rattle.jsx_tree.proofs.Rows.Bridge.{found_at, found_first}
-use Rattle.jsx_tree.proofs.Rows.Stopping.{stays as stays_on, is_not, heeds, covers, sign_stops}
-use Rattle.jsx_tree.proofs.Rows.Guarded.{guarded, whole_walk, loosen, to_grammar}
-use Rattle.jsx_tree.proofs.Rows.Bodies.{bodiless, plain}
+use Rattle.jsx_tree.proofs.Rows.Stopping.{stays as stays_on, is_not, heeds, sign_stops}
+use Rattle.jsx_tree.proofs.Rows.Guarded.{whole_walk, loosen, to_grammar}
+use Rattle.jsx_tree.proofs.Rows.Bodies.{plain}
 use Rattle.jsx_tree.proofs.Rows.Firsts.{kind_home}
 use Rattle.jsx_tree.proofs.Rows.Closers.{any_operand, homes_operand}
-use Rattle.jsx_tree.proofs.Rows.Placing.{free, free_around, moved}
+use Rattle.jsx_tree.proofs.Rows.Placing.{free_around, moved}
 use Rattle.jsx_tree.proofs.Rows.Spines.{grows}
 use Rattle.jsx_tree.proofs.Rows.Growing.{grown_only, step_barred, left_barred, step_follows}
 use Rattle.jsx_tree.proofs.Rows.Steps.{on, then', only_sign}
 use Rattle.jsx_syntax.proofs.OfSoFar.{of_so_far}
-use Rattle.jsx_syntax.specs.Growths.{OnLine, begins_line, behind, lead, mark, on_line, past_line, same_sign, has_sign, is_code, levels, is_level, level_of_kind, level, fits_by, fits, takes_target, is_target_kind, is_target, settled, Climbs}
-use Rattle.jsx_syntax.proofs.Listed.{Listed, listed, code, kinds, every, every_two, of_each, of_two, one_place, every_level, of_level, of_level_kind, implies, implied, agree, agreed, is_sequence}
-use Rattle.jsx_syntax.proofs.Marks.{text_of_sign, mark_by, seen_sign, one_sign, by_sign}
-use Rattle.jsx_syntax.proofs.Homes.{Literal, IsName, IsNumber, IsLong, IsString, IsPattern, token_kind, Value, literal, made, is_single, value}
-use Rattle.jsx_syntax.proofs.Values.{signed, lead_row, led_sign, literal_level, node_to, leaf_to, level_single, or_right}
-
--- ---- of each kind
-
--- with a static rule of its own
-abbrev pub is_ruled : Kind → Bool
-is_ruled (expression (Unary Delete)) = true
-is_ruled k = false
-
-abbrev pub grows_on : Kind → Bool
-grows_on k = grows (row_so_far k)
-
--- what stands at its left, and what its row ends with where no bracket does
-abbrev pub side_of : Option Nonterminal → Nonterminal
-side_of (Some c) = c
-side_of None = TagName
-
-abbrev pub side : Kind → Nonterminal
-side k = side_of (starts (row_so_far k))
-
-abbrev pub edge : Kind → Nonterminal
-edge (expression (Binary o)) = Expr (right_of o)
-edge (expression Cond) = Expr 1
-edge (expression Assign) = Expr 1
-edge (expression (OpAssign o)) = Expr 1
-edge (expression (Unary o)) = Expr 15
-edge (expression (PrefixUpdate o)) = Expr 17
-edge k = TagName
-
--- the places at the left of a step
-abbrev is_side : Nonterminal → Bool
-is_side (Expr n) = nat_le n 18 && is_single (Expr n)
-is_side NullishLeft = true
-is_side MemberObject = true
-is_side DotObject = true
-is_side SimpleTarget = true
-is_side (Pat Assigns) = true
-is_side c = false
-
--- those of an assignment
-abbrev is_left : Nonterminal → Bool
-is_left SimpleTarget = true
-is_left (Pat Assigns) = true
-is_left c = false
-
-abbrev takes_number : Nonterminal → Bool
-takes_number DotObject = false
-takes_number c = true
-
-abbrev taken_literals : Nonterminal → Bool
-taken_literals c = in_homes c (literal_homes NumericLiteral) && (in_homes c (literal_homes BigIntLiteral) && (in_homes c (literal_homes StringLiteral) && in_homes c (literal_homes RegExpLiteral)))
-
--- which leaves stand at the left
-abbrev leaves_fit : Kind → Bool
-leaves_fit k = cond (takes_target k) (is_left (side k)) (not (is_left (side k)) && (taken_literals (side k) && (fits_by k 17 false && agree (fits_by k 17 true) (takes_number (side k)))))
-
--- its row begins with a part at such a place, goes on by a mark, and each part of the rest is ended by what stands behind it
-abbrev well_formed : Kind → Bool
-well_formed k =
-    implies (grows_on k)
-    ((is_side (side k) && (not (is_ruled k) && leaves_fit k))
-    && ((is_code (mark k) && (signed (past_line (tail (row_so_far k))) && has_sign (mark k) marks)) && ((guarded (edge k) (tail (row_so_far k)) && free (tail (row_so_far k))) && (bodiless (row_so_far k) && (has_kind k && any_operand (homes k))))))
-
-all_well_formed : every well_formed kinds ≡ true
-unfolding marks
-all_well_formed = refl
+use Rattle.jsx_token.specs.Growths.{OnLine, begins_line, lead, mark, on_line, past_line, same_sign, is_level, level_of_kind, fits_by, takes_target, settled}
+use Rattle.jsx_syntax.specs.Climbing.{behind, level, fits, is_target_kind, is_target, Climbs}
+use Rattle.jsx_token.proofs.Listed.{Listed, listed, code, every_two, of_two, one_place, of_level, implies, implied, agree, agreed, is_sequence}
+use Rattle.jsx_token.proofs.Marks.{mark_by, seen_sign, one_sign}
+use Rattle.jsx_syntax.proofs.Homes.{Literal, IsName, IsNumber, IsLong, IsString, IsPattern, token_kind, Value, literal, made, value}
+use Rattle.jsx_token.proofs.Lives.{is_single}
+use Rattle.jsx_token.proofs.Levels.{signed, Fitting, Formed, Leaves, assigned, at_level, edge, fitting_in, formed, grows_on, is_left, is_ruled, is_side, mark_among, mark_is_code, side, side_of, takes_number}
+use Rattle.jsx_syntax.proofs.Values.{lead_row, led_sign, literal_level, node_to, leaf_to, level_single, or_right}
 
 -- of two: what may stand at the left of the first; and that the mark of the first, behind the second, ends the second's last part
 abbrev sinks : Kind → Kind → Bool
@@ -120,89 +58,6 @@ fitting k l = implies (grows_on k) (agree (cond (takes_target k) (is_target_kind
 all_fitting : every_two fitting ≡ true
 all_fitting = refl
 
--- of a level and a kind, with a line end before the mark or without: whether the mark goes on there
-abbrev goes_as : ℕ → Kind → Bool → Bool
-goes_as n k b = agree (goes_at n b (text_of_sign (mark k))) (nat_le n (level_of_kind k) && not (on_line k && b))
-
--- whether the kind is at home there is the same
-abbrev placed : ℕ → Kind → Bool
-placed n k = agree (in_homes (Expr n) (homes k)) (nat_le n (level_of_kind k)) && (implies (grows_on k) (goes_as n k true && goes_as n k false) && implies (nat_le n (level_of_kind k)) (covers (level_asked (Expr n)) (level_asked (edge k))))
-
-all_placed : every_level (λ n. every (placed n) kinds) levels ≡ true
-all_placed = refl
-
--- ---- what these say
-
--- what is so of the leaves at the left of what is no assignment
-record Fitting (k : Kind) : Type 0 where
-  beside : is_left (side k) ≡ false
-  numbers : in_homes (side k) (literal_homes NumericLiteral) ≡ true
-  longs : in_homes (side k) (literal_homes BigIntLiteral) ≡ true
-  strings : in_homes (side k) (literal_homes StringLiteral) ≡ true
-  patterns : in_homes (side k) (literal_homes RegExpLiteral) ≡ true
-  leaves : fits_by k 17 false ≡ true
-  number : fits_by k 17 true ≡ takes_number (side k)
-
-data Leaves (k : Kind) : Type 0 where
-  assigned : takes_target k ≡ true → is_left (side k) ≡ true → Leaves k
-  fitting_in : takes_target k ≡ false → Fitting k → Leaves k
-
-leaves_of : (k : Kind) (b : Bool) → takes_target k ≡ b → cond b (is_left (side k)) (not (is_left (side k)) && (taken_literals (side k) && (fits_by k 17 false && agree (fits_by k 17 true) (takes_number (side k))))) ≡ true → Leaves k
-leaves_of k true e h = assigned e h
-leaves_of k false e h =
-    let a = and_right (not (is_left (side k))) _ h in
-    let b = and_left (taken_literals (side k)) _ a in
-    let c = and_right (taken_literals (side k)) _ a in
-    let d = and_right (in_homes (side k) (literal_homes NumericLiteral)) _ b in
-    let e' = and_right (in_homes (side k) (literal_homes BigIntLiteral)) _ d in
-    fitting_in e (record {
-      beside = is_not _ (and_left (not (is_left (side k))) _ h);
-      numbers = and_left (in_homes (side k) (literal_homes NumericLiteral)) _ b;
-      longs = and_left (in_homes (side k) (literal_homes BigIntLiteral)) _ d;
-      strings = and_left (in_homes (side k) (literal_homes StringLiteral)) _ e';
-      patterns = and_right (in_homes (side k) (literal_homes StringLiteral)) _ e';
-      leaves = and_left (fits_by k 17 false) _ c;
-      number = agreed (fits_by k 17 true) (takes_number (side k)) (and_right (fits_by k 17 false) _ c);
-    })
-
-record Formed (k : Kind) : Type 0 where
-  sided : is_side (side k) ≡ true
-  unruled : is_ruled k ≡ false
-  leaves : Leaves k
-  coded : is_code (mark k) ≡ true
-  led : signed (past_line (tail (row_so_far k))) ≡ true
-  marked : has_sign (mark k) marks ≡ true
-  closed : guarded (edge k) (tail (row_so_far k)) ≡ true
-  freed : free (tail (row_so_far k)) ≡ true
-  bare : bodiless (row_so_far k) ≡ true
-  taken : has_kind k ≡ true
-  stood : any_operand (homes k) ≡ true
-
-formed : (k : Kind) → Listed k → grows_on k ≡ true → Formed k
-formed k m g =
-    let a = implied (grows_on k) _ (of_each well_formed all_well_formed k m) g in
-    let b = and_left (is_side (side k) && (not (is_ruled k) && leaves_fit k)) _ a in
-    let c = and_right (is_side (side k) && (not (is_ruled k) && leaves_fit k)) _ a in
-    let c1 = and_left (is_code (mark k) && (signed (past_line (tail (row_so_far k))) && has_sign (mark k) marks)) _ c in
-    let c2 = and_right (is_code (mark k) && (signed (past_line (tail (row_so_far k))) && has_sign (mark k) marks)) _ c in
-    let c3 = and_right (is_code (mark k)) _ c1 in
-    let c4 = and_left (guarded (edge k) (tail (row_so_far k)) && free (tail (row_so_far k))) _ c2 in
-    let c5 = and_right (guarded (edge k) (tail (row_so_far k)) && free (tail (row_so_far k))) _ c2 in
-    let c6 = and_right (bodiless (row_so_far k)) _ c5 in
-    record {
-      sided = and_left (is_side (side k)) _ b;
-      unruled = is_not _ (and_left (not (is_ruled k)) _ (and_right (is_side (side k)) _ b));
-      leaves = leaves_of k (takes_target k) refl (and_right (not (is_ruled k)) _ (and_right (is_side (side k)) _ b));
-      coded = and_left (is_code (mark k)) _ c1;
-      led = and_left (signed (past_line (tail (row_so_far k)))) _ c3;
-      marked = and_right (signed (past_line (tail (row_so_far k)))) _ c3;
-      closed = and_left (guarded (edge k) (tail (row_so_far k))) _ c4;
-      freed = and_right (guarded (edge k) (tail (row_so_far k))) _ c4;
-      bare = and_left (bodiless (row_so_far k)) _ c5;
-      taken = and_left (has_kind k) _ c6;
-      stood = and_right (has_kind k) _ c6;
-    }
-
 record Sunk (l k : Kind) : Type 0 where
   below : nat_le (level_of_kind l) (level_of_kind k) ≡ true
   heard : heeds (edge k) (mark l) ≡ true
@@ -211,27 +66,6 @@ sunk : (l k : Kind) → Listed l → Listed k → grows_on l ≡ true → in_hom
 sunk l k m n g h =
     let a = implied (grows_on l && in_homes (side l) (homes k)) _ (of_two sinks all_sink l k m n) (and_both _ _ g h) in
     record { below = and_left (nat_le (level_of_kind l) (level_of_kind k)) _ a; heard = and_right (nat_le (level_of_kind l) (level_of_kind k)) _ a }
-
-pub record Level (n : ℕ) (k : Kind) : Type 0 where
-  pub home : in_homes (Expr n) (homes k) ≡ nat_le n (level_of_kind k)
-  goes : grows_on k ≡ true → (b : Bool) → goes_at n b (text_of_sign (mark k)) ≡ (nat_le n (level_of_kind k) && not (on_line k && b))
-  covered : nat_le n (level_of_kind k) ≡ true → covers (level_asked (Expr n)) (level_asked (edge k)) ≡ true
-
-either_way : (p : Bool → Bool) → (p true && p false) ≡ true → (b : Bool) → p b ≡ true
-either_way p e true = and_left (p true) (p false) e
-either_way p e false = and_right (p true) (p false) e
-
-pub at_level : {n : ℕ} → is_level n ≡ true → (k : Kind) → Listed k → Level n k
-at_level {n} h k m =
-    let a = of_level_kind placed all_placed h k m in
-    let p = agree (in_homes (Expr n) (homes k)) (nat_le n (level_of_kind k)) in
-    let q = implies (grows_on k) (goes_as n k true && goes_as n k false) in
-    let b = and_right p _ a in
-    record {
-      home = agreed (in_homes (Expr n) (homes k)) (nat_le n (level_of_kind k)) (and_left p _ a);
-      goes = λ g c. agreed (goes_at n c (text_of_sign (mark k))) (nat_le n (level_of_kind k) && not (on_line k && c)) (either_way (goes_as n k) (implied (grows_on k) _ (and_left q _ b) g) c);
-      covered = λ e. implied (nat_le n (level_of_kind k)) _ (and_right q _ b) e;
-    }
 
 -- ---- rows
 
@@ -357,20 +191,8 @@ step_kind {a = a} {k = k} {l = l} m g f p =
     let h = step_grows p in
     one_place l k n m (implied (same_sign (mark l) (mark k)) _ (implied (grows_on l && grows_on k) _ (of_two apart all_apart l k n m) (and_both _ _ h g)) (one_sign (mark l) (mark k) a (formed l n h).coded (formed k m g).coded (step_sign p) f))
 
-agree_self : (b : Bool) → agree b b ≡ true
-agree_self true = refl
-agree_self false = refl
-
-pub mark_among : (n : ℕ) (k : Kind) → is_level n ≡ true → Listed k → grows_on k ≡ true → (b : Bool) (x : Lexeme) → is_sign x (mark k) ≡ true → goes_at n b x.raw ≡ (nat_le n (level_of_kind k) && not (on_line k && b))
-mark_among n k h m g b x e =
-    let u = goes_at n b (text_of_sign (mark k)) in
-    agreed (goes_at n b x.raw) u (by_sign (λ t. agree (goes_at n b t) u) (mark k) x (agree_self u) e) ∙ (at_level h k m).goes g b
-
 pub mark_is_one : (k : Kind) → Listed k → grows_on k ≡ true → (x : Lexeme) → is_sign x (mark k) ≡ true → is_mark x marks ≡ true
 mark_is_one k m g x e = mark_by (mark k) marks (formed k m g).marked x e
-
-pub mark_is_code : (k : Kind) → Listed k → grows_on k ≡ true → is_code (mark k) ≡ true
-mark_is_code k m g = (formed k m g).coded
 
 and_true : (b : Bool) → (b && true) ≡ b
 and_true true = refl

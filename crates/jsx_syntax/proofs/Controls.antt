@@ -17,8 +17,9 @@ use Rattle.jsx_tree.proofs.Rows.Placing.{no_node}
 use Rattle.jsx_tree.proofs.Rows.Steps.{bar, on, end, then', no_sign, only_sign, built_2, built_3, built_4, built_7, built_end}
 use Rattle.jsx_tree.proofs.Rows.Turns.{whole_of}
 use Rattle.jsx_base.specs.Token.{breaks}
-use Rattle.jsx_syntax.specs.Here.{Here, place_of}
-use Rattle.jsx_syntax.specs.SoFar.{row_so_far, so_far}
+use Rattle.jsx_token.specs.Here.{Here, place_of}
+use Rattle.jsx_token.specs.Marks.{row_so_far}
+use Rattle.jsx_syntax.specs.SoFar.{so_far}
 use Rattle.jsx_syntax.proofs.OfSoFar.{of_so_far}
 use Rattle.jsx_syntax.proofs.Homes.{no_idents}
 use Rattle.jsx_syntax.proofs.Items.{unless_none}

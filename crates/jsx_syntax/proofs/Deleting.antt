@@ -13,9 +13,10 @@ use Rattle.jsx_tree.proofs.Tokens.{and_left, and_both}
 use Rattle.jsx_tree.proofs.Apart.{clash}
 use Rattle.jsx_tree.proofs.Rows.Stopping.{is_not}
 use Rattle.jsx_tree.proofs.Rows.Steps.{then', end}
-use Rattle.jsx_syntax.specs.SoFar.{row_so_far, so_far}
-use Rattle.jsx_syntax.specs.Growths.{deletes_name}
-use Rattle.jsx_syntax.proofs.Listed.{listed}
+use Rattle.jsx_token.specs.Marks.{row_so_far}
+use Rattle.jsx_syntax.specs.SoFar.{so_far}
+use Rattle.jsx_syntax.specs.Climbing.{deletes_name}
+use Rattle.jsx_token.proofs.Listed.{listed}
 use Rattle.jsx_syntax.proofs.Operators.{unary_built}
 use Rattle.jsx_syntax.proofs.Openings.{kept_behind}
 

@@ -1,16 +1,16 @@
 -- Which trees of the language so far stand where.
-use Rattle.std.proofs.Common.{◌≡◌, Bool, true, false, not, refl, sym, ◌∙◌, ap, subst}
+use Rattle.std.proofs.Common.{◌≡◌, true, false, not, refl, sym, ◌∙◌, ap, subst}
 use Rattle.std.specs.Prelude.{IsTrue, codes, [], ◌∷◌, ◌&&◌, ◌||◌}
 use Rattle.jsx_base.specs.Token.{Text, TokenKind, IdentifierName, NumericLiteral, BigIntLiteral, StringLiteral, JsxName, Elision, RegExpLiteral, among}
 use Rattle.jsx_tree.specs.Signs.{Tok}
 use Rattle.jsx_tree.specs.Kinds.{VarWord, LetWord, ConstWord, Block, Empty, If, Do, While, Continue, Break, Throw, Debugger, Module, Var, Declarator, ExprStmt, Binds, Assigns, Assign, OpAssign, Nullish, Or, And, BitOr, BitXor, BitAnd, ShiftLeft, ShiftRight, ShiftOut, Add, Subtract, Multiply, Divide, Remainder, Exponentiate, Void, TypeOf, Positive, Negative, Complement, Not, Unary, Binary, Cond, Call, Member, Index, ImportCall, Parenthesized, Element, Kind, program, statement, expression, jsx, Tree, leaf, node, list, Forest, Delete, PrefixUpdate, PostfixUpdate, Increment, Decrement, Seq}
-use Rattle.jsx_tree.specs.Nonterminals.{Nonterminal, Expr, NullishLeft, MemberObject, DotObject, SimpleTarget, Argument, Ident, Name, Pat, TagName, Attributes, DirectiveOnly, is_ident, is_bound, is_value_word, leaf_in, homes, in_homes}
+use Rattle.jsx_tree.specs.Nonterminals.{Nonterminal, Expr, NullishLeft, MemberObject, DotObject, SimpleTarget, Argument, Ident, Name, Pat, TagName, Attributes, DirectiveOnly, is_ident, is_bound, is_value_word, leaf_in, homes}
 use Rattle.jsx_tree.specs.Grammar.{Part}
 use Rattle.jsx_tree.specs.Form.{admits, fits_below, is_leaf}
 use Rattle.jsx_tree.specs.Spelling.{mode_of, spelled}
 use Rattle.jsx_tree.specs.Reading.{Place, Lost, forth, scan}
 use Rattle.jsx_tree.specs.StaticRules.{Surroundings}
-use Rattle.jsx_syntax.specs.Stage.{has_kind, leaf_at, value_leaf}
+use Rattle.jsx_token.specs.Stage.{has_kind, leaf_at, value_leaf}
 use Rattle.jsx_tree.specs.Walk.{is_found, Given, one, Past, tree}
 use Rattle.jsx_tree.specs.Language.{Whole}
 use Rattle.jsx_tree.specs.Answers.{Only, Barred}
@@ -25,11 +25,12 @@ use Rattle.jsx_tree.proofs.Rows.Firsts.{kind_home}
 use Rattle.jsx_tree.proofs.Rows.Closers.{any_operand, homes_operand}
 use Rattle.jsx_syntax.proofs.OfSoFar.{of_so_far}
 use Rattle.jsx_tree.specs.declared.text.DeclareWord.TheVariants as declare_word
-use Rattle.jsx_syntax.specs.declared.heading.Heading.{Heading}
-use Rattle.jsx_syntax.specs.declared.heading.Heading.TheVariants as heading
-use Rattle.jsx_syntax.specs.Headings.{heading_kind}
-use Rattle.jsx_syntax.proofs.Headings.{headings, every_heading, of_heading}
-use Rattle.jsx_syntax.proofs.Listed.{Listed, listed, listed_binary, kinds, every, of_each}
+use Rattle.jsx_token.specs.declared.heading.Heading.{Heading}
+use Rattle.jsx_token.specs.declared.heading.Heading.TheVariants as heading
+use Rattle.jsx_token.specs.Headings.{heading_kind}
+use Rattle.jsx_token.proofs.Headings.{headings, every_heading, of_heading}
+use Rattle.jsx_token.proofs.Listed.{Listed, listed, listed_binary, kinds, every, of_each}
+use Rattle.jsx_token.proofs.Lives.{is_single, lives}
 
 -- the kinds: those of expressions, and the others
 pub data Taken : Kind → Type 0 where
@@ -96,14 +97,6 @@ taken _ h = cc
 
 pub taken_by : {v : Surroundings} {c : Nonterminal} {k : Kind} {x y : Place} {ts : Forest} → Staged v false c x (node k ts) y → Taken k
 taken_by {k = k} {ts = ts} r = taken k (and_left (has_kind k) _ r.staged)
-
--- whether a kind is at home there
-abbrev pub lives : Nonterminal → Kind → Bool
-lives c k = in_homes c (homes k)
-
--- where an expression stands that is no sequence
-abbrev pub is_single : Nonterminal → Bool
-is_single c = is_operand c && not (lives c (expression Seq))
 
 -- at places where no more than in_homes is asked of a node
 pub home_of : {v : Surroundings} {c : Nonterminal} {k : Kind} {x y : Place} {ts : Forest} → Staged v false c x (node k ts) y → admits c (node k ts) ≡ true

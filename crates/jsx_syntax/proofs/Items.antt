@@ -9,12 +9,13 @@ use Rattle.jsx_tree.specs.Grammar.{Part, Fixed, pun, key, heads, semi}
 use Rattle.jsx_tree.specs.Form.{admits}
 use Rattle.jsx_tree.specs.Reading.{Place, Lost, At, forth}
 use Rattle.jsx_tree.specs.StaticRules.{Surroundings, all_of, list_rule, has_init}
-use Rattle.jsx_syntax.specs.Stage.{limits, is_string}
+use Rattle.jsx_token.specs.Stage.{limits, is_string}
 use Rattle.jsx_tree.specs.Walk.{is_found, nothing, one, Piece, row, tail, Given, Past, sign, tree, Walk, next, steady}
 use Rattle.jsx_tree.specs.Stops.{going}
 use Rattle.jsx_tree.specs.Language.{Language, Whole}
 use Rattle.jsx_tree.specs.Answers.{Moves, Stuck, Only, Barred, OnlyRow, NoRow, NoNode, BuiltNode}
-use Rattle.jsx_syntax.specs.SoFar.{Staged, ends_so_far, row_so_far, so_far}
+use Rattle.jsx_syntax.specs.SoFar.{Staged, so_far}
+use Rattle.jsx_token.specs.Marks.{ends_so_far, row_so_far}
 use Rattle.jsx_tree.proofs.Tokens.{and_left, and_right, and_both}
 use Rattle.jsx_tree.proofs.Apart.{clash}
 use Rattle.jsx_base.proofs.Fronts.{none_ahead}
@@ -30,10 +31,12 @@ use Rattle.jsx_tree.proofs.Rows.Optionals.{turn_absent, present_last, none_last}
 use Rattle.jsx_tree.proofs.Rows.Laws.{lost_barred, end_found, start_found}
 use Rattle.jsx_tree.proofs.Rows.Placing.{Chosen, OnlyAt, NoneAt, then_at, only_at, barred_at}
 use Rattle.jsx_syntax.proofs.OfSoFar.{of_so_far}
-use Rattle.jsx_syntax.proofs.Homes.{IsName, patterns, no_list, lives, Taken, module', headed, bound, evaluation, sequence, operand, no_operand_at, taken_by, home_of}
-use Rattle.jsx_syntax.specs.Headings.{has_value, heading_kind}
-use Rattle.jsx_syntax.proofs.Headings.{of_heading}
-use Rattle.jsx_syntax.specs.Growths.{settled}
+use Rattle.jsx_syntax.proofs.Homes.{IsName, patterns, no_list, Taken, module', headed, bound, evaluation, sequence, operand, no_operand_at, taken_by, home_of}
+use Rattle.jsx_token.proofs.Lives.{lives}
+use Rattle.jsx_syntax.specs.Statements.{has_value}
+use Rattle.jsx_token.specs.Headings.{heading_kind}
+use Rattle.jsx_token.proofs.Headings.{of_heading}
+use Rattle.jsx_token.specs.Growths.{settled}
 use Rattle.jsx_syntax.proofs.Values.{settled_token, leaf_full, is_next, found_next, no_heads}
 
 -- ---- a variable and its initializer

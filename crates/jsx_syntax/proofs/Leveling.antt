@@ -14,7 +14,8 @@ use Rattle.jsx_tree.specs.declared.tree.Access.TheFolds.{fold_out-Access, fold_o
 use Rattle.jsx_tree.specs.View.{template, view_word, Owner, access_step, control_step, expr_step, jsx_step, key_step, link_step, operation_step, pat_step, prop_step, stmt_step, view_access, view_jsx}
 use Rattle.jsx_tree.specs.ViewOperators.{update_of}
 use Rattle.jsx_tree.proofs.Views.{views}
-use Rattle.jsx_syntax.specs.Growths.{level_of_expression, level}
+use Rattle.jsx_token.specs.Growths.{level_of_expression}
+use Rattle.jsx_syntax.specs.Climbing.{level}
 
 pub template_level : (b : Bool) (ps : List Text) (ts : List Tree) → level (template b ps ts) ≡ 17
 template_level b [] ts = refl

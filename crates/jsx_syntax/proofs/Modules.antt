@@ -11,12 +11,13 @@ use Rattle.jsx_tree.specs.Form.{is}
 use Rattle.jsx_tree.specs.Spelling.{spelled}
 use Rattle.jsx_tree.specs.Reading.{Place, Lost, At, forth, go_if, scan, ended_at}
 use Rattle.jsx_tree.specs.StaticRules.{Surroundings, outside, first_of_list, is_string_stmt}
-use Rattle.jsx_syntax.specs.Stage.{has_kind, limits, ReadsSoFar}
+use Rattle.jsx_token.specs.Stage.{has_kind, limits, ReadsSoFar}
 use Rattle.jsx_tree.specs.Walk.{Given, Past, Items, nil, last, more, sign, tree, many, Walk, done, next, around}
 use Rattle.jsx_tree.specs.Texts.{start}
 use Rattle.jsx_tree.specs.Language.{Whole}
 use Rattle.jsx_tree.specs.Answers.{Barred, ToEnd}
-use Rattle.jsx_syntax.specs.SoFar.{Staged, row_so_far, so_far, in_module}
+use Rattle.jsx_syntax.specs.SoFar.{Staged, so_far, in_module}
+use Rattle.jsx_token.specs.Marks.{row_so_far}
 use Rattle.jsx_tree.proofs.Tokens.{and_left, and_right, and_both, same_is}
 use Rattle.jsx_tree.proofs.Rows.Bridge.{found_at}
 use Rattle.jsx_tree.proofs.Rows.Texts.{program_walk}
@@ -26,10 +27,10 @@ use Rattle.jsx_tree.proofs.Rows.Optionals.{end_shut}
 use Rattle.jsx_tree.proofs.Rows.Lines.{found_end}
 use Rattle.jsx_syntax.proofs.OfSoFar.{of_so_far}
 use Rattle.jsx_syntax.proofs.Homes.{taken_by, home_of, no_list, no_directives}
-use Rattle.jsx_syntax.specs.declared.heading.Heading.{Heading}
-use Rattle.jsx_syntax.specs.declared.heading.Heading.TheVariants as heading
-use Rattle.jsx_syntax.specs.Growths.{is_code}
-use Rattle.jsx_syntax.specs.Headings.{heading_kind, heading_sign}
+use Rattle.jsx_token.specs.declared.heading.Heading.{Heading}
+use Rattle.jsx_token.specs.declared.heading.Heading.TheVariants as heading
+use Rattle.jsx_token.specs.Growths.{is_code}
+use Rattle.jsx_token.specs.Headings.{heading_kind, heading_sign}
 use Rattle.jsx_syntax.proofs.Statements.{items, spot_ends, spot_kind, coded, none_begins}
 
 -- ---- no statement is a string alone

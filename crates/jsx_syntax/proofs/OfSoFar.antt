@@ -9,10 +9,11 @@ use Rattle.jsx_tree.specs.Grammar.{ListShape, Fixed, Part, Optional, Many, Withi
 use Rattle.jsx_tree.specs.Form.{slots, inside, is_piece}
 use Rattle.jsx_tree.specs.Reading.{Place, Lost, At, is_backquote}
 use Rattle.jsx_tree.specs.StaticRules.{Surroundings, rule, stands}
-use Rattle.jsx_syntax.specs.Stage.{has_kind, limits, in_stage, in_stages, each_in_stage}
+use Rattle.jsx_token.specs.Stage.{has_kind, limits, in_stage, in_stages, each_in_stage}
 use Rattle.jsx_tree.specs.Walk.{pieces, IsRead, Items, nil, last, more, sign, tree, absent, present, many, Walk, done, next}
 use Rattle.jsx_tree.specs.Stops.{going, goes, quotes, level_asked, stops}
-use Rattle.jsx_syntax.specs.SoFar.{Staged, goes_at, goes_on_so_far, ends_so_far, so_far}
+use Rattle.jsx_syntax.specs.SoFar.{Staged, so_far}
+use Rattle.jsx_token.specs.Marks.{goes_at, goes_on_so_far, ends_so_far}
 use Rattle.jsx_tree.proofs.Tokens.{and_left, and_right, and_both}
 use Rattle.jsx_tree.proofs.Rows.Bridge.{node_read, node_walk}
 use Rattle.jsx_tree.proofs.Rows.Stopping.{covers, is_not, not_is, not_among, subset, smaller}

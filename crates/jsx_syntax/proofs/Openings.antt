@@ -12,8 +12,9 @@ use Rattle.jsx_tree.specs.Walk.{is_found, Given, Past, Piece, tree, tail, Walk, 
 use Rattle.jsx_tree.specs.Language.{Whole}
 use Rattle.jsx_tree.specs.Answers.{Moves, Barred, NoRow, NoNode, Built, BuiltNode}
 use Rattle.jsx_tree.specs.Grows.{Onward}
-use Rattle.jsx_syntax.specs.Stage.{has_kind, value_leaf}
-use Rattle.jsx_syntax.specs.SoFar.{Staged, row_so_far, so_far}
+use Rattle.jsx_token.specs.Stage.{has_kind, value_leaf}
+use Rattle.jsx_syntax.specs.SoFar.{Staged, so_far}
+use Rattle.jsx_token.specs.Marks.{row_so_far}
 use Rattle.jsx_tree.proofs.Tokens.{and_left, and_right, and_both}
 use Rattle.jsx_tree.proofs.Apart.{clash}
 use Rattle.jsx_tree.proofs.Rows.Bridge.{found_at}
@@ -23,11 +24,13 @@ use Rattle.jsx_tree.proofs.Rows.Bodies.{bodiless, plain as plain_row}
 use Rattle.jsx_tree.proofs.Rows.Closers.{any_operand}
 use Rattle.jsx_tree.proofs.Rows.Placing.{free, free_around, moved}
 use Rattle.jsx_syntax.proofs.OfSoFar.{of_so_far}
-use Rattle.jsx_syntax.specs.Growths.{is_level, level_of_kind, settled, opening_sign, opening_signs, same_sign, has_sign, is_code, Begins, NoneBegins, NoOpening, level}
-use Rattle.jsx_syntax.proofs.Listed.{Listed, listed, code, kinds, every, every_two, of_each, of_two, one_place, of_level, implies, implied}
+use Rattle.jsx_token.specs.Growths.{is_level, level_of_kind, settled, opening_sign, opening_signs, same_sign, has_sign, is_code, NoOpening}
+use Rattle.jsx_syntax.specs.Climbing.{Begins, NoneBegins, level}
+use Rattle.jsx_token.proofs.Listed.{Listed, listed, code, kinds, every, every_two, of_each, of_two, one_place, of_level, implies, implied}
 use Rattle.jsx_syntax.proofs.Homes.{Literal, IsName, IsNumber, IsLong, IsString, token_kind, IsPattern}
 use Rattle.jsx_syntax.proofs.Values.{First, name, opened, less_literal, led_sign, SameFirst, begun, onto, same_both, literal_sign, literal_opening, one_opening, opener_of, opened_sign, opened_led, level_single}
-use Rattle.jsx_syntax.proofs.Climbing.{grows_on, edge, edge_on, low, node_level, at_level, plain_kind, is_ruled, signed_node, signed_no_node, below_level, signed_built, signed_none}
+use Rattle.jsx_token.proofs.Levels.{grows_on, edge, at_level, is_ruled}
+use Rattle.jsx_syntax.proofs.Climbing.{edge_on, low, node_level, plain_kind, signed_node, signed_no_node, below_level, signed_built, signed_none}
 
 -- ---- of each kind
 

@@ -1,7 +1,7 @@
 -- The rows of the binary operators, and of what else goes on with an expression, behind their first sign.
 use Rattle.std.proofs.Common.{◌≡◌, ℕ, true, [], ◌∷◌, refl, subst}
 use Rattle.std.specs.Prelude.{IsTrue}
-use Rattle.jsx_tree.specs.Kinds.{BinaryOp, Nullish, Or, And, BitOr, BitXor, BitAnd, Equal, Unequal, StrictEqual, StrictUnequal, Less, Greater, AtMost, AtLeast, InOp, InstanceOf, ShiftLeft, ShiftRight, ShiftOut, Add, Subtract, Multiply, Divide, Remainder, Exponentiate, UnaryOp, Delete, Void, TypeOf, Positive, Negative, Complement, Not, Assign, OpAssign, Unary, Binary, Cond, Call, Member, Index, PostfixUpdate, Increment, Decrement, expression, Tree, node, none, part}
+use Rattle.jsx_tree.specs.Kinds.{BinaryOp, Nullish, Or, And, BitOr, BitXor, BitAnd, Equal, Unequal, StrictEqual, StrictUnequal, Less, Greater, AtMost, AtLeast, InOp, InstanceOf, ShiftLeft, ShiftRight, ShiftOut, Add, Subtract, Multiply, Divide, Remainder, Exponentiate, UnaryOp, Delete, Void, TypeOf, Positive, Negative, Complement, Not, Unary, Binary, expression, Tree, node, none, part}
 use Rattle.jsx_tree.specs.Nonterminals.{Expr}
 use Rattle.jsx_tree.specs.Grammar.{Fixed, Part, operator, right_of}
 use Rattle.jsx_tree.specs.Reading.{Place}
@@ -9,21 +9,10 @@ use Rattle.jsx_tree.specs.StaticRules.{Surroundings}
 use Rattle.jsx_tree.specs.Walk.{is_found, one, piece, tail}
 use Rattle.jsx_tree.specs.Answers.{Only, Barred, NoRow, Built}
 use Rattle.jsx_tree.specs.Grows.{operator_sign}
-use Rattle.jsx_syntax.specs.SoFar.{row_so_far, so_far}
+use Rattle.jsx_token.specs.Marks.{row_so_far}
+use Rattle.jsx_syntax.specs.SoFar.{so_far}
 use Rattle.jsx_tree.proofs.Rows.Steps.{bar, built_1}
-use Rattle.jsx_syntax.specs.declared.growth.Growth.{Growth}
-use Rattle.jsx_syntax.specs.declared.growth.Growth.TheVariants as growth
-use Rattle.jsx_tree.specs.declared.operator.AssignOp.{AssignOp}
-use Rattle.jsx_tree.specs.declared.operator.AssignOp.TheVariants as assign
-use Rattle.jsx_tree.specs.declared.operator.UpdateOp.TheVariants as update
-use Rattle.jsx_tree.specs.declared.operator.BitOp.TheVariants as bit
-use Rattle.jsx_tree.specs.declared.operator.ShiftOp.TheVariants as shift
-use Rattle.jsx_tree.specs.declared.operator.SumOp.TheVariants as sum
-use Rattle.jsx_tree.specs.declared.operator.ProductOp.TheVariants as product
-use Rattle.jsx_tree.specs.ViewOperators.{assign_of, binary_of}
-use Rattle.jsx_syntax.specs.Growths.{growth_kind, is_level, mark}
-use Rattle.jsx_syntax.proofs.Listed.{Listed, listed, listed_binary}
-use Rattle.jsx_syntax.proofs.Climbing.{grows_on}
+use Rattle.jsx_token.specs.Growths.{is_level, mark}
 
 pub behind_operator : (o : BinaryOp) → piece [] (Part (Expr (right_of o))) ∷ [] ≡ tail (tail (row_so_far (expression (Binary o))))
 behind_operator Nullish = refl
@@ -153,42 +142,3 @@ unary_built o {v} {x = x} {z = z} {w = w} q f is = subst (λ ps. Built so_far v 
 
 pub unary_none : (o : UnaryOp) {v : Surroundings} {x : Place} → Barred so_far v (Part (Expr 15)) x → NoRow so_far v (tail (row_so_far (expression (Unary o)))) x
 unary_none o {v} {x = x} b = subst (λ ps. NoRow so_far v ps x) (behind_prefix o) (bar b)
-
-assign_listed : (o : AssignOp) → Listed (expression (OpAssign (assign_of o)))
-assign_listed assign.Nullish = listed (expression (OpAssign (assign_of assign.Nullish))) refl refl refl
-assign_listed assign.Or = listed (expression (OpAssign (assign_of assign.Or))) refl refl refl
-assign_listed assign.And = listed (expression (OpAssign (assign_of assign.And))) refl refl refl
-assign_listed (assign.Bit bit.Or) = listed (expression (OpAssign (assign_of (assign.Bit bit.Or)))) refl refl refl
-assign_listed (assign.Bit bit.Xor) = listed (expression (OpAssign (assign_of (assign.Bit bit.Xor)))) refl refl refl
-assign_listed (assign.Bit bit.And) = listed (expression (OpAssign (assign_of (assign.Bit bit.And)))) refl refl refl
-assign_listed (assign.Shift shift.Left) = listed (expression (OpAssign (assign_of (assign.Shift shift.Left)))) refl refl refl
-assign_listed (assign.Shift shift.Right) = listed (expression (OpAssign (assign_of (assign.Shift shift.Right)))) refl refl refl
-assign_listed (assign.Shift shift.Out) = listed (expression (OpAssign (assign_of (assign.Shift shift.Out)))) refl refl refl
-assign_listed (assign.Sum sum.Add) = listed (expression (OpAssign (assign_of (assign.Sum sum.Add)))) refl refl refl
-assign_listed (assign.Sum sum.Subtract) = listed (expression (OpAssign (assign_of (assign.Sum sum.Subtract)))) refl refl refl
-assign_listed (assign.Product product.Multiply) = listed (expression (OpAssign (assign_of (assign.Product product.Multiply)))) refl refl refl
-assign_listed (assign.Product product.Divide) = listed (expression (OpAssign (assign_of (assign.Product product.Divide)))) refl refl refl
-assign_listed (assign.Product product.Remainder) = listed (expression (OpAssign (assign_of (assign.Product product.Remainder)))) refl refl refl
-assign_listed assign.Exponentiate = listed (expression (OpAssign (assign_of assign.Exponentiate))) refl refl refl
-
--- each of them is in the list, and goes on
-pub growth_listed : (g : Growth) → Listed (growth_kind g)
-growth_listed (growth.Binary o) = listed_binary (binary_of o)
-growth_listed growth.Assign = listed (expression Assign) refl refl refl
-growth_listed (growth.OpAssign o) = assign_listed o
-growth_listed growth.Cond = listed (expression Cond) refl refl refl
-growth_listed growth.Call = listed (expression Call) refl refl refl
-growth_listed growth.Member = listed (expression Member) refl refl refl
-growth_listed growth.Index = listed (expression Index) refl refl refl
-growth_listed (growth.Update update.Increment) = listed (expression (PostfixUpdate Increment)) refl refl refl
-growth_listed (growth.Update update.Decrement) = listed (expression (PostfixUpdate Decrement)) refl refl refl
-
-pub growth_grows : (g : Growth) → grows_on (growth_kind g) ≡ true
-growth_grows (growth.Binary o) = refl
-growth_grows growth.Assign = refl
-growth_grows (growth.OpAssign o) = refl
-growth_grows growth.Cond = refl
-growth_grows growth.Call = refl
-growth_grows growth.Member = refl
-growth_grows growth.Index = refl
-growth_grows (growth.Update o) = refl

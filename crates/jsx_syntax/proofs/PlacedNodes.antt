@@ -18,13 +18,14 @@ use Rattle.jsx_tree.specs.Spans.{from_first, Comes, spans, Told, tells, Tales, n
 use Rattle.jsx_tree.specs.View.{text_of, inside, forest, directive}
 use Rattle.jsx_tree.specs.Told.{told_list, told_text, told_node, told_jsx, told_directive}
 use Rattle.jsx_tree.specs.Walk.{is_found}
-use Rattle.jsx_syntax.specs.Here.{Here, place_of, sign_of}
-use Rattle.jsx_syntax.specs.declared.lexer.Fixed.TheVariants as fixed
-use Rattle.jsx_syntax.specs.declared.word.Word.TheVariants as word
-use Rattle.jsx_syntax.specs.Headings.{alternative_symbols, block_symbols}
-use Rattle.jsx_syntax.specs.Spans.{Spans, next_of, end_of, Takes, is_argument, IsPlaced, IsPlacedRow, IsPlacedList}
-use Rattle.jsx_syntax.specs.SoFar.{assign_sign}
-use Rattle.jsx_syntax.specs.Growths.{mark, opening_sign}
+use Rattle.jsx_token.specs.Here.{Here, place_of, sign_of}
+use Rattle.jsx_token.specs.declared.lexer.Fixed.TheVariants as fixed
+use Rattle.jsx_token.specs.declared.word.Word.TheVariants as word
+use Rattle.jsx_syntax.specs.Statements.{alternative_symbols, block_symbols}
+use Rattle.jsx_syntax.specs.Spans.{Spans, is_argument, IsPlaced, IsPlacedRow, IsPlacedList}
+use Rattle.jsx_token.specs.Places.{next_of, end_of, Takes}
+use Rattle.jsx_token.specs.Marks.{assign_sign}
+use Rattle.jsx_token.specs.Growths.{mark, opening_sign}
 use Rattle.jsx_base.proofs.Fronts.{other_ahead}
 use Rattle.jsx_tree.proofs.Apart.{clash}
 use Rattle.jsx_tree.proofs.Signs.{comma_too}

@@ -3,7 +3,7 @@ use Rattle.std.proofs.Common.{◌≡◌, ℕ, Some, sym, refl, ap, ◌∙◌}
 use Rattle.std.proofs.lemmas.Option.{same_Some}
 use Rattle.jsx_base.specs.declared.place.Span.{Span}
 use Rattle.jsx_base.specs.declared.place.BytePos.{BytePos}
-use Rattle.jsx_syntax.specs.NodeSpans.{At}
+use Rattle.jsx_make.specs.NodeSpans.{At}
 use Rattle.jsx_syntax.specs.Spans.{Spans, Extends, Starts}
 
 -- the same span between equal places

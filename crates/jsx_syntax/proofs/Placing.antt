@@ -16,8 +16,9 @@ use Rattle.jsx_tree.specs.Told.{tales}
 use Rattle.jsx_tree.proofs.Laws.{scan_append}
 use Rattle.jsx_tree.proofs.Tokens.{found_first}
 use Rattle.jsx_tree.specs.Walk.{is_found}
-use Rattle.jsx_syntax.specs.Here.{Here, place_of}
-use Rattle.jsx_syntax.specs.Spans.{Spans, next_of, end_of, Takes, is_argument, spanned_claims, IsPlacedAs, IsPlacedRow, IsPlacedListAs}
+use Rattle.jsx_token.specs.Here.{Here, place_of}
+use Rattle.jsx_syntax.specs.Spans.{Spans, is_argument, spanned_claims, IsPlacedAs, IsPlacedRow, IsPlacedListAs}
+use Rattle.jsx_token.specs.Places.{next_of, end_of, Takes}
 
 -- a guard that is kept leaves the place as it was
 guard : (b : Bool) (x : Place) → is_found (cond b x Lost) ≡ true → cond b x Lost ≡ x

@@ -22,11 +22,12 @@ use Rattle.jsx_tree.proofs.Rows.Bodies.{plain}
 use Rattle.jsx_tree.proofs.Rows.Guarded.{whole_walk, loosen, to_grammar}
 use Rattle.jsx_tree.proofs.Rows.Steps.{both}
 use Rattle.jsx_tree.proofs.Rows.Turns.{early, item_of, whole_of}
-use Rattle.jsx_syntax.specs.SoFar.{Staged, marks, goers, goes_at, steps, is_sign, is_mark, goes_on_so_far, ends_so_far, row_so_far, so_far}
-use Rattle.jsx_syntax.specs.Growths.{settled}
+use Rattle.jsx_syntax.specs.SoFar.{Staged, so_far}
+use Rattle.jsx_token.specs.Marks.{marks, goers, goes_at, steps, is_sign, is_mark, goes_on_so_far, ends_so_far, row_so_far}
+use Rattle.jsx_token.specs.Growths.{settled}
 use Rattle.jsx_syntax.proofs.OfSoFar.{of_so_far}
-use Rattle.jsx_syntax.proofs.Listed.{agree, agreed}
-use Rattle.jsx_syntax.proofs.Marks.{every_text, of_mark, by_sign, seen_sign}
+use Rattle.jsx_token.proofs.Listed.{agree, agreed}
+use Rattle.jsx_token.proofs.Marks.{every_text, of_mark, by_sign, seen_sign}
 use Rattle.jsx_syntax.proofs.Homes.{value, AtWhole, single, several, at_whole}
 use Rattle.jsx_syntax.proofs.Values.{at_any, at_one, move}
 

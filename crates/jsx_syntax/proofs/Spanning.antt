@@ -19,7 +19,7 @@ use Rattle.jsx_tree.specs.View.{template, view_word, Owner, access_step, control
 use Rattle.jsx_tree.proofs.Views.{views, view-Expr-Paren}
 use Rattle.jsx_tree.proofs.Telling.{telling}
 use Rattle.jsx_syntax.specs.Spans.{is_parens, pairs_round, spanned, as_argument}
-use Rattle.jsx_syntax.proofs.NodeSpans.{node_spans}
+use Rattle.jsx_make.proofs.NodeSpans.{node_spans}
 
 -- ---- what is in no parentheses by itself
 

@@ -25,18 +25,21 @@ use Rattle.jsx_tree.proofs.Rows.Firsts.{Keyed, kind_home, key_row, row_key}
 use Rattle.jsx_tree.proofs.Rows.Closers.{Closer, Shut, closes, shut_reading}
 use Rattle.jsx_tree.proofs.Rows.Steps.{only_sign, then'}
 use Rattle.jsx_tree.proofs.Rows.Placing.{Chosen, free, only_node, barred_node}
-use Rattle.jsx_syntax.specs.Stage.{leaf_at}
-use Rattle.jsx_syntax.specs.SoFar.{Staged, ends_so_far, row_so_far, so_far}
-use Rattle.jsx_syntax.specs.Growths.{is_code, lead, same_sign}
-use Rattle.jsx_syntax.specs.Headings.{NoHeading, heading_kind, heading_sign, is_lexical}
-use Rattle.jsx_syntax.specs.declared.heading.Heading.{Heading}
-use Rattle.jsx_syntax.specs.declared.heading.Heading.TheVariants as heading
+use Rattle.jsx_token.specs.Stage.{leaf_at}
+use Rattle.jsx_syntax.specs.SoFar.{Staged, so_far}
+use Rattle.jsx_token.specs.Marks.{ends_so_far, row_so_far}
+use Rattle.jsx_token.specs.Growths.{is_code, lead, same_sign}
+use Rattle.jsx_token.specs.Headings.{NoHeading, heading_kind, heading_sign, is_lexical}
+use Rattle.jsx_token.specs.declared.heading.Heading.{Heading}
+use Rattle.jsx_token.specs.declared.heading.Heading.TheVariants as heading
 use Rattle.jsx_syntax.proofs.OfSoFar.{of_so_far}
-use Rattle.jsx_syntax.proofs.Headings.{headings, number, every_heading, of_heading, every_two_headings, of_two_headings, one_number}
-use Rattle.jsx_syntax.proofs.Listed.{kinds, every, implies, implied, agree, agreed}
-use Rattle.jsx_syntax.proofs.Marks.{one_sign}
-use Rattle.jsx_syntax.proofs.Homes.{Taken, module', headed, bound, evaluation, sequence, operand, lives, no_list, no_operand_at, taken_by, home_of}
-use Rattle.jsx_syntax.proofs.Values.{signed, led_sign}
+use Rattle.jsx_token.proofs.Headings.{headings, number, every_heading, of_heading, every_two_headings, of_two_headings, one_number}
+use Rattle.jsx_token.proofs.Listed.{kinds, every, implies, implied, agree, agreed}
+use Rattle.jsx_token.proofs.Marks.{one_sign}
+use Rattle.jsx_syntax.proofs.Homes.{Taken, module', headed, bound, evaluation, sequence, operand, no_list, no_operand_at, taken_by, home_of}
+use Rattle.jsx_token.proofs.Lives.{lives}
+use Rattle.jsx_token.proofs.Levels.{signed}
+use Rattle.jsx_syntax.proofs.Values.{led_sign}
 
 -- ---- the places of statements
 

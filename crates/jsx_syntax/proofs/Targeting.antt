@@ -11,7 +11,7 @@ use Rattle.jsx_tree.specs.declared.tree.Access.TheOpen.{Jsx-F, Operation-F}
 use Rattle.jsx_tree.specs.declared.tree.Access.TheFolds.{fold_out-Jsx, fold_out-Operation}
 use Rattle.jsx_tree.specs.View.{template, view_word, Owner, access_step, control_step, expr_step, jsx_step, key_step, link_step, operation_step, pat_step, prop_step, stmt_step, view_jsx, view_operation}
 use Rattle.jsx_tree.proofs.Views.{views}
-use Rattle.jsx_syntax.specs.Growths.{is_target}
+use Rattle.jsx_syntax.specs.Climbing.{is_target}
 
 pub template_target : (b : Bool) (ps : List Text) (ts : List Tree) → is_target (template b ps ts) ≡ false
 template_target b [] ts = refl

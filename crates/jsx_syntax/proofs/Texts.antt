@@ -5,7 +5,7 @@ use Rattle.jsx_tree.specs.Kinds.{Module, program, Tree, Forest, node, list, none
 use Rattle.jsx_tree.specs.Nonterminals.{Item}
 use Rattle.jsx_tree.specs.Reading.{Place}
 use Rattle.jsx_tree.specs.StaticRules.{Surroundings}
-use Rattle.jsx_syntax.specs.Stage.{ReadsSoFar}
+use Rattle.jsx_token.specs.Stage.{ReadsSoFar}
 use Rattle.jsx_tree.specs.View.{forest}
 use Rattle.jsx_tree.specs.Texts.{start}
 use Rattle.jsx_tree.specs.Answers.{ToEnd, OnlyToEnd, NoneToEnd}

@@ -11,14 +11,15 @@ use Rattle.jsx_tree.specs.Form.{admits, enough, is_leaf}
 use Rattle.jsx_tree.specs.Spelling.{mode_of}
 use Rattle.jsx_tree.specs.Reading.{Place, Lost, At, forth}
 use Rattle.jsx_tree.specs.StaticRules.{Surroundings}
-use Rattle.jsx_syntax.specs.Stage.{leaf_at, value_leaf}
+use Rattle.jsx_token.specs.Stage.{leaf_at, value_leaf}
 use Rattle.jsx_tree.specs.Walk.{is_found, is_text, Given, Items, nil, last, more, Past, one, sign, tree, many, Relation, Piece, piece, tail, Walk, next, around}
 use Rattle.jsx_tree.specs.Language.{Whole}
 use Rattle.jsx_tree.specs.Answers.{Stuck, Only, Barred}
 use Rattle.jsx_tree.specs.Grows.{is_operand, Onward, starts, stay, step}
-use Rattle.jsx_syntax.specs.SoFar.{Staged, is_number, marks, steps, goes_on_so_far, ends_so_far, row_so_far, so_far}
+use Rattle.jsx_syntax.specs.SoFar.{Staged, is_number, so_far}
+use Rattle.jsx_token.specs.Marks.{ends_so_far, row_so_far}
 use Rattle.jsx_tree.proofs.Tokens.{and_left, and_right, and_both, one_text, same_is}
-use Rattle.jsx_tree.proofs.Apart.{by_not, clash, never_both, one_token, less_or_other, less_first, less_other, found_token}
+use Rattle.jsx_tree.proofs.Apart.{by_not, clash, one_token, less_or_other, less_first, less_other, found_token}
 use Rattle.jsx_base.proofs.Fronts.{none_ahead, other_ahead}
 use Rattle.jsx_tree.proofs.Signs.{not_first}
 use Rattle.jsx_tree.proofs.Rows.Bridge.{found_at}
@@ -27,11 +28,14 @@ use Rattle.jsx_tree.proofs.Rows.Turns.{whole_of}
 use Rattle.jsx_tree.proofs.Rows.Spines.{grows, grown, spine}
 use Rattle.jsx_syntax.proofs.OfSoFar.{of_so_far}
 use Rattle.jsx_syntax.proofs.Slashes.{is_slash, regexp_slash}
-use Rattle.jsx_syntax.specs.Growths.{lead, opening_sign, same_sign, is_level, settled, Begins}
-use Rattle.jsx_syntax.proofs.Listed.{Listed, kinds, every, of_each, of_level}
-use Rattle.jsx_syntax.specs.Headings.{heading_kind}
-use Rattle.jsx_syntax.proofs.Headings.{of_heading}
-use Rattle.jsx_syntax.proofs.Homes.{Literal, IsName, IsNumber, IsLong, IsString, IsPattern, token_kind, Value, literal, made, is_single, value, AtWhole, single, several, at_whole, Taken, module', headed, bound, evaluation, sequence, operand, staged_leaf, taken_by, home_of, no_list, no_operand, names}
+use Rattle.jsx_token.specs.Growths.{lead, opening_sign, same_sign, is_level, settled}
+use Rattle.jsx_syntax.specs.Climbing.{Begins}
+use Rattle.jsx_token.proofs.Listed.{Listed, kinds, every, of_each, of_level}
+use Rattle.jsx_token.specs.Headings.{heading_kind}
+use Rattle.jsx_token.proofs.Headings.{of_heading}
+use Rattle.jsx_syntax.proofs.Homes.{Literal, IsName, IsNumber, IsLong, IsString, IsPattern, token_kind, Value, literal, made, value, AtWhole, single, several, at_whole, Taken, module', headed, bound, evaluation, sequence, operand, staged_leaf, taken_by, home_of, no_list, no_operand, names}
+use Rattle.jsx_token.proofs.Lives.{is_single}
+use Rattle.jsx_token.proofs.Levels.{signed}
 
 -- ---- where a token ended
 
@@ -191,10 +195,6 @@ less_literal l t x a b = by (is_plain l) refl
     by false p = less_pattern t x a (pattern_there t x (pattern_is l p) b)
 
 -- ---- the signs with which an expression begins that is no literal
-
-abbrev pub signed : List Piece → Bool
-signed (piece [] (Fixed s) ∷ ps) = true
-signed ps = false
 
 pub lead_row : (ps : List Piece) → signed ps ≡ true → piece [] (Fixed (lead ps)) ∷ tail ps ≡ ps
 lead_row (piece [] (Fixed s) ∷ ps) g = refl

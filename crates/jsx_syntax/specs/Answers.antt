@@ -3,7 +3,7 @@ use Rattle.std.specs.Prelude.{◌≡◌, ◌≤◌, ℕ, Result, Err, ⊤}
 use Rattle.jsx_base.specs.Token.{Text}
 use Rattle.jsx_base.specs.declared.place.BytePos.{BytePos}
 use Rattle.jsx_tree.specs.Kinds.{Tree}
-use Rattle.jsx_syntax.specs.Stage.{ReadsSoFar}
+use Rattle.jsx_token.specs.Stage.{ReadsSoFar}
 use Rattle.jsx_syntax.specs.declared.error.ParseError.{ParseError}
 use Rattle.jsx_syntax.specs.declared.error.ParseError.TheVariants.{Syntax, Memory}
 

@@ -1,15 +1,6 @@
-pub mod Stage
 pub mod SoFar
 pub mod Around
-pub mod Here
-pub mod NodeSpans
 pub mod Spans
-pub mod Seen
 pub mod Answers
-pub mod Gaps
-pub mod Spelled
-pub mod WordTexts
-pub mod Headings
-pub mod Growths
-pub mod GrowthTokens
-pub mod Semicolons
+pub mod Statements
+pub mod Climbing

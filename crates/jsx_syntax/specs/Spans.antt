@@ -1,7 +1,6 @@
--- The places of tokens, in bytes from the text's begin, and the spans of nodes that were read.
-use Rattle.std.specs.Prelude.{◌≡◌, ◌-◌, ◌++◌, ℕ, suc, List, [], ◌∷◌, Option, Some, IsTrue, Bool, true, false, cond}
+-- The spans of nodes that were read, and the places of all that a tree has in it.
+use Rattle.std.specs.Prelude.{◌≡◌, ◌++◌, ℕ, suc, List, [], ◌∷◌, Option, Some, IsTrue, Bool, true, false, cond}
 use Rattle.jsx_base.specs.Token.{Text, skip}
-use Rattle.jsx_base.specs.Lines.{size}
 use Rattle.jsx_base.specs.declared.place.BytePos.{BytePos}
 use Rattle.jsx_base.specs.declared.place.Span.{Span}
 use Rattle.jsx_tree.specs.declared.tree.Expr.{Expr}
@@ -14,23 +13,14 @@ use Rattle.jsx_tree.specs.Kinds.{Parenthesized, expression, Tree, node, Forest, 
 use Rattle.jsx_tree.specs.Nonterminals.{Nonterminal, Argument}
 use Rattle.jsx_tree.specs.Grammar.{ListShape, Production}
 use Rattle.jsx_tree.specs.Spelling.{gathered, walk, saids, each_said, spelled}
-use Rattle.jsx_tree.specs.Reading.{forth, scan}
+use Rattle.jsx_tree.specs.Reading.{scan}
 use Rattle.jsx_tree.specs.View.{view_expr}
 use Rattle.jsx_tree.specs.Told.{told_expr}
 use Rattle.jsx_tree.specs.Spans.{from_first, extent, is_text, start, list_starts, starts, placed, places, each_placed, within, Claim, spans, comes, Holds, Told, tells, Tales, IsTold, AreTold}
 use Rattle.jsx_tree.specs.Walk.{is_found}
-use Rattle.jsx_syntax.specs.Here.{Here, place_of}
-use Rattle.jsx_syntax.specs.NodeSpans.{expr_at}
-
--- where the token that was taken last begins and ends, and where the next one begins
-abbrev pub begin_of : Here → ℕ
-begin_of h = h.end - size (h.last ++ h.rest)
-
-abbrev pub end_of : Here → ℕ
-end_of h = h.end - size h.rest
-
-abbrev pub next_of : Here → ℕ
-next_of h = h.end - size (skip h.rest)
+use Rattle.jsx_token.specs.Here.{Here, place_of}
+use Rattle.jsx_make.specs.NodeSpans.{expr_at}
+use Rattle.jsx_token.specs.Places.{Takes, begin_of, end_of, next_of}
 
 -- from one place to another
 pub record Spans (at : Option Span) (lo hi : ℕ) : Type 0 where
@@ -59,11 +49,6 @@ program_at (programs.Module m) = m.span
 program_at (programs.Script m) = m.span
 
 -- ---- the places of all that a tree has in it
-
--- a sign leads from one place of a text to another
-pub record Takes (s : Sign) (x y : Here) : Type 0 where
-  pub leads : forth s (place_of x) ≡ place_of y
-  pub same : y.end ≡ x.end
 
 -- whether what stands at a place is an argument, which stands where its parentheses do
 abbrev pub is_argument : Nonterminal → Bool

@@ -3,7 +3,7 @@
 ghost use Rattle.std.specs.Prelude.{◌≡◌};
 ghost use Rattle.jsx_tree.specs.View.{view_access, view_expr, view_jsx, view_operation};
 ghost use Rattle.jsx_tree.specs.Told.{told_access, told_expr, told_jsx, told_operation};
-ghost use Rattle.jsx_syntax.specs.NodeSpans.{expr_at};
+ghost use Rattle.jsx_make.specs.NodeSpans.{expr_at};
 ghost use Rattle.jsx_syntax.specs.Spans.{as_argument, spanned};
 
 use crate::expression::span_of;

@@ -12,25 +12,26 @@ ghost use Rattle.jsx_tree.specs.Told.{told_expr, told_list, told_pat};
 ghost use Rattle.jsx_tree.specs.Walk.{one, tail};
 ghost use Rattle.jsx_tree.specs.Answers.{Only, Barred, OnlyRow, NoRow, Built, NoNode, BuiltNode};
 ghost use Rattle.jsx_syntax.specs.Around.{around_of};
-ghost use Rattle.jsx_syntax.specs.SoFar.{is_number, row_so_far, so_far};
-ghost use Rattle.jsx_syntax.specs.Here.{place_of, left, sign_of};
-ghost use Rattle.jsx_syntax.specs.declared.lexer.Fixed.TheVariants as fixed;
+ghost use Rattle.jsx_syntax.specs.SoFar.{is_number, so_far};
+ghost use Rattle.jsx_token.specs.Marks.{row_so_far};
+ghost use Rattle.jsx_token.specs.Here.{place_of, left, sign_of};
+ghost use Rattle.jsx_token.specs.declared.lexer.Fixed.TheVariants as fixed;
 ghost use Rattle.jsx_syntax.specs.Answers.{Refused};
-ghost use Rattle.jsx_syntax.specs.Growths as growths;
-ghost use Rattle.jsx_syntax.specs.Growths.{Begins, NoOpening, behind, NoneBegins, growth_kind, is_level, mark, opening_kind, opening_sign, settled};
-ghost use Rattle.jsx_syntax.specs.NodeSpans.{access_at, expr_at, jsx_at, operation_at};
-ghost use Rattle.jsx_syntax.specs.Spans.{Extends, IsPlaced, IsPlacedAs, IsPlacedBehind, IsPlacedOn, IsPlacedRow, Spans, Starts, begin_of, end_of, next_of};
+ghost use Rattle.jsx_syntax.specs.Climbing as climbing;
+ghost use Rattle.jsx_syntax.specs.Climbing.{Begins, behind, NoneBegins};
+ghost use Rattle.jsx_token.specs.Growths.{NoOpening, growth_kind, is_level, mark, opening_kind, opening_sign, settled};
+ghost use Rattle.jsx_make.specs.NodeSpans.{access_at, expr_at, jsx_at, operation_at};
+ghost use Rattle.jsx_syntax.specs.Spans.{Extends, IsPlaced, IsPlacedAs, IsPlacedBehind, IsPlacedOn, IsPlacedRow, Spans, Starts};
+ghost use Rattle.jsx_token.specs.Places.{begin_of, end_of, next_of};
 
 use crate::argument::place_argument;
 use crate::around::Context;
 use crate::error::ParseError;
-use crate::growth::{self, Growth};
-use crate::identifiers::{is_bound, is_reserved, value_word};
-use crate::lexer::{Fixed, Leaf, Lexer};
-use crate::make;
-use crate::opening::Opening;
 use crate::parser::{expect, give_up, identifier_name, span_to, tag_name};
 use jsx_base::{BytePos, Span};
+use jsx_make::make;
+use jsx_token::growth::{self, Growth};
+use jsx_token::{Fixed, Leaf, Lexer, Opening, is_bound, is_reserved, value_word};
 use jsx_tree::{
     Access, AssignOp, BinaryOp, Expr, Ident, Jsx, LiteralKind, Operation, Pat, Tag, Text, UnaryOp,
     UpdateOp,
@@ -121,7 +122,7 @@ fn is_number(expr: &Expr) -> bool
 /// The level of an expression, up to that of calls and members.
 #[tactic(auto, using(crate::proofs::Leveling::leveling))]
 pub fn level(expr: &Expr) -> u8
-    ensures { result ≡ growths.level (view_expr expr.now) }
+    ensures { result ≡ climbing.level (view_expr expr.now) }
 {
     match expr {
         Expr::Operation(operation) => level_of_operation(operation),
@@ -131,7 +132,7 @@ pub fn level(expr: &Expr) -> u8
 
 #[tactic(auto, using(crate::proofs::Leveling::leveling))]
 fn level_of_operation(operation: &Operation) -> u8
-    ensures { result ≡ growths.level (view_operation operation.now) }
+    ensures { result ≡ climbing.level (view_operation operation.now) }
 {
     match operation {
         Operation::Seq(_, _) => 0,
@@ -153,7 +154,7 @@ fn level_of_operation(operation: &Operation) -> u8
 /// Whether an expression may stand at the left of what goes on with it: `-a` not of `**`, and of `??` nothing that binds
 /// less than `|` but another `??`.
 fn fits(growth: Growth, left: &Expr) -> bool
-    ensures { result ≡ growths.fits (growth_kind growth) (view_expr left.now) }
+    ensures { result ≡ climbing.fits (growth_kind growth) (view_expr left.now) }
 {
     match growth {
         Growth::Binary(operator) => fits_operator(operator, left),
@@ -168,7 +169,7 @@ fn fits(growth: Growth, left: &Expr) -> bool
 }
 
 fn fits_operator(operator: BinaryOp, left: &Expr) -> bool
-    ensures { result ≡ growths.fits (expression (Binary (binary_of operator))) (view_expr left.now) }
+    ensures { result ≡ climbing.fits (expression (Binary (binary_of operator))) (view_expr left.now) }
 {
     let level = level(left);
     level >= growth::left_level(operator) || level == 3 && growth::level(operator) == 3
@@ -177,7 +178,7 @@ fn fits_operator(operator: BinaryOp, left: &Expr) -> bool
 /// Whether an expression may be assigned to: a name that may be bound, or a member.
 #[tactic(auto, using(crate::proofs::Targeting::targeting))]
 fn is_target(expr: &Expr) -> bool
-    ensures { result ≡ growths.is_target (view_expr expr.now) }
+    ensures { result ≡ climbing.is_target (view_expr expr.now) }
 {
     match expr {
         Expr::Ident(_, name) => is_bound_text(&name.text),
@@ -206,7 +207,7 @@ fn is_bound_text(text: &Text) -> bool
 
 #[tactic(auto, using(crate::proofs::Targeting::targeting))]
 fn is_target_access(access: &Access) -> bool
-    ensures { result ≡ growths.is_target (view_access access.now) }
+    ensures { result ≡ climbing.is_target (view_access access.now) }
 {
     matches!(
         access,
@@ -249,7 +250,7 @@ fn is_name(expr: &Expr) -> bool
 }
 
 fn deletes_name(operator: UnaryOp, operand: &Expr) -> bool
-    ensures { result ≡ growths.deletes_name (unary_of operator) (view_expr operand.now) }
+    ensures { result ≡ climbing.deletes_name (unary_of operator) (view_expr operand.now) }
 {
     match operator {
         UnaryOp::Delete => is_name(operand),

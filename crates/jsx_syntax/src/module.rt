@@ -2,13 +2,13 @@
 
 ghost use Rattle.std.specs.Prelude.{◌≡◌, ◌<◌, ◌≤◌, IfOk, IfErr, Some, length, map, ℕ};
 ghost use Rattle.std.specs.Str.{chars};
-ghost use Rattle.jsx_syntax.specs.Stage.{ReadsSoFar};
+ghost use Rattle.jsx_token.specs.Stage.{ReadsSoFar};
 ghost use Rattle.jsx_tree.specs.Grammar.{TopLines};
 ghost use Rattle.jsx_tree.specs.View.{forest};
 ghost use Rattle.jsx_tree.specs.ViewProgram.{view, view_item};
 ghost use Rattle.jsx_tree.specs.Spans.{IsTold, placed_in};
 ghost use Rattle.jsx_tree.specs.Told.{tales, told, told_item};
-ghost use Rattle.jsx_syntax.specs.Here.{place_of};
+ghost use Rattle.jsx_token.specs.Here.{place_of};
 ghost use Rattle.jsx_tree.specs.Nonterminals as grammar;
 ghost use Rattle.jsx_tree.specs.Answers.{OnlyToEnd, NoneToEnd};
 ghost use Rattle.jsx_syntax.specs.Around.{around_of};
@@ -18,9 +18,9 @@ ghost use Rattle.jsx_syntax.specs.Spans.{IsPlacedList, Spans, program_at};
 
 use crate::around::{Around, Context, Labels};
 use crate::error::ParseError;
-use crate::lexer::Lexer;
 use crate::statement::statement;
 use jsx_base::{BytePos, Span};
+use jsx_token::Lexer;
 use jsx_tree::{Item, Module, Program};
 use std::alloc::Global;
 

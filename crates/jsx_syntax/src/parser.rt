@@ -9,7 +9,7 @@ ghost use Rattle.jsx_tree.specs.Told.{told_pat};
 ghost use Rattle.jsx_tree.specs.Kinds.{Binds, leaf};
 ghost use Rattle.jsx_tree.specs.Nonterminals as grammar;
 ghost use Rattle.jsx_tree.specs.View.{text_of, view_pat};
-ghost use Rattle.jsx_syntax.specs.Here.{place_of, left, sign_of};
+ghost use Rattle.jsx_token.specs.Here.{place_of, left, sign_of};
 ghost use Rattle.jsx_tree.specs.Grammar.{Part, semi};
 ghost use Rattle.jsx_tree.specs.Grammar as symbol;
 ghost use Rattle.jsx_tree.specs.Walk.{nothing, one};
@@ -17,15 +17,15 @@ ghost use Rattle.jsx_tree.specs.Answers.{Only, Barred};
 ghost use Rattle.jsx_syntax.specs.Around.{around_of};
 ghost use Rattle.jsx_syntax.specs.SoFar.{so_far};
 ghost use Rattle.jsx_syntax.specs.Answers.{Refused};
-ghost use Rattle.jsx_syntax.specs.NodeSpans.{pat_at};
-ghost use Rattle.jsx_syntax.specs.Spans.{FailsAt, IsPlaced, Spans, Takes, begin_of, end_of, next_of};
+ghost use Rattle.jsx_make.specs.NodeSpans.{pat_at};
+ghost use Rattle.jsx_syntax.specs.Spans.{FailsAt, IsPlaced, Spans};
+ghost use Rattle.jsx_token.specs.Places.{Takes, begin_of, end_of, next_of};
 
 use crate::around::Context;
 use crate::error::ParseError;
-use crate::identifiers::{is_bound, is_plain_tag};
-use crate::lexer::{Fixed, Leaf, Lexer};
-use crate::make;
 use jsx_base::{BytePos, Span};
+use jsx_make::make;
+use jsx_token::{Fixed, Leaf, Lexer, is_bound, is_plain_tag};
 use jsx_tree::{Ident, Pat, Text};
 
 /// From a place to the end of the token that was taken last.

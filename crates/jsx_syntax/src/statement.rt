@@ -5,30 +5,31 @@ ghost use Rattle.jsx_tree.specs.Kinds.{Block, Var, Empty, ExprStmt, If, Do, Whil
 ghost use Rattle.jsx_tree.specs.Nonterminals as grammar;
 ghost use Rattle.jsx_tree.specs.Grammar.{Many, NoTrailing, Part, semi};
 ghost use Rattle.jsx_tree.specs.StaticRules.{all_of, has_init};
-ghost use Rattle.jsx_syntax.specs.Stage.{is_string};
+ghost use Rattle.jsx_token.specs.Stage.{is_string};
 ghost use Rattle.jsx_tree.specs.View.{forest, inside, optional_of, view_expr, view_pat, view_stmt, word_of};
 ghost use Rattle.jsx_tree.specs.Spans.{no_tales, tale};
 ghost use Rattle.jsx_tree.specs.Told.{told_list, told_optional, told_pat, told_stmt};
 ghost use Rattle.jsx_tree.specs.Walk.{one, tail};
 ghost use Rattle.jsx_tree.specs.Answers.{Only, Barred, OnlyRow, NoRow, NoNode, BuiltNode};
 ghost use Rattle.jsx_syntax.specs.Around.{around_of};
-ghost use Rattle.jsx_syntax.specs.SoFar.{row_so_far, so_far};
-ghost use Rattle.jsx_syntax.specs.Here.{place_of, left};
-ghost use Rattle.jsx_syntax.specs.Growths.{opening_sign};
-ghost use Rattle.jsx_syntax.specs.Headings.{Closes, alternative_row, alternative_symbols, block_symbols, has_value, heading_kind, heading_sign};
+ghost use Rattle.jsx_token.specs.Marks.{row_so_far};
+ghost use Rattle.jsx_syntax.specs.SoFar.{so_far};
+ghost use Rattle.jsx_token.specs.Here.{place_of, left};
+ghost use Rattle.jsx_token.specs.Growths.{opening_sign};
+ghost use Rattle.jsx_syntax.specs.Statements.{Closes, alternative_row, alternative_symbols, block_symbols, has_value};
+ghost use Rattle.jsx_token.specs.Headings.{heading_kind, heading_sign};
 ghost use Rattle.jsx_syntax.specs.Answers.{Refused};
-ghost use Rattle.jsx_syntax.specs.Semicolons.{in_list};
-ghost use Rattle.jsx_syntax.specs.NodeSpans.{pat_at, stmt_at};
-ghost use Rattle.jsx_syntax.specs.Spans.{IsPlaced, IsPlacedBehind, IsPlacedRow, Spans, begin_of, end_of, next_of};
+ghost use Rattle.jsx_token.specs.Semicolons.{in_list};
+ghost use Rattle.jsx_make.specs.NodeSpans.{pat_at, stmt_at};
+ghost use Rattle.jsx_syntax.specs.Spans.{IsPlaced, IsPlacedBehind, IsPlacedRow, Spans};
+ghost use Rattle.jsx_token.specs.Places.{begin_of, end_of, next_of};
 
 use crate::around::Context;
 use crate::error::ParseError;
 use crate::expression::{ASSIGNMENT, expression, sequence, start_of};
-use crate::heading::Heading;
-use crate::lexer::{Ending, Fixed, Lexer};
-use crate::make;
 use crate::parser::{binding_identifier, expect, give_up, semicolon, span_to};
-use crate::word::Word;
+use jsx_make::make;
+use jsx_token::{Ending, Fixed, Heading, Lexer, Word};
 use jsx_tree::{DeclareWord, Expr, LiteralKind, Pat, Stmt};
 
 /// A variable, with an initializer or without: `a = b`.

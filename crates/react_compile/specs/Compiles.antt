@@ -5,7 +5,7 @@ use Rattle.jsx_tree.specs.declared.text.Goal.TheVariants as goals
 use Rattle.jsx_tree.specs.Kinds.{Tree}
 use Rattle.jsx_tree.specs.Normal.{nf}
 use Rattle.jsx_tree.specs.Program.{Reads}
-use Rattle.jsx_syntax.specs.Stage.{ReadsSoFar}
+use Rattle.jsx_token.specs.Stage.{ReadsSoFar}
 use Rattle.react_compile.specs.Element.{default_settings}
 use Rattle.react_compile.specs.StandsFor.{StandsFor, has_jsx}
 

@@ -5,7 +5,7 @@ ghost use Rattle.std.specs.Str.{IsUtf8};
 ghost use Rattle.react_compile.specs.ParseErrors.{SyntaxWithin};
 ghost use Rattle.jsx_tree.specs.Kinds.{Tree};
 ghost use Rattle.jsx_base.specs.Token as token;
-ghost use Rattle.jsx_syntax.specs.Stage.{ReadsSoFar};
+ghost use Rattle.jsx_token.specs.Stage.{ReadsSoFar};
 ghost use Rattle.jsx_tree.specs.ViewProgram.{view};
 ghost use Rattle.react_compile.specs.Compiles.{Compiles, IsCodeFor, IsSource};
 

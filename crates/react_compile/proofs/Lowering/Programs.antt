@@ -17,7 +17,7 @@ use Rattle.jsx_tree.specs.StaticRules.{outside}
 use Rattle.jsx_tree.specs.Fits.{fits}
 use Rattle.jsx_tree.specs.Program.{Reads}
 use Rattle.jsx_tree.specs.Sound.{formed, lawful, is_sound}
-use Rattle.jsx_syntax.specs.Stage.{ReadsSoFar}
+use Rattle.jsx_token.specs.Stage.{ReadsSoFar}
 use Rattle.jsx_tree.proofs.ReadBack.Programs.{marked_is}
 use Rattle.jsx_tree.proofs.Parentheses.Programs.{dressed_fits, dressed_goal, dressed_same}
 use Rattle.jsx_tree.proofs.Parentheses.Unwrapped.{unwrapped_goal}

@@ -7,7 +7,7 @@ use Rattle.jsx_tree.specs.Kinds.{BinaryOp, Nullish, Kind, program, statement, fu
 use Rattle.jsx_tree.specs.Nonterminals.{Nonterminal, TagName, Attributes, WholeProgram, assigns, expr, in_homes, homes}
 use Rattle.jsx_tree.specs.Form.{Position, position, positions, shaped, last_only, admits, fits_below, fit_slots, fit_each, is}
 use Rattle.jsx_tree.specs.Sound.{each_node, each_nodes}
-use Rattle.jsx_syntax.specs.Stage.{has_kind, limits, leaf_at, in_stage, in_stages, each_in_stage, ReadsSoFar}
+use Rattle.jsx_token.specs.Stage.{has_kind, limits, leaf_at, in_stage, in_stages, each_in_stage, ReadsSoFar}
 use Rattle.react_compile.specs.Lowering.{is_lowerable, can_lower, is_bare_target, has_bare_targets}
 
 -- no kind that is taken is a tag's name or an attribute

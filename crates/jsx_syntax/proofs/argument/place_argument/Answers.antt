@@ -1,7 +1,7 @@
 use Rattle.std.proofs.Common.{◌∙◌, ap}
 use Rattle.jsx_tree.specs.Told.{told_expr}
 use Rattle.jsx_tree.specs.View.{view_expr}
-use Rattle.jsx_syntax.specs.NodeSpans.{expr_at}
+use Rattle.jsx_make.specs.NodeSpans.{expr_at}
 use Rattle.jsx_syntax.specs.Spans.{as_argument}
 use Rattle.jsx_syntax.proofs.argument.place_argument.Goals as goal
 

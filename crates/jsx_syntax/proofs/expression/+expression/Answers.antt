@@ -10,31 +10,35 @@ use Rattle.jsx_tree.specs.Reading.{Place}
 use Rattle.jsx_tree.specs.StaticRules.{Surroundings}
 use Rattle.jsx_tree.specs.Walk.{one, tail}
 use Rattle.jsx_tree.specs.Answers.{Only, NoRow, NoNode, BuiltNode}
-use Rattle.jsx_syntax.specs.SoFar.{so_far, row_so_far}
+use Rattle.jsx_syntax.specs.SoFar.{so_far}
+use Rattle.jsx_token.specs.Marks.{row_so_far}
 use Rattle.jsx_syntax.specs.Around.{around_of}
-use Rattle.jsx_syntax.specs.Here.{place_of, left}
-use Rattle.jsx_syntax.specs.NodeSpans.{expr_at}
-use Rattle.jsx_syntax.specs.Growths.{NoOpening, growth_kind, opening_kind, fits, is_level, settled, is_target, level, deletes_name}
+use Rattle.jsx_token.specs.Here.{place_of, left}
+use Rattle.jsx_make.specs.NodeSpans.{expr_at}
+use Rattle.jsx_token.specs.Growths.{NoOpening, growth_kind, opening_kind, is_level, settled}
+use Rattle.jsx_syntax.specs.Climbing.{fits, is_target, level, deletes_name}
 use Rattle.jsx_tree.specs.ViewOperators.{assign_of, binary_of, unary_of, step_of}
-use Rattle.jsx_syntax.specs.Spans.{IsPlacedListAs, Spans, Takes, end_of, next_of}
+use Rattle.jsx_syntax.specs.Spans.{IsPlacedListAs, Spans}
+use Rattle.jsx_token.specs.Places.{Takes, end_of, next_of}
 use Rattle.jsx_syntax.proofs.OfSoFar.{of_so_far}
 use Rattle.jsx_tree.proofs.Rows.Steps.{both, bar, no_sign, on, only_sign, built_1, built_2, built_3}
 use Rattle.jsx_tree.proofs.Rows.Lists.{begun, ended, ended_behind, no_more, not_closed, item_more, round}
 use Rattle.jsx_syntax.proofs.Values.{only_argument, barred_argument, settled_token, sign_ended}
-use Rattle.jsx_syntax.proofs.Operators.{binary_built, binary_none, unary_none, mark_is, right_is_level, growth_listed, growth_grows, unary_built}
+use Rattle.jsx_syntax.proofs.Operators.{binary_built, binary_none, unary_none, mark_is, right_is_level, unary_built}
+use Rattle.jsx_token.proofs.Levels.{growth_listed, growth_grows}
 use Rattle.jsx_syntax.proofs.Climbing.{climb_only, climb_on, climb_barred, climb_unfit}
 use Rattle.jsx_tree.proofs.Rows.Placing.{no_node}
 use Rattle.jsx_syntax.proofs.Openings.{kept_behind, signed_follows, unread_opening}
 use Rattle.jsx_syntax.proofs.Deleting.{no_deleted, unary_node}
-use Rattle.jsx_syntax.specs.declared.opening.Opening.{Opening}
-use Rattle.jsx_syntax.specs.declared.opening.Opening.TheVariants as opening
+use Rattle.jsx_token.specs.declared.opening.Opening.{Opening}
+use Rattle.jsx_token.specs.declared.opening.Opening.TheVariants as opening
 use Rattle.jsx_syntax.proofs.Targets.{only_target, no_target, unfit_target}
 use Rattle.std.proofs.lemmas.Bool.{le-leb, lt-leb}
-use Rattle.jsx_syntax.proofs.TakingOpenings.{opening_listed, opening_opens}
-use Rattle.jsx_syntax.proofs.TakingGrowths.{ended as stopped}
+use Rattle.jsx_token.proofs.TakingOpenings.{opening_listed, opening_opens}
+use Rattle.jsx_token.proofs.TakingGrowths.{ended as stopped}
 use Rattle.jsx_syntax.proofs.Places.{spans_from}
 use Rattle.jsx_syntax.proofs.Steps.{passed}
-use Rattle.jsx_syntax.proofs.Ahead.{an_arrow, no_arrow}
+use Rattle.jsx_token.proofs.Ahead.{an_arrow, no_arrow}
 use Rattle.jsx_syntax.proofs.Arguments.{paren_placed, argument_placed}
 use Rattle.jsx_syntax.proofs.Homes.{never_list}
 use Rattle.jsx_syntax.proofs.Trees.{pushed}

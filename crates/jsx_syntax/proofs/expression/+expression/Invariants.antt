@@ -4,12 +4,14 @@ use Rattle.jsx_tree.specs.Grammar.{Commas, TwoOrMore}
 use Rattle.jsx_tree.specs.Told.{tales, told_expr}
 use Rattle.jsx_tree.specs.View.{forest, inside, view_expr}
 use Rattle.jsx_tree.specs.Walk.{tail}
-use Rattle.jsx_syntax.specs.SoFar.{row_so_far, so_far}
+use Rattle.jsx_token.specs.Marks.{row_so_far}
+use Rattle.jsx_syntax.specs.SoFar.{so_far}
 use Rattle.jsx_syntax.specs.Around.{around_of}
-use Rattle.jsx_syntax.specs.Here.{place_of, left}
-use Rattle.jsx_syntax.specs.Growths.{Climbs}
-use Rattle.jsx_syntax.specs.NodeSpans.{expr_at}
-use Rattle.jsx_syntax.specs.Spans.{IsPlaced, IsPlacedListAs, Spans, end_of, next_of}
+use Rattle.jsx_token.specs.Here.{place_of, left}
+use Rattle.jsx_syntax.specs.Climbing.{Climbs}
+use Rattle.jsx_make.specs.NodeSpans.{expr_at}
+use Rattle.jsx_syntax.specs.Spans.{IsPlaced, IsPlacedListAs, Spans}
+use Rattle.jsx_token.specs.Places.{end_of, next_of}
 use Rattle.jsx_tree.proofs.Rows.Turns.{Turn, prepend}
 use Rattle.jsx_syntax.proofs.Placing.{PlacedFront}
 use Rattle.jsx_syntax.proofs.PlacedNodes.{Led}

@@ -7,9 +7,10 @@ use Rattle.jsx_tree.specs.Walk.{is_found}
 use Rattle.jsx_tree.specs.Answers.{Built}
 use Rattle.jsx_tree.specs.ViewOperators.{step_of}
 use Rattle.jsx_syntax.specs.SoFar.{so_far}
-use Rattle.jsx_syntax.specs.Growths.{behind}
-use Rattle.jsx_syntax.specs.NodeSpans.{expr_at}
-use Rattle.jsx_syntax.specs.Spans.{Spans, next_of, end_of}
+use Rattle.jsx_syntax.specs.Climbing.{behind}
+use Rattle.jsx_make.specs.NodeSpans.{expr_at}
+use Rattle.jsx_syntax.specs.Spans.{Spans}
+use Rattle.jsx_token.specs.Places.{next_of, end_of}
 use Rattle.jsx_tree.proofs.Rows.Steps.{end}
 use Rattle.jsx_syntax.proofs.Places.{spans_from}
 use Rattle.jsx_syntax.proofs.Placing.{placed_as}

@@ -8,12 +8,13 @@ use Rattle.jsx_tree.specs.Reading.{Place, forth}
 use Rattle.jsx_tree.specs.StaticRules.{Surroundings}
 use Rattle.jsx_tree.specs.View.{view_expr}
 use Rattle.jsx_tree.specs.Answers.{NoRow, Built}
-use Rattle.jsx_syntax.specs.SoFar.{row_so_far, so_far}
+use Rattle.jsx_token.specs.Marks.{row_so_far}
+use Rattle.jsx_syntax.specs.SoFar.{so_far}
 use Rattle.jsx_syntax.specs.Around.{around_of}
-use Rattle.jsx_syntax.specs.Here.{place_of}
-use Rattle.jsx_syntax.specs.Growths.{Begins}
+use Rattle.jsx_token.specs.Here.{place_of}
+use Rattle.jsx_syntax.specs.Climbing.{Begins}
 use Rattle.jsx_syntax.proofs.Homes.{IsName, IsNumber, IsLong, IsString, IsPattern}
-use Rattle.jsx_syntax.proofs.Listed.{listed}
+use Rattle.jsx_token.proofs.Listed.{listed}
 use Rattle.jsx_syntax.proofs.Values.{literal_follows, or_left}
 use Rattle.jsx_syntax.proofs.Openings.{kept_whole, opened_follows, unfit_literal, no_value}
 use Rattle.jsx_syntax.proofs.Steps.{passed}

@@ -8,7 +8,7 @@ use Rattle.jsx_tree.specs.Walk.{one}
 use Rattle.jsx_tree.specs.Answers.{Only, Barred}
 use Rattle.jsx_syntax.specs.SoFar.{so_far}
 use Rattle.jsx_syntax.specs.Around.{around_of}
-use Rattle.jsx_syntax.specs.Here.{place_of}
+use Rattle.jsx_token.specs.Here.{place_of}
 use Rattle.jsx_syntax.specs.Spans.{IsPlacedList}
 use Rattle.jsx_tree.proofs.Rows.Lines.{Onto, onto_none, onto_more, onto_end, onto_barred}
 use Rattle.jsx_syntax.proofs.OfSoFar.{of_so_far}

@@ -8,7 +8,7 @@ use Rattle.jsx_syntax.specs.Spans.{IsPlacedList}
 use Rattle.jsx_syntax.proofs.Placing.{PlacedFront}
 use Rattle.jsx_syntax.specs.SoFar.{so_far}
 use Rattle.jsx_syntax.specs.Around.{around_of}
-use Rattle.jsx_syntax.specs.Here.{place_of, left}
+use Rattle.jsx_token.specs.Here.{place_of, left}
 use Rattle.jsx_tree.proofs.Rows.Lines.{Onto}
 use Rattle.jsx_syntax.proofs.module.items.Given as goal
 

@@ -8,7 +8,7 @@ use Rattle.jsx_tree.specs.Walk.{one}
 use Rattle.jsx_tree.specs.Answers.{Only}
 use Rattle.jsx_syntax.specs.SoFar.{so_far}
 use Rattle.jsx_syntax.specs.Around.{around_of}
-use Rattle.jsx_syntax.specs.Here.{place_of}
+use Rattle.jsx_token.specs.Here.{place_of}
 use Rattle.jsx_syntax.proofs.Homes.{patterns, only_leaf, no_leaf, unfit_leaf}
 use Rattle.jsx_syntax.proofs.parser.binding_identifier.Goals as goal
 

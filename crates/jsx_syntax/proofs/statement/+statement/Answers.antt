@@ -10,9 +10,10 @@ use Rattle.jsx_tree.proofs.Rows.Lists.{begun}
 use Rattle.jsx_tree.proofs.Rows.Placing.{no_node}
 use Rattle.jsx_tree.proofs.Rows.Steps.{bar, on, only_sign}
 use Rattle.jsx_syntax.specs.Around.{around_of}
-use Rattle.jsx_syntax.specs.Headings.{alternative_row, alternative_symbols}
-use Rattle.jsx_syntax.specs.Here.{place_of, left}
-use Rattle.jsx_syntax.specs.SoFar.{row_so_far, so_far}
+use Rattle.jsx_syntax.specs.Statements.{alternative_row, alternative_symbols}
+use Rattle.jsx_token.specs.Here.{place_of, left}
+use Rattle.jsx_token.specs.Marks.{row_so_far}
+use Rattle.jsx_syntax.specs.SoFar.{so_far}
 use Rattle.jsx_syntax.specs.Spans.{IsPlacedList, IsPlacedRow}
 use Rattle.jsx_syntax.proofs.Blocks.{block_built, line_barred, line_ended, line_more}
 use Rattle.jsx_syntax.proofs.Controls.{barred_in, do_built, no_while_body, only_in, while_built}

@@ -4,7 +4,7 @@ use Rattle.jsx_tree.specs.Told.{tales, told_stmt}
 use Rattle.jsx_tree.specs.View.{forest, inside, view_stmt}
 use Rattle.jsx_tree.proofs.Rows.Turns.{Turn, prepend}
 use Rattle.jsx_syntax.specs.Around.{around_of}
-use Rattle.jsx_syntax.specs.Here.{place_of, left}
+use Rattle.jsx_token.specs.Here.{place_of, left}
 use Rattle.jsx_syntax.specs.SoFar.{so_far}
 use Rattle.jsx_syntax.specs.Spans.{IsPlacedList}
 use Rattle.jsx_syntax.proofs.Blocks.{braced}

@@ -1,6 +1,6 @@
 use Rattle.std.proofs.Common.{refl, ◌∙◌, ap}
 use Rattle.jsx_tree.proofs.Rows.Placing.{no_node}
-use Rattle.jsx_syntax.specs.Here.{place_of}
+use Rattle.jsx_token.specs.Here.{place_of}
 use Rattle.jsx_syntax.proofs.Controls.{continue_built, no_continue, unended}
 use Rattle.jsx_syntax.proofs.Steps.{passed}
 use Rattle.jsx_syntax.proofs.Placing.{placed_as, takes_ends}

@@ -1,7 +1,7 @@
 use Rattle.std.proofs.Common.{refl, ◌∙◌, ap}
 use Rattle.jsx_tree.proofs.Rows.Placing.{no_node}
 use Rattle.jsx_tree.proofs.Rows.Steps.{bar, on, only_sign}
-use Rattle.jsx_syntax.specs.Here.{place_of}
+use Rattle.jsx_token.specs.Here.{place_of}
 use Rattle.jsx_syntax.proofs.Controls.{debugger_built}
 use Rattle.jsx_syntax.proofs.Steps.{passed}
 use Rattle.jsx_syntax.proofs.Placing.{placed_as, takes_ends}

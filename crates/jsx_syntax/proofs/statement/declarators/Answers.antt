@@ -4,14 +4,14 @@ use Rattle.jsx_tree.specs.Grammar.{NoTrailing}
 use Rattle.jsx_tree.specs.View.{forest, inside, view_pat, word_of}
 use Rattle.jsx_tree.specs.Told.{told_pat}
 use Rattle.jsx_tree.specs.Walk.{is_found}
-use Rattle.jsx_syntax.specs.Headings.{has_value}
-use Rattle.jsx_syntax.specs.Here.{place_of}
+use Rattle.jsx_syntax.specs.Statements.{has_value}
+use Rattle.jsx_token.specs.Here.{place_of}
 use Rattle.jsx_syntax.proofs.OfSoFar.{of_so_far}
 use Rattle.jsx_tree.proofs.Rows.Lists.{begun, none_next, not_shut, shut}
 use Rattle.jsx_tree.proofs.Rows.Placing.{no_node}
 use Rattle.jsx_syntax.proofs.Items.{inits, inits_more, no_init, read_value}
 use Rattle.jsx_syntax.proofs.Steps.{passed}
-use Rattle.jsx_syntax.proofs.Semicolons.{comma_first, one_more}
+use Rattle.jsx_token.proofs.Semicolons.{comma_first, one_more}
 use Rattle.jsx_syntax.proofs.Trees.{pushed}
 use Rattle.jsx_syntax.proofs.Placing.{PlacedFront, plain_no_trailing, row_end, row_sign, row_list, front_more, front_last, front_none, list_to, map_pushed}
 use Rattle.jsx_syntax.proofs.statement.declarators.Goals as goal

@@ -5,7 +5,7 @@ use Rattle.jsx_tree.specs.View.{forest, inside, view_pat, word_of}
 use Rattle.jsx_tree.specs.Told.{told_pat}
 use Rattle.jsx_syntax.specs.SoFar.{so_far}
 use Rattle.jsx_syntax.specs.Around.{around_of}
-use Rattle.jsx_syntax.specs.Here.{place_of, left}
+use Rattle.jsx_token.specs.Here.{place_of, left}
 use Rattle.jsx_tree.proofs.Rows.Turns.{Turn, prepend}
 use Rattle.jsx_syntax.proofs.Items.{behind_word, inits}
 use Rattle.jsx_syntax.proofs.Placing.{PlacedFront}

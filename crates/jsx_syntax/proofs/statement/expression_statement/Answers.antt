@@ -1,8 +1,9 @@
 use Rattle.std.proofs.Common.{refl, sym, ◌∙◌, ap, subst}
-use Rattle.jsx_syntax.specs.Stage.{is_string}
+use Rattle.jsx_token.specs.Stage.{is_string}
 use Rattle.jsx_tree.specs.View.{view_expr}
-use Rattle.jsx_syntax.specs.NodeSpans.{expr_at}
-use Rattle.jsx_syntax.specs.Spans.{Spans, end_of, next_of}
+use Rattle.jsx_make.specs.NodeSpans.{expr_at}
+use Rattle.jsx_syntax.specs.Spans.{Spans}
+use Rattle.jsx_token.specs.Places.{end_of, next_of}
 use Rattle.jsx_tree.proofs.Rows.Placing.{no_node}
 use Rattle.jsx_syntax.proofs.Items.{statement_built, no_value_statement, string_statement, unfinished}
 use Rattle.jsx_syntax.proofs.Steps.{passed}

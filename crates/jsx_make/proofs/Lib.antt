@@ -1,0 +1,2 @@
+pub mod NodeSpans
+pub mod Making

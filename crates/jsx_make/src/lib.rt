@@ -1,0 +1,4 @@
+//! The makers of nodes of the tree, each with what the node is, tells and spans.
+#![tactic(auto)]
+
+pub mod make;

@@ -1,6 +1,0 @@
-use Rattle.jsx_syntax.proofs.Words.{is_arrow}
-use Rattle.jsx_syntax.proofs.characters.is_arrow.Goals as goal
-use Rattle.std.proofs.Common.{◌∙◌}
-
-pub returns : goal.returns
-returns c = c.eq.ensures ∙ is_arrow c.args.token.now c.utf8.token

@@ -1,6 +1,0 @@
-use Rattle.jsx_syntax.proofs.Words.{is_comma}
-use Rattle.jsx_syntax.proofs.characters.is_comma.Goals as goal
-use Rattle.std.proofs.Common.{◌∙◌}
-
-pub returns : goal.returns
-returns c = c.eq.ensures ∙ is_comma c.args.raw.now c.utf8.raw

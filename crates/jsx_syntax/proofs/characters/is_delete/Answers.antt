@@ -1,6 +1,0 @@
-use Rattle.jsx_syntax.proofs.Words.{is_delete}
-use Rattle.jsx_syntax.proofs.characters.is_delete.Goals as goal
-use Rattle.std.proofs.Common.{◌∙◌}
-
-pub returns : goal.returns
-returns c = c.eq.ensures ∙ is_delete c.args.word.now c.utf8.word

@@ -1,6 +1,0 @@
-use Rattle.jsx_syntax.proofs.Words.{is_equals}
-use Rattle.jsx_syntax.proofs.characters.is_equals.Goals as goal
-use Rattle.std.proofs.Common.{◌∙◌}
-
-pub returns : goal.returns
-returns c = c.eq.ensures ∙ is_equals c.args.raw.now c.utf8.raw

@@ -1,6 +1,0 @@
-use Rattle.jsx_syntax.proofs.Words.{is_instanceof}
-use Rattle.jsx_syntax.proofs.characters.is_instanceof.Goals as goal
-use Rattle.std.proofs.Common.{◌∙◌}
-
-pub returns : goal.returns
-returns c = c.eq.ensures ∙ is_instanceof c.args.word.now c.utf8.word

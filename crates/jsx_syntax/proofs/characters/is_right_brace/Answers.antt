@@ -1,6 +1,0 @@
-use Rattle.jsx_syntax.proofs.Words.{is_right_brace}
-use Rattle.jsx_syntax.proofs.characters.is_right_brace.Goals as goal
-use Rattle.std.proofs.Common.{◌∙◌}
-
-pub returns : goal.returns
-returns c = c.eq.ensures ∙ is_right_brace c.args.raw.now c.utf8.raw

@@ -1,6 +1,0 @@
-use Rattle.std.proofs.Common.{◌∙◌}
-use Rattle.jsx_syntax.proofs.TakingHeadings.{words_chars}
-use Rattle.jsx_syntax.proofs.heading.word.Goals as goal
-
-pub returns : goal.returns
-returns c = c.reserved.ensures ∙ words_chars c.args.raw.now c.utf8.raw

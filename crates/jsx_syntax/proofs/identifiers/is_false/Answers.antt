@@ -1,6 +1,0 @@
-use Rattle.std.proofs.Common.{◌∙◌}
-use Rattle.jsx_syntax.proofs.Spellings.{same_false}
-use Rattle.jsx_syntax.proofs.identifiers.is_false.Goals as goal
-
-pub returns : goal.returns
-returns c = c.eq.ensures ∙ same_false c.args.name.now c.utf8.name

@@ -1,5 +1,0 @@
-use Rattle.std.proofs.Common.{refl, sym}
-use Rattle.jsx_syntax.proofs.lexer.Lexer.is_at_end.Goals as goal
-
-pub returns-in-None-clause-ends : goal.returns-in-None-clause-ends
-returns-in-None-clause-ends c = sym (c.in-None.ensures.found.more refl)

@@ -1,7 +1,0 @@
-use Rattle.std.proofs.Common.{ap, ◌∙◌}
-use Rattle.std.specs.Str.{bytes_eq}
-use Rattle.jsx_syntax.proofs.Words.{is_reserved}
-use Rattle.jsx_syntax.proofs.word.Word.is.Goals as goal
-
-pub returns : goal.returns
-returns c = c.eq.ensures ∙ (ap (bytes_eq c.args.name.now) c.text.ensures ∙ is_reserved c.args.self c.args.name.now c.utf8.name)

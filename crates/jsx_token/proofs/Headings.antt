@@ -1,0 +1,70 @@
+-- What a statement begins with, in one list: what a test finds of all of them holds of each.
+use Rattle.std.proofs.Common.{◌≡◌, ℕ, zero, suc, nat_eq, Bool, true, false, List, [], ◌∷◌, refl, sym, ◌∙◌, ap, subst}
+use Rattle.std.specs.Prelude.{Option, Some, None, ◌&&◌}
+use Rattle.std.proofs.lemmas.Bool.{eqb-true}
+use Rattle.jsx_tree.specs.declared.text.DeclareWord.TheVariants as declare_word
+use Rattle.jsx_tree.proofs.Tokens.{and_left, and_right}
+use Rattle.jsx_token.specs.declared.heading.Heading.{Heading}
+use Rattle.jsx_token.specs.declared.heading.Heading.TheVariants as heading
+
+abbrev pub headings : List Heading
+headings = heading.Empty ∷ heading.Block ∷ heading.Var declare_word.Var ∷ heading.Var declare_word.Let ∷ heading.Var declare_word.Const ∷ heading.If ∷ heading.Do ∷ heading.While ∷ heading.Continue ∷ heading.Break ∷ heading.Throw ∷ heading.Debugger ∷ []
+
+-- the place of each in the list
+abbrev pub number : Heading → ℕ
+number heading.Empty = 0
+number heading.Block = 1
+number (heading.Var declare_word.Var) = 2
+number (heading.Var declare_word.Let) = 3
+number (heading.Var declare_word.Const) = 4
+number heading.If = 5
+number heading.Do = 6
+number heading.While = 7
+number heading.Continue = 8
+number heading.Break = 9
+number heading.Throw = 10
+number heading.Debugger = 11
+
+abbrev pub nth : ℕ → List Heading → Option Heading
+nth n [] = None
+nth zero (h ∷ hs) = Some h
+nth (suc n) (h ∷ hs) = nth n hs
+
+there : (h : Heading) → nth (number h) headings ≡ Some h
+there heading.Empty = refl
+there heading.Block = refl
+there (heading.Var declare_word.Var) = refl
+there (heading.Var declare_word.Let) = refl
+there (heading.Var declare_word.Const) = refl
+there heading.If = refl
+there heading.Do = refl
+there heading.While = refl
+there heading.Continue = refl
+there heading.Break = refl
+there heading.Throw = refl
+there heading.Debugger = refl
+
+abbrev pub every_heading : (Heading → Bool) → List Heading → Bool
+every_heading p [] = true
+every_heading p (h ∷ hs) = p h && every_heading p hs
+
+pub some_is : {g h : Heading} → Some g ≡ Some h → g ≡ h
+some_is e = cc
+
+pub at_place : (p : Heading → Bool) (hs : List Heading) (i : ℕ) {h : Heading} → every_heading p hs ≡ true → nth i hs ≡ Some h → p h ≡ true
+at_place p [] i a e = cc
+at_place p (g ∷ hs) zero a e = subst (λ h. p h ≡ true) (some_is e) (and_left (p g) _ a)
+at_place p (g ∷ hs) (suc i) a e = at_place p hs i (and_right (p g) _ a) e
+
+pub of_heading : (p : Heading → Bool) → every_heading p headings ≡ true → (h : Heading) → p h ≡ true
+of_heading p a h = at_place p headings (number h) a (there h)
+
+abbrev pub every_two_headings : (Heading → Heading → Bool) → Bool
+every_two_headings p = every_heading (λ h. every_heading (p h) headings) headings
+
+pub of_two_headings : (p : Heading → Heading → Bool) → every_two_headings p ≡ true → (g h : Heading) → p g h ≡ true
+of_two_headings p a g h = of_heading (p g) (of_heading (λ j. every_heading (p j) headings) a g) h
+
+-- those with one number are one
+pub one_number : (g h : Heading) → nat_eq (number g) (number h) ≡ true → g ≡ h
+one_number g h e = some_is (sym (there g) ∙ (ap (λ i. nth i headings) (eqb-true (number g) (number h) e) ∙ there h))

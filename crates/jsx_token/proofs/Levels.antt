@@ -1,0 +1,257 @@
+-- Of what goes on with an expression: its row, its mark, and at which levels it does.
+use Rattle.std.proofs.Common.{Bool, true, false, [], ◌∷◌, List, ◌≡◌, ℕ, nat_le, not, cond, refl, ◌∙◌}
+use Rattle.jsx_tree.specs.Grammar.{Fixed, right_of}
+use Rattle.jsx_tree.specs.Walk.{Piece, piece, tail}
+use Rattle.std.specs.Prelude.{Option, Some, None, ◌&&◌}
+use Rattle.jsx_base.specs.Token.{Lexeme, NumericLiteral, BigIntLiteral, StringLiteral, RegExpLiteral}
+use Rattle.jsx_tree.specs.Kinds.{Assigns, Assign, OpAssign, Delete, Unary, Binary, Cond, Kind, expression, PrefixUpdate, Call, Member, Index, PostfixUpdate, Increment, Decrement}
+use Rattle.jsx_tree.specs.Nonterminals.{Nonterminal, Expr, NullishLeft, MemberObject, DotObject, SimpleTarget, Pat, TagName, homes, in_homes, literal_homes}
+use Rattle.jsx_token.specs.Stage.{has_kind}
+use Rattle.jsx_tree.specs.Stops.{level_asked}
+use Rattle.jsx_tree.specs.Grows.{starts}
+use Rattle.jsx_token.specs.Marks.{goes_at, marks, is_sign, row_so_far}
+use Rattle.jsx_tree.proofs.Tokens.{and_left, and_right}
+use Rattle.jsx_tree.proofs.Rows.Stopping.{is_not, covers}
+use Rattle.jsx_tree.proofs.Rows.Guarded.{guarded}
+use Rattle.jsx_tree.proofs.Rows.Bodies.{bodiless}
+use Rattle.jsx_tree.proofs.Rows.Closers.{any_operand}
+use Rattle.jsx_tree.proofs.Rows.Placing.{free}
+use Rattle.jsx_tree.proofs.Rows.Spines.{grows}
+use Rattle.jsx_token.specs.Growths.{mark, on_line, past_line, has_sign, is_code, levels, is_level, level_of_kind, fits_by, takes_target, growth_kind}
+use Rattle.jsx_token.proofs.Listed.{Listed, kinds, every, of_each, every_level, of_level_kind, implies, implied, agree, agreed, listed, listed_binary}
+use Rattle.jsx_token.proofs.Marks.{text_of_sign, by_sign}
+use Rattle.jsx_token.proofs.Lives.{is_single}
+use Rattle.jsx_token.specs.declared.growth.Growth.{Growth}
+use Rattle.jsx_token.specs.declared.growth.Growth.TheVariants as growth
+use Rattle.jsx_tree.specs.declared.operator.AssignOp.{AssignOp}
+use Rattle.jsx_tree.specs.declared.operator.AssignOp.TheVariants as assign
+use Rattle.jsx_tree.specs.declared.operator.UpdateOp.TheVariants as update
+use Rattle.jsx_tree.specs.declared.operator.BitOp.TheVariants as bit
+use Rattle.jsx_tree.specs.declared.operator.ShiftOp.TheVariants as shift
+use Rattle.jsx_tree.specs.declared.operator.SumOp.TheVariants as sum
+use Rattle.jsx_tree.specs.declared.operator.ProductOp.TheVariants as product
+use Rattle.jsx_tree.specs.ViewOperators.{assign_of, binary_of}
+
+abbrev pub signed : List Piece → Bool
+signed (piece [] (Fixed s) ∷ ps) = true
+signed ps = false
+
+-- ---- of each kind
+
+-- with a static rule of its own
+abbrev pub is_ruled : Kind → Bool
+is_ruled (expression (Unary Delete)) = true
+is_ruled k = false
+
+abbrev pub grows_on : Kind → Bool
+grows_on k = grows (row_so_far k)
+
+-- what stands at its left, and what its row ends with where no bracket does
+abbrev pub side_of : Option Nonterminal → Nonterminal
+side_of (Some c) = c
+side_of None = TagName
+
+abbrev pub side : Kind → Nonterminal
+side k = side_of (starts (row_so_far k))
+
+abbrev pub edge : Kind → Nonterminal
+edge (expression (Binary o)) = Expr (right_of o)
+edge (expression Cond) = Expr 1
+edge (expression Assign) = Expr 1
+edge (expression (OpAssign o)) = Expr 1
+edge (expression (Unary o)) = Expr 15
+edge (expression (PrefixUpdate o)) = Expr 17
+edge k = TagName
+
+-- the places at the left of a step
+abbrev pub is_side : Nonterminal → Bool
+is_side (Expr n) = nat_le n 18 && is_single (Expr n)
+is_side NullishLeft = true
+is_side MemberObject = true
+is_side DotObject = true
+is_side SimpleTarget = true
+is_side (Pat Assigns) = true
+is_side c = false
+
+-- those of an assignment
+abbrev pub is_left : Nonterminal → Bool
+is_left SimpleTarget = true
+is_left (Pat Assigns) = true
+is_left c = false
+
+abbrev pub takes_number : Nonterminal → Bool
+takes_number DotObject = false
+takes_number c = true
+
+abbrev pub taken_literals : Nonterminal → Bool
+taken_literals c = in_homes c (literal_homes NumericLiteral) && (in_homes c (literal_homes BigIntLiteral) && (in_homes c (literal_homes StringLiteral) && in_homes c (literal_homes RegExpLiteral)))
+
+-- which leaves stand at the left
+abbrev pub leaves_fit : Kind → Bool
+leaves_fit k = cond (takes_target k) (is_left (side k)) (not (is_left (side k)) && (taken_literals (side k) && (fits_by k 17 false && agree (fits_by k 17 true) (takes_number (side k)))))
+
+-- its row begins with a part at such a place, goes on by a mark, and each part of the rest is ended by what stands behind it
+abbrev pub well_formed : Kind → Bool
+well_formed k =
+    implies (grows_on k)
+    ((is_side (side k) && (not (is_ruled k) && leaves_fit k))
+    && ((is_code (mark k) && (signed (past_line (tail (row_so_far k))) && has_sign (mark k) marks)) && ((guarded (edge k) (tail (row_so_far k)) && free (tail (row_so_far k))) && (bodiless (row_so_far k) && (has_kind k && any_operand (homes k))))))
+
+pub all_well_formed : every well_formed kinds ≡ true
+unfolding marks
+all_well_formed = refl
+
+-- of a level and a kind, with a line end before the mark or without: whether the mark goes on there
+abbrev pub goes_as : ℕ → Kind → Bool → Bool
+goes_as n k b = agree (goes_at n b (text_of_sign (mark k))) (nat_le n (level_of_kind k) && not (on_line k && b))
+
+-- whether the kind is at home there is the same
+abbrev pub placed : ℕ → Kind → Bool
+placed n k = agree (in_homes (Expr n) (homes k)) (nat_le n (level_of_kind k)) && (implies (grows_on k) (goes_as n k true && goes_as n k false) && implies (nat_le n (level_of_kind k)) (covers (level_asked (Expr n)) (level_asked (edge k))))
+
+pub all_placed : every_level (λ n. every (placed n) kinds) levels ≡ true
+all_placed = refl
+
+-- ---- what these say
+
+-- what is so of the leaves at the left of what is no assignment
+pub record Fitting (k : Kind) : Type 0 where
+  pub beside : is_left (side k) ≡ false
+  pub numbers : in_homes (side k) (literal_homes NumericLiteral) ≡ true
+  pub longs : in_homes (side k) (literal_homes BigIntLiteral) ≡ true
+  pub strings : in_homes (side k) (literal_homes StringLiteral) ≡ true
+  pub patterns : in_homes (side k) (literal_homes RegExpLiteral) ≡ true
+  pub leaves : fits_by k 17 false ≡ true
+  pub number : fits_by k 17 true ≡ takes_number (side k)
+
+pub data Leaves (k : Kind) : Type 0 where
+  assigned : takes_target k ≡ true → is_left (side k) ≡ true → Leaves k
+  fitting_in : takes_target k ≡ false → Fitting k → Leaves k
+
+pub leaves_of : (k : Kind) (b : Bool) → takes_target k ≡ b → cond b (is_left (side k)) (not (is_left (side k)) && (taken_literals (side k) && (fits_by k 17 false && agree (fits_by k 17 true) (takes_number (side k))))) ≡ true → Leaves k
+leaves_of k true e h = assigned e h
+leaves_of k false e h =
+    let a = and_right (not (is_left (side k))) _ h in
+    let b = and_left (taken_literals (side k)) _ a in
+    let c = and_right (taken_literals (side k)) _ a in
+    let d = and_right (in_homes (side k) (literal_homes NumericLiteral)) _ b in
+    let e' = and_right (in_homes (side k) (literal_homes BigIntLiteral)) _ d in
+    fitting_in e (record {
+      beside = is_not _ (and_left (not (is_left (side k))) _ h);
+      numbers = and_left (in_homes (side k) (literal_homes NumericLiteral)) _ b;
+      longs = and_left (in_homes (side k) (literal_homes BigIntLiteral)) _ d;
+      strings = and_left (in_homes (side k) (literal_homes StringLiteral)) _ e';
+      patterns = and_right (in_homes (side k) (literal_homes StringLiteral)) _ e';
+      leaves = and_left (fits_by k 17 false) _ c;
+      number = agreed (fits_by k 17 true) (takes_number (side k)) (and_right (fits_by k 17 false) _ c);
+    })
+
+pub record Formed (k : Kind) : Type 0 where
+  pub sided : is_side (side k) ≡ true
+  pub unruled : is_ruled k ≡ false
+  pub leaves : Leaves k
+  pub coded : is_code (mark k) ≡ true
+  pub led : signed (past_line (tail (row_so_far k))) ≡ true
+  pub marked : has_sign (mark k) marks ≡ true
+  pub closed : guarded (edge k) (tail (row_so_far k)) ≡ true
+  pub freed : free (tail (row_so_far k)) ≡ true
+  pub bare : bodiless (row_so_far k) ≡ true
+  pub taken : has_kind k ≡ true
+  pub stood : any_operand (homes k) ≡ true
+
+pub formed : (k : Kind) → Listed k → grows_on k ≡ true → Formed k
+formed k m g =
+    let a = implied (grows_on k) _ (of_each well_formed all_well_formed k m) g in
+    let b = and_left (is_side (side k) && (not (is_ruled k) && leaves_fit k)) _ a in
+    let c = and_right (is_side (side k) && (not (is_ruled k) && leaves_fit k)) _ a in
+    let c1 = and_left (is_code (mark k) && (signed (past_line (tail (row_so_far k))) && has_sign (mark k) marks)) _ c in
+    let c2 = and_right (is_code (mark k) && (signed (past_line (tail (row_so_far k))) && has_sign (mark k) marks)) _ c in
+    let c3 = and_right (is_code (mark k)) _ c1 in
+    let c4 = and_left (guarded (edge k) (tail (row_so_far k)) && free (tail (row_so_far k))) _ c2 in
+    let c5 = and_right (guarded (edge k) (tail (row_so_far k)) && free (tail (row_so_far k))) _ c2 in
+    let c6 = and_right (bodiless (row_so_far k)) _ c5 in
+    record {
+      sided = and_left (is_side (side k)) _ b;
+      unruled = is_not _ (and_left (not (is_ruled k)) _ (and_right (is_side (side k)) _ b));
+      leaves = leaves_of k (takes_target k) refl (and_right (not (is_ruled k)) _ (and_right (is_side (side k)) _ b));
+      coded = and_left (is_code (mark k)) _ c1;
+      led = and_left (signed (past_line (tail (row_so_far k)))) _ c3;
+      marked = and_right (signed (past_line (tail (row_so_far k)))) _ c3;
+      closed = and_left (guarded (edge k) (tail (row_so_far k))) _ c4;
+      freed = and_right (guarded (edge k) (tail (row_so_far k))) _ c4;
+      bare = and_left (bodiless (row_so_far k)) _ c5;
+      taken = and_left (has_kind k) _ c6;
+      stood = and_right (has_kind k) _ c6;
+    }
+
+pub record Level (n : ℕ) (k : Kind) : Type 0 where
+  pub home : in_homes (Expr n) (homes k) ≡ nat_le n (level_of_kind k)
+  pub goes : grows_on k ≡ true → (b : Bool) → goes_at n b (text_of_sign (mark k)) ≡ (nat_le n (level_of_kind k) && not (on_line k && b))
+  pub covered : nat_le n (level_of_kind k) ≡ true → covers (level_asked (Expr n)) (level_asked (edge k)) ≡ true
+
+pub either_way : (p : Bool → Bool) → (p true && p false) ≡ true → (b : Bool) → p b ≡ true
+either_way p e true = and_left (p true) (p false) e
+either_way p e false = and_right (p true) (p false) e
+
+pub at_level : {n : ℕ} → is_level n ≡ true → (k : Kind) → Listed k → Level n k
+at_level {n} h k m =
+    let a = of_level_kind placed all_placed h k m in
+    let p = agree (in_homes (Expr n) (homes k)) (nat_le n (level_of_kind k)) in
+    let q = implies (grows_on k) (goes_as n k true && goes_as n k false) in
+    let b = and_right p _ a in
+    record {
+      home = agreed (in_homes (Expr n) (homes k)) (nat_le n (level_of_kind k)) (and_left p _ a);
+      goes = λ g c. agreed (goes_at n c (text_of_sign (mark k))) (nat_le n (level_of_kind k) && not (on_line k && c)) (either_way (goes_as n k) (implied (grows_on k) _ (and_left q _ b) g) c);
+      covered = λ e. implied (nat_le n (level_of_kind k)) _ (and_right q _ b) e;
+    }
+
+pub agree_self : (b : Bool) → agree b b ≡ true
+agree_self true = refl
+agree_self false = refl
+
+pub mark_among : (n : ℕ) (k : Kind) → is_level n ≡ true → Listed k → grows_on k ≡ true → (b : Bool) (x : Lexeme) → is_sign x (mark k) ≡ true → goes_at n b x.raw ≡ (nat_le n (level_of_kind k) && not (on_line k && b))
+mark_among n k h m g b x e =
+    let u = goes_at n b (text_of_sign (mark k)) in
+    agreed (goes_at n b x.raw) u (by_sign (λ t. agree (goes_at n b t) u) (mark k) x (agree_self u) e) ∙ (at_level h k m).goes g b
+
+pub mark_is_code : (k : Kind) → Listed k → grows_on k ≡ true → is_code (mark k) ≡ true
+mark_is_code k m g = (formed k m g).coded
+
+assign_listed : (o : AssignOp) → Listed (expression (OpAssign (assign_of o)))
+assign_listed assign.Nullish = listed (expression (OpAssign (assign_of assign.Nullish))) refl refl refl
+assign_listed assign.Or = listed (expression (OpAssign (assign_of assign.Or))) refl refl refl
+assign_listed assign.And = listed (expression (OpAssign (assign_of assign.And))) refl refl refl
+assign_listed (assign.Bit bit.Or) = listed (expression (OpAssign (assign_of (assign.Bit bit.Or)))) refl refl refl
+assign_listed (assign.Bit bit.Xor) = listed (expression (OpAssign (assign_of (assign.Bit bit.Xor)))) refl refl refl
+assign_listed (assign.Bit bit.And) = listed (expression (OpAssign (assign_of (assign.Bit bit.And)))) refl refl refl
+assign_listed (assign.Shift shift.Left) = listed (expression (OpAssign (assign_of (assign.Shift shift.Left)))) refl refl refl
+assign_listed (assign.Shift shift.Right) = listed (expression (OpAssign (assign_of (assign.Shift shift.Right)))) refl refl refl
+assign_listed (assign.Shift shift.Out) = listed (expression (OpAssign (assign_of (assign.Shift shift.Out)))) refl refl refl
+assign_listed (assign.Sum sum.Add) = listed (expression (OpAssign (assign_of (assign.Sum sum.Add)))) refl refl refl
+assign_listed (assign.Sum sum.Subtract) = listed (expression (OpAssign (assign_of (assign.Sum sum.Subtract)))) refl refl refl
+assign_listed (assign.Product product.Multiply) = listed (expression (OpAssign (assign_of (assign.Product product.Multiply)))) refl refl refl
+assign_listed (assign.Product product.Divide) = listed (expression (OpAssign (assign_of (assign.Product product.Divide)))) refl refl refl
+assign_listed (assign.Product product.Remainder) = listed (expression (OpAssign (assign_of (assign.Product product.Remainder)))) refl refl refl
+assign_listed assign.Exponentiate = listed (expression (OpAssign (assign_of assign.Exponentiate))) refl refl refl
+
+-- each of them is in the list, and goes on
+pub growth_listed : (g : Growth) → Listed (growth_kind g)
+growth_listed (growth.Binary o) = listed_binary (binary_of o)
+growth_listed growth.Assign = listed (expression Assign) refl refl refl
+growth_listed (growth.OpAssign o) = assign_listed o
+growth_listed growth.Cond = listed (expression Cond) refl refl refl
+growth_listed growth.Call = listed (expression Call) refl refl refl
+growth_listed growth.Member = listed (expression Member) refl refl refl
+growth_listed growth.Index = listed (expression Index) refl refl refl
+growth_listed (growth.Update update.Increment) = listed (expression (PostfixUpdate Increment)) refl refl refl
+growth_listed (growth.Update update.Decrement) = listed (expression (PostfixUpdate Decrement)) refl refl refl
+
+pub growth_grows : (g : Growth) → grows_on (growth_kind g) ≡ true
+growth_grows (growth.Binary o) = refl
+growth_grows growth.Assign = refl
+growth_grows (growth.OpAssign o) = refl
+growth_grows growth.Cond = refl
+growth_grows growth.Call = refl
+growth_grows growth.Member = refl
+growth_grows growth.Index = refl
+growth_grows (growth.Update o) = refl

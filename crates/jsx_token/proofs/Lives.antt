@@ -1,0 +1,14 @@
+-- Where a kind is at home, by places.
+use Rattle.std.proofs.Common.{Bool, not}
+use Rattle.std.specs.Prelude.{◌&&◌}
+use Rattle.jsx_tree.specs.Kinds.{Kind, expression, Seq}
+use Rattle.jsx_tree.specs.Nonterminals.{Nonterminal, homes, in_homes}
+use Rattle.jsx_tree.specs.Grows.{is_operand}
+
+-- whether a kind is at home there
+abbrev pub lives : Nonterminal → Kind → Bool
+lives c k = in_homes c (homes k)
+
+-- where an expression stands that is no sequence
+abbrev pub is_single : Nonterminal → Bool
+is_single c = is_operand c && not (lives c (expression Seq))

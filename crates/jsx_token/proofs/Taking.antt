@@ -1,0 +1,232 @@
+-- From the token that comes next to the place behind it.
+use Rattle.std.proofs.Common.{◌≡◌, ◌<◌, ◌-◌, ◌++◌, [], ◌∷◌, Bool, true, false, cond, ◌&&◌, ◌||◌, length, length-append, refl, sym, ap, ◌∙◌, subst, arith}
+use Rattle.std.specs.Prelude.{nat_eq}
+use Rattle.std.specs.Str.{chars}
+use Rattle.std.specs.Bool.{Decides}
+use Rattle.std.proofs.lemmas.Bool.{false≢true, and_parts, eqb-true}
+use Rattle.jsx_base.specs.Token.{Text, Mode, TokenKind as Kind, NoToken, Blank, same, is_kind, kind_number, is_token, skips, skip, breaks, at_front, Punctuator, Operand, Operator, Tag, NumericLiteral, BigIntLiteral, StringLiteral, RegExpLiteral, JsxName, IdentifierName}
+use Rattle.jsx_base.specs.Lines.{size}
+use Rattle.jsx_tree.specs.Signs.{Ending, Tok, AfterExpr}
+use Rattle.jsx_tree.specs.Reading.{Lost, At, forth, go_if}
+use Rattle.jsx_tree.specs.Form.{is_leaf}
+use Rattle.jsx_lex.specs.declared.lexer.Lexer.{Lexer as Tokens}
+use Rattle.jsx_lex.specs.declared.token.Token.{Token}
+use Rattle.jsx_lex.specs.declared.token.TokenKind.{TokenKind}
+use Rattle.jsx_lex.specs.Kinds.{kind_of, is_punctuator, spelling}
+use Rattle.jsx_lex.specs.Stand.{rest_of}
+use Rattle.jsx_lex.proofs.Raws.{whole}
+use Rattle.jsx_lex.proofs.Spellings.{one_kind}
+use Rattle.jsx_token.specs.Here.{Here, place_of, left, leaf_kind, sign_of}
+use Rattle.jsx_token.specs.Seen.{IsNext, NoNext, here_of, next_token, is_it}
+use Rattle.jsx_token.specs.Places.{begin_of, next_of}
+use Rattle.jsx_token.specs.Spelled.{IsMarkOf, fixed_mode, fixed_kind, fixed_text, leaf_mode}
+use Rattle.jsx_token.specs.declared.lexer.Ending.TheVariants as ending
+use Rattle.jsx_token.specs.declared.lexer.Fixed.{Fixed}
+use Rattle.jsx_token.specs.declared.word.Word.{Word}
+use Rattle.jsx_token.specs.declared.word.Word.TheVariants as word
+use Rattle.jsx_token.specs.WordTexts.{word_text}
+use Rattle.jsx_token.specs.declared.lexer.Fixed.TheVariants as fixed
+use Rattle.jsx_token.specs.declared.lexer.Leaf.{Leaf}
+use Rattle.jsx_token.specs.declared.lexer.Leaf.TheVariants as leaf
+use Rattle.jsx_tree.proofs.Tokens.{and_both, same_is, same_self}
+use Rattle.jsx_token.proofs.Spellings.{by_both}
+use Rattle.jsx_token.proofs.Gaps.{is_behind}
+use Rattle.jsx_token.proofs.Takes.{skip_within}
+use Rattle.jsx_base.proofs.Fronts.{turned}
+use Rattle.jsx_token.proofs.Alone.{IsAlone, alone}
+
+-- what the token is, by the definitions
+token_is : {m : Mode} {h : Here} {t : Token} {b : Tokens} (k : Kind) (text : Text) → IsNext m h t b → is_token (next_token m h) k text ≡ is_it t k text
+token_is {t = t} k text n = λ i. is_kind (sym n.kind i) k && same (sym n.raw i) text
+
+pub taken_by : {m : Mode} {h : Here} {t : Token} {b : Tokens} (k : Kind) (text : Text) → IsNext m h t b → is_it t k text ≡ true → place_of (here_of t.raw.now ending.Expr b) ≡ forth (Tok m k text) (place_of h)
+taken_by {m} {h} {t} {b} k text n i =
+    let raw : chars t.raw.now ≡ text = same_is (chars t.raw.now) text ((and_parts (is_kind (kind_of t.kind) k) _ i).1) in
+    (λ j. At (raw j) AfterExpr (n.rest j)) ∙ sym (ap (λ x. go_if x (At text AfterExpr (next_token m h).rest)) (token_is k text n ∙ i))
+
+pub missing_by : {m : Mode} {h : Here} {t : Token} {b : Tokens} (k : Kind) (text : Text) → IsNext m h t b → is_it t k text ≡ false → forth (Tok m k text) (place_of h) ≡ Lost
+missing_by {m} {h} k text n i = ap (λ x. go_if x (At text AfterExpr (next_token m h).rest)) (token_is k text n ∙ i)
+
+pub none_by : {m : Mode} {h : Here} (k : Kind) (text : Text) → is_kind NoToken k ≡ false → NoNext m h → forth (Tok m k text) (place_of h) ≡ Lost
+none_by {m} {h} k text e n = ap (λ x. go_if (is_kind x k && same (next_token m h).raw text) (At text AfterExpr (next_token m h).rest)) n.none
+    ∙ ap (λ x. go_if (x && same (next_token m h).raw text) (At text AfterExpr (next_token m h).rest)) e
+
+-- the gap, the token and the rest
+skipped : (m : Mode) (h : Here) → skips m ≡ true → next_token m h ≡ at_front m (same h.last [] || breaks h.rest) (skip h.rest)
+skipped m h s = ap (λ x. cond x (at_front m (same h.last [] || breaks h.rest) (skip h.rest)) (at_front m false h.rest)) s
+
+pub parted : {m : Mode} {h : Here} {t : Token} {b : Tokens} → IsNext m h t b → skips m ≡ true → is_kind (kind_of t.kind) NoToken ≡ false → skip h.rest ≡ chars t.raw.now ++ rest_of b
+parted {m} {h} n s e =
+    let first = same h.last [] || breaks h.rest in
+    let kind = ap (λ k. is_kind k NoToken) (sym (n.kind ∙ ap (λ x. x.kind) (skipped m h s))) ∙ e in
+    sym (whole m first (skip h.rest) kind)
+    ∙ (λ i. (sym (n.raw ∙ ap (λ x. x.raw) (skipped m h s)) i) ++ (sym (n.rest ∙ ap (λ x. x.rest) (skipped m h s)) i))
+
+pub begins_by : {m : Mode} {h : Here} {t : Token} {b : Tokens} → IsNext m h t b → skips m ≡ true → is_kind (kind_of t.kind) NoToken ≡ false → begin_of (here_of t.raw.now ending.Expr b) ≡ next_of h
+begins_by n s e = (λ i. n.whole i - size (sym (parted n s e) i))
+
+full : (raw : Text) → same raw [] ≡ false → 0 < length raw
+full [] e = absurd (false≢true (sym e))
+full (c ∷ raw) e = omega arith
+
+pub shorter_by : {m : Mode} {h : Here} {t : Token} {b : Tokens} → IsNext m h t b → skips m ≡ true → is_kind (kind_of t.kind) NoToken ≡ false → same (chars t.raw.now) [] ≡ false → left (here_of t.raw.now ending.Expr b) < left h
+shorter_by {h = h} {t = t} {b = b} n s e f =
+    omega (arith, full (chars t.raw.now) f, skip_within h.rest, ap length (parted n s e), length-append (chars t.raw.now) (rest_of b))
+
+-- a kind is no other
+pub kind_some : (j k : Kind) → is_kind NoToken k ≡ false → is_kind j k ≡ true → is_kind j NoToken ≡ false
+kind_some j k e h =
+    let same : kind_number j ≡ kind_number k = eqb-true (kind_number j) (kind_number k) h in
+    ap (λ x. nat_eq x 14) same ∙ turned 14 (kind_number k) e
+
+-- ---- the tokens with one spelling
+
+pub fixed_some : (f : Fixed) → is_kind NoToken (fixed_kind f) ≡ false
+fixed_some (fixed.Word w) = refl
+fixed_some fixed.Equals = refl
+fixed_some fixed.Semicolon = refl
+fixed_some fixed.Open = refl
+fixed_some fixed.Close = refl
+fixed_some fixed.CloseBracket = refl
+fixed_some fixed.OpenBrace = refl
+fixed_some fixed.CloseBrace = refl
+fixed_some fixed.Comma = refl
+fixed_some fixed.Colon = refl
+fixed_some fixed.Dot = refl
+fixed_some fixed.Less = refl
+fixed_some fixed.TagSlash = refl
+fixed_some fixed.TagGreater = refl
+
+pub fixed_skips : (f : Fixed) → skips (fixed_mode f) ≡ true
+fixed_skips (fixed.Word w) = refl
+fixed_skips fixed.Equals = refl
+fixed_skips fixed.Semicolon = refl
+fixed_skips fixed.Open = refl
+fixed_skips fixed.Close = refl
+fixed_skips fixed.CloseBracket = refl
+fixed_skips fixed.OpenBrace = refl
+fixed_skips fixed.CloseBrace = refl
+fixed_skips fixed.Comma = refl
+fixed_skips fixed.Colon = refl
+fixed_skips fixed.Dot = refl
+fixed_skips fixed.Less = refl
+fixed_skips fixed.TagSlash = refl
+fixed_skips fixed.TagGreater = refl
+
+pub sign_is : (f : Fixed) → sign_of f ≡ Tok (fixed_mode f) (fixed_kind f) (fixed_text f)
+sign_is (fixed.Word w) = refl
+sign_is fixed.Equals = refl
+sign_is fixed.Semicolon = refl
+sign_is fixed.Open = refl
+sign_is fixed.Close = refl
+sign_is fixed.CloseBracket = refl
+sign_is fixed.OpenBrace = refl
+sign_is fixed.CloseBrace = refl
+sign_is fixed.Comma = refl
+sign_is fixed.Colon = refl
+sign_is fixed.Dot = refl
+sign_is fixed.Less = refl
+sign_is fixed.TagSlash = refl
+sign_is fixed.TagGreater = refl
+
+pub fixed_kind_is : (f : Fixed) (t : Token) → is_it t (fixed_kind f) (fixed_text f) ≡ true → is_kind (kind_of t.kind) NoToken ≡ false
+fixed_kind_is f t i = kind_some (kind_of t.kind) (fixed_kind f) (fixed_some f) ((and_parts (is_kind (kind_of t.kind) (fixed_kind f)) _ i).0)
+
+pub word_full : (w : Word) → same (word_text w) [] ≡ false
+word_full word.Break = refl
+word_full word.Const = refl
+word_full word.Continue = refl
+word_full word.Debugger = refl
+word_full word.Do = refl
+word_full word.Else = refl
+word_full word.If = refl
+word_full word.Let = refl
+word_full word.Throw = refl
+word_full word.Var = refl
+word_full word.While = refl
+
+fixed_full : (f : Fixed) → same (fixed_text f) [] ≡ false
+fixed_full (fixed.Word w) = word_full w
+fixed_full fixed.Equals = refl
+fixed_full fixed.Semicolon = refl
+fixed_full fixed.Open = refl
+fixed_full fixed.Close = refl
+fixed_full fixed.CloseBracket = refl
+fixed_full fixed.OpenBrace = refl
+fixed_full fixed.CloseBrace = refl
+fixed_full fixed.Comma = refl
+fixed_full fixed.Colon = refl
+fixed_full fixed.Dot = refl
+fixed_full fixed.Less = refl
+fixed_full fixed.TagSlash = refl
+fixed_full fixed.TagGreater = refl
+
+pub fixed_raw : (f : Fixed) (t : Token) → is_it t (fixed_kind f) (fixed_text f) ≡ true → same (chars t.raw.now) [] ≡ false
+fixed_raw f t i = ap (λ x. same x []) (same_is (chars t.raw.now) (fixed_text f) ((and_parts (is_kind (kind_of t.kind) (fixed_kind f)) _ i).1)) ∙ fixed_full f
+
+pub mark_is : (b : Bool) (t : Token) (k : TokenKind) (f : Fixed) → Decides b (t.kind ≡ k) → IsMarkOf k f → (is_punctuator t.kind ≡ true → chars t.raw.now ≡ spelling t.kind) → b ≡ is_it t (fixed_kind f) (fixed_text f)
+mark_is b t k f d m s = by_both b (is_it t (fixed_kind f) (fixed_text f)) yes no
+  where
+    yes : b ≡ true → is_it t (fixed_kind f) (fixed_text f) ≡ true
+    yes e =
+        let same_kind : t.kind ≡ k = d.0 e in
+        let mark : is_punctuator t.kind ≡ true = ap is_punctuator same_kind ∙ m.mark in
+        and_both _ _ (ap (is_kind (kind_of t.kind)) m.kind ∙ mark) (ap (λ x. same x (fixed_text f)) (s mark ∙ ap spelling same_kind ∙ m.text) ∙ same_self (fixed_text f))
+
+    no : is_it t (fixed_kind f) (fixed_text f) ≡ true → b ≡ true
+    no i =
+        let p = and_parts (is_kind (kind_of t.kind) (fixed_kind f)) (same (chars t.raw.now) (fixed_text f)) i in
+        let mark : is_punctuator t.kind ≡ true = ap (is_kind (kind_of t.kind)) (sym m.kind) ∙ p.0 in
+        d.1 (one_kind t.kind k mark m.mark (sym (s mark) ∙ same_is (chars t.raw.now) (fixed_text f) p.1 ∙ sym m.text))
+
+-- ---- the tokens with a text of their own
+
+pub leaf_some : (l : Leaf) → is_kind NoToken (leaf_kind l) ≡ false
+leaf_some leaf.Name = refl
+leaf_some leaf.Num = refl
+leaf_some leaf.BigInt = refl
+leaf_some leaf.Str = refl
+leaf_some leaf.RegExp = refl
+leaf_some leaf.JsxName = refl
+
+pub leaf_skips : (l : Leaf) → skips (leaf_mode l) ≡ true
+leaf_skips leaf.Name = refl
+leaf_skips leaf.Num = refl
+leaf_skips leaf.BigInt = refl
+leaf_skips leaf.Str = refl
+leaf_skips leaf.RegExp = refl
+leaf_skips leaf.JsxName = refl
+
+whole_leaf : (m : Mode) (k : Kind) (h : Here) → skips m ≡ true → is_kind NoToken k ≡ false → is_kind Punctuator k ≡ false → is_kind (at_front m (same h.last [] || breaks h.rest) (skip h.rest)).kind k ≡ true → IsAlone m k (at_front m (same h.last [] || breaks h.rest) (skip h.rest)).raw
+whole_leaf m k h q n p e = alone m k (same h.last [] || breaks h.rest) (skip h.rest) q n p (is_behind Blank h.rest refl) e
+
+leaf_whole : (l : Leaf) (h : Here) → is_kind (next_token (leaf_mode l) h).kind (leaf_kind l) ≡ true → is_leaf (leaf_kind l) (next_token (leaf_mode l) h).raw ≡ true
+leaf_whole leaf.Name h e = let w = whole_leaf Operator IdentifierName h refl refl refl e in and_both _ _ w.it w.ends
+leaf_whole leaf.Num h e = let w = whole_leaf Operator NumericLiteral h refl refl refl e in and_both _ _ w.it w.ends
+leaf_whole leaf.BigInt h e = let w = whole_leaf Operator BigIntLiteral h refl refl refl e in and_both _ _ w.it w.ends
+leaf_whole leaf.Str h e = let w = whole_leaf Operator StringLiteral h refl refl refl e in and_both _ _ w.it w.ends
+leaf_whole leaf.RegExp h e = let w = whole_leaf Operand RegExpLiteral h refl refl refl e in and_both _ _ w.it w.ends
+leaf_whole leaf.JsxName h e = let w = whole_leaf Tag JsxName h refl refl refl e in and_both _ _ w.it w.ends
+
+pub leaf_by : (l : Leaf) {h : Here} {t : Token} {b : Tokens} → IsNext (leaf_mode l) h t b → is_kind (kind_of t.kind) (leaf_kind l) ≡ true → is_leaf (leaf_kind l) (chars t.raw.now) ≡ true
+leaf_by l {h} n e = subst (λ x. is_leaf (leaf_kind l) x ≡ true) (sym n.raw) (leaf_whole l h (ap (λ k. is_kind k (leaf_kind l)) (sym n.kind) ∙ e))
+
+pub leaf_full : (l : Leaf) (raw : Text) → is_leaf (leaf_kind l) raw ≡ true → same raw [] ≡ false
+leaf_full l (c ∷ raw) e = refl
+leaf_full leaf.Name [] e = absurd (false≢true e)
+leaf_full leaf.Num [] e = absurd (false≢true e)
+leaf_full leaf.BigInt [] e = absurd (false≢true e)
+leaf_full leaf.Str [] e = absurd (false≢true e)
+leaf_full leaf.RegExp [] e = absurd (false≢true e)
+leaf_full leaf.JsxName [] e = absurd (false≢true e)
+
+pub leaf_it : (l : Leaf) (t : Token) → is_kind (kind_of t.kind) (leaf_kind l) ≡ true → is_it t (leaf_kind l) (chars t.raw.now) ≡ true
+leaf_it l t e = and_both _ _ e (same_self (chars t.raw.now))
+
+pub leaf_not : (l : Leaf) (t : Token) (text : Text) → is_kind (kind_of t.kind) (leaf_kind l) ≡ false → is_it t (leaf_kind l) text ≡ false
+leaf_not l t text e = ap (λ x. x && same (chars t.raw.now) text) e
+
+-- ---- what a missing semicolon would stand behind is nothing to the next token
+
+pub ends_on : {m : Mode} {h : Here} {t : Token} {b : Tokens} (e : Ending) → IsNext m h t b → IsNext m (record h { ending = e }) t b
+ends_on e n = record { kind = n.kind; raw = n.raw; spelled = n.spelled; rest = n.rest; line = n.line; end = n.end; whole = n.whole; read = n.read; unsettled = n.unsettled }

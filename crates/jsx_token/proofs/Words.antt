@@ -1,0 +1,125 @@
+-- Words among names.
+use Rattle.std.proofs.Common.{◌≡◌, ℕ, List, [], ◌∷◌, true, codes, refl, sym, ap, ◌∙◌}
+use Rattle.std.specs.Prelude.{nat_eq}
+use Rattle.std.specs.Str.{chars, bytes_eq, IsUtf8, is_utf8}
+use lib.Utf8.{encodes, encode}
+use Rattle.std.specs.Bool.{Decides}
+use Rattle.std.proofs.lemmas.Bool.Decides.{same_from_decides}
+use Rattle.std.proofs.lemmas.Slice.Eq.{bytes_eq-Decides}
+use Rattle.std.proofs.lemmas.Bool.{false≢true, and_parts, eqb-true}
+use Rattle.std.proofs.lemmas.Str.{encodes-chars, IsUtf8-from_is_utf8}
+use Rattle.jsx_base.specs.Token.{Text, same}
+use Rattle.jsx_token.specs.declared.word.Word.{Word}
+use Rattle.jsx_token.specs.declared.word.Word.TheVariants as word
+use Rattle.jsx_token.specs.WordTexts.{word_text}
+use Rattle.jsx_tree.proofs.Tokens.{same_self}
+
+pub same_is : (s t : Text) → same s t ≡ true → s ≡ t
+same_is [] [] h = refl
+same_is [] (c ∷ t) h = absurd (false≢true h)
+same_is (b ∷ s) [] h = absurd (false≢true h)
+same_is (b ∷ s) (c ∷ t) h =
+    let p = and_parts (nat_eq b c) (same s t) h in
+    ap (λ x. x ∷ s) (eqb-true b c p.0) ∙ ap (λ x. c ∷ x) (same_is s t p.1)
+
+-- a word that is its own characters
+record Spelled (w : List ℕ) : Type 0 where
+  same : chars w ≡ w
+  text : IsUtf8 w
+
+spells : (w : List ℕ) → Spelled w → (raw : List ℕ) → IsUtf8 raw → Decides (same (chars raw) w) (raw ≡ w)
+spells w s raw u = (
+  (λ h. sym (encodes-chars raw u) ∙ ap encodes (same_is (chars raw) w h) ∙ (ap encodes (sym s.same) ∙ encodes-chars w s.text)),
+  (λ e. ap (λ t. same t w) (ap chars e ∙ s.same) ∙ same_self w),
+)
+
+is_word : (w : List ℕ) → Spelled w → (raw : List ℕ) → IsUtf8 raw → bytes_eq raw w ≡ same (chars raw) w
+is_word w s raw u = same_from_decides _ _ (bytes_eq-Decides raw w) (spells w s raw u)
+
+word_arrow : Spelled (codes "=>")
+unfolding chars is_utf8 encode
+word_arrow = record { same = refl; text = IsUtf8-from_is_utf8 (codes "=>") refl }
+
+word_in : Spelled (codes "in")
+unfolding chars is_utf8 encode
+word_in = record { same = refl; text = IsUtf8-from_is_utf8 (codes "in") refl }
+
+word_instanceof : Spelled (codes "instanceof")
+unfolding chars is_utf8 encode
+word_instanceof = record { same = refl; text = IsUtf8-from_is_utf8 (codes "instanceof") refl }
+
+word_void : Spelled (codes "void")
+unfolding chars is_utf8 encode
+word_void = record { same = refl; text = IsUtf8-from_is_utf8 (codes "void") refl }
+
+word_typeof : Spelled (codes "typeof")
+unfolding chars is_utf8 encode
+word_typeof = record { same = refl; text = IsUtf8-from_is_utf8 (codes "typeof") refl }
+
+word_delete : Spelled (codes "delete")
+unfolding chars is_utf8 encode
+word_delete = record { same = refl; text = IsUtf8-from_is_utf8 (codes "delete") refl }
+
+word_import : Spelled (codes "import")
+unfolding chars is_utf8 encode
+word_import = record { same = refl; text = IsUtf8-from_is_utf8 (codes "import") refl }
+
+pub is_in : (raw : List ℕ) → IsUtf8 raw → bytes_eq raw (codes "in") ≡ same (chars raw) (codes "in")
+is_in = is_word (codes "in") word_in
+
+pub is_instanceof : (raw : List ℕ) → IsUtf8 raw → bytes_eq raw (codes "instanceof") ≡ same (chars raw) (codes "instanceof")
+is_instanceof = is_word (codes "instanceof") word_instanceof
+
+pub is_void : (raw : List ℕ) → IsUtf8 raw → bytes_eq raw (codes "void") ≡ same (chars raw) (codes "void")
+is_void = is_word (codes "void") word_void
+
+pub is_typeof : (raw : List ℕ) → IsUtf8 raw → bytes_eq raw (codes "typeof") ≡ same (chars raw) (codes "typeof")
+is_typeof = is_word (codes "typeof") word_typeof
+
+pub is_delete : (raw : List ℕ) → IsUtf8 raw → bytes_eq raw (codes "delete") ≡ same (chars raw) (codes "delete")
+is_delete = is_word (codes "delete") word_delete
+
+pub is_import : (raw : List ℕ) → IsUtf8 raw → bytes_eq raw (codes "import") ≡ same (chars raw) (codes "import")
+is_import = is_word (codes "import") word_import
+
+word_comma : Spelled (codes ",")
+unfolding chars is_utf8 encode
+word_comma = record { same = refl; text = IsUtf8-from_is_utf8 (codes ",") refl }
+
+word_equals : Spelled (codes "=")
+unfolding chars is_utf8 encode
+word_equals = record { same = refl; text = IsUtf8-from_is_utf8 (codes "=") refl }
+
+word_right_brace : Spelled (codes "}")
+unfolding chars is_utf8 encode
+word_right_brace = record { same = refl; text = IsUtf8-from_is_utf8 (codes "}") refl }
+
+pub is_comma : (raw : List ℕ) → IsUtf8 raw → bytes_eq raw (codes ",") ≡ same (chars raw) (codes ",")
+is_comma = is_word (codes ",") word_comma
+
+pub is_equals : (raw : List ℕ) → IsUtf8 raw → bytes_eq raw (codes "=") ≡ same (chars raw) (codes "=")
+is_equals = is_word (codes "=") word_equals
+
+pub is_right_brace : (raw : List ℕ) → IsUtf8 raw → bytes_eq raw (codes "}") ≡ same (chars raw) (codes "}")
+is_right_brace = is_word (codes "}") word_right_brace
+
+pub is_arrow : (raw : List ℕ) → IsUtf8 raw → bytes_eq raw (codes "=>") ≡ same (chars raw) (codes "=>")
+is_arrow = is_word (codes "=>") word_arrow
+
+-- each word of the grammar
+reserved : (w : Word) → Spelled (word_text w)
+unfolding chars is_utf8 encode
+reserved word.Break = record { same = refl; text = IsUtf8-from_is_utf8 (codes "break") refl }
+reserved word.Const = record { same = refl; text = IsUtf8-from_is_utf8 (codes "const") refl }
+reserved word.Continue = record { same = refl; text = IsUtf8-from_is_utf8 (codes "continue") refl }
+reserved word.Debugger = record { same = refl; text = IsUtf8-from_is_utf8 (codes "debugger") refl }
+reserved word.Do = record { same = refl; text = IsUtf8-from_is_utf8 (codes "do") refl }
+reserved word.Else = record { same = refl; text = IsUtf8-from_is_utf8 (codes "else") refl }
+reserved word.If = record { same = refl; text = IsUtf8-from_is_utf8 (codes "if") refl }
+reserved word.Let = record { same = refl; text = IsUtf8-from_is_utf8 (codes "let") refl }
+reserved word.Throw = record { same = refl; text = IsUtf8-from_is_utf8 (codes "throw") refl }
+reserved word.Var = record { same = refl; text = IsUtf8-from_is_utf8 (codes "var") refl }
+reserved word.While = record { same = refl; text = IsUtf8-from_is_utf8 (codes "while") refl }
+
+pub is_reserved : (w : Word) (raw : List ℕ) → IsUtf8 raw → bytes_eq raw (word_text w) ≡ same (chars raw) (word_text w)
+is_reserved w = is_word (word_text w) (reserved w)

@@ -1,0 +1,6 @@
+use Rattle.jsx_token.proofs.Words.{is_arrow}
+use Rattle.jsx_token.proofs.characters.is_arrow.Goals as goal
+use Rattle.std.proofs.Common.{◌∙◌}
+
+pub returns : goal.returns
+returns c = c.eq.ensures ∙ is_arrow c.args.token.now c.utf8.token

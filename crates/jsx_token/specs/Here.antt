@@ -1,0 +1,60 @@
+-- Where the lexer stands, and the tokens that the parser asks it for.
+use Rattle.std.specs.Prelude.{ℕ, codes, length}
+use Rattle.jsx_base.specs.Token.{Text, Operand, Operator, Tag, TokenKind, IdentifierName, Punctuator, NumericLiteral, BigIntLiteral, StringLiteral, RegExpLiteral, JsxName}
+use Rattle.jsx_tree.specs.Signs.{Sign, Tok, Ending, AfterExpr, AfterWord, AfterBinding, AfterDo}
+use Rattle.jsx_tree.specs.Spelling.{mode_of}
+use Rattle.jsx_tree.specs.Reading.{Place, At}
+use Rattle.jsx_token.specs.WordTexts.{word_text}
+use Rattle.jsx_token.specs.declared.lexer.Ending as code
+use Rattle.jsx_token.specs.declared.lexer.Ending.TheVariants as ending
+use Rattle.jsx_token.specs.declared.lexer.Fixed.{Fixed}
+use Rattle.jsx_token.specs.declared.lexer.Fixed.TheVariants as fixed
+use Rattle.jsx_token.specs.declared.lexer.Leaf.{Leaf}
+use Rattle.jsx_token.specs.declared.lexer.Leaf.TheVariants as leaf
+
+-- behind a token, none at the text's begin, with what a missing semicolon would stand behind, before the rest of the text; the whole text has so many bytes
+pub record Here : Type 0 where
+  pub last : Text
+  pub ending : Ending
+  pub rest : Text
+  pub end : ℕ
+
+abbrev pub place_of : Here → Place
+place_of h = At h.last h.ending h.rest
+
+abbrev pub ending_of : code.Ending → Ending
+ending_of ending.Expr = AfterExpr
+ending_of ending.Binding = AfterBinding
+ending_of ending.Word = AfterWord
+ending_of ending.Do = AfterDo
+
+-- how many characters are left
+abbrev pub left : Here → ℕ
+left h = length h.rest
+
+abbrev pub sign_of : Fixed → Sign
+sign_of (fixed.Word w) = Tok Operator IdentifierName (word_text w)
+sign_of fixed.Equals = Tok Operator Punctuator (codes "=")
+sign_of fixed.Semicolon = Tok Operator Punctuator (codes ";")
+sign_of fixed.Open = Tok Operator Punctuator (codes "(")
+sign_of fixed.Close = Tok Operator Punctuator (codes ")")
+sign_of fixed.CloseBracket = Tok Operator Punctuator (codes "]")
+sign_of fixed.OpenBrace = Tok Operator Punctuator (codes "{")
+sign_of fixed.CloseBrace = Tok Operator Punctuator (codes "}")
+sign_of fixed.Comma = Tok Operator Punctuator (codes ",")
+sign_of fixed.Colon = Tok Operator Punctuator (codes ":")
+sign_of fixed.Dot = Tok Operator Punctuator (codes ".")
+sign_of fixed.Less = Tok Operand Punctuator (codes "<")
+sign_of fixed.TagSlash = Tok Tag Punctuator (codes "/")
+sign_of fixed.TagGreater = Tok Tag Punctuator (codes ">")
+
+abbrev pub leaf_kind : Leaf → TokenKind
+leaf_kind leaf.Name = IdentifierName
+leaf_kind leaf.Num = NumericLiteral
+leaf_kind leaf.BigInt = BigIntLiteral
+leaf_kind leaf.Str = StringLiteral
+leaf_kind leaf.RegExp = RegExpLiteral
+leaf_kind leaf.JsxName = JsxName
+
+abbrev pub leaf_sign : Leaf → Text → Sign
+leaf_sign l t = Tok (mode_of (leaf_kind l)) (leaf_kind l) t

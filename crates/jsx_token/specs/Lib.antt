@@ -1,0 +1,12 @@
+pub mod Stage
+pub mod Marks
+pub mod Here
+pub mod Places
+pub mod Seen
+pub mod Gaps
+pub mod Spelled
+pub mod WordTexts
+pub mod Headings
+pub mod Growths
+pub mod GrowthTokens
+pub mod Semicolons

@@ -1,0 +1,19 @@
+//! The tokens of a text, one at a time, with what the grammar asks of each.
+#![tactic(auto)]
+
+mod characters;
+mod gap;
+pub mod growth;
+mod heading;
+mod identifiers;
+mod lexer;
+mod opening;
+mod seen;
+mod semicolon;
+mod word;
+
+pub use heading::Heading;
+pub use identifiers::{is_bound, is_plain_tag, is_reserved, value_word};
+pub use lexer::{Ending, Fixed, Leaf, Lexer};
+pub use opening::Opening;
+pub use word::Word;

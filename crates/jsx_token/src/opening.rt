@@ -1,0 +1,59 @@
+//! What an expression begins with that is neither a name, a literal nor an element (ECMA-262 sections 13.2.9, 13.3.10, 13.4
+//! and 13.5).
+
+ghost use Rattle.std.specs.Prelude.{◌≡◌};
+ghost use Rattle.std.specs.Str.{chars};
+ghost use Rattle.jsx_token.specs.GrowthTokens.{opening_word, opening_by};
+
+use crate::characters::{is_delete, is_import, is_typeof, is_void};
+use jsx_lex::{Token, TokenKind};
+use jsx_tree::{UnaryOp, UpdateOp};
+
+/// What an expression begins with that is neither a name, a literal nor an element.
+#[derive(Clone, Copy)]
+pub enum Opening {
+    /// `import(a)`
+    ImportCall,
+    /// `(a)`
+    Paren,
+    /// `-a`
+    Unary(UnaryOp),
+    /// `++a`
+    Update(UpdateOp),
+}
+
+/// What a word begins.
+fn word(raw: &str) -> Option<Opening>
+    ensures { result ≡ opening_word (chars raw.now) }
+{
+    if is_void(raw) {
+        return Some(Opening::Unary(UnaryOp::Void));
+    }
+    if is_typeof(raw) {
+        return Some(Opening::Unary(UnaryOp::TypeOf));
+    }
+    if is_import(raw) {
+        return Some(Opening::ImportCall);
+    }
+    if is_delete(raw) {
+        return Some(Opening::Unary(UnaryOp::Delete));
+    }
+    None
+}
+
+/// What a token, where it comes next, begins.
+pub fn opening_of(token: &Token) -> Option<Opening>
+    ensures { result ≡ opening_by token.now.kind (chars token.now.raw.now) }
+{
+    match token.kind {
+        TokenKind::Plus => Some(Opening::Unary(UnaryOp::Positive)),
+        TokenKind::Minus => Some(Opening::Unary(UnaryOp::Negative)),
+        TokenKind::Tilde => Some(Opening::Unary(UnaryOp::Complement)),
+        TokenKind::Not => Some(Opening::Unary(UnaryOp::Not)),
+        TokenKind::PlusPlus => Some(Opening::Update(UpdateOp::Increment)),
+        TokenKind::MinusMinus => Some(Opening::Update(UpdateOp::Decrement)),
+        TokenKind::LeftParen => Some(Opening::Paren),
+        TokenKind::IdentifierName => word(token.raw),
+        _ => None,
+    }
+}

@@ -1,0 +1,52 @@
+//! Reserved words that the grammar asks for.
+
+ghost use Rattle.std.specs.Prelude.{◌≡◌};
+ghost use Rattle.std.specs.Str.{chars};
+ghost use Rattle.jsx_base.specs.Token.{same};
+ghost use Rattle.jsx_token.specs.WordTexts.{word_text};
+
+/// A word that begins a statement or stands in one.
+#[derive(Clone, Copy, Debug, PartialEq, Eq)]
+pub enum Word {
+    Break,
+    Const,
+    Continue,
+    Debugger,
+    Do,
+    Else,
+    If,
+    Let,
+    Throw,
+    Var,
+    While,
+}
+
+impl Word {
+    /// Its letters.
+    #[inline]
+    fn text(self) -> &'static str
+        ensures { result.now ≡ word_text self }
+    {
+        match self {
+            Word::Break => "break",
+            Word::Const => "const",
+            Word::Continue => "continue",
+            Word::Debugger => "debugger",
+            Word::Do => "do",
+            Word::Else => "else",
+            Word::If => "if",
+            Word::Let => "let",
+            Word::Throw => "throw",
+            Word::Var => "var",
+            Word::While => "while",
+        }
+    }
+
+    /// Whether a name is this word.
+    #[inline]
+    pub fn is(self, name: &str) -> bool
+        ensures { result ≡ same (chars name.now) (word_text self) }
+    {
+        name == self.text()
+    }
+}
