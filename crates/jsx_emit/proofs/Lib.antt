@@ -16,6 +16,7 @@ pub mod Own
 pub mod Pages
 pub mod Children
 pub mod Each
+pub mod Ends
 pub mod Labels
 pub mod Long
 pub mod Places

@@ -1,5 +1,5 @@
 -- A whole page: the report's own part, its notes and its suggestions, one behind another.
-use Rattle.std.proofs.Common.{◌≡◌, ℕ, Bool, true, false, not, ◌&&◌, ◌||◌, cond, nat_eq, List, [], ◌∷◌, ◌++◌, Option, Some, None, length, map, max, rules, refl, ap, sym, subst, ◌∙◌, arith, append_assoc}
+use Rattle.std.proofs.Common.{◌≡◌, ℕ, Bool, true, false, not, ◌&&◌, ◌||◌, cond, nat_eq, List, [], ◌∷◌, ◌++◌, Option, Some, None, length, map, max, rules, refl, ap, sym, subst, ◌∙◌, arith, append_assoc, append-nil}
 use Rattle.std.specs.Prelude.{MatchOption, IsFalse, Result, Ok, Err, IfOk, string_bytes, decimal}
 use Rattle.std.specs.declared.string.String.{String}
 use Rattle.std.specs.declared.alloc.Global.{Global}
@@ -16,12 +16,12 @@ use Rattle.jsx_diag.specs.Data.{Text, Code, Child, Report, Suggestion}
 use Rattle.jsx_emit.specs.Page.{Look, is_error, message_text, number_width, own_width, page_text, sole_label, sole_span, spaced, told, told_at, told_in, told_of}
 use Rattle.jsx_draw.specs.Spots.{Reach, reach_in, greatest, held_in, is_dummy, spot_in}
 use Rattle.jsx_emit.specs.Layout.{apart, end_line, header, inline, labelled_with, last_line_of, pointed}
-use Rattle.jsx_emit.specs.Shows.{Map, Setting, Bare, BareNote, Each, Headed, IsTold, Long, NotePart, OwnPart, SuggestionPart, before_notes, id_line, look_of, report_width}
+use Rattle.jsx_emit.specs.Shows.{Map, Setting, Bare, BareNote, Each, Headed, IsTold, Long, NotePart, OwnPart, SuggestionPart, before_notes, end_of, id_line, look_of, report_width}
 use Rattle.jsx_diag.specs.declared.level.Level.TheVariants as level
 use Rattle.jsx_emit.specs.Texts.{last_line_over}
 use Rattle.jsx_emit.proofs.Children.{not_zero}
 use Rattle.std.proofs.lemmas.List.{length-append}
-use Rattle.jsx_emit.specs.Parts.{BeginsWith, StartsWith, LongOver, NoteOver, OwnOver, SuggestionsOver, separator}
+use Rattle.jsx_emit.specs.Parts.{BeginsWith, StartsWith, LongOver, NoteOver, OwnOver, SuggestionsOver}
 
 -- ---- the width of the page that is told
 
@@ -123,14 +123,15 @@ none_for_others : (look : Look) (files : List File) (r : Report) (text : Text) �
 none_for_others look files r text other =
     subst (λ b. MatchOption (option_map (λ page. page_text (page ++ [] ∷ [])) (cond (b && is_none r.code) (told_at look (own_width look) files (sole_span r.span.primary) (message_text r.message) r.span) None)) (Unit {0}) (λ page. text ≡ page)) (sym other) tt
 
-sole_page : (look : Look) (files : List File) (r : Report) (w : ℕ) (own text : Text) (error : Bool) → is_error r.level ≡ error → w ≡ number_width look (max (end_line files r.span) 0) → (IsFalse (is_failure_level r.level) → OwnPart look files w r.level r.code (message_text r.message) r.span own) → text ≡ own ++ 10 ∷ [] → MatchOption (option_map (λ page. page_text (page ++ [] ∷ [])) (told look (own_width look) files r.level r.code (message_text r.message) r.span)) (Unit {0}) (λ page. text ≡ page)
+sole_page : (look : Look) (files : List File) (r : Report) (w : ℕ) (own text : Text) (error : Bool) → is_error r.level ≡ error → w ≡ number_width look (max (end_line files r.span) 0) → OwnPart look files w r.level r.code (message_text r.message) r.span (own ++ end_of (is_failure_level r.level)) → text ≡ own ++ 10 ∷ [] → MatchOption (option_map (λ page. page_text (page ++ [] ∷ [])) (told look (own_width look) files r.level r.code (message_text r.message) r.span)) (Unit {0}) (λ page. text ≡ page)
 sole_page look files r w own text false other wide it is = none_for_others look files r text other
 sole_page look files r w own text true so wide it is =
+    let with_lf = subst (OwnPart look files w r.level r.code (message_text r.message) r.span) (ap (λ b. own ++ end_of b) (no_failure r.level so) ∙ append-nil own) it in
     told_page _ own text
-    (subst (λ o. IsTold o own) (ap (λ n. told look (λ _. n) files r.level r.code (message_text r.message) r.span) wide ∙ told_same look files r.level r.code (message_text r.message) r.span) ((it (no_failure r.level so)).told))
+    (subst (λ o. IsTold o own) (ap (λ n. told look (λ _. n) files r.level r.code (message_text r.message) r.span) wide ∙ told_same look files r.level r.code (message_text r.message) r.span) (with_lf.told))
     is
 
-page_of : (look : Look) (files : List File) (r : Report) (w : ℕ) (own text : Text) (children : List Child) (suggestions : List Suggestion) → w ≡ number_width look (last_line_of files r.span children) → (IsFalse (is_failure_level r.level) → OwnPart look files w r.level r.code (message_text r.message) r.span own) → (children ≡ [] → suggestions ≡ [] → text ≡ own ++ 10 ∷ []) → PageOf look files r text children suggestions
+page_of : (look : Look) (files : List File) (r : Report) (w : ℕ) (own text : Text) (children : List Child) (suggestions : List Suggestion) → w ≡ number_width look (last_line_of files r.span children) → OwnPart look files w r.level r.code (message_text r.message) r.span (own ++ end_of (is_failure_level r.level)) → (children ≡ [] → suggestions ≡ [] → text ≡ own ++ 10 ∷ []) → PageOf look files r text children suggestions
 page_of look files r w own text [] [] wide it is = sole_page look files r w own text (is_error r.level) refl wide it (is refl refl)
 page_of look files r w own text [] (s ∷ suggestions) wide it is = not_told _ _ text (not_zero (length (s ∷ suggestions)) (omega arith))
 page_of look files r w own text (c ∷ children) suggestions wide it is =
@@ -142,22 +143,17 @@ none_each : {X : Type 0} (P : X → Text → Type 0) (xs : List X) (text : Text)
 none_each P [] text e it = it
 none_each P (x ∷ xs) text e it = cc
 
-separated : (failing : Bool) (w : ℕ) (children : List Child) → IsFalse failing → separator failing w children ≡ before_notes w children
-separated failing w [] e = refl
-separated false w (it ∷ more) e = refl
-separated true w (it ∷ more) e = cc
-
-no_separator : (failing : Bool) (w : ℕ) (children : List Child) → children ≡ [] → separator failing w children ≡ []
+no_separator : (failing : Bool) (w : ℕ) (children : List Child) → children ≡ [] → before_notes failing w children ≡ []
 no_separator failing w [] e = refl
 no_separator failing w (it ∷ more) e = cc
 
 -- what is put together
 pub record Joined (failing : Bool) (w : ℕ) (children : List Child) (own notes suggestions text : Text) : Type 0 where
-  pub is : text ≡ own ++ (separator failing w children ++ (notes ++ (suggestions ++ 10 ∷ [])))
+  pub is : text ≡ own ++ (before_notes failing w children ++ (notes ++ (suggestions ++ 10 ∷ [])))
 
-pub joined : (failing : Bool) (w : ℕ) (children : List Child) (own notes suggestions a b c d : Text) → a ≡ own ++ separator failing w children → b ≡ a ++ notes → c ≡ b ++ suggestions → d ≡ c ++ 10 ∷ [] → Joined failing w children own notes suggestions d
+pub joined : (failing : Bool) (w : ℕ) (children : List Child) (own notes suggestions a b c d : Text) → a ≡ own ++ before_notes failing w children → b ≡ a ++ notes → c ≡ b ++ suggestions → d ≡ c ++ 10 ∷ [] → Joined failing w children own notes suggestions d
 joined failing w children own notes suggestions a b c d e1 e2 e3 e4 =
-    let sep = separator failing w children in record {
+    let sep = before_notes failing w children in record {
       is =
           e4
           ∙ ap (λ z. z ++ 10 ∷ []) (e3 ∙ ap (λ z. z ++ suggestions) (e2 ∙ ap (λ z. z ++ notes) e1))
@@ -172,7 +168,7 @@ headed r own more text it is = record {
   is = is ∙ ap (λ z. z ++ more) it.is ∙ append_assoc (spaced (header r.level r.code (message_text r.message))) it.rest more;
 }
 
-long_of : (look : Look) (files : List File) (r : Report) (w : ℕ) (own notes suggestions text : Text) → inline r.suggestions ≡ None → w ≡ number_width look (last_line_of files r.span r.children) → (IsFalse (is_failure_level r.level) → OwnPart look files w r.level r.code (message_text r.message) r.span own) → Headed r own → Each (NotePart look files w) r.children notes → Each (SuggestionPart look.ui_testing files w) r.suggestions suggestions → Joined (is_failure_level r.level) w r.children own notes suggestions text → Long look files r text
+long_of : (look : Look) (files : List File) (r : Report) (w : ℕ) (own notes suggestions text : Text) → inline r.suggestions ≡ None → w ≡ number_width look (last_line_of files r.span r.children) → OwnPart look files w r.level r.code (message_text r.message) r.span (own ++ end_of (is_failure_level r.level)) → Headed r own → Each (NotePart look files w) r.children notes → Each (SuggestionPart look.ui_testing files w) r.suggestions suggestions → Joined (is_failure_level r.level) w r.children own notes suggestions text → Long look files r text
 long_of look files r w own notes suggestions text none wide part begins each_note each_suggestion it =
     let same_spans : r.span ≡ pointed r = sym (ap (λ o. labelled_with o r.span) none) in
     let same_apart : r.suggestions ≡ apart r = sym (ap (λ o. cond (is_none o) r.suggestions []) none) in
@@ -184,36 +180,33 @@ long_of look files r w own notes suggestions text none wide part begins each_not
           ∙ ap (λ z. own ++ (z ++ (suggestions ++ 10 ∷ []))) (none_each _ r.children notes no_notes each_note)
           ∙ ap (λ z. own ++ (z ++ 10 ∷ [])) (none_each _ r.suggestions suggestions no_suggestions each_suggestion));
       headed = headed r own _ text begins it.is;
-      whole = λ level. record {
+      whole = record {
         own = own;
         notes = notes;
         suggestions = suggestions;
-        is = it.is ∙ ap (λ z. own ++ (z ++ (notes ++ (suggestions ++ 10 ∷ [])))) (separated (is_failure_level r.level) w r.children level ∙ ap (λ n. before_notes n r.children) same_w);
-        own_part = subst (λ (s : Spans). OwnPart look files (report_width look files r) r.level r.code (message_text r.message) s own) same_spans (subst (λ n. OwnPart look files n r.level r.code (message_text r.message) r.span own) same_w (part level));
+        is = it.is ∙ ap (λ n. own ++ (before_notes (is_failure_level r.level) n r.children ++ (notes ++ (suggestions ++ 10 ∷ [])))) same_w;
+        own_part = subst (λ (s : Spans). OwnPart look files (report_width look files r) r.level r.code (message_text r.message) s (own ++ end_of (is_failure_level r.level))) same_spans (subst (λ n. OwnPart look files n r.level r.code (message_text r.message) r.span (own ++ end_of (is_failure_level r.level))) same_w part);
         note_parts = subst (λ n. Each (NotePart look files n) r.children notes) same_w each_note;
         suggestion_parts = subst (λ (all : List Suggestion). Each (SuggestionPart look.ui_testing files (report_width look files r)) all suggestions) same_apart (subst (λ n. Each (SuggestionPart look.ui_testing files n) r.suggestions suggestions) same_w each_suggestion);
       };
     }
 
-bare_of : (set : Setting) (r : Report) (w : ℕ) (own notes suggestions text : Text) → w ≡ number_width (look_of set id_line) 0 → own ≡ spaced (header r.level r.code (message_text r.message)) ++ 10 ∷ [] → Each (NoteOver set None w) r.children notes → suggestions ≡ [] → IsFalse (is_failure_level r.level) → Joined (is_failure_level r.level) w r.children own notes suggestions text → Bare (number_width (look_of set id_line) 0) r text
-bare_of set r w own notes suggestions text same_w own_is each_note none level it =
-    let h = spaced (header r.level r.code (message_text r.message)) in
-    let before = before_notes (number_width (look_of set id_line) 0) r.children in
-    record {
-      notes = notes;
-      is =
-          it.is
-          ∙ ap (λ z. own ++ (z ++ (notes ++ (suggestions ++ 10 ∷ [])))) (separated (is_failure_level r.level) w r.children level ∙ ap (λ n. before_notes n r.children) same_w)
-          ∙ ap (λ z. own ++ (before ++ (notes ++ (z ++ 10 ∷ [])))) none
-          ∙ ap (λ z. z ++ (before ++ (notes ++ 10 ∷ []))) own_is
-          ∙ append_assoc h (10 ∷ []) (before ++ (notes ++ 10 ∷ []));
-      note_parts = subst (λ n. Each (BareNote n) r.children notes) same_w each_note;
-    }
+bare_of : (set : Setting) (r : Report) (w : ℕ) (own notes suggestions text : Text) → w ≡ number_width (look_of set id_line) 0 → OwnOver set None w r own → Each (NoteOver set None w) r.children notes → suggestions ≡ [] → Joined (is_failure_level r.level) w r.children own notes suggestions text → Bare (number_width (look_of set id_line) 0) r text
+bare_of set r w own notes suggestions text same_w own_is each_note none it = record {
+  own = own;
+  notes = notes;
+  is =
+      it.is
+      ∙ ap (λ n. own ++ (before_notes (is_failure_level r.level) n r.children ++ (notes ++ (suggestions ++ 10 ∷ [])))) same_w
+      ∙ ap (λ z. own ++ (before_notes (is_failure_level r.level) (number_width (look_of set id_line) 0) r.children ++ (notes ++ (z ++ 10 ∷ [])))) none;
+  own_part = own_is;
+  note_parts = subst (λ n. Each (BareNote n) r.children notes) same_w each_note;
+}
 
 pub long_over : (set : Setting) (map : Option Map) (r : Report) (w : ℕ) (own notes suggestions text : Text) → w ≡ cond set.ui_testing 2 (length (decimal (last_line_over (option_map (λ m. m.files) map) r.span r.children))) → OwnOver set map w r own → Headed r own → Each (NoteOver set map w) r.children notes → SuggestionsOver set.ui_testing map w r.suggestions suggestions → Joined (is_failure_level r.level) w r.children own notes suggestions text → LongOver set map r text
 long_over set None r w own notes suggestions text wide part begins each_note each_suggestion it = record {
   headed = headed r own _ text begins it.is;
-  whole = λ level. bare_of set r w own notes suggestions text wide (part level) each_note each_suggestion level it;
+  whole = bare_of set r w own notes suggestions text wide part each_note each_suggestion it;
 }
 long_over set (Some map) r w own notes suggestions text wide part begins each_note each_suggestion it =
     λ none. long_of (look_of set map.offset_line) map.files r w own notes suggestions text none wide part begins each_note each_suggestion it

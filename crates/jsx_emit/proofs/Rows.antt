@@ -1,5 +1,5 @@
 -- Rows that are added to a page.
-use Rattle.std.proofs.Common.{◌≡◌, ⊎_elim, ℕ, zero, suc, ◌+◌, List, [], ◌∷◌, ◌++◌, cond, refl, ap, sym, ◌∙◌, arith, append_assoc, append-nil}
+use Rattle.std.proofs.Common.{◌≡◌, ⊎_elim, ℕ, zero, suc, List, [], ◌∷◌, ◌++◌, cond, refl, ap, sym, ◌∙◌, arith, append_assoc, append-nil}
 use Rattle.std.specs.Prelude.{Result, Ok, Err, OnOk, is_ok, if◌then◌else◌}
 use lib.Utf8.{encode}
 use Rattle.std.specs.Str.{IsUtf8, chars, encode_utf8_all}

@@ -44,7 +44,7 @@ unfolding plain file with_note message place note lines digits char_width chars 
 page_with_note same = record {
   page = tt;
   headed = record { rest = _; is = refl };
-  whole = λ _. record {
+  whole = record {
     own = lines (codes "error: m" ∷ codes " --> x.js:1:5" ∷ codes "  |" ∷ codes "1 | a = a;" ∷ codes "  | - x ^" ∷ []);
     notes = lines (codes "  = note: n" ∷ []);
     suggestions = [];
@@ -75,7 +75,7 @@ unfolding plain file with_ways way message place lines digits char_width chars t
 page_with_ways same = record {
   page = tt;
   headed = record { rest = _; is = refl };
-  whole = λ _. record {
+  whole = record {
     own = lines (codes "error: m" ∷ codes " --> x.js:1:5" ∷ codes "  |" ∷ codes "1 | a = a;" ∷ codes "  |     ^" ∷ []);
     notes = [];
     suggestions = lines (codes "help: use" ∷ codes "  |" ∷ codes "1 | a = b;" ∷ codes "  |     ^" ∷ codes "1 | a = c;" ∷ codes "  |     ^" ∷ []);
@@ -106,9 +106,11 @@ page_without_files : Shows bare with_note (lines (codes "error: m" ∷ codes "  
 unfolding bare with_note message place note lines digits
 page_without_files = record {
   headed = record { rest = _; is = refl };
-  whole = λ _. record {
+  whole = record {
+    own = lines (codes "error: m" ∷ []);
     notes = lines (codes "  = note: n" ∷ []);
     is = refl;
+    own_part = refl;
     note_parts = (lines (codes "  = note: n" ∷ []), [], refl, refl, refl);
   };
 }

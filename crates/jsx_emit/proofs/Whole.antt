@@ -9,11 +9,14 @@ use Rattle.std.proofs.lemmas.Bool.{ne_eqb}
 use Rattle.jsx_base.specs.declared.place.Span.{Span}
 use Rattle.jsx_base.specs.Files.{File}
 use Rattle.jsx_base.specs.MultiSpan.{Spans}
+use Rattle.jsx_diag.specs.Level.{is_failure_level}
 use Rattle.jsx_diag.specs.Data.{Text, Report, Suggestion}
 use Rattle.jsx_emit.specs.Page.{Look, number_width, message_text, own_width, page_text, told}
 use Rattle.jsx_emit.specs.Layout.{apart, inline, labelled_with, last_line_of, pointed}
-use Rattle.jsx_emit.specs.Shows.{Map, Setting, Each, Headed, IsPage, Long, LongBare, OwnPart, NotePart, ShowsOver, SuggestionPart, Whole, before_notes, id_line, look_of}
-use Rattle.jsx_emit.specs.Texts.{MovesNoneOf, SameIf, short_page, shown_report}
+use Rattle.jsx_emit.specs.Shows.{Map, Setting, Each, Headed, IsPage, Long, LongBare, OwnPart, NotePart, ShowsOver, SuggestionPart, Whole, before_notes, end_of, id_line, look_of}
+use Rattle.jsx_emit.specs.Texts.{MovesNoneOf, SameIf, called_over, short_page, shown_report}
+use Rattle.jsx_emit.specs.Called.{ShowsEach}
+use Rattle.jsx_emit.proofs.Moves.{same_called}
 use Rattle.jsx_emit.specs.Parts.{LongOver}
 
 when_true : (b : Bool) (A B : Type 0) → b ≡ true → A → MatchBool b A B
@@ -51,8 +54,8 @@ whole_again look files r text it =
       own = it.own;
       notes = it.notes;
       suggestions = it.suggestions;
-      is = subst (λ (s : Spans). text ≡ it.own ++ (before_notes (number_width look (last_line_of files s r.children)) r.children ++ (it.notes ++ (it.suggestions ++ 10 ∷ [])))) same it.is;
-      own_part = subst (λ (s : Spans). OwnPart look files (number_width look (last_line_of files s r.children)) r.level r.code (message_text r.message) s it.own) same it.own_part;
+      is = subst (λ (s : Spans). text ≡ it.own ++ (before_notes (is_failure_level r.level) (number_width look (last_line_of files s r.children)) r.children ++ (it.notes ++ (it.suggestions ++ 10 ∷ [])))) same it.is;
+      own_part = subst (λ (s : Spans). OwnPart look files (number_width look (last_line_of files s r.children)) r.level r.code (message_text r.message) s (it.own ++ end_of (is_failure_level r.level))) same it.own_part;
       note_parts = subst (λ (s : Spans). Each (NotePart look files (number_width look (last_line_of files s r.children))) r.children it.notes) same it.note_parts;
       suggestion_parts =
           subst (λ (all : List Suggestion). Each (SuggestionPart look.ui_testing files (number_width look (last_line_of files (pointed r) r.children))) all it.suggestions) (apart_again r)
@@ -65,7 +68,7 @@ headed_again r text it = record { rest = it.rest; is = it.is }
 bare_again : (look : Look) (r : Report) (text : Text) → LongBare look (shown_report r) text → LongBare look r text
 bare_again look r text it = record {
   headed = headed_again r text it.headed;
-  whole = λ level. let bare = it.whole level in record { notes = bare.notes; is = bare.is; note_parts = bare.note_parts };
+  whole = record { own = it.whole.own; notes = it.whole.notes; is = it.whole.is; own_part = it.whole.own_part; note_parts = it.whole.note_parts };
 }
 
 -- the page that is told of spans, where nothing is suggested
@@ -96,15 +99,37 @@ shows_long set (Some map) r p text short same is =
     λ stays. when_false set.short _ (Long (look_of set map.offset_line) map.files r text) short (
     let is_shown : p ≡ shown_report r = same.same stays in
     let it : Long (look_of set map.offset_line) map.files (shown_report r) text = subst (λ z. LongOver set (Some map) z text) is_shown is (none_inline r) in
-    record { page = page_again (look_of set map.offset_line) map.files r text it.page; headed = headed_again r text it.headed; whole = λ whole. whole_again (look_of set map.offset_line) map.files r text (it.whole whole) }
+    record { page = page_again (look_of set map.offset_line) map.files r text it.page; headed = headed_again r text it.headed; whole = whole_again (look_of set map.offset_line) map.files r text it.whole }
     )
+
+-- ---- where spans have moved
+
+none_called : (call : Span → Span) (backtrace : Bool) (r : Report) → inline (called_over (Some call) backtrace (shown_report r)).suggestions ≡ None
+none_called call true r = none_inline r
+none_called call false r = none_inline r
+
+each_long : {X : Type 0} (f : X → Map) (o : Option X) (set : Setting) (backtrace : Bool) (r p : Report) (text : Text) → set.short ≡ false → p ≡ called_over (option_map (λ x. (f x).call_span) o) backtrace (shown_report r) → LongOver set (option_map f o) p text → ShowsEach set (option_map f o) backtrace r text
+each_long f None set backtrace r p text short is it = record { shows = shows_long set None r p text short (same_called f None backtrace p (shown_report r) is) it; called = tt }
+each_long f (Some x) set backtrace r p text short is it = record {
+  shows = shows_long set (Some (f x)) r p text short (same_called f (Some x) backtrace p (shown_report r) is) it;
+  called =
+      when_false set.short _ (Long (look_of set (f x).offset_line) (f x).files (called_over (Some (f x).call_span) backtrace (shown_report r)) text) short
+      (subst (λ z. Long (look_of set (f x).offset_line) (f x).files z text) is (it (ap (λ z. inline z.suggestions) is ∙ none_called (f x).call_span backtrace r)));
+}
+
+each_short : {X : Type 0} (f : X → Map) (o : Option X) (set : Setting) (backtrace : Bool) (r p : Report) (text : Text) → set.short ≡ true → p ≡ called_over (option_map (λ x. (f x).call_span) o) backtrace (shown_report r) → text ≡ short_page (option_map f o) p → ShowsEach set (option_map f o) backtrace r text
+each_short f None set backtrace r p text short is it = record { shows = shows_short set None r p text short (same_called f None backtrace p (shown_report r) is) it; called = tt }
+each_short f (Some x) set backtrace r p text short is it = record {
+  shows = shows_short set (Some (f x)) r p text short (same_called f (Some x) backtrace p (shown_report r) is) it;
+  called = when_true set.short _ _ short (it ∙ ap (short_page (Some (f x))) is);
+}
 
 -- ---- what is answered
 
-pub shows_long_if : {X : Type 0} (set : Setting) (map : Option Map) (r p : Report) (result : Result (String Global) X) → set.short ≡ false → SameIf (MovesNoneOf map) p (shown_report r) → IfOk result (λ text. LongOver set map p (string_bytes text)) → IfOk result (λ text. ShowsOver set map r (string_bytes text))
-shows_long_if set map r p (Ok text) short same is = shows_long set map r p (string_bytes text) short same is
-shows_long_if set map r p (Err e) short same is = tt
+pub each_long_if : {X Y : Type 0} (f : X → Map) (o : Option X) (set : Setting) (backtrace : Bool) (r p : Report) (result : Result (String Global) Y) → set.short ≡ false → p ≡ called_over (option_map (λ x. (f x).call_span) o) backtrace (shown_report r) → IfOk result (λ text. LongOver set (option_map f o) p (string_bytes text)) → IfOk result (λ text. ShowsEach set (option_map f o) backtrace r (string_bytes text))
+each_long_if f o set backtrace r p (Ok text) short is it = each_long f o set backtrace r p (string_bytes text) short is it
+each_long_if f o set backtrace r p (Err e) short is it = tt
 
-pub shows_short_if : {X : Type 0} (set : Setting) (map : Option Map) (r p : Report) (result : Result (String Global) X) → set.short ≡ true → SameIf (MovesNoneOf map) p (shown_report r) → IfOk result (λ text. string_bytes text ≡ short_page map p) → IfOk result (λ text. ShowsOver set map r (string_bytes text))
-shows_short_if set map r p (Ok text) short same is = shows_short set map r p (string_bytes text) short same is
-shows_short_if set map r p (Err e) short same is = tt
+pub each_short_if : {X Y : Type 0} (f : X → Map) (o : Option X) (set : Setting) (backtrace : Bool) (r p : Report) (result : Result (String Global) Y) → set.short ≡ true → p ≡ called_over (option_map (λ x. (f x).call_span) o) backtrace (shown_report r) → IfOk result (λ text. string_bytes text ≡ short_page (option_map f o) p) → IfOk result (λ text. ShowsEach set (option_map f o) backtrace r (string_bytes text))
+each_short_if f o set backtrace r p (Ok text) short is it = each_short f o set backtrace r p (string_bytes text) short is it
+each_short_if f o set backtrace r p (Err e) short is it = tt

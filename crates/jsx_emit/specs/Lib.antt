@@ -2,6 +2,7 @@ pub mod Page
 pub mod Layout
 pub mod Shows
 pub mod Texts
+pub mod Called
 pub mod Sheets
 pub mod Views
 pub mod Writer

@@ -1,7 +1,7 @@
 -- When a text is a page of a report. What isn't said here of a page may be drawn in any way.
-use Rattle.std.specs.Prelude.{◌≡◌, ℕ, ◌+◌, List, [], ◌∷◌, ◌++◌, Option, Some, None, Bool, false, not, ◌||◌, nat_eq, length, map, codes, IsTrue, IsFalse, slice_get, MatchOption}
+use Rattle.std.specs.Prelude.{◌≡◌, ℕ, ◌+◌, List, [], ◌∷◌, ◌++◌, Option, Some, None, Bool, false, not, cond, ◌||◌, nat_eq, length, map, codes, IsTrue, slice_get, MatchOption}
 use Rattle.std.specs.Bool.{MatchBool}
-use Rattle.std.specs.List.{flat_map, list_all, range_with_len}
+use Rattle.std.specs.List.{list_all, range_with_len}
 use Rattle.std.specs.Option.{unwrap_or, option_map, option_eq}
 use Rattle.std.specs.Str.{chars}
 use Rattle.jsx_base.specs.declared.place.Span.{Span}
@@ -97,19 +97,26 @@ pub record OwnPart (look : Look) (files : List File) (w : ℕ) (level : Level) (
   pub drawn : RowsOf look w (spots files spans) (primary_place files spans.primary) rows
   pub behind : Behind look w (spots files spans) (primary_place files spans.primary) rows
 
+-- what a text lacks at its end where the LF is left out
+abbrev pub end_of : Bool → Text
+end_of is_out = cond is_out (10 ∷ []) []
+
 -- ---- the parts of notes
 
 -- the spans that a note shows
 abbrev pub note_spans : Child → Spans
 note_spans it = unwrap_or it.render_span it.span
 
--- a note that points nowhere stands behind `=`, another as a report without code; nothing is said of a failure note
+-- a note that points nowhere stands behind `=`, another as a report without code
+abbrev pub EndedPart : Look → List File → ℕ → Child → Text → Type 0
+EndedPart look files w it text =
+    MatchBool (has_no_span (note_spans it))
+    (text ≡ page_text (note_lines w it.level (message_text it.message)))
+    (OwnPart look files w it.level None (message_text it.message) (note_spans it) text)
+
+-- a failure note lacks the LF at its end
 abbrev pub NotePart : Look → List File → ℕ → Child → Text → Type 0
-NotePart look files w it text =
-    MatchBool (is_failure_level it.level) (Unit {0})
-    (MatchBool (has_no_span (note_spans it))
-    (text ≡ flat_map (λ line. spaced line ++ 10 ∷ []) (note_lines w it.level (message_text it.message)))
-    (OwnPart look files w it.level None (message_text it.message) (note_spans it) text))
+NotePart look files w it text = EndedPart look files w it (text ++ end_of (is_failure_level it.level))
 
 -- ---- the parts of suggestions
 
@@ -124,22 +131,22 @@ abbrev pub Each : {X : Type 0} → (X → Text → Type 0) → List X → Text �
 Each Part [] text = text ≡ []
 Each Part (it ∷ more) text = (first : Text) × (rest : Text) × (text ≡ first ++ rest) × Part it first × Each Part more rest
 
--- the line between a report and its notes
-abbrev pub before_notes : ℕ → List Child → Text
-before_notes w [] = []
-before_notes w (it ∷ more) = blanks (w + 1) ++ codes "|\n"
+-- the line between a report and its notes, without LF behind a failure note
+abbrev pub before_notes : Bool → ℕ → List Child → Text
+before_notes is_out w [] = []
+before_notes is_out w (it ∷ more) = blanks (w + 1) ++ cond is_out (codes "|") (codes "|\n")
 
 -- the width of the numbers of a report's lines
 abbrev pub report_width : Look → List File → Report → ℕ
 report_width look files report = number_width look (last_line_of files (pointed report) report.children)
 
--- its own part, its notes, its suggestions, and an empty line
+-- its own part, which of a failure note lacks the LF at its end, its notes, its suggestions, and an empty line
 pub record Whole (look : Look) (files : List File) (report : Report) (text : Text) : Type 0 where
   pub own : Text
   pub notes : Text
   pub suggestions : Text
-  pub is : text ≡ own ++ (before_notes (report_width look files report) report.children ++ (notes ++ (suggestions ++ 10 ∷ [])))
-  pub own_part : OwnPart look files (report_width look files report) report.level report.code (message_text report.message) (pointed report) own
+  pub is : text ≡ own ++ (before_notes (is_failure_level report.level) (report_width look files report) report.children ++ (notes ++ (suggestions ++ 10 ∷ [])))
+  pub own_part : OwnPart look files (report_width look files report) report.level report.code (message_text report.message) (pointed report) (own ++ end_of (is_failure_level report.level))
   pub note_parts : Each (NotePart look files (report_width look files report)) report.children notes
   pub suggestion_parts : Each (SuggestionPart look.ui_testing files (report_width look files report)) (apart report) suggestions
 
@@ -155,27 +162,31 @@ IsPage look files report text = MatchOption (page look files report) (Unit {0}) 
 pub record Long (look : Look) (files : List File) (report : Report) (text : Text) : Type 0 where
   pub page : IsPage look files report text
   pub headed : Headed report text
-  pub whole : IsFalse (is_failure_level report.level) → Whole look files report text
+  pub whole : Whole look files report text
 
 -- ---- without files
 
--- a note without files: behind `=` where it points nowhere, else its header; nothing is said of a failure note
-abbrev pub BareNote : ℕ → Child → Text → Type 0
-BareNote w it text =
-    MatchBool (is_failure_level it.level) (Unit {0})
-    (MatchBool (has_no_span (note_spans it))
+-- a note without files: behind `=` where it points nowhere, else its header
+abbrev pub EndedBare : ℕ → Child → Text → Type 0
+EndedBare w it text =
+    MatchBool (has_no_span (note_spans it))
     (text ≡ page_text (note_lines w it.level (message_text it.message)))
-    (text ≡ spaced (header it.level None (message_text it.message)) ++ 10 ∷ []))
+    (text ≡ spaced (header it.level None (message_text it.message)) ++ 10 ∷ [])
+
+abbrev pub BareNote : ℕ → Child → Text → Type 0
+BareNote w it text = EndedBare w it (text ++ end_of (is_failure_level it.level))
 
 -- the header, the notes, and an empty line: without files no suggestion is shown
 pub record Bare (w : ℕ) (report : Report) (text : Text) : Type 0 where
+  pub own : Text
   pub notes : Text
-  pub is : text ≡ spaced (header report.level report.code (message_text report.message)) ++ 10 ∷ (before_notes w report.children ++ (notes ++ 10 ∷ []))
+  pub is : text ≡ own ++ (before_notes (is_failure_level report.level) w report.children ++ (notes ++ 10 ∷ []))
+  pub own_part : own ++ end_of (is_failure_level report.level) ≡ spaced (header report.level report.code (message_text report.message)) ++ 10 ∷ []
   pub note_parts : Each (BareNote w) report.children notes
 
 pub record LongBare (look : Look) (report : Report) (text : Text) : Type 0 where
   pub headed : Headed report text
-  pub whole : IsFalse (is_failure_level report.level) → Bare (number_width look 0) report text
+  pub whole : Bare (number_width look 0) report text
 
 -- ---- any page
 
@@ -196,6 +207,6 @@ ShowsOver set (Some map) report text =
     (text ≡ short_text (look_of set map.offset_line) (primary_place map.files (pointed report).primary) report)
     (Long (look_of set map.offset_line) map.files report text)
 
--- a text is a page of a report; over a map that moves spans each text is
+-- a text is a page of a report; over a map that moves spans each text is, and `Called` says more
 abbrev pub Shows : Setting → Report → Text → Type 0
 Shows set report text = ShowsOver set set.map report text

@@ -1,10 +1,10 @@
 -- Texts that a page is made of.
-use Rattle.std.specs.Prelude.{◌≡◌, ◌<◌, ◌+◌, ℕ, List, [], ◌∷◌, ◌++◌, Option, Some, None, false, cond, nat_eq, codes, decimal, length, map}
-use Rattle.std.specs.List.{flat_map}
+use Rattle.std.specs.Prelude.{◌≡◌, ◌<◌, ◌+◌, ℕ, List, [], ◌∷◌, ◌++◌, Option, Some, None, Bool, false, not, ◌||◌, cond, nat_eq, codes, decimal, length, map}
+use Rattle.std.specs.List.{flat_map, list_any}
 use Rattle.std.specs.Str.{IsUtf8, chars}
 use Rattle.jsx_base.specs.declared.place.Span.{Span}
 use Rattle.jsx_base.specs.Files.{File, Place, place_in}
-use Rattle.jsx_base.specs.MultiSpan.{Spans}
+use Rattle.jsx_base.specs.MultiSpan.{Spans, is_span, replaced, replaced_label}
 use Rattle.jsx_base.specs.SpanPlaces.{high, shown}
 use Rattle.jsx_diag.specs.declared.level.Level.{Level}
 use Rattle.jsx_diag.specs.declared.level.Level.TheVariants.{Note}
@@ -106,3 +106,46 @@ macro_text = codes "this error originates in a macro outside of the current crat
 
 abbrev pub macro_note : Child
 macro_note = record { level = Note; message = record { text = macro_text; style = NoStyle } ∷ []; span = record { primary = []; labels = [] }; render_span = None }
+
+-- ---- spans that are shown in place of those of macros
+
+abbrev pub moves : (Span → Span) → Span → Bool
+moves call sp = not (is_span sp (call sp))
+
+-- the span that is shown in place of one, wherever that stands
+abbrev pub put_call : (Span → Span) → Span → Spans → Spans
+put_call call sp spans = cond (moves call sp) (record { primary = map (replaced sp (call sp)) spans.primary; labels = map (replaced_label sp (call sp)) spans.labels }) spans
+
+abbrev pub put_calls : (Span → Span) → List Span → Spans → Spans
+put_calls call [] spans = spans
+put_calls call (sp ∷ more) spans = put_calls call more (put_call call sp spans)
+
+-- for each primary span
+abbrev pub called_spans : (Span → Span) → Spans → Spans
+called_spans call spans = put_calls call spans.primary spans
+
+abbrev pub called_note : (Span → Span) → Child → Child
+called_note call it = record it { span = called_spans call it.span }
+
+abbrev pub some_move : (Span → Span) → Spans → Bool
+some_move call spans = list_any (moves call) spans.primary
+
+abbrev pub note_moves : (Span → Span) → Child → Bool
+note_moves call it = some_move call it.span
+
+-- whether a primary span of a report or of a note moves
+abbrev pub report_moves : (Span → Span) → Report → Bool
+report_moves call report = some_move call report.span || list_any (note_moves call) report.children
+
+-- a report whose spans have moved, without a note
+abbrev pub called : (Span → Span) → Report → Report
+called call report = record report { span = called_spans call report.span; children = map (called_note call) report.children }
+
+-- with a note, where one has
+abbrev pub called_with_note : (Span → Span) → Report → Report
+called_with_note call report = record report { span = called_spans call report.span; children = map (called_note call) report.children ++ cond (report_moves call report) (macro_note ∷ []) [] }
+
+-- a report as it is shown: unless there are no files, or all calls are shown
+abbrev pub called_over : Option (Span → Span) → Bool → Report → Report
+called_over None backtrace report = report
+called_over (Some call) backtrace report = cond backtrace report (called_with_note call report)

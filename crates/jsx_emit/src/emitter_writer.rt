@@ -83,7 +83,7 @@ impl<S: Sink, M: SourceMapper + Drop> EmitterWriter<S, M> {
 
 impl<S: Sink, M: SourceMapper> Emitter for EmitterWriter<S, M> {
     ghost use Rattle.std.specs.Prelude.{not};
-    ghost use Rattle.jsx_emit.specs.Shows.{Shows};
+    ghost use Rattle.jsx_emit.specs.Called.{ShowsAny};
     ghost use Rattle.jsx_emit.specs.Writer.{is_short, setting_of, sink_of};
 
     ghost text = { λ it. S.holds (sink_of it) };
@@ -92,7 +92,7 @@ impl<S: Sink, M: SourceMapper> Emitter for EmitterWriter<S, M> {
 
     ghost explains = { λ it. not (is_short it) };
 
-    ghost shows = { λ it _flags report page. Shows (setting_of (λ map. record { files = M.files map; call_span = M.call_span map; offset_line = M.offset_line map }) it) report page };
+    ghost shows = { λ it flags report page. ShowsAny (setting_of (λ map. record { files = M.files map; call_span = M.call_span map; offset_line = M.offset_line map }) it) flags.external_macro_backtrace report page };
 
     fn emit(&mut self, db: &Diagnostic, flags: &HandlerFlags) -> Result<(), EmitError> {
         let Ok(text) = page(self.alloc, self.source_map.as_ref(), self.look, db, flags) else {

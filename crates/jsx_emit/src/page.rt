@@ -3,7 +3,7 @@
 ghost use Rattle.std.specs.Prelude.{IfOk, string_bytes};
 ghost use Rattle.std.specs.Option.{option_map};
 ghost use Rattle.jsx_diag.specs.Data.{report_of};
-ghost use Rattle.jsx_emit.specs.Shows.{Shows};
+ghost use Rattle.jsx_emit.specs.Called.{ShowsAny};
 
 mod children;
 mod header;
@@ -46,7 +46,7 @@ pub fn page<M: SourceMapper>(
     db: &Diagnostic,
     flags: &HandlerFlags,
 ) -> Result<String, AllocError>
-    ensures { IfOk result (λ text. Shows (record { map = option_map (λ map. record { files = M.files map.now; call_span = M.call_span map.now; offset_line = M.offset_line map.now }) map.entry; short = look.short; ui_testing = look.ui_testing; skip_filename = look.skip_filename }) (report_of db.now) (string_bytes text)) }
+    ensures { IfOk result (λ text. ShowsAny (record { map = option_map (λ map. record { files = M.files map.now; call_span = M.call_span map.now; offset_line = M.offset_line map.now }) map.entry; short = look.short; ui_testing = look.ui_testing; skip_filename = look.skip_filename }) flags.now.external_macro_backtrace (report_of db.now) (string_bytes text)) }
 {
     let report = prepared(alloc, map, db, flags)?;
     if look.short {

@@ -9,6 +9,7 @@ ghost use Rattle.jsx_emit.specs.Parts.{EndedNote, NoteOver};
 ghost use Rattle.jsx_emit.specs.Shows.{Each, note_spans};
 
 use crate::page::Look;
+use crate::page::long::without_end;
 use crate::page::notes::push_note;
 use crate::page::part::part_text;
 use jsx_base::{MultiSpan, SourceMapper};
@@ -43,9 +44,9 @@ fn child_text<M: SourceMapper>(
 ) -> Result<String, AllocError>
     ensures { IfOk result (λ text. NoteOver (record { map = None; short = look.short; ui_testing = look.ui_testing; skip_filename = look.skip_filename }) (option_map (λ map. record { files = M.files map.now; call_span = M.call_span map.now; offset_line = M.offset_line map.now }) map.entry) width (child_of note.now) (string_bytes text)) }
 {
-    let mut text = ended_text(alloc, map, look, width, note)?;
+    let text = ended_text(alloc, map, look, width, note)?;
     if note.level.is_failure_note() {
-        text.pop();
+        return without_end(alloc, text.as_str());
     }
     Ok(text)
 }

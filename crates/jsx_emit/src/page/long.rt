@@ -3,8 +3,8 @@
 ghost use Rattle.std.specs.Prelude.{◌≡◌, ◌++◌, None, map, cond, codes, IfOk, OnOk, string_bytes};
 ghost use Rattle.std.specs.Option.{option_map};
 ghost use Rattle.jsx_diag.specs.Data.{Text, child_of, report_of};
-ghost use Rattle.jsx_emit.specs.Parts.{BeginsWith, LongOver, OwnOver, StartsWith, separator};
-ghost use Rattle.jsx_emit.specs.Shows.{Headed};
+ghost use Rattle.jsx_emit.specs.Parts.{BeginsWith, IsCut, LongOver, OwnOver, StartsWith};
+ghost use Rattle.jsx_emit.specs.Shows.{Headed, before_notes};
 
 use crate::page::Look;
 use crate::page::children::notes_text;
@@ -56,9 +56,10 @@ fn own_text<M: SourceMapper>(
     Ok(text)
 }
 
-// A text without the LF at its end.
-fn without_end(alloc: Global, text: &str) -> Result<String, AllocError>
-    ensures { IfOk result (λ it. (header : Text) → BeginsWith header text.now → StartsWith header (string_bytes it)) }
+/// A text without the LF at its end.
+pub(super) fn without_end(alloc: Global, text: &str) -> Result<String, AllocError>
+    ensures begins { IfOk result (λ it. (header : Text) → BeginsWith header text.now → StartsWith header (string_bytes it)) }
+    ensures cut { IfOk result (λ it. IsCut text.now (string_bytes it)) }
 {
     match text.strip_suffix('\n') {
         Some(front) => String::from_str(alloc, front),
@@ -73,7 +74,7 @@ fn push_separator(
     cut: bool,
     notes: &[SubDiagnostic],
 ) -> Result<(), AllocError>
-    ensures { OnOk result (string_bytes text.new ≡ string_bytes text.old ++ separator cut width (map child_of notes.now)) }
+    ensures { OnOk result (string_bytes text.new ≡ string_bytes text.old ++ before_notes cut width (map child_of notes.now)) }
 {
     if notes.is_empty() {
         return Ok(());

@@ -1,10 +1,11 @@
 //! A report as it is shown: a suggestion that becomes a label, and spans that stand for those of macros.
 
-ghost use Rattle.std.specs.Prelude.{◌≡◌, IfOk, OnOk, false, map, string_bytes};
+ghost use Rattle.std.specs.Prelude.{◌≡◌, IfOk, OnOk, map, string_bytes};
 ghost use Rattle.std.specs.Option.{option_map};
 ghost use Rattle.jsx_base.specs.MultiSpan.{spans_of};
 ghost use Rattle.jsx_diag.specs.Data.{child_of, report_of};
-ghost use Rattle.jsx_emit.specs.Texts.{MovesNone, MovesNoneOf, SameIf, macro_note, macro_text, shown_report};
+ghost use Rattle.jsx_emit.specs.Texts.{called, called_note, called_over, called_spans, macro_note, macro_text, moves, note_moves, put_call, report_moves, shown_report, some_move};
+ghost use Rattle.std.specs.List.{list_any};
 
 use crate::page::labels::label_in;
 use jsx_base::{MultiSpan, SourceMapper, Span};
@@ -21,7 +22,7 @@ pub(super) fn prepared<M: SourceMapper>(
     db: &Diagnostic,
     flags: &HandlerFlags,
 ) -> Result<Diagnostic, AllocError>
-    ensures { IfOk result (λ it. SameIf (MovesNoneOf (option_map (λ map. record { files = M.files map.now; call_span = M.call_span map.now; offset_line = M.offset_line map.now }) map.entry)) (report_of it) (shown_report (report_of db.now))) }
+    ensures { IfOk result (λ it. report_of it ≡ called_over (option_map (λ map. M.call_span map.now) map.entry) flags.now.external_macro_backtrace (shown_report (report_of db.now))) }
 {
     let mut report = labelled(alloc, db)?;
     show_calls(alloc, map, &mut report, flags)?;
@@ -55,7 +56,7 @@ fn show_calls<M: SourceMapper>(
     report: &mut Diagnostic,
     flags: &HandlerFlags,
 ) -> Result<(), AllocError>
-    ensures { OnOk result (SameIf (MovesNoneOf (option_map (λ map. record { files = M.files map.now; call_span = M.call_span map.now; offset_line = M.offset_line map.now }) map.entry)) (report_of report.new) (report_of report.old)) }
+    ensures { OnOk result (report_of report.new ≡ called_over (option_map (λ map. M.call_span map.now) map.entry) flags.now.external_macro_backtrace (report_of report.old)) }
 {
     let Some(map) = map else {
         return Ok(());
@@ -75,8 +76,8 @@ fn move_report<M: SourceMapper>(
     map: &M,
     report: &mut Diagnostic,
 ) -> Result<bool, AllocError>
-    ensures moved { IfOk result (λ moved. SameIf (MovesNone (M.call_span map.now)) moved false) }
-    ensures report { OnOk result (SameIf (MovesNone (M.call_span map.now)) (report_of report.new) (report_of report.old)) }
+    ensures moved { IfOk result (λ moved. moved ≡ report_moves (M.call_span map.now) (report_of report.old)) }
+    ensures report { OnOk result (report_of report.new ≡ called (M.call_span map.now) (report_of report.old)) }
 {
     let own = move_spans(alloc, map, &mut report.span)?;
     let notes = move_notes(alloc, map, &mut report.children)?;
@@ -89,8 +90,8 @@ fn move_notes<M: SourceMapper>(
     cm: &M,
     notes: &mut [SubDiagnostic],
 ) -> Result<bool, AllocError>
-    ensures moved { IfOk result (λ moved. SameIf (MovesNone (M.call_span cm.now)) moved false) }
-    ensures notes { OnOk result (SameIf (MovesNone (M.call_span cm.now)) (map child_of notes.new) (map child_of notes.old)) }
+    ensures moved { IfOk result (λ moved. moved ≡ list_any (note_moves (M.call_span cm.now)) (map child_of notes.old)) }
+    ensures notes { OnOk result (map child_of notes.new ≡ map (called_note (M.call_span cm.now)) (map child_of notes.old)) }
 {
     let mut moved = false;
     for note in notes.iter_mut() {
@@ -105,8 +106,8 @@ fn move_spans<M: SourceMapper>(
     map: &M,
     spans: &mut MultiSpan,
 ) -> Result<bool, AllocError>
-    ensures moved { IfOk result (λ moved. SameIf (MovesNone (M.call_span map.now)) moved false) }
-    ensures spans { OnOk result (SameIf (MovesNone (M.call_span map.now)) (spans_of spans.new) (spans_of spans.old)) }
+    ensures moved { IfOk result (λ moved. moved ≡ some_move (M.call_span map.now) (spans_of spans.old)) }
+    ensures spans { OnOk result (spans_of spans.new ≡ called_spans (M.call_span map.now) (spans_of spans.old)) }
 {
     let primary = Vec::from_slice(alloc, spans.primary_spans())?;
     let mut moved = false;
@@ -118,8 +119,8 @@ fn move_spans<M: SourceMapper>(
 
 // Puts the span that is shown in place of this one, and answers whether it is another.
 fn move_span<M: SourceMapper>(map: &M, spans: &mut MultiSpan, span: Span) -> bool
-    ensures moved { SameIf (MovesNone (M.call_span map.now)) result false }
-    ensures spans { SameIf (MovesNone (M.call_span map.now)) (spans_of spans.new) (spans_of spans.old) }
+    ensures moved { result ≡ moves (M.call_span map.now) span }
+    ensures spans { spans_of spans.new ≡ put_call (M.call_span map.now) span (spans_of spans.old) }
 {
     let after = map.call_span_if_macro(span);
     if after == span {
