@@ -2,10 +2,12 @@
 //! by value much.
 
 ghost use Rattle.std.specs.Prelude.{◌≡◌, [], ◌∷◌, IfOk, map};
-ghost use Rattle.jsx_tree.specs.Kinds.{Role, Block, Var, Declarator, Empty, If, Do, While, Continue, Break, Throw, Debugger, Assigns, ExprStmt, Assign, OpAssign, Unary, Binary, Cond, Call, Member, Index, ImportCall, Parenthesized, Element, statement, expression, jsx, leaf, node, list, none, part, PrefixUpdate, PostfixUpdate, Seq};
-ghost use Rattle.jsx_tree.specs.View.{text_of, word, view_word, name_of, kind_of_literal, word_of, inside, forest, optional_name, optional_of, view_tag, view_expr, view_pattern, view_pat, view_stmt, view_jsx};
+ghost use Rattle.jsx_tree.specs.Kinds.{Role, Block, Var, Declarator, Empty, If, Do, While, Continue, Break, Throw, Debugger, Assigns, ExprStmt, Assign, OpAssign, Unary, Binary, Cond, Call, Member, Index, ImportCall, Parenthesized, Element, statement, expression, jsx, leaf, node, list, none, part, PrefixUpdate, PostfixUpdate, Seq, For, ForDeclaration, Switch, Array, Spread};
+ghost use Rattle.jsx_tree.specs.View.{text_of, word, view_word, name_of, kind_of_literal, word_of, inside, forest, optional_name, optional_of, view_tag, view_expr, view_pattern, view_pat, view_stmt, view_jsx, optional_at_of, clause_of, view_control};
 ghost use Rattle.jsx_tree.specs.ViewOperators.{assign_of, binary_of, unary_of, step_of};
-ghost use Rattle.jsx_tree.specs.Told.{told_list, told_name, told_optional, told_text, told_leaf, told_node, told_tag, told_expr, told_pat, told_stmt, told_jsx};
+ghost use Rattle.jsx_tree.specs.Told.{told_list, told_name, told_optional, told_text, told_leaf, told_node, told_tag, told_expr, told_pat, told_stmt, told_jsx, led_by, told_control};
+ghost use Rattle.jsx_base.specs.Token.{Elision};
+ghost use Rattle.jsx_tree.specs.Spans.{no_tales, tells};
 ghost use Rattle.jsx_make.specs.NodeSpans.{expr_at, pat_at, stmt_at};
 
 use jsx_base::Span;
@@ -103,6 +105,40 @@ pub fn call<'s>(
     ensures span { IfOk result (λ e. expr_at e.value ≡ at) }
 {
     boxed(alloc, Expr::Access(Access::Call(at, callee, arguments)))
+}
+
+/// `[a, b]`
+pub fn array<'s>(
+    alloc: Global,
+    at: Option<Span>,
+    items: Vec<Box<Expr<'s>>>,
+) -> Result<Box<Expr<'s>>, AllocError>
+    ensures view { IfOk result (λ e. view_expr e.value ≡ node (expression Array) (part (list (forest (map (inside view_expr) items.entry.items))) none)) }
+    ensures told { IfOk result (λ e. told_expr e.value ≡ told_node at (told_list (map (inside told_expr) items.entry.items) ∷ [])) }
+    ensures span { IfOk result (λ e. expr_at e.value ≡ at) }
+{
+    boxed(alloc, Expr::Array(at, items))
+}
+
+/// A hole of an array: nothing between two commas.
+pub fn hole<'s>(alloc: Global) -> Result<Box<Expr<'s>>, AllocError>
+    ensures view { IfOk result (λ e. view_expr e.value ≡ leaf Elision []) }
+    ensures told { IfOk result (λ e. told_expr e.value ≡ tells [] no_tales) }
+{
+    boxed(alloc, Expr::Operation(Operation::Hole))
+}
+
+/// `...a`
+pub fn spread<'s>(
+    alloc: Global,
+    at: Option<Span>,
+    inner: Box<Expr<'s>>,
+) -> Result<Box<Expr<'s>>, AllocError>
+    ensures view { IfOk result (λ e. view_expr e.value ≡ node (expression Spread) (part (view_expr inner.entry.value) none)) }
+    ensures told { IfOk result (λ e. told_expr e.value ≡ told_node at (told_expr inner.entry.value ∷ [])) }
+    ensures span { IfOk result (λ e. expr_at e.value ≡ at) }
+{
+    boxed(alloc, Expr::Operation(Operation::Spread(at, inner)))
 }
 
 /// `a.b`
@@ -453,4 +489,63 @@ pub fn while_statement<'s>(
     ensures span { IfOk result (λ s. stmt_at s.value ≡ at) }
 {
     boxed(alloc, Stmt::Control(Control::While(at, test, body)))
+}
+
+/// `let a = 1` in the head of a `for`, each declarator a `Pat::Binding`.
+pub fn head_declaration<'s>(
+    alloc: Global,
+    at: Option<Span>,
+    word: DeclareWord,
+    declarators: Vec<Box<Pat<'s>>>,
+) -> Result<Box<Pat<'s>>, AllocError>
+    ensures view { IfOk result (λ p. (r : Role) → view_pattern p.value r ≡ node (statement (ForDeclaration (word_of word))) (part (list (forest (map (inside view_pat) declarators.entry.items))) none)) }
+    ensures told { IfOk result (λ p. told_pat p.value ≡ told_node at (told_list (map (inside told_pat) declarators.entry.items) ∷ [])) }
+{
+    boxed(alloc, Pat::Declaration(at, word, declarators))
+}
+
+/// `for (a; b; c) d;`
+pub fn for_statement<'s>(
+    alloc: Global,
+    at: Option<Span>,
+    init: Option<Box<Pat<'s>>>,
+    test: Option<Box<Expr<'s>>>,
+    update: Option<Box<Expr<'s>>>,
+    body: Box<Stmt<'s>>,
+) -> Result<Box<Stmt<'s>>, AllocError>
+    ensures view { IfOk result (λ s. view_stmt s.value ≡ node (statement For) (part (optional_at_of Assigns view_pattern init.entry) (part (optional_of view_expr test.entry) (part (optional_of view_expr update.entry) (part (view_stmt body.entry.value) none))))) }
+    ensures told { IfOk result (λ s. told_stmt s.value ≡ told_node at (told_optional told_pat init.entry ∷ told_optional told_expr test.entry ∷ told_optional told_expr update.entry ∷ told_stmt body.entry.value ∷ [])) }
+    ensures span { IfOk result (λ s. stmt_at s.value ≡ at) }
+{
+    boxed(
+        alloc,
+        Stmt::Control(Control::For(at, init, test, update, body)),
+    )
+}
+
+/// `switch (a) { case b: c; }`, each case a `Control::Case`.
+pub fn switch_statement<'s>(
+    alloc: Global,
+    at: Option<Span>,
+    value: Box<Expr<'s>>,
+    cases: Vec<Box<Control<'s>>>,
+) -> Result<Box<Stmt<'s>>, AllocError>
+    ensures view { IfOk result (λ s. view_stmt s.value ≡ node (statement Switch) (part (view_expr value.entry.value) (part (list (forest (map (inside view_control) cases.entry.items))) none))) }
+    ensures told { IfOk result (λ s. told_stmt s.value ≡ told_node at (told_expr value.entry.value ∷ told_list (map (inside told_control) cases.entry.items) ∷ [])) }
+    ensures span { IfOk result (λ s. stmt_at s.value ≡ at) }
+{
+    boxed(alloc, Stmt::Control(Control::Switch(at, value, cases)))
+}
+
+/// `case a: b;`, or `default: b;`
+pub fn case_clause<'s>(
+    alloc: Global,
+    at: Option<Span>,
+    test: Option<Box<Expr<'s>>>,
+    body: Vec<Box<Stmt<'s>>>,
+) -> Result<Box<Control<'s>>, AllocError>
+    ensures view { IfOk result (λ s. view_control s.value ≡ clause_of view_expr test.entry (list (forest (map (inside view_stmt) body.entry.items)))) }
+    ensures told { IfOk result (λ s. told_control s.value ≡ told_node at (led_by told_expr test.entry (told_list (map (inside told_stmt) body.entry.items) ∷ []))) }
+{
+    boxed(alloc, Control::Case(at, test, body))
 }

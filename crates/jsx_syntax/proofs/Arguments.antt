@@ -1,15 +1,15 @@
 -- The places of parentheses, and of arguments: one in parentheses stands where these do.
-use Rattle.std.proofs.Common.{◌≡◌, ◌-◌, ℕ, Bool, true, false, cond, [], ◌∷◌, ◌++◌, refl, sym, ◌∙◌, ap, subst, Option}
+use Rattle.std.proofs.Common.{◌≡◌, ◌-◌, true, false, cond, [], ◌∷◌, ◌++◌, refl, sym, ap, subst, Option, None}
 use Rattle.std.specs.Prelude.{codes}
 use Rattle.jsx_base.specs.Lines.{size}
 use Rattle.jsx_base.specs.declared.place.Span.{Span}
-use Rattle.jsx_tree.specs.Signs.{Sign, Unless, End}
-use Rattle.jsx_tree.specs.Kinds.{Parenthesized, ParenTarget, Kind, expression, function, Tree, leaf, node, list, Forest, none, part}
+use Rattle.jsx_tree.specs.Signs.{Unless, End}
+use Rattle.jsx_tree.specs.Kinds.{Parenthesized, Spread, ParenTarget, Kind, expression, function, Tree, leaf, node, list, Forest, none, part}
 use Rattle.jsx_tree.specs.Nonterminals.{Nonterminal, Argument, Expr}
 use Rattle.jsx_tree.specs.Grammar.{p, pun, production}
 use Rattle.jsx_tree.specs.Spelling.{saids, spelled}
-use Rattle.jsx_tree.specs.Reading.{Place, forth, scan}
-use Rattle.jsx_tree.specs.Spans.{from_first, rest_at, Extent, extent, settled, in_parens, Placed, Places, end, and, node_at, starts, start, placed, places, within, Holds, spans, Told, no_tales, tale, IsTold}
+use Rattle.jsx_tree.specs.Reading.{forth, scan}
+use Rattle.jsx_tree.specs.Spans.{from_first, rest_at, Extent, extent, settled, in_parens, Placed, Places, end, and, starts, start, placed, places, within, Told, no_tales, tale, IsTold}
 use Rattle.jsx_tree.specs.Walk.{is_found}
 use Rattle.jsx_tree.proofs.Laws.{scan_append}
 use Rattle.jsx_tree.proofs.Tokens.{found_first}
@@ -95,3 +95,7 @@ argument_placed (leaf k u) at n l s = record { same = l.same; begins = l.begins;
 argument_placed (list ts) at n l s = absurd (n ts refl)
 argument_placed (node (expression Parenthesized) cs) at n l s = parens_place l s
 argument_placed (node k cs) at n l s = own_place at refl l
+
+-- a spread stands where it stands elsewhere
+pub spread_argument : {d : Told} {t : Tree} {ts : Forest} {x y : Here} → t ≡ node (expression Spread) ts → IsPlaced d t x y → IsPlacedAs true d t x y
+spread_argument {d} {t} {ts} {x} {y} e l = subst (λ u. IsPlacedAs true d u x y) (sym e) (own_place None refl (subst (λ u. IsPlaced d u x y) e l))

@@ -1,8 +1,7 @@
 -- The statements of a block, up to its brace.
-use Rattle.std.proofs.Common.{◌≡◌, ℕ, suc, Bool, true, false, not, cond, List, [], ◌∷◌, refl, sym, ◌∙◌, ap, subst}
-use Rattle.std.specs.Prelude.{IsTrue, codes, nat_le, ◌&&◌, ◌||◌}
-use Rattle.jsx_tree.specs.Signs.{Sign}
-use Rattle.jsx_tree.specs.Kinds.{Block, ExprStmt, Kind, statement, Tree, leaf, node, list, Forest, none, part}
+use Rattle.std.proofs.Common.{◌≡◌, suc, Bool, true, false, not, cond, List, [], ◌∷◌, refl, sym, ◌∙◌, ap, subst}
+use Rattle.std.specs.Prelude.{IsTrue, nat_le, ◌||◌}
+use Rattle.jsx_tree.specs.Kinds.{Block, statement, Tree, leaf, node, list, Forest, none, part}
 use Rattle.jsx_tree.specs.Nonterminals.{Nonterminal, Stmt}
 use Rattle.jsx_tree.specs.Grammar.{Context, Lines, Many, Part, Fixed, pun}
 use Rattle.jsx_tree.specs.Reading.{Place, Lost, At, forth}
@@ -26,17 +25,16 @@ use Rattle.jsx_token.specs.Marks.{row_so_far}
 use Rattle.jsx_token.specs.Growths.{same_sign}
 use Rattle.jsx_token.specs.Headings.{heading_kind, heading_sign}
 use Rattle.jsx_token.specs.declared.heading.Heading.{Heading}
-use Rattle.jsx_token.specs.declared.heading.Heading.TheVariants as heading
 use Rattle.jsx_syntax.proofs.OfSoFar.{of_so_far}
 use Rattle.jsx_token.proofs.Headings.{of_heading}
 use Rattle.jsx_token.proofs.Marks.{one_sign}
-use Rattle.jsx_syntax.proofs.Homes.{no_list, taken_by, home_of}
+use Rattle.jsx_syntax.proofs.Homes.{taken_by, home_of}
 use Rattle.jsx_syntax.proofs.Statements.{coded, none_begins, spot_kind, stmts}
 
 -- ---- the steps of the loop
 
 -- one more statement: what stands behind it is such a list again
-turn_line : {L : Language} {v : Surroundings} {a : List Context} {c : Nonterminal} {ps : List Piece} {x y : Place} {t : Tree} → Lawful L → no_rest c ≡ true → Only L (steady v a) (Part c) x (one t) y → NoRow L v ps x → Turn L v (piece a (Many Lines c) ∷ ps) (piece a (Many Lines c) ∷ ps) x y (cons t)
+pub turn_line : {L : Language} {v : Surroundings} {a : List Context} {c : Nonterminal} {ps : List Piece} {x y : Place} {t : Tree} → Lawful L → no_rest c ≡ true → Only L (steady v a) (Part c) x (one t) y → NoRow L v ps x → Turn L v (piece a (Many Lines c) ∷ ps) (piece a (Many Lines c) ∷ ps) x y (cons t)
 turn_line {L} {v} {a} {c} {ps} {x} {y} {t} l early_c o n = record { to = forward; from = back }
   where
     ahead : (ts : Forest) (p : Place) → Items (Whole L) (steady v a) Lines c y ts p → Items (Whole L) (steady v a) Lines c x (part t ts) p
@@ -61,7 +59,7 @@ turn_line {L} {v} {a} {c} {ps} {x} {y} {t} l early_c o n = record { to = forward
     back us w (next {ts = vs} (many {ts = ts} e all) walk) = inner ts _ all vs w walk
 
 -- nothing stands in it
-turn_none_left : {L : Language} {v : Surroundings} {a : List Context} {c : Nonterminal} {ps : List Piece} {x : Place} → IsTrue (is_found x) → Barred L (steady v a) (Part c) x → Turn L v (piece a (Many Lines c) ∷ ps) ps x x (part (list none))
+pub turn_none_left : {L : Language} {v : Surroundings} {a : List Context} {c : Nonterminal} {ps : List Piece} {x : Place} → IsTrue (is_found x) → Barred L (steady v a) (Part c) x → Turn L v (piece a (Many Lines c) ∷ ps) ps x x (part (list none))
 turn_none_left {L} {v} {a} {c} {ps} {x} f b = record { to = λ ts w walk. next (many refl (nil f)) walk; from = back }
   where
     inner : (ts : Forest) (y : Place) → Items (Whole L) (steady v a) Lines c x ts y → (us : Forest) (w : Place) → Walk (Whole L) (steady v) ps y us w → From L v ps x (part (list none)) (part (list ts) us) w
@@ -101,13 +99,13 @@ lost_if : (x : Place) → (IsTrue (is_found x) → ⊥) → x ≡ Lost
 lost_if Lost f = refl
 lost_if (At q e text) f = absurd (f refl)
 
-no_heading : {y z : Place} → Moves (pun "}") y z → (h : Heading) → forth (heading_sign h) y ≡ Lost
+pub no_heading : {y z : Place} → Moves (pun "}") y z → (h : Heading) → forth (heading_sign h) y ≡ Lost
 no_heading {y} m h = lost_if (forth (heading_sign h) y) (λ f. at h (one_sign (heading_sign h) (pun "}") y (coded h) refl f (found_at (sym m.is) m.found)))
   where
     at : (h : Heading) → same_sign (heading_sign h) (pun "}") ≡ true → ⊥
     at h e = clash _ e (is_not _ (of_heading (λ j. not (same_sign (heading_sign j) (pun "}"))) refl h))
 
-both_none : (ts : Forest) → both ts none ≡ ts
+pub both_none : (ts : Forest) → both ts none ≡ ts
 both_none none = refl
 both_none (part t ts) = ap (part t) (both_none ts)
 
@@ -125,18 +123,9 @@ function_not (list ts) r = refl
 function_not (node k ts) r = spot_kind stmts k ts (taken_by r) (home_of r) (λ g e. ap (λ l. is_function (node l ts)) e ∙ of_kind g) (λ e. ap (λ l. is_function (node l ts)) e)
   where
     of_kind : (g : Heading) → is_function (node (heading_kind g) ts) ≡ false
-    of_kind heading.Empty = refl
-    of_kind heading.Block = refl
-    of_kind (heading.Var w) = refl
-    of_kind heading.If = refl
-    of_kind heading.Do = refl
-    of_kind heading.While = refl
-    of_kind heading.Continue = refl
-    of_kind heading.Break = refl
-    of_kind heading.Throw = refl
-    of_kind heading.Debugger = refl
+    of_kind g = is_not _ (of_heading (λ j. not (is_function (node (heading_kind j) ts))) refl g)
 
-no_functions : {v : Surroundings} {x y : Place} {ts : Forest} → Items (Whole so_far) v Lines Stmt x ts y → nat_le (count_of is_function ts) 0 ≡ true
+pub no_functions : {v : Surroundings} {x y : Place} {ts : Forest} → Items (Whole so_far) v Lines Stmt x ts y → nat_le (count_of is_function ts) 0 ≡ true
 no_functions (nil f) = refl
 no_functions (last {t = t} r e f) = ap (λ b. nat_le (cond b 1 0) 0) (function_not t r.reads)
 no_functions (more {t = t} {u = u} {us = us} n r e all) = ap (λ b. nat_le (cond b (suc (count_of is_function (part u us))) (count_of is_function (part u us))) 0) (function_not t r.reads) ∙ no_functions all

@@ -4,7 +4,7 @@ use Rattle.std.specs.Prelude.{IsTrue, Some, ◌&&◌}
 use Rattle.std.proofs.lemmas.Bool.{leb-true, le-leb}
 use Rattle.jsx_base.specs.Token.{Lexeme, Text, Operator, IdentifierName, NumericLiteral, BigIntLiteral, StringLiteral, TokenKind, breaks, token, same, RegExpLiteral}
 use Rattle.jsx_tree.specs.Signs.{Ending, AfterExpr, SameLine}
-use Rattle.jsx_tree.specs.Kinds.{Module, Var, ConstWord, Declarator, ExprStmt, Assigns, Assign, OpAssign, Delete, Void, TypeOf, Positive, Negative, Complement, Not, Unary, Binary, Cond, Call, Member, Index, ImportCall, Parenthesized, Element, Kind, program, statement, expression, jsx, Tree, leaf, node, Forest, part, PrefixUpdate, PostfixUpdate, Seq}
+use Rattle.jsx_tree.specs.Kinds.{Module, Var, ConstWord, Declarator, ExprStmt, Assigns, Assign, OpAssign, Delete, Void, TypeOf, Positive, Negative, Complement, Not, Unary, Binary, Cond, Call, Member, Index, ImportCall, Parenthesized, Element, Kind, program, statement, expression, jsx, Tree, leaf, node, Forest, part, PrefixUpdate, PostfixUpdate, Seq, Spread, Array}
 use Rattle.jsx_tree.specs.Nonterminals.{Nonterminal, Expr, NullishLeft, MemberObject, DotObject, SimpleTarget, Pat, is_bound, homes, in_homes, leaf_in, is_value_word}
 use Rattle.jsx_tree.specs.Grammar.{Context, Fixed, Part, pun}
 use Rattle.jsx_tree.specs.Form.{admits, fits_below, is_leaf}
@@ -32,7 +32,7 @@ use Rattle.jsx_tree.proofs.Rows.Steps.{on, then', only_sign}
 use Rattle.jsx_syntax.proofs.OfSoFar.{of_so_far}
 use Rattle.jsx_token.specs.Growths.{OnLine, begins_line, lead, mark, on_line, past_line, same_sign, is_level, level_of_kind, fits_by, takes_target, settled}
 use Rattle.jsx_syntax.specs.Climbing.{behind, level, fits, is_target_kind, is_target, Climbs}
-use Rattle.jsx_token.proofs.Listed.{Listed, listed, code, every_two, of_two, one_place, of_level, implies, implied, agree, agreed, is_sequence}
+use Rattle.jsx_token.proofs.Listed.{Listed, listed, code, every_two, of_two, one_place, of_level, implies, implied, agree, agreed, is_apart}
 use Rattle.jsx_token.proofs.Marks.{mark_by, seen_sign, one_sign}
 use Rattle.jsx_syntax.proofs.Homes.{Literal, IsName, IsNumber, IsLong, IsString, IsPattern, token_kind, Value, literal, made, value}
 use Rattle.jsx_token.proofs.Lives.{is_single}
@@ -95,12 +95,13 @@ line_kept _ h w = cc
 
 -- ---- a step
 
-no_sequence : (k : Kind) {c : Nonterminal} → starts (row_so_far k) ≡ Some c → is_sequence k ≡ false
-no_sequence (expression Seq) b = cc
-no_sequence _ b = refl
+not_apart : (k : Kind) {c : Nonterminal} → starts (row_so_far k) ≡ Some c → is_apart k ≡ false
+not_apart (expression Seq) b = cc
+not_apart (expression Spread) b = cc
+not_apart _ b = refl
 
 listed_node : {v : Surroundings} {c d : Nonterminal} {k : Kind} {x y : Place} {ts : Forest} → is_operand c ≡ true → starts (row_so_far k) ≡ Some d → Staged v false c x (node k ts) y → Listed k
-listed_node {c = c} {k = k} {ts = ts} o b r = listed k (and_left (has_kind k) _ r.staged) (homes_operand c (homes k) o (kind_home c k ts (and_left (admits c (node k ts)) (fits_below c (node k ts)) r.reads.is))) (no_sequence k b)
+listed_node {c = c} {k = k} {ts = ts} o b r = listed k (and_left (has_kind k) _ r.staged) (homes_operand c (homes k) o (kind_home c k ts (and_left (admits c (node k ts)) (fits_below c (node k ts)) r.reads.is))) (not_apart k b)
 
 pub node_home : {v : Surroundings} {c : Nonterminal} {k : Kind} {x y : Place} {ts : Forest} → Staged v false c x (node k ts) y → in_homes c (homes k) ≡ true
 node_home {c = c} {k = k} {ts = ts} r = kind_home c k ts (and_left (admits c (node k ts)) (fits_below c (node k ts)) r.reads.is)
@@ -368,6 +369,8 @@ plain_kind (expression (PostfixUpdate o)) ts v n h a p = and_both _ _ p refl
 plain_kind (expression (PrefixUpdate o)) ts v n h a p = and_both _ _ p refl
 plain_kind (expression ImportCall) ts v n h a p = and_both _ _ p refl
 plain_kind (expression Parenthesized) ts v n h a p = and_both _ _ p refl
+plain_kind (expression Array) ts v n h a p = and_both _ _ p refl
+plain_kind (expression Spread) ts v n h a p = and_both _ _ p refl
 plain_kind (jsx Element) ts v n h a p = and_both _ _ p refl
 plain_kind (program Module) ts v n h a p = cc
 plain_kind (statement ExprStmt) ts v n h a p = cc

@@ -1,15 +1,15 @@
 -- Loops and jumps, behind their words.
-use Rattle.std.proofs.Common.{◌≡◌, true, false, not, [], ◌∷◌, refl, sym, ◌∙◌, ap, subst}
-use Rattle.std.specs.Prelude.{IsTrue, codes}
+use Rattle.std.proofs.Common.{◌≡◌, true, false, not, [], refl, sym, ◌∙◌, ap, subst}
+use Rattle.std.specs.Prelude.{IsTrue}
 use Rattle.jsx_tree.specs.Signs.{SameLine, AfterWord, AfterDo, Ends}
 use Rattle.jsx_tree.specs.Kinds.{Empty, Do, While, Continue, Break, Throw, Debugger, statement, Tree, node, list, Forest, none, part}
-use Rattle.jsx_tree.specs.Nonterminals.{Nonterminal, Expr, Ident, SubStmt}
+use Rattle.jsx_tree.specs.Nonterminals.{Nonterminal, Expr, SubStmt}
 use Rattle.jsx_tree.specs.Grammar.{InLoop, Symbol, Fixed, Optional, Part, key, pun, semi}
 use Rattle.jsx_tree.specs.Reading.{Place, go_if, scan}
 use Rattle.jsx_tree.specs.StaticRules.{Surroundings, enter}
 use Rattle.jsx_tree.specs.Walk.{is_found, one, nothing, Given, tail, Past, sign, tree, absent, present, Walk, done, next, steady}
 use Rattle.jsx_tree.specs.Language.{Whole}
-use Rattle.jsx_tree.specs.Answers.{Moves, Only, Barred, NoNode, NoRow, Built, BuiltNode}
+use Rattle.jsx_tree.specs.Answers.{Moves, Only, Barred, NoNode, NoRow, BuiltNode}
 use Rattle.jsx_tree.proofs.Tokens.{and_both}
 use Rattle.jsx_tree.proofs.Apart.{clash}
 use Rattle.jsx_tree.proofs.Rows.Laws.{end_found}

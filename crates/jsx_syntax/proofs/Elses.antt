@@ -1,34 +1,34 @@
 -- What an `if` has behind its first statement, and which `if` an `else` belongs to: the nearest.
-use Rattle.std.proofs.Common.{◌≡◌, ℕ, nat_eq, Bool, true, false, not, cond, [], ◌∷◌, refl, sym, ◌∙◌, ap, subst, Option, Some, None, Box, Global}
+use Rattle.std.proofs.Common.{◌≡◌, nat_eq, Bool, true, false, not, cond, List, [], ◌∷◌, refl, sym, ◌∙◌, ap, subst, Option, Some, None, Box, Global}
 use Rattle.std.specs.Prelude.{IsTrue, codes, ◌&&◌, ◌||◌}
 use Rattle.std.proofs.lemmas.Bool.{eqb-true, eq-eqb}
-use Rattle.jsx_base.specs.Token.{Text, Operator, IdentifierName, State, InName, Dead, accepts, ended, is_dead, is_kind, is_part, is_token, last_state, among, at_front, breaks, skip, token, same, first_is}
+use Rattle.jsx_base.specs.Token.{Text, Operator, IdentifierName, InName, Dead, accepts, ended, is_dead, is_kind, is_part, is_token, last_state, among, at_front, breaks, skip, token, same, first_is}
 use Rattle.jsx_base.proofs.Fronts.{other_ahead}
-use Rattle.jsx_tree.specs.Signs.{AfterExpr, Tok, Unless}
-use Rattle.jsx_tree.specs.Kinds.{If, While, Kind, statement, Tree, leaf, node, list, Forest, none, part}
+use Rattle.jsx_tree.specs.Signs.{AfterExpr, Unless}
+use Rattle.jsx_tree.specs.Kinds.{If, Kind, statement, Tree, leaf, node, list, Forest, none, part}
 use Rattle.jsx_tree.specs.Nonterminals.{Nonterminal, Expr, SubStmt}
-use Rattle.jsx_tree.specs.Grammar.{Fixed, Part, key, pun}
-use Rattle.jsx_tree.specs.Reading.{Place, Lost, At, forth, go_if, scan}
-use Rattle.jsx_tree.specs.StaticRules.{Surroundings, open_if}
+use Rattle.jsx_tree.specs.Grammar.{Context, Fixed, Part, Optional, Many, Within, key, pun, production}
+use Rattle.jsx_tree.specs.Reading.{Place, Lost, At, forth, go_if}
+use Rattle.jsx_tree.specs.StaticRules.{Surroundings, is_if, last_open, open_if, trails}
 use Rattle.jsx_tree.specs.View.{optional_of, view_stmt}
 use Rattle.jsx_tree.specs.declared.tree.Stmt.{Stmt}
-use Rattle.jsx_tree.specs.Walk.{is_found, one, nothing, tail, sign, tree, absent, present, Walk, done, next, steady}
+use Rattle.jsx_tree.specs.Walk.{is_found, one, nothing, Piece, piece, tail, sign, tree, absent, present, Walk, done, next, steady}
 use Rattle.jsx_tree.specs.Language.{Whole}
 use Rattle.jsx_tree.specs.Answers.{Moves, Only, Barred, OnlyRow, NoRow, BuiltNode}
-use Rattle.jsx_tree.proofs.Tokens.{and_both, same_is, same_self}
+use Rattle.jsx_tree.proofs.Tokens.{and_left, and_right, and_both, same_is, same_self}
 use Rattle.jsx_tree.proofs.Apart.{by_not, clash}
 use Rattle.jsx_tree.proofs.Rows.Bridge.{found_at}
-use Rattle.jsx_tree.proofs.Rows.Stopping.{stays}
+use Rattle.jsx_tree.proofs.Rows.Stopping.{is_not, or_cases, stays}
 use Rattle.jsx_tree.proofs.Rows.Laws.{end_found, lost_barred}
 use Rattle.jsx_tree.proofs.Rows.Optionals.{turn_absent, turn_present}
 use Rattle.jsx_tree.proofs.Rows.Steps.{end, then'}
-use Rattle.jsx_tree.proofs.Rows.Turns.{turn_none, turn_only, whole_of}
+use Rattle.jsx_tree.proofs.Rows.Turns.{turn_only, whole_of}
 use Rattle.jsx_syntax.specs.SoFar.{Staged, so_far}
 use Rattle.jsx_token.specs.Marks.{row_so_far}
 use Rattle.jsx_syntax.specs.Statements.{Closes, alternative_row}
 use Rattle.jsx_token.specs.Headings.{heading_kind}
 use Rattle.jsx_token.specs.declared.heading.Heading.{Heading}
-use Rattle.jsx_token.specs.declared.heading.Heading.TheVariants as heading
+use Rattle.jsx_token.proofs.Headings.{of_heading}
 use Rattle.jsx_syntax.proofs.OfSoFar.{of_so_far}
 use Rattle.jsx_syntax.proofs.Homes.{no_list, taken_by, home_of}
 use Rattle.jsx_syntax.proofs.Statements.{Spot, subs, spot_kind, unless_lost}
@@ -147,20 +147,77 @@ if_closed : {V : _} {x y : Place} {ts : Forest} → AllClosed ts → Walk Staged
 if_closed a (next (sign e1 f1) (next (sign e2 f2) (next (tree q) (next (sign e3 f3) (next (tree r) (next {x = p} (absent e4 f4) (done f5))))))) h = absurd (absent_not p e4 f4 h)
 if_closed a (next (sign e1 f1) (next (sign e2 f2) (next (tree q) (next (sign e3 f3) (next (tree r) (next (present d s e4 f4) (done f5))))))) h = (first_closed (in_closed (rest_closed (rest_closed a)))).on subs s (subst Ahead (sym e4) h)
 
-while_closed : {V : _} {x y : Place} {ts : Forest} → AllClosed ts → Walk Staged V (row_so_far (statement While)) x ts y → Ahead y → open_if (node (statement While) ts) ≡ false
-while_closed a (next (sign e1 f1) (next (sign e2 f2) (next (tree q) (next (sign e3 f3) (next (tree r) (done f5)))))) h = (first_closed (rest_closed a)).on subs r h
+-- what ends with another statement, and isn't `if`
 
-heading_closed : (g : Heading) {V : _} {x y : Place} {ts : Forest} → AllClosed ts → Walk Staged V (row_so_far (heading_kind g)) x ts y → Ahead y → open_if (node (heading_kind g) ts) ≡ false
-heading_closed heading.If a w h = if_closed a w h
-heading_closed heading.While a w h = while_closed a w h
-heading_closed heading.Empty a w h = refl
-heading_closed heading.Block a w h = refl
-heading_closed (heading.Var d) a w h = refl
-heading_closed heading.Do a w h = refl
-heading_closed heading.Continue a w h = refl
-heading_closed heading.Break a w h = refl
-heading_closed heading.Throw a w h = refl
-heading_closed heading.Debugger a w h = refl
+abbrev is_nested : Nonterminal → Bool
+is_nested SubStmt = true
+is_nested c = false
+
+nested_is : (c : Nonterminal) → is_nested c ≡ true → c ≡ SubStmt
+nested_is SubStmt e = refl
+nested_is _ e = cc
+
+abbrev nested_piece : Piece → Bool
+nested_piece (piece a (Part c)) = is_nested c
+nested_piece q = false
+
+abbrev ends_nested : List Piece → Bool
+ends_nested [] = false
+ends_nested (q ∷ []) = nested_piece q
+ends_nested (q ∷ (r ∷ rs)) = ends_nested (r ∷ rs)
+
+filled : {V : _} {x y : Place} {us : Forest} (q : Piece) (qs : List Piece) → ends_nested (q ∷ qs) ≡ true → Walk Staged V (q ∷ qs) x us y → us ≡ none → ⊥
+filled (piece c (Part d)) [] e (next (tree r) w) n = cc
+filled (piece c (Fixed s)) [] e w n = cc
+filled (piece c (Optional l d m r)) [] e w n = cc
+filled (piece c (Many s d)) [] e w n = cc
+filled (piece c (Within d)) [] e w n = cc
+filled q (r ∷ rs) e (next {g = nothing} p w) n = filled r rs e w n
+filled q (r ∷ rs) e (next {g = one t} p w) n = cc
+
+open_behind : (t : Tree) (us : Forest) → (us ≡ none → ⊥) → last_open false (part t us) ≡ last_open false us
+open_behind t none n = absurd (n refl)
+open_behind t (part u us) n = refl
+
+last_closed : {V : List Context → Surroundings} {x y : Place} {us : Forest} (q : Piece) (qs : List Piece) → ends_nested (q ∷ qs) ≡ true → AllClosed us → Walk Staged V (q ∷ qs) x us y → Ahead y → last_open false us ≡ false
+last_closed {V} {x} (piece c (Part d)) [] e a (next {y = z} (tree {t = t} r) (done f)) h = (first_closed a).on subs (subst (λ m. Staged (V c) false m x t z) (nested_is d e) r) h
+last_closed (piece c (Fixed s)) [] e a w h = cc
+last_closed (piece c (Optional l d m r)) [] e a w h = cc
+last_closed (piece c (Many s d)) [] e a w h = cc
+last_closed (piece c (Within d)) [] e a w h = cc
+last_closed q (r ∷ rs) e a (next {g = nothing} p w) h = last_closed r rs e a w h
+last_closed q (r ∷ rs) e a (next {g = one t} {ts = us} p w) h = open_behind t us (filled r rs e w) ∙ last_closed r rs e (rest_closed a) w h
+
+row_closed : {V : List Context → Surroundings} {x y : Place} {us : Forest} (qs : List Piece) → ends_nested qs ≡ true → AllClosed us → Walk Staged V qs x us y → Ahead y → last_open false us ≡ false
+row_closed [] e a w h = cc
+row_closed (q ∷ qs) e a w h = last_closed q qs e a w h
+
+-- it ends with a token, or with another statement
+abbrev ends_shut : Kind → Bool
+ends_shut k = not (trails (production k)) || (not (is_if k) && ends_nested (row_so_far k))
+
+and_no : (a : Bool) → (a && false) ≡ false
+and_no true = refl
+and_no false = refl
+
+shut_closed : {V : List Context → Surroundings} {x y : Place} {us : Forest} (k : Kind) → ends_shut k ≡ true → AllClosed us → Walk Staged V (row_so_far k) x us y → Ahead y → open_if (node k us) ≡ false
+shut_closed {us = us} k s a w h =
+    or_cases (not (trails (production k))) (not (is_if k) && ends_nested (row_so_far k)) s
+    (λ n. ap (λ b. b && last_open (is_if k) us) (is_not _ n))
+    (λ m. ap (λ b. trails (production k) && last_open b us) (is_not _ (and_left (not (is_if k)) _ m)) ∙ (ap (λ b. trails (production k) && b) (row_closed (row_so_far k) (and_right (not (is_if k)) _ m) a w h) ∙ and_no _))
+
+if_kind : (k : Kind) → is_if k ≡ true → k ≡ statement If
+if_kind (statement If) e = refl
+if_kind _ e = cc
+
+kind_closed : {V : List Context → Surroundings} {x y : Place} {us : Forest} (k : Kind) → (is_if k || ends_shut k) ≡ true → AllClosed us → Walk Staged V (row_so_far k) x us y → Ahead y → open_if (node k us) ≡ false
+kind_closed {V} {x} {y} {us} k s a w h =
+    or_cases (is_if k) (ends_shut k) s
+    (λ i. subst (λ l. Walk Staged V (row_so_far l) x us y → open_if (node l us) ≡ false) (sym (if_kind k i)) (λ w. if_closed a w h) w)
+    (λ e. shut_closed k e a w h)
+
+heading_closed : (g : Heading) {V : List Context → Surroundings} {x y : Place} {us : Forest} → AllClosed us → Walk Staged V (row_so_far (heading_kind g)) x us y → Ahead y → open_if (node (heading_kind g) us) ≡ false
+heading_closed g a w h = kind_closed (heading_kind g) (of_heading (λ j. is_if (heading_kind j) || ends_shut (heading_kind j)) refl g) a w h
 
 node_closed : (k : Kind) (ts : Forest) → AllClosed ts → Closed (node k ts)
 node_closed k ts a = record {

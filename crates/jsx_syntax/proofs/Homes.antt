@@ -3,7 +3,7 @@ use Rattle.std.proofs.Common.{◌≡◌, true, false, not, refl, sym, ◌∙◌,
 use Rattle.std.specs.Prelude.{IsTrue, codes, [], ◌∷◌, ◌&&◌, ◌||◌}
 use Rattle.jsx_base.specs.Token.{Text, TokenKind, IdentifierName, NumericLiteral, BigIntLiteral, StringLiteral, JsxName, Elision, RegExpLiteral, among}
 use Rattle.jsx_tree.specs.Signs.{Tok}
-use Rattle.jsx_tree.specs.Kinds.{VarWord, LetWord, ConstWord, Block, Empty, If, Do, While, Continue, Break, Throw, Debugger, Module, Var, Declarator, ExprStmt, Binds, Assigns, Assign, OpAssign, Nullish, Or, And, BitOr, BitXor, BitAnd, ShiftLeft, ShiftRight, ShiftOut, Add, Subtract, Multiply, Divide, Remainder, Exponentiate, Void, TypeOf, Positive, Negative, Complement, Not, Unary, Binary, Cond, Call, Member, Index, ImportCall, Parenthesized, Element, Kind, program, statement, expression, jsx, Tree, leaf, node, list, Forest, Delete, PrefixUpdate, PostfixUpdate, Increment, Decrement, Seq}
+use Rattle.jsx_tree.specs.Kinds.{VarWord, LetWord, ConstWord, Block, Empty, If, Do, While, Continue, Break, Throw, Debugger, Module, Var, Declarator, ExprStmt, Binds, Assigns, Assign, OpAssign, Nullish, Or, And, BitOr, BitXor, BitAnd, ShiftLeft, ShiftRight, ShiftOut, Add, Subtract, Multiply, Divide, Remainder, Exponentiate, Void, TypeOf, Positive, Negative, Complement, Not, Unary, Binary, Cond, Call, Member, Index, ImportCall, Parenthesized, Element, Kind, program, statement, expression, jsx, Tree, leaf, node, list, Forest, Delete, PrefixUpdate, PostfixUpdate, Increment, Decrement, Seq, For, ForDeclaration, Switch, Case, Default, Array, Spread}
 use Rattle.jsx_tree.specs.Nonterminals.{Nonterminal, Expr, NullishLeft, MemberObject, DotObject, SimpleTarget, Argument, Ident, Name, Pat, TagName, Attributes, DirectiveOnly, is_ident, is_bound, is_value_word, leaf_in, homes}
 use Rattle.jsx_tree.specs.Grammar.{Part}
 use Rattle.jsx_tree.specs.Form.{admits, fits_below, is_leaf}
@@ -29,6 +29,7 @@ use Rattle.jsx_token.specs.declared.heading.Heading.{Heading}
 use Rattle.jsx_token.specs.declared.heading.Heading.TheVariants as heading
 use Rattle.jsx_token.specs.Headings.{heading_kind}
 use Rattle.jsx_token.proofs.Headings.{headings, every_heading, of_heading}
+use Rattle.jsx_syntax.proofs.Inners.{Inner, declarator, declaration, case', default', inner_kind, every_inner, of_inner}
 use Rattle.jsx_token.proofs.Listed.{Listed, listed, listed_binary, kinds, every, of_each}
 use Rattle.jsx_token.proofs.Lives.{is_single, lives}
 
@@ -36,12 +37,13 @@ use Rattle.jsx_token.proofs.Lives.{is_single, lives}
 pub data Taken : Kind → Type 0 where
   module' : Taken (program Module)
   headed : (h : Heading) → Taken (heading_kind h)
-  bound : Taken (statement Declarator)
+  inner : (i : Inner) → Taken (inner_kind i)
   evaluation : Taken (statement ExprStmt)
   sequence : Taken (expression Seq)
+  spread : Taken (expression Spread)
   operand : {k : Kind} → Listed k → Taken k
 
-taken : (k : Kind) → has_kind k ≡ true → Taken k
+pub taken : (k : Kind) → has_kind k ≡ true → Taken k
 taken (program Module) h = module'
 taken (statement (Var VarWord)) h = headed (heading.Var declare_word.Var)
 taken (statement (Var LetWord)) h = headed (heading.Var declare_word.Let)
@@ -51,13 +53,19 @@ taken (statement Empty) h = headed heading.Empty
 taken (statement If) h = headed heading.If
 taken (statement Do) h = headed heading.Do
 taken (statement While) h = headed heading.While
+taken (statement For) h = headed heading.For
+taken (statement Switch) h = headed heading.Switch
 taken (statement Continue) h = headed heading.Continue
 taken (statement Break) h = headed heading.Break
 taken (statement Throw) h = headed heading.Throw
 taken (statement Debugger) h = headed heading.Debugger
-taken (statement Declarator) h = bound
+taken (statement Declarator) h = inner declarator
+taken (statement (ForDeclaration w)) h = inner (declaration w)
+taken (statement Case) h = inner case'
+taken (statement Default) h = inner default'
 taken (statement ExprStmt) h = evaluation
 taken (expression Seq) h = sequence
+taken (expression Spread) h = spread
 taken (expression (Binary o)) h = operand (listed_binary o)
 taken (expression Assign) h = operand (listed (expression Assign) refl refl refl)
 taken (expression (OpAssign Nullish)) h = operand (listed (expression (OpAssign Nullish)) refl refl refl)
@@ -88,6 +96,7 @@ taken (expression (Unary Complement)) h = operand (listed (expression (Unary Com
 taken (expression (Unary Not)) h = operand (listed (expression (Unary Not)) refl refl refl)
 taken (expression ImportCall) h = operand (listed (expression ImportCall) refl refl refl)
 taken (expression Parenthesized) h = operand (listed (expression Parenthesized) refl refl refl)
+taken (expression Array) h = operand (listed (expression Array) refl refl refl)
 taken (expression (PrefixUpdate Increment)) h = operand (listed (expression (PrefixUpdate Increment)) refl refl refl)
 taken (expression (PrefixUpdate Decrement)) h = operand (listed (expression (PrefixUpdate Decrement)) refl refl refl)
 taken (expression (PostfixUpdate Increment)) h = operand (listed (expression (PostfixUpdate Increment)) refl refl refl)
@@ -116,13 +125,14 @@ pub no_operand_at : (c : Nonterminal) {k : Kind} → every (λ j. not (lives c j
 no_operand_at c {k} e l h = clash _ h (is_not _ (of_each (λ j. not (lives c j)) e k l))
 
 -- where none of them is at home
-pub nowhere : (c : Nonterminal) {k : Kind} → lives c (program Module) ≡ false → every_heading (λ h. not (lives c (heading_kind h))) headings ≡ true → lives c (statement Declarator) ≡ false → lives c (statement ExprStmt) ≡ false → lives c (expression Seq) ≡ false → every (λ j. not (lives c j)) kinds ≡ true → Taken k → lives c k ≡ true → ⊥
-nowhere c a1 a2 a3 a4 a5 e module' h = clash _ h a1
-nowhere c a1 a2 a3 a4 a5 e (headed g) h = clash _ h (is_not _ (of_heading (λ j. not (lives c (heading_kind j))) a2 g))
-nowhere c a1 a2 a3 a4 a5 e bound h = clash _ h a3
-nowhere c a1 a2 a3 a4 a5 e evaluation h = clash _ h a4
-nowhere c a1 a2 a3 a4 a5 e sequence h = clash _ h a5
-nowhere c a1 a2 a3 a4 a5 e (operand l) h = no_operand_at c e l h
+pub nowhere : (c : Nonterminal) {k : Kind} → lives c (program Module) ≡ false → every_heading (λ h. not (lives c (heading_kind h))) headings ≡ true → every_inner (λ i. not (lives c (inner_kind i))) ≡ true → lives c (statement ExprStmt) ≡ false → lives c (expression Seq) ≡ false → lives c (expression Spread) ≡ false → every (λ j. not (lives c j)) kinds ≡ true → Taken k → lives c k ≡ true → ⊥
+nowhere c a1 a2 a3 a4 a5 a6 e module' h = clash _ h a1
+nowhere c a1 a2 a3 a4 a5 a6 e (headed g) h = clash _ h (is_not _ (of_heading (λ j. not (lives c (heading_kind j))) a2 g))
+nowhere c a1 a2 a3 a4 a5 a6 e (inner i) h = clash _ h (is_not _ (of_inner (λ j. not (lives c (inner_kind j))) a3 i))
+nowhere c a1 a2 a3 a4 a5 a6 e evaluation h = clash _ h a4
+nowhere c a1 a2 a3 a4 a5 a6 e sequence h = clash _ h a5
+nowhere c a1 a2 a3 a4 a5 a6 e spread h = clash _ h a6
+nowhere c a1 a2 a3 a4 a5 a6 e (operand l) h = no_operand_at c e l h
 
 -- ---- leaves
 
@@ -206,13 +216,13 @@ name_kind IdentifierName t h = refl
 name_kind _ t h = cc
 
 pub tags : LeafOnly TagName JsxName
-tags = record { token = refl; never = refl; node = λ l ts. nowhere TagName refl refl refl refl refl refl; kind = tag_kind }
+tags = record { token = refl; never = refl; node = λ l ts. nowhere TagName refl refl refl refl refl refl refl; kind = tag_kind }
 
 pub patterns : LeafOnly (Pat Binds) IdentifierName
-patterns = record { token = refl; never = refl; node = λ l ts. nowhere (Pat Binds) refl refl refl refl refl refl; kind = pattern_kind }
+patterns = record { token = refl; never = refl; node = λ l ts. nowhere (Pat Binds) refl refl refl refl refl refl refl; kind = pattern_kind }
 
 pub names : LeafOnly Name IdentifierName
-names = record { token = refl; never = refl; node = λ l ts. nowhere Name refl refl refl refl refl refl; kind = name_kind }
+names = record { token = refl; never = refl; node = λ l ts. nowhere Name refl refl refl refl refl refl refl; kind = name_kind }
 
 -- ---- where nothing stands
 
@@ -225,13 +235,13 @@ none_there {v} {c} {x} f g = record { no = at }
     at h z (tree {t = list ts} q) = no_list q.reads
 
 pub no_attributes : {v : Surroundings} {x : Place} → Barred so_far v (Part Attributes) x
-no_attributes = none_there (λ l t h. cc) (λ l ts. nowhere Attributes refl refl refl refl refl refl)
+no_attributes = none_there (λ l t h. cc) (λ l ts. nowhere Attributes refl refl refl refl refl refl refl)
 
 pub no_directives : {v : Surroundings} {x : Place} → Barred so_far v (Part DirectiveOnly) x
-no_directives = none_there (λ l t h. cc) (λ l ts. nowhere DirectiveOnly refl refl refl refl refl refl)
+no_directives = none_there (λ l t h. cc) (λ l ts. nowhere DirectiveOnly refl refl refl refl refl refl refl)
 
 pub no_idents : {v : Surroundings} {x : Place} → Barred so_far v (Part Ident) x
-no_idents = none_there (λ l t h. cc) (λ l ts. nowhere Ident refl refl refl refl refl refl)
+no_idents = none_there (λ l t h. cc) (λ l ts. nowhere Ident refl refl refl refl refl refl refl)
 
 -- ---- values
 
@@ -253,7 +263,7 @@ pub data Value : Tree → Type 0 where
   literal : (l : Literal) {t : Text} → value_leaf true (token_kind l) t ≡ true → Value (leaf (token_kind l) t)
   made : {k : Kind} {ts : Forest} → Listed k → Value (node k ts)
 
-value_kind : (k : TokenKind) (t : Text) → value_leaf true k t ≡ true → Value (leaf k t)
+pub value_kind : (k : TokenKind) (t : Text) → value_leaf true k t ≡ true → Value (leaf k t)
 value_kind IdentifierName t h = literal IsName h
 value_kind NumericLiteral t h = literal IsNumber h
 value_kind BigIntLiteral t h = literal IsLong h
@@ -288,13 +298,14 @@ operand_leaf _ k t o i h = cc
 pub no_operand : (d : Nonterminal) (k : Kind) (ts : Forest) → is_operand d ≡ true → any_operand (homes k) ≡ false → admits d (node k ts) ≡ true → ⊥
 no_operand d k ts o n h = clash _ (homes_operand d (homes k) o (kind_home d k ts h)) n
 
-operand_kind : (d : Nonterminal) {k : Kind} {ts : Forest} → is_single d ≡ true → Taken k → admits d (node k ts) ≡ true → Value (node k ts)
+pub operand_kind : (d : Nonterminal) {k : Kind} {ts : Forest} → is_single d ≡ true → Taken k → admits d (node k ts) ≡ true → Value (node k ts)
 operand_kind d o (operand l) h = made l
 operand_kind d o module' h = absurd (no_operand d _ _ (and_left (is_operand d) _ o) refl h)
 operand_kind d o (headed g) h = absurd (no_operand d _ _ (and_left (is_operand d) _ o) (is_not _ (of_heading (λ j. not (any_operand (homes (heading_kind j)))) refl g)) h)
-operand_kind d o bound h = absurd (no_operand d _ _ (and_left (is_operand d) _ o) refl h)
+operand_kind d o (inner i) h = absurd (no_operand d _ _ (and_left (is_operand d) _ o) (is_not _ (of_inner (λ j. not (any_operand (homes (inner_kind j)))) refl i)) h)
 operand_kind d o evaluation h = absurd (no_operand d _ _ (and_left (is_operand d) _ o) refl h)
-operand_kind d {ts = ts} o sequence h = absurd (clash _ (kind_home d (expression Seq) ts h) (is_not _ (and_right (is_operand d) _ o)))
+operand_kind d {ts = ts} o sequence h = absurd (clash _ (kind_home d (expression Seq) ts h) (is_not _ (and_left (not (lives d (expression Seq))) _ (and_right (is_operand d) _ o))))
+operand_kind d {ts = ts} o spread h = absurd (clash _ (kind_home d (expression Spread) ts h) (is_not _ (and_right (not (lives d (expression Seq))) _ (and_right (is_operand d) _ o))))
 
 -- what stands where an expression does that is no sequence
 pub value : {v : Surroundings} {d : Nonterminal} {x y : Place} (t : Tree) → is_single d ≡ true → Staged v false d x t y → Value t
@@ -310,9 +321,10 @@ pub data AtWhole : Tree → Type 0 where
 whole_kind : {k : Kind} {ts : Forest} → Taken k → admits (Expr 0) (node k ts) ≡ true → AtWhole (node k ts)
 whole_kind (operand l) h = single (made l)
 whole_kind sequence h = several
+whole_kind {ts = ts} spread h = absurd (clash _ (kind_home (Expr 0) (expression Spread) ts h) refl)
 whole_kind {ts = ts} module' h = absurd (no_operand (Expr 0) (program Module) ts refl refl h)
 whole_kind {ts = ts} (headed g) h = absurd (no_operand (Expr 0) (heading_kind g) ts refl (is_not _ (of_heading (λ j. not (any_operand (homes (heading_kind j)))) refl g)) h)
-whole_kind {ts = ts} bound h = absurd (no_operand (Expr 0) (statement Declarator) ts refl refl h)
+whole_kind {ts = ts} (inner i) h = absurd (no_operand (Expr 0) (inner_kind i) ts refl (is_not _ (of_inner (λ j. not (any_operand (homes (inner_kind j)))) refl i)) h)
 whole_kind {ts = ts} evaluation h = absurd (no_operand (Expr 0) (statement ExprStmt) ts refl refl h)
 
 pub at_whole : {v : Surroundings} {x y : Place} (t : Tree) → Staged v false (Expr 0) x t y → AtWhole t

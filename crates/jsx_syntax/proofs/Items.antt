@@ -1,16 +1,16 @@
 -- Statements of the language so far.
-use Rattle.std.proofs.Common.{◌≡◌, Bool, true, false, not, cond, List, [], refl, sym, ◌∙◌, ap, subst}
+use Rattle.std.proofs.Common.{◌≡◌, Bool, true, false, not, cond, List, [], ◌∷◌, refl, sym, ◌∙◌, ap, subst}
 use Rattle.std.specs.Prelude.{IsTrue, codes, ◌&&◌}
-use Rattle.jsx_base.specs.Token.{Operand, Operator, IdentifierName, Punctuator, RegExpLiteral, is_token, among, token, same}
+use Rattle.jsx_base.specs.Token.{Operator, IdentifierName, Punctuator, is_token, among, token, same}
 use Rattle.jsx_tree.specs.Signs.{AfterExpr, AfterBinding, Sign, Unless, Ends}
-use Rattle.jsx_tree.specs.Kinds.{DeclareWord, VarWord, LetWord, ConstWord, Var, Declarator, ExprStmt, Binds, Kind, statement, Tree, leaf, node, list, Forest, none, part}
-use Rattle.jsx_tree.specs.Nonterminals.{Nonterminal, Expr, Pat, Declarators, Item, leaf_in}
-use Rattle.jsx_tree.specs.Grammar.{Part, Fixed, pun, key, heads, semi}
+use Rattle.jsx_tree.specs.Kinds.{DeclareWord, VarWord, LetWord, ConstWord, Var, Declarator, ForDeclaration, ExprStmt, Binds, Kind, statement, Tree, leaf, node, list, Forest, none, part}
+use Rattle.jsx_tree.specs.Nonterminals.{Nonterminal, Expr, Pat, Declarators, leaf_in}
+use Rattle.jsx_tree.specs.Grammar.{NoTrailing, Part, Fixed, Many, pun, heads, semi}
 use Rattle.jsx_tree.specs.Form.{admits}
 use Rattle.jsx_tree.specs.Reading.{Place, Lost, At, forth}
 use Rattle.jsx_tree.specs.StaticRules.{Surroundings, all_of, list_rule, has_init}
 use Rattle.jsx_token.specs.Stage.{limits, is_string}
-use Rattle.jsx_tree.specs.Walk.{is_found, nothing, one, Piece, row, tail, Given, Past, sign, tree, Walk, next, steady}
+use Rattle.jsx_tree.specs.Walk.{is_found, nothing, one, Piece, piece, tail, Given, Past, sign, tree, Walk, next, steady}
 use Rattle.jsx_tree.specs.Stops.{going}
 use Rattle.jsx_tree.specs.Language.{Language, Whole}
 use Rattle.jsx_tree.specs.Answers.{Moves, Stuck, Only, Barred, OnlyRow, NoRow, NoNode, BuiltNode}
@@ -18,11 +18,9 @@ use Rattle.jsx_syntax.specs.SoFar.{Staged, so_far}
 use Rattle.jsx_token.specs.Marks.{ends_so_far, row_so_far}
 use Rattle.jsx_tree.proofs.Tokens.{and_left, and_right, and_both}
 use Rattle.jsx_tree.proofs.Apart.{clash}
-use Rattle.jsx_base.proofs.Fronts.{none_ahead}
-use Rattle.jsx_tree.proofs.Rows.Bridge.{found_at, node_walk}
-use Rattle.jsx_tree.proofs.Rows.Stopping.{raw_of, not_is, is_not, never_stops, stays}
+use Rattle.jsx_tree.proofs.Rows.Bridge.{found_at}
+use Rattle.jsx_tree.proofs.Rows.Stopping.{raw_of, not_is, is_not, stays}
 use Rattle.jsx_tree.proofs.Rows.Guarded.{to_grammar}
-use Rattle.jsx_tree.proofs.Rows.Firsts.{Keyed, row_key}
 use Rattle.jsx_tree.proofs.Rows.Bodies.{plain}
 use Rattle.jsx_tree.proofs.Rows.Steps.{bar, on, then', end, only_sign, both}
 use Rattle.jsx_tree.proofs.Rows.Turns.{Turn, prepend, turn_only, whole_of}
@@ -31,22 +29,27 @@ use Rattle.jsx_tree.proofs.Rows.Optionals.{turn_absent, present_last, none_last}
 use Rattle.jsx_tree.proofs.Rows.Laws.{lost_barred, end_found, start_found}
 use Rattle.jsx_tree.proofs.Rows.Placing.{Chosen, OnlyAt, NoneAt, then_at, only_at, barred_at}
 use Rattle.jsx_syntax.proofs.OfSoFar.{of_so_far}
-use Rattle.jsx_syntax.proofs.Homes.{IsName, patterns, no_list, Taken, module', headed, bound, evaluation, sequence, operand, no_operand_at, taken_by, home_of}
+use Rattle.jsx_syntax.proofs.Homes.{IsName, patterns, no_list, Taken, module', headed, evaluation, sequence, operand, no_operand_at, taken_by, home_of, inner, spread}
 use Rattle.jsx_token.proofs.Lives.{lives}
 use Rattle.jsx_syntax.specs.Statements.{has_value}
 use Rattle.jsx_token.specs.Headings.{heading_kind}
 use Rattle.jsx_token.proofs.Headings.{of_heading}
+use Rattle.jsx_syntax.proofs.Inners.{declarator, declaration, case', default'}
 use Rattle.jsx_token.specs.Growths.{settled}
 use Rattle.jsx_syntax.proofs.Values.{settled_token, leaf_full, is_next, found_next, no_heads}
 
 -- ---- a variable and its initializer
 
 pub bound_kind : (l : Kind) (ts : Forest) → Taken l → admits Declarators (node l ts) ≡ true → l ≡ statement Declarator
-bound_kind l ts bound h = refl
+bound_kind l ts (inner declarator) h = refl
+bound_kind l ts (inner (declaration w)) h = cc
+bound_kind l ts (inner case') h = cc
+bound_kind l ts (inner default') h = cc
 bound_kind l ts module' h = cc
 bound_kind l ts (headed g) h = absurd (clash _ h (is_not _ (of_heading (λ j. not (lives Declarators (heading_kind j))) refl g)))
 bound_kind l ts evaluation h = cc
 bound_kind l ts sequence h = cc
+bound_kind l ts spread h = cc
 bound_kind l ts (operand m) h = absurd (no_operand_at Declarators refl m h)
 
 bound_chosen : {v : Surroundings} {x : Place} → Chosen so_far v Declarators (statement Declarator) x
@@ -153,20 +156,25 @@ without w (part u ts) t us n h = without w ts t us n (and_right (has_init w u) _
 pub declared_keeps : (w : DeclareWord) (v : Surroundings) (ts : Forest) → inits w ts ≡ true → so_far.keeps (statement (Var w)) v (part (list ts) none) ≡ true
 declared_keeps w v ts i = and_both _ _ (and_both _ _ i refl) refl
 
-list_inits : (w : DeclareWord) (v : Surroundings) (ts us : Forest) → so_far.keeps (statement (Var w)) v (part (list ts) us) ≡ true → inits w ts ≡ true
+pub list_inits : (w : DeclareWord) (v : Surroundings) (ts us : Forest) → so_far.keeps (statement (Var w)) v (part (list ts) us) ≡ true → inits w ts ≡ true
 list_inits w v ts us k = and_left (inits w ts) _ (and_left (all_of (list_rule (inits w)) (part (list ts) us)) _ k)
 
-abbrev pub behind_word : DeclareWord → List Piece
-behind_word w = tail (row_so_far (statement (Var w)))
+-- the same of what a `for` begins with
+pub head_keeps : (w : DeclareWord) (v : Surroundings) (ts : Forest) → inits w ts ≡ true → so_far.keeps (statement (ForDeclaration w)) v (part (list ts) none) ≡ true
+head_keeps w v ts i = and_both _ _ (and_both _ _ i refl) refl
 
--- one without an initializer
-pub no_init : {v : Surroundings} {x y z : Place} {t : Tree} (w : DeclareWord) (ts : Forest) → Turn so_far v (behind_word w) (behind_word w) x y (prepend ts) → Only so_far v (Part Declarators) y (one t) z → has_init w t ≡ false → NoNode so_far v (behind_word w) (statement (Var w)) x
-no_init {v} {x} {t = t} w ts so o n = record { no = at }
+pub head_inits : (w : DeclareWord) (v : Surroundings) (ts us : Forest) → so_far.keeps (statement (ForDeclaration w)) v (part (list ts) us) ≡ true → inits w ts ≡ true
+head_inits w v ts us k = and_left (inits w ts) _ (and_left (all_of (list_rule (inits w)) (part (list ts) us)) _ k)
+
+-- one without an initializer, whatever stands behind the list
+pub no_init : {v : Surroundings} {ps : List Piece} {x y z : Place} {t : Tree} (w : DeclareWord) (k : Kind) (ts : Forest) → ((us ws : Forest) → so_far.keeps k v (part (list us) ws) ≡ true → inits w us ≡ true)
+    → Turn so_far v (piece [] (Many NoTrailing Declarators) ∷ ps) (piece [] (Many NoTrailing Declarators) ∷ ps) x y (prepend ts) → Only so_far v (Part Declarators) y (one t) z → has_init w t ≡ false → NoNode so_far v (piece [] (Many NoTrailing Declarators) ∷ ps) k x
+no_init {v} {ps} {x} {t = t} w k ts asks so o n = record { no = at }
   where
-    at : (us : Forest) (z : Place) → Walk (Whole so_far) (steady v) (behind_word w) x us z → so_far.keeps (statement (Var w)) v us ≡ true → ⊥
-    at us z walk k =
+    at : (us : Forest) (z : Place) → Walk (Whole so_far) (steady v) (piece [] (Many NoTrailing Declarators) ∷ ps) x us z → so_far.keeps k v us ≡ true → ⊥
+    at us z walk h =
         let a = all_with ts so o us z walk in
-        without w ts t a.0 n (list_inits w v (both ts (part t a.0)) a.1.0 (subst (λ vs. so_far.keeps (statement (Var w)) v vs ≡ true) a.1.1 k))
+        without w ts t a.0 n (asks (both ts (part t a.0)) a.1.0 (subst (λ vs. so_far.keeps k v vs ≡ true) a.1.1 h))
 
 -- what is bound is a name, which only `const` asks a value of
 name_value : (w : DeclareWord) {v : Surroundings} {x y : Place} (q : Tree) (ts : Forest) → Staged v false (Pat Binds) x q y → has_init w (node (statement Declarator) (part q ts)) ≡ has_value w (node (statement Declarator) (part q ts))

@@ -1,5 +1,6 @@
 pub mod OfSoFar
 pub mod Places
+pub mod Inners
 pub mod Homes
 pub mod Slashes
 pub mod Values
@@ -9,6 +10,8 @@ pub mod Deleting
 pub mod Targets
 pub mod Operators
 pub mod Sequences
+pub mod Elements
+pub mod Holes
 pub mod Leveling
 pub mod Targeting
 pub mod Naming
@@ -17,6 +20,9 @@ pub mod Statements
 pub mod Elses
 pub mod Blocks
 pub mod Controls
+pub mod OpenIn
+pub mod Heads
+pub mod Cases
 pub mod Modules
 pub mod Steps
 pub mod Trees

@@ -1,36 +1,35 @@
 -- A whole text in the language so far.
-use Rattle.std.proofs.Common.{◌≡◌, Bool, true, false, [], ◌∷◌, refl, sym, ◌∙◌, ap, subst}
-use Rattle.std.specs.Prelude.{codes, ◌&&◌, ◌||◌}
+use Rattle.std.proofs.Common.{◌≡◌, Bool, true, false, not, [], ◌∷◌, refl, sym, ◌∙◌, ap, subst}
+use Rattle.std.specs.Prelude.{◌&&◌, ◌||◌}
 use Rattle.jsx_base.specs.Token.{Text, Operator, NoToken, StringLiteral, at_front, breaks, is_kind, is_token, same, skip}
 use Rattle.jsx_tree.specs.declared.text.Goal.TheVariants as goals
 use Rattle.jsx_tree.specs.Signs.{AfterExpr, Sign, Tok}
 use Rattle.jsx_tree.specs.Kinds.{Module, ExprStmt, program, statement, Tree, leaf, node, list, Forest, none, part}
-use Rattle.jsx_tree.specs.Nonterminals.{Expr, Item, DirectiveOnly, WholeProgram}
-use Rattle.jsx_tree.specs.Grammar.{TopLines, Part, heads}
+use Rattle.jsx_tree.specs.Nonterminals.{Item, DirectiveOnly, WholeProgram}
+use Rattle.jsx_tree.specs.Grammar.{TopLines, Part}
 use Rattle.jsx_tree.specs.Form.{is}
 use Rattle.jsx_tree.specs.Spelling.{spelled}
 use Rattle.jsx_tree.specs.Reading.{Place, Lost, At, forth, go_if, scan, ended_at}
 use Rattle.jsx_tree.specs.StaticRules.{Surroundings, outside, first_of_list, is_string_stmt}
 use Rattle.jsx_token.specs.Stage.{has_kind, limits, ReadsSoFar}
-use Rattle.jsx_tree.specs.Walk.{Given, Past, Items, nil, last, more, sign, tree, many, Walk, done, next, around}
+use Rattle.jsx_tree.specs.Walk.{Items, nil, last, more, tree, many, Walk, done, next, around}
 use Rattle.jsx_tree.specs.Texts.{start}
 use Rattle.jsx_tree.specs.Language.{Whole}
 use Rattle.jsx_tree.specs.Answers.{Barred, ToEnd}
 use Rattle.jsx_syntax.specs.SoFar.{Staged, so_far, in_module}
 use Rattle.jsx_token.specs.Marks.{row_so_far}
 use Rattle.jsx_tree.proofs.Tokens.{and_left, and_right, and_both, same_is}
-use Rattle.jsx_tree.proofs.Rows.Bridge.{found_at}
 use Rattle.jsx_tree.proofs.Rows.Texts.{program_walk}
-use Rattle.jsx_tree.proofs.Rows.Stopping.{not_is, never_stops, stays}
+use Rattle.jsx_tree.proofs.Rows.Stopping.{is_not, not_is, never_stops}
 use Rattle.jsx_tree.proofs.Rows.Guarded.{weaken_items, whole_items}
 use Rattle.jsx_tree.proofs.Rows.Optionals.{end_shut}
 use Rattle.jsx_tree.proofs.Rows.Lines.{found_end}
 use Rattle.jsx_syntax.proofs.OfSoFar.{of_so_far}
-use Rattle.jsx_syntax.proofs.Homes.{taken_by, home_of, no_list, no_directives}
+use Rattle.jsx_syntax.proofs.Homes.{taken_by, home_of, no_directives}
 use Rattle.jsx_token.specs.declared.heading.Heading.{Heading}
-use Rattle.jsx_token.specs.declared.heading.Heading.TheVariants as heading
 use Rattle.jsx_token.specs.Growths.{is_code}
 use Rattle.jsx_token.specs.Headings.{heading_kind, heading_sign}
+use Rattle.jsx_token.proofs.Headings.{of_heading}
 use Rattle.jsx_syntax.proofs.Statements.{items, spot_ends, spot_kind, coded, none_begins}
 
 -- ---- no statement is a string alone
@@ -44,16 +43,7 @@ no_string (part (node k ts) us) h = refl
 no_string (part (list ts) us) h = refl
 
 heading_string : (h : Heading) (ts : Forest) → is_string_stmt (node (heading_kind h) ts) ≡ false
-heading_string heading.Empty ts = refl
-heading_string heading.Block ts = refl
-heading_string (heading.Var w) ts = refl
-heading_string heading.If ts = refl
-heading_string heading.Do ts = refl
-heading_string heading.While ts = refl
-heading_string heading.Continue ts = refl
-heading_string heading.Break ts = refl
-heading_string heading.Throw ts = refl
-heading_string heading.Debugger ts = refl
+heading_string h ts = is_not _ (of_heading (λ j. not (is_string_stmt (node (heading_kind j) ts))) refl h)
 
 item_string : {v : Surroundings} {x y : Place} (t : Tree) → Staged v false Item x t y → is_string_stmt t ≡ false
 item_string (leaf k t) r = refl

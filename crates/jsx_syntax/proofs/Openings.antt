@@ -26,11 +26,11 @@ use Rattle.jsx_tree.proofs.Rows.Placing.{free, free_around, moved}
 use Rattle.jsx_syntax.proofs.OfSoFar.{of_so_far}
 use Rattle.jsx_token.specs.Growths.{is_level, level_of_kind, settled, opening_sign, opening_signs, same_sign, has_sign, is_code, NoOpening}
 use Rattle.jsx_syntax.specs.Climbing.{Begins, NoneBegins, level}
-use Rattle.jsx_token.proofs.Listed.{Listed, listed, code, kinds, every, every_two, of_each, of_two, one_place, of_level, implies, implied}
+use Rattle.jsx_token.proofs.Listed.{Listed, listed, code, kinds, every, every_two, of_each, of_two, one_place, implies, implied}
 use Rattle.jsx_syntax.proofs.Homes.{Literal, IsName, IsNumber, IsLong, IsString, token_kind, IsPattern}
 use Rattle.jsx_syntax.proofs.Values.{First, name, opened, less_literal, led_sign, SameFirst, begun, onto, same_both, literal_sign, literal_opening, one_opening, opener_of, opened_sign, opened_led, level_single}
 use Rattle.jsx_token.proofs.Levels.{grows_on, edge, at_level, is_ruled}
-use Rattle.jsx_syntax.proofs.Climbing.{edge_on, low, node_level, plain_kind, signed_node, signed_no_node, below_level, signed_built, signed_none}
+use Rattle.jsx_syntax.proofs.Climbing.{edge_on, low, node_level, plain_kind, signed_node, signed_no_node}
 
 -- ---- of each kind
 

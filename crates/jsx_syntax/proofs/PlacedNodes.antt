@@ -8,21 +8,26 @@ use Rattle.jsx_base.specs.declared.place.Span.{Span}
 use Rattle.jsx_tree.specs.declared.text.Text.{Text as TreeText}
 use Rattle.jsx_tree.specs.declared.tree.Jsx.{Jsx}
 use Rattle.jsx_tree.specs.Signs.{End, SameLine, AfterExpr, AfterBinding, AfterWord, AfterDo, Tok, Semicolon, TrailingComma, Ends, Sign}
-use Rattle.jsx_tree.specs.Kinds.{DeclareWord, Module, Block, Var, Declarator, Empty, ExprStmt, If, Do, While, Continue, Break, Throw, Debugger, BinaryOp, Nullish, Exponentiate, UnaryOp, Delete, Void, TypeOf, Positive, Negative, Complement, Not, Assign, OpAssign, Unary, Binary, Cond, Call, Member, Index, ImportCall, Element, program, statement, expression, jsx, Tree, leaf, node, list, Forest, none, part, UpdateOp, Increment, Decrement, PrefixUpdate, PostfixUpdate, Seq}
+use Rattle.jsx_tree.specs.Kinds.{DeclareWord, Module, Block, Var, Declarator, Empty, ExprStmt, If, Do, While, Continue, Break, Throw, Debugger, BinaryOp, Nullish, Exponentiate, UnaryOp, Delete, Void, TypeOf, Positive, Negative, Complement, Not, Assign, OpAssign, Unary, Binary, Cond, Call, Member, Index, ImportCall, Element, program, statement, expression, jsx, Tree, leaf, node, list, Forest, none, part, UpdateOp, Increment, Decrement, PrefixUpdate, PostfixUpdate, Seq, For, ForDeclaration, Switch, Case, Default, Array, Spread}
 use Rattle.jsx_tree.specs.Nonterminals as grammar
-use Rattle.jsx_tree.specs.Grammar.{Commas, NoTrailing, TwoOrMore, TopLines, Many, Part, p, pun, sp, count, semi, left_of, right_of, production}
+use Rattle.jsx_tree.specs.Grammar.{Commas, NoTrailing, TwoOrMore, TopLines, Many, Part, p, pun, sp, count, left_of, right_of, production, Lines, key, vars, Elisions}
 use Rattle.jsx_tree.specs.Grows.{operator_sign}
 use Rattle.jsx_tree.specs.Spelling.{mode_of, between, gathered, each_said, saids, spelled}
 use Rattle.jsx_tree.specs.Reading.{Place, Lost, At, forth, go_if, scan}
 use Rattle.jsx_tree.specs.Spans.{from_first, Comes, spans, Told, tells, Tales, no_tales, tale, IsTold, AreTold, starts, places, placed_in}
-use Rattle.jsx_tree.specs.View.{text_of, inside, forest, directive}
+use Rattle.jsx_tree.specs.View.{text_of, inside, forest, directive, word_of}
+use Rattle.jsx_tree.specs.declared.text.DeclareWord as code
+use Rattle.jsx_tree.specs.declared.text.DeclareWord.TheVariants as declare_word
 use Rattle.jsx_tree.specs.Told.{told_list, told_text, told_node, told_jsx, told_directive}
 use Rattle.jsx_tree.specs.Walk.{is_found}
 use Rattle.jsx_token.specs.Here.{Here, place_of, sign_of}
+use Rattle.jsx_token.specs.declared.lexer.Fixed.{Fixed}
 use Rattle.jsx_token.specs.declared.lexer.Fixed.TheVariants as fixed
+use Rattle.jsx_syntax.specs.Cases.{cases_symbols}
+use Rattle.jsx_syntax.specs.Heads.{clause_symbols, declare_sign, initial_symbols}
 use Rattle.jsx_token.specs.declared.word.Word.TheVariants as word
 use Rattle.jsx_syntax.specs.Statements.{alternative_symbols, block_symbols}
-use Rattle.jsx_syntax.specs.Spans.{Spans, is_argument, IsPlaced, IsPlacedRow, IsPlacedList}
+use Rattle.jsx_syntax.specs.Spans.{Spans, is_argument, IsPlaced, IsPlacedFront, IsPlacedRow, IsPlacedList}
 use Rattle.jsx_token.specs.Places.{next_of, end_of, Takes}
 use Rattle.jsx_token.specs.Marks.{assign_sign}
 use Rattle.jsx_token.specs.Growths.{mark, opening_sign}
@@ -160,6 +165,13 @@ update_row Decrement sign r s = node_is (λ c e ps. refl) (λ ms text. refl) s (
 pub import_row : {at : Option Span} {e : Told} {u : Tree} {w x y z v : Here} → Takes (opening_sign (expression ImportCall)) w x → Takes (sign_of fixed.Open) x y → IsPlaced e u y z → Takes (sign_of fixed.Close) z v → Spans at (next_of w) (end_of v) → IsPlaced (told_node at (e ∷ [])) (node (expression ImportCall) (part u none)) w v
 import_row sign bracket r close s = node_is (λ c e ps. refl) (λ ms text. refl) s (row_quiet (λ q. refl) (row_sign sign (row_sign bracket (row_part r (row_sign close row_end)))))
 
+pub array_row : {at : Option Span} {ds : Tales} {us : Forest} {w x y : Here} → Takes (opening_sign (expression Array)) w x → IsPlacedRow (Many Elisions grammar.ArrayItem ∷ p "]" ∷ []) (tale (tells [] ds) no_tales) (part (list us) none) x y → Spans at (next_of w) (end_of y)
+    → IsPlaced (tells (spans at ∷ []) (tale (tells [] ds) no_tales)) (node (expression Array) (part (list us) none)) w y
+array_row sign r s = node_is (λ c e ps. refl) (λ ms text. refl) s (row_quiet (λ q. refl) (row_sign sign r))
+
+pub spread_row : {at : Option Span} {e : Told} {u : Tree} {w x y : Here} → Takes (opening_sign (expression Spread)) w x → IsPlaced e u x y → Spans at (next_of w) (end_of y) → IsPlaced (told_node at (e ∷ [])) (node (expression Spread) (part u none)) w y
+spread_row sign r s = node_is (λ c e ps. refl) (λ ms text. refl) s (row_sign sign (row_part r row_end))
+
 pub declarator_row : {at : Option Span} {d e : Told} {t u : Tree} {x y z w v : Here} → IsPlaced d t x y → Takes (Ends AfterBinding) y z → Takes (sign_of fixed.Equals) z w → IsPlaced e u w v → Spans at (next_of x) (end_of v)
     → IsPlaced (told_node at (d ∷ told_list (e ∷ []) ∷ [])) (node (statement Declarator) (part t (part (list (part u none)) none))) x v
 declarator_row l ends equals m s = node_is (λ c e ps. refl) (led l _) s (row_part l (row_sign ends (row_present equals.same equals.leads m row_end)))
@@ -167,9 +179,16 @@ declarator_row l ends equals m s = node_is (λ c e ps. refl) (led l _) s (row_pa
 pub plain_row : {at : Option Span} {d : Told} {t : Tree} {x y z : Here} → IsPlaced d t x y → Takes (Ends AfterBinding) y z → Spans at (next_of x) (end_of z) → IsPlaced (told_node at (d ∷ told_list [] ∷ [])) (node (statement Declarator) (part t (part (list none) none))) x z
 plain_row l ends s = node_is (λ c e ps. refl) (led l _) s (row_part l (row_sign ends (row_absent row_end)))
 
-pub declared_placed : {at : Option Span} {ds : Tales} {ts : Forest} {w x z : Here} (d : DeclareWord) → Takes (opening_sign (statement (Var d))) w x → IsPlacedRow (Many NoTrailing grammar.Declarators ∷ semi ∷ []) (tale (tells [] ds) no_tales) (part (list ts) none) x z → Spans at (next_of w) (end_of z)
-    → IsPlaced (tells (spans at ∷ []) (tale (tells [] ds) no_tales)) (node (statement (Var d)) (part (list ts) none)) w z
-declared_placed d sign r s = node_is (λ c e ps. refl) (λ ms text. refl) s (row_quiet (λ q. refl) (row_sign sign (row_quiet (λ q. refl) r)))
+pub declared_placed : {at : Option Span} {ds : Tales} {ts : Forest} {w x y z : Here} (d : DeclareWord) → Takes (opening_sign (statement (Var d))) w x → IsPlacedList NoTrailing ds ts x y → Takes Semicolon y z → Spans at (next_of w) (end_of z) → IsPlaced (tells (spans at ∷ []) (tale (tells [] ds) no_tales)) (node (statement (Var d)) (part (list ts) none)) w z
+declared_placed d sign l end s = node_is (λ c e ps. refl) (λ ms text. refl) s (row_quiet (λ q. refl) (row_sign sign (row_quiet (λ q. refl) (row_list l (row_sign end row_end)))))
+
+declaring_is : (d : code.DeclareWord) → declare_sign d ≡ Tok Operator IdentifierName (vars (word_of d))
+declaring_is declare_word.Var = refl
+declaring_is declare_word.Let = refl
+declaring_is declare_word.Const = refl
+
+pub head_placed : {at : Option Span} {ds : Tales} {ts : Forest} {w x y : Here} (d : code.DeclareWord) → Takes (declare_sign d) w x → IsPlacedList NoTrailing ds ts x y → Spans at (next_of w) (end_of y) → IsPlaced (tells (spans at ∷ []) (tale (tells [] ds) no_tales)) (node (statement (ForDeclaration (word_of d))) (part (list ts) none)) w y
+head_placed {w = w} {x = x} d sign l s = node_is (λ c e ps. refl) (λ ms text. refl) s (row_sign (subst (λ m. Takes m w x) (declaring_is d) sign) (row_quiet (λ q. refl) (row_list l row_end)))
 
 pub evaluation_placed : {at : Option Span} {d : Told} {t : Tree} {x y z : Here} → IsPlaced d t x y → Takes Semicolon y z → Spans at (next_of x) (end_of z) → IsPlaced (told_node at (d ∷ [])) (node (statement ExprStmt) (part t none)) x z
 evaluation_placed l end s = node_is (λ c e ps. refl) (led l _) s (row_unless (row_part l (row_sign end row_end)))
@@ -200,6 +219,35 @@ do_placed sign body while bracket test close ends end s =
 pub while_placed : {at : Option Span} {d e : Told} {t u : Tree} {w x y z q r : Here} → Takes (opening_sign (statement While)) w x → Takes (sign_of fixed.Open) x y → IsPlaced d t y z → Takes (sign_of fixed.Close) z q → IsPlaced e u q r → Spans at (next_of w) (end_of r)
     → IsPlaced (told_node at (d ∷ e ∷ [])) (node (statement While) (part t (part u none))) w r
 while_placed sign bracket test close body s = node_is (λ c e ps. refl) (λ ms text. refl) s (row_quiet (λ q. refl) (row_sign sign (row_quiet (λ q. refl) (row_sign bracket (row_part test (row_sign close (row_quiet (λ q. refl) (row_within (row_part body row_end)))))))))
+
+pub no_initial_placed : {x y : Here} → Takes (sign_of fixed.Semicolon) x y → IsPlacedFront initial_symbols (tells [] no_tales) (list none) x y
+no_initial_placed sign = record { on = λ ps ds ts z r. row_absent (row_sign sign r) }
+
+pub initial_placed : {d : Told} {t : Tree} {x y z : Here} → IsPlaced d t x y → Takes (sign_of fixed.Semicolon) y z → IsPlacedFront initial_symbols (tells [] (tale d no_tales)) (list (part t none)) x z
+initial_placed l sign = record { on = λ ps ds ts z r. row_present refl refl l (row_sign sign r) }
+
+pub no_clause_placed : {x y : Here} (f : Fixed) → Takes (sign_of f) x y → IsPlacedFront (clause_symbols f) (tells [] no_tales) (list none) x y
+no_clause_placed f sign = record { on = λ ps ds ts z r. row_absent (row_sign sign r) }
+
+pub clause_placed : {d : Told} {t : Tree} {x y z : Here} (f : Fixed) → IsPlaced d t x y → Takes (sign_of f) y z → IsPlacedFront (clause_symbols f) (tells [] (tale d no_tales)) (list (part t none)) x z
+clause_placed f l sign = record { on = λ ps ds ts z r. row_present refl refl l (row_sign sign r) }
+
+pub for_placed : {at : Option Span} {d e f g : Told} {t u v b : Tree} {w x y z q r c : Here} → Takes (opening_sign (statement For)) w x → Takes (sign_of fixed.Open) x y → IsPlacedFront initial_symbols d t y z → IsPlacedFront (clause_symbols fixed.Semicolon) e u z q → IsPlacedFront (clause_symbols fixed.Close) f v q r → IsPlaced g b r c → Spans at (next_of w) (end_of c)
+    → IsPlaced (told_node at (d ∷ e ∷ f ∷ g ∷ [])) (node (statement For) (part t (part u (part v (part b none))))) w c
+for_placed sign bracket init test update body s =
+    node_is (λ c e ps. refl) (λ ms text. refl) s
+    (row_quiet (λ q. refl) (row_sign sign (row_quiet (λ q. refl) (row_sign bracket (init.on _ _ _ _ (test.on _ _ _ _ (update.on _ _ _ _ (row_quiet (λ q. refl) (row_within (row_part body row_end))))))))))
+
+pub case_placed : {at : Option Span} {d : Told} {t : Tree} {ds : Tales} {ts : Forest} {w x y z q : Here} → Takes (sign_of (fixed.Word word.Case)) w x → IsPlaced d t x y → Takes (sign_of fixed.Colon) y z → IsPlacedList Lines ds ts z q → Spans at (next_of w) (end_of q) → IsPlaced (tells (spans at ∷ []) (tale d (tale (tells [] ds) no_tales))) (node (statement Case) (part t (part (list ts) none))) w q
+case_placed sign test colon l s = node_is (λ c e ps. refl) (λ ms text. refl) s (row_quiet (λ q. refl) (row_sign sign (row_quiet (λ q. refl) (row_part test (row_sign colon (row_quiet (λ q. refl) (row_list l (row_quiet (λ q. refl) row_end))))))))
+
+pub default_placed : {at : Option Span} {ds : Tales} {ts : Forest} {w x y z : Here} → Takes (key "default") w x → Takes (sign_of fixed.Colon) x y → IsPlacedList Lines ds ts y z → Spans at (next_of w) (end_of z) → IsPlaced (tells (spans at ∷ []) (tale (tells [] ds) no_tales)) (node (statement Default) (part (list ts) none)) w z
+default_placed sign colon l s = node_is (λ c e ps. refl) (λ ms text. refl) s (row_quiet (λ q. refl) (row_sign sign (row_sign colon (row_quiet (λ q. refl) (row_list l (row_quiet (λ q. refl) row_end))))))
+
+pub switch_placed : {at : Option Span} {d : Told} {t : Tree} {ds : Tales} {ts : Forest} {w x y z q r b : Here} → Takes (opening_sign (statement Switch)) w x → Takes (sign_of fixed.Open) x y → IsPlaced d t y z → Takes (sign_of fixed.Close) z q → Takes (sign_of fixed.OpenBrace) q r → IsPlacedRow cases_symbols (tale (tells [] ds) no_tales) (part (list ts) none) r b → Spans at (next_of w) (end_of b)
+    → IsPlaced (tells (spans at ∷ []) (tale d (tale (tells [] ds) no_tales))) (node (statement Switch) (part t (part (list ts) none))) w b
+switch_placed sign bracket value close brace r s =
+    node_is (λ c e ps. refl) (λ ms text. refl) s (row_quiet (λ q. refl) (row_sign sign (row_quiet (λ q. refl) (row_sign bracket (row_part value (row_sign close (row_quiet (λ q. refl) (row_within (row_sign brace (row_quiet (λ q. refl) r))))))))))
 
 pub break_placed : {at : Option Span} {w x y z : Here} → Takes (opening_sign (statement Break)) w x → Takes (Ends AfterWord) x y → Takes Semicolon y z → Spans at (next_of w) (end_of z) → IsPlaced (told_node at (told_list [] ∷ [])) (node (statement Break) (part (list none) none)) w z
 break_placed sign ends end s = node_is (λ c e ps. refl) (λ ms text. refl) s (row_quiet (λ q. refl) (row_sign sign (row_sign ends (row_absent (row_sign end row_end)))))

@@ -1,13 +1,13 @@
 -- The places of a node from those of its parts, along any row.
 use Rattle.std.proofs.Common.{◌≡◌, ◌-◌, ℕ, Bool, true, false, List, [], ◌∷◌, ◌++◌, append-nil, append_assoc, refl, sym, ◌∙◌, ap, subst, map, Option, Some, None}
-use Rattle.std.specs.Prelude.{cond, not}
-use Rattle.jsx_base.specs.Token.{Text, Operator, TokenKind, breaks, skip, skips, among, token}
+use Rattle.std.specs.Prelude.{IsTrue, cond, not}
+use Rattle.jsx_base.specs.Token.{Text, Operator, TokenKind, breaks, skip, skips, among, token, Elision}
 use Rattle.jsx_base.specs.Lines.{size}
 use Rattle.jsx_base.specs.declared.place.Span.{Span}
 use Rattle.jsx_tree.specs.Signs.{Ending, Sign, Tok, Unless, SameLine, Ends, One}
 use Rattle.jsx_tree.specs.Kinds.{Kind, Tree, leaf, node, list, Forest, none, part}
 use Rattle.jsx_tree.specs.Nonterminals.{Nonterminal}
-use Rattle.jsx_tree.specs.Grammar.{Context, ListShape, Commas, NoTrailing, TwoOrMore, Lines, TopLines, Fixed, Part, Optional, Many, Within, Production, production}
+use Rattle.jsx_tree.specs.Grammar.{Context, ListShape, Commas, Elisions, NoTrailing, TwoOrMore, Lines, TopLines, Fixed, Part, Optional, Many, Within, Production, production}
 use Rattle.jsx_tree.specs.Spelling.{mode_of, leaf_signs, before, between, behind, gathered, walk, saids, each_said, spelled}
 use Rattle.jsx_tree.specs.Reading.{Place, Lost, At, forth, scan}
 use Rattle.jsx_tree.specs.Spans.{is_text, from_first, rest_at, Extent, extent, extent_of, settled, Places, node_at, starts, start, list_starts, placed, places, each_placed, within, Claim, spans, comes, Holds, AllHold, Told, tells, Tales, no_tales, tale, IsTold, AreTold}
@@ -168,14 +168,29 @@ plain_two = record { bare = λ x ms ns. refl; code = refl }
 pub plain_top_lines : IsPlain TopLines
 plain_top_lines = record { bare = λ x ms ns. refl; code = refl }
 
+pub plain_elisions : IsPlain Elisions
+plain_elisions = record { bare = λ x ms ns. refl; code = refl }
+
 pub plain_lines : IsPlain Lines
 plain_lines = record { bare = λ x ms ns. refl; code = refl }
 
 pub list_none : {a : Bool} {s : ListShape} {x : Here} → IsPlacedListAs a s no_tales none x x
 list_none = record { same = refl; leads = λ f. refl; told = λ f c e. tt }
 
+-- a tree of a list, which may be a hole
+pub record IsItem (a : Bool) (d : Told) (t : Tree) (x y : Here) : Type 0 where
+  pub same : y.end ≡ x.end
+  pub leads : IsTrue (is_found (scan (place_of x) (spelled t))) → scan (place_of x) (spelled t) ≡ place_of y
+  pub told : IsTrue (is_found (scan (place_of x) (spelled t))) → (c : Nonterminal) → is_argument c ≡ a → IsTold d (placed x.end (start c false (place_of x ∷ [])) t)
+
+item : {a : Bool} {d : Told} {t : Tree} {x y : Here} → IsPlacedAs a d t x y → IsItem a d t x y
+item l = record { same = l.same; leads = l.leads; told = l.told }
+
+pub hole_item : {x : Here} → IsItem false (tells [] no_tales) (leaf Elision []) x x
+hole_item = record { same = refl; leads = λ f. refl; told = λ f c i. (tt, refl) }
+
 -- one tree that is the last: what stands behind it leads on, where it can be read
-pub list_one : {a : Bool} {s : ListShape} {d : Told} {t : Tree} {x y z : Here} → IsPlain s → IsPlacedAs a d t x y → z.end ≡ y.end → (is_found (scan (place_of y) (behind s (spelled t))) ≡ true → scan (place_of y) (behind s (spelled t)) ≡ place_of z)
+pub list_one : {a : Bool} {s : ListShape} {d : Told} {t : Tree} {x y z : Here} → IsPlain s → IsItem a d t x y → z.end ≡ y.end → (is_found (scan (place_of y) (behind s (spelled t))) ≡ true → scan (place_of y) (behind s (spelled t)) ≡ place_of z)
     → IsPlacedListAs a s (tale d no_tales) (part t none) x z
 list_one {s = s} {d} {t} {x} {y} {z} plain l same step =
     let bs = behind s (spelled t) in
@@ -191,7 +206,7 @@ list_one {s = s} {d} {t} {x} {y} {z} plain l same step =
     }
 
 -- a tree and what joins it to the next
-pub list_more : {a : Bool} {s : ListShape} {d e : Told} {es : Tales} {t u : Tree} {us : Forest} {x y z w : Here} → IsPlain s → IsPlacedAs a d t x y → z.end ≡ y.end → scan (place_of y) (between s) ≡ place_of z → IsPlacedListAs a s (tale e es) (part u us) z w
+pub list_more : {a : Bool} {s : ListShape} {d e : Told} {es : Tales} {t u : Tree} {us : Forest} {x y z w : Here} → IsPlain s → IsItem a d t x y → z.end ≡ y.end → scan (place_of y) (between s) ≡ place_of z → IsPlacedListAs a s (tale e es) (part u us) z w
     → IsPlacedListAs a s (tale d (tale e es)) (part t (part u us)) x w
 list_more {s = s} {d} {e} {es} {t} {u} {us} {x} {y} {z} {w} plain l same join r =
     let bs = between s in
@@ -289,9 +304,9 @@ pub record PlacedFront (a : Bool) (s : ListShape) (ds : List Told) (ts : List Tr
 pub front_none : {a : Bool} {s : ListShape} {x : Here} → PlacedFront a s [] [] x x
 front_none = record { on = λ e es u us z l. l }
 
-pub front_more : {a : Bool} {s : ListShape} {ds es : List Told} {ts us : List Tree} {d : Told} {t : Tree} {x y z w : Here} → IsPlain s → PlacedFront a s ds ts x y → IsPlacedAs a d t y z → w.end ≡ z.end → scan (place_of z) (between s) ≡ place_of w → es ≡ ds ++ d ∷ [] → us ≡ ts ++ t ∷ []
+pub laid_more : {a : Bool} {s : ListShape} {ds es : List Told} {ts us : List Tree} {d : Told} {t : Tree} {x y z w : Here} → IsPlain s → PlacedFront a s ds ts x y → IsItem a d t y z → w.end ≡ z.end → scan (place_of z) (between s) ≡ place_of w → es ≡ ds ++ d ∷ [] → us ≡ ts ++ t ∷ []
     → PlacedFront a s es us x w
-front_more {a} {s} {ds} {es} {ts} {us} {d} {t} {x} {y} {z} {w} plain m l same join p q = record {
+laid_more {a} {s} {ds} {es} {ts} {us} {d} {t} {x} {y} {z} {w} plain m l same join p q = record {
   on = λ e fs u vs v r. subst (λ gs. IsPlacedListAs a s (tales (gs ++ e ∷ fs)) (forest (us ++ u ∷ vs)) x v) (sym p)
       (subst (λ gs. IsPlacedListAs a s (tales ((ds ++ d ∷ []) ++ e ∷ fs)) (forest (gs ++ u ∷ vs)) x v) (sym q)
       (subst (λ gs. IsPlacedListAs a s (tales gs) (forest ((ts ++ t ∷ []) ++ u ∷ vs)) x v) (sym (append_assoc ds (d ∷ []) (e ∷ fs)))
@@ -299,12 +314,20 @@ front_more {a} {s} {ds} {es} {ts} {us} {d} {t} {x} {y} {z} {w} plain m l same jo
       (m.on d (e ∷ fs) t (u ∷ vs) v (list_more plain l same join r)))));
 }
 
-pub front_last : {a : Bool} {s : ListShape} {ds es : List Told} {ts us : List Tree} {d : Told} {t : Tree} {x y z w : Here} → IsPlain s → PlacedFront a s ds ts x y → IsPlacedAs a d t y z → w.end ≡ z.end → scan (place_of z) (behind s (spelled t)) ≡ place_of w → es ≡ ds ++ d ∷ [] → us ≡ ts ++ t ∷ []
+pub laid_last : {a : Bool} {s : ListShape} {ds es : List Told} {ts us : List Tree} {d : Told} {t : Tree} {x y z w : Here} → IsPlain s → PlacedFront a s ds ts x y → IsItem a d t y z → w.end ≡ z.end → scan (place_of z) (behind s (spelled t)) ≡ place_of w → es ≡ ds ++ d ∷ [] → us ≡ ts ++ t ∷ []
     → IsPlacedListAs a s (tales es) (forest us) x w
-front_last {a} {s} {ds} {es} {ts} {us} {d} {t} {x} {y} {z} {w} plain m l same ends p q =
+laid_last {a} {s} {ds} {es} {ts} {us} {d} {t} {x} {y} {z} {w} plain m l same ends p q =
     subst (λ gs. IsPlacedListAs a s (tales gs) (forest us) x w) (sym p)
     (subst (λ gs. IsPlacedListAs a s (tales (ds ++ d ∷ [])) (forest gs) x w) (sym q)
     (m.on d [] t [] w (list_one plain l same (λ f. ends))))
+
+pub front_more : {a : Bool} {s : ListShape} {ds es : List Told} {ts us : List Tree} {d : Told} {t : Tree} {x y z w : Here} → IsPlain s → PlacedFront a s ds ts x y → IsPlacedAs a d t y z → w.end ≡ z.end → scan (place_of z) (between s) ≡ place_of w → es ≡ ds ++ d ∷ [] → us ≡ ts ++ t ∷ []
+    → PlacedFront a s es us x w
+front_more plain m l same join p q = laid_more plain m (item l) same join p q
+
+pub front_last : {a : Bool} {s : ListShape} {ds es : List Told} {ts us : List Tree} {d : Told} {t : Tree} {x y z w : Here} → IsPlain s → PlacedFront a s ds ts x y → IsPlacedAs a d t y z → w.end ≡ z.end → scan (place_of z) (behind s (spelled t)) ≡ place_of w → es ≡ ds ++ d ∷ [] → us ≡ ts ++ t ∷ []
+    → IsPlacedListAs a s (tales es) (forest us) x w
+front_last plain m l same ends p q = laid_last plain m (item l) same ends p q
 
 pub list_to : {a : Bool} {s : ListShape} {ds : Tales} {ts : Forest} {x y z : Here} → z ≡ y → IsPlacedListAs a s ds ts x y → IsPlacedListAs a s ds ts x z
 list_to {a} {s} {ds} {ts} {x} e l = subst (IsPlacedListAs a s ds ts x) (sym e) l

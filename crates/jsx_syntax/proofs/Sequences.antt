@@ -22,7 +22,7 @@ use Rattle.jsx_tree.proofs.Rows.Bodies.{plain}
 use Rattle.jsx_tree.proofs.Rows.Guarded.{whole_walk, loosen, to_grammar}
 use Rattle.jsx_tree.proofs.Rows.Steps.{both}
 use Rattle.jsx_tree.proofs.Rows.Turns.{early, item_of, whole_of}
-use Rattle.jsx_syntax.specs.SoFar.{Staged, so_far}
+use Rattle.jsx_syntax.specs.SoFar.{so_far}
 use Rattle.jsx_token.specs.Marks.{marks, goers, goes_at, steps, is_sign, is_mark, goes_on_so_far, ends_so_far, row_so_far}
 use Rattle.jsx_token.specs.Growths.{settled}
 use Rattle.jsx_syntax.proofs.OfSoFar.{of_so_far}
@@ -48,7 +48,7 @@ all_marks : every_text (λ t. agree (among t (going 0)) (among t (going 1))) mar
 unfolding marks
 all_marks = refl
 
-and_equal : (m n b : Bool) → (b ≡ true → m ≡ n) → (m && b) ≡ (n && b)
+pub and_equal : (m n b : Bool) → (b ≡ true → m ≡ n) → (m && b) ≡ (n && b)
 and_equal m n true f = ap (λ c. c && true) (f refl)
 and_equal true true false f = refl
 and_equal true false false f = refl
@@ -65,7 +65,7 @@ not_there : (b : Bool) (y : Place) → is_found y ≡ true → cond b y Lost ≡
 not_there true y f h = let bad : true ≡ false = sym f ∙ ap is_found h in cc
 not_there false y f h = refl
 
-no_comma_ends : (y : Place) → settled y ≡ true → forth (pun ",") y ≡ Lost → ends_so_far (Expr 1) y ≡ true → ends_so_far (Expr 0) y ≡ true
+pub no_comma_ends : (y : Place) → settled y ≡ true → forth (pun ",") y ≡ Lost → ends_so_far (Expr 1) y ≡ true → ends_so_far (Expr 0) y ≡ true
 no_comma_ends Lost s l e = refl
 no_comma_ends (At q AfterExpr text) s l e =
     let x = token Operator (same q []) text in

@@ -1,5 +1,5 @@
 -- What is told of an expression whose span is set anew.
-use Rattle.std.proofs.Common.{◌≡◌, ◌<◌, List, [], ◌∷◌, Bool, true, false, cond, refl, ap, sym, ◌∙◌, subst, arith, Option, Some, None, Box, Global}
+use Rattle.std.proofs.Common.{◌≡◌, ◌<◌, List, [], ◌∷◌, Bool, false, cond, refl, ap, sym, ◌∙◌, subst, arith, Option, Some, None, Box, Global}
 use Rattle.jsx_base.specs.declared.place.Span.{Span}
 use Rattle.jsx_tree.specs.Kinds.{Role, Tree}
 use Rattle.jsx_tree.specs.declared.text.Text.{Text}

@@ -1,27 +1,27 @@
 -- Statements, by what they begin with: each fact on what begins them is one test of all of it.
-use Rattle.std.proofs.Common.{◌≡◌, ℕ, nat_eq, Bool, true, false, not, List, [], ◌∷◌, refl, sym, ◌∙◌, ap, subst}
-use Rattle.std.specs.Prelude.{IsTrue, codes, ◌&&◌}
-use Rattle.jsx_base.specs.Token.{Text, TokenKind, Lexeme, Operand, Operator, IdentifierName, Punctuator, NoToken, RegExpLiteral, is_kind, is_token, no_token, among, token, same}
+use Rattle.std.proofs.Common.{◌≡◌, ℕ, nat_eq, Bool, true, false, not, cond, List, [], ◌∷◌, refl, sym, ◌∙◌, ap, subst}
+use Rattle.std.specs.Prelude.{IsTrue, ◌&&◌, ◌||◌}
+use Rattle.jsx_base.specs.Token.{Text, TokenKind, Operand, Operator, IdentifierName, Punctuator, NoToken, RegExpLiteral, State, InName, is_start, is_kind, is_token, no_token, among, token, same}
+use Rattle.jsx_base.proofs.Families.{may_be}
 use Rattle.jsx_base.proofs.Fronts.{none_ahead}
 use Rattle.jsx_tree.specs.Signs.{AfterExpr, Sign, Tok, Unless}
-use Rattle.jsx_tree.specs.Kinds.{Module, Declarator, ExprStmt, Seq, Kind, program, statement, expression, Tree, leaf, node, list, Forest}
+use Rattle.jsx_tree.specs.Kinds.{Module, ExprStmt, Seq, Kind, program, statement, expression, Tree, leaf, node, list, Forest, Spread}
 use Rattle.jsx_tree.specs.Nonterminals.{Nonterminal, Expr, Stmt, SubStmt, Item}
 use Rattle.jsx_tree.specs.Grammar.{Part, Fixed, heads}
 use Rattle.jsx_tree.specs.Form.{admits}
 use Rattle.jsx_tree.specs.Reading.{Place, Lost, At, forth, go_if}
 use Rattle.jsx_tree.specs.StaticRules.{Surroundings, has_plain_params}
-use Rattle.jsx_tree.specs.declared.text.DeclareWord.TheVariants as declare_word
-use Rattle.jsx_tree.specs.Walk.{Relation, is_found, nothing, one, Piece, piece, row, tail, Given, Past, sign, tree, Walk, next, steady}
+use Rattle.jsx_tree.specs.Walk.{Relation, is_found, one, Piece, piece, row, tail, Given, Past, sign, tree, Walk, next, steady}
 use Rattle.jsx_tree.specs.Language.{Whole}
-use Rattle.jsx_tree.specs.Answers.{Moves, Only, Barred, OnlyRow, NoRow, NoNode, Built, BuiltNode}
+use Rattle.jsx_tree.specs.Answers.{Moves, Only, Barred, OnlyRow, NoNode, Built, BuiltNode}
 use Rattle.jsx_tree.proofs.Tokens.{and_left, and_right, same_is}
 use Rattle.jsx_tree.proofs.Apart.{clash, found_token}
 use Rattle.jsx_tree.proofs.Signs.{not_first}
 use Rattle.jsx_tree.proofs.Rows.Bridge.{found_at, node_walk}
-use Rattle.jsx_tree.proofs.Rows.Stopping.{is_never, never_stops, stays}
+use Rattle.jsx_tree.proofs.Rows.Stopping.{is_never, is_not, never_stops, or_cases, stays}
 use Rattle.jsx_tree.proofs.Rows.Guarded.{guarded, to_grammar}
 use Rattle.jsx_tree.proofs.Rows.Bodies.{bodiless, plain}
-use Rattle.jsx_tree.proofs.Rows.Firsts.{Keyed, kind_home, key_row, row_key}
+use Rattle.jsx_tree.proofs.Rows.Firsts.{Keyed, is_head, kind_home, key_row, row_key}
 use Rattle.jsx_tree.proofs.Rows.Closers.{Closer, Shut, closes, shut_reading}
 use Rattle.jsx_tree.proofs.Rows.Steps.{only_sign, then'}
 use Rattle.jsx_tree.proofs.Rows.Placing.{Chosen, free, only_node, barred_node}
@@ -33,10 +33,11 @@ use Rattle.jsx_token.specs.Headings.{NoHeading, heading_kind, heading_sign, is_l
 use Rattle.jsx_token.specs.declared.heading.Heading.{Heading}
 use Rattle.jsx_token.specs.declared.heading.Heading.TheVariants as heading
 use Rattle.jsx_syntax.proofs.OfSoFar.{of_so_far}
-use Rattle.jsx_token.proofs.Headings.{headings, number, every_heading, of_heading, every_two_headings, of_two_headings, one_number}
+use Rattle.jsx_token.proofs.Headings.{headings, number, every_heading, of_heading, of_two_headings, one_number}
+use Rattle.jsx_syntax.proofs.Inners.{inner_kind, every_inner, of_inner}
 use Rattle.jsx_token.proofs.Listed.{kinds, every, implies, implied, agree, agreed}
 use Rattle.jsx_token.proofs.Marks.{one_sign}
-use Rattle.jsx_syntax.proofs.Homes.{Taken, module', headed, bound, evaluation, sequence, operand, no_list, no_operand_at, taken_by, home_of}
+use Rattle.jsx_syntax.proofs.Homes.{Taken, module', headed, evaluation, sequence, operand, no_list, no_operand_at, taken_by, home_of, inner, spread}
 use Rattle.jsx_token.proofs.Lives.{lives}
 use Rattle.jsx_token.proofs.Levels.{signed}
 use Rattle.jsx_syntax.proofs.Values.{led_sign}
@@ -46,8 +47,9 @@ use Rattle.jsx_syntax.proofs.Values.{led_sign}
 pub record Spot (c : Nonterminal) : Type 0 where
   pub leafless : (s : TokenKind) (t : Text) → leaf_at c s t ≡ true → ⊥
   pub no_module : lives c (program Module) ≡ false
-  pub no_bound : lives c (statement Declarator) ≡ false
+  pub no_inner : every_inner (λ i. not (lives c (inner_kind i))) ≡ true
   pub no_sequence : lives c (expression Seq) ≡ false
+  pub no_spread : lives c (expression Spread) ≡ false
   pub no_operand : every (λ j. not (lives c j)) kinds ≡ true
   pub guards : every_heading (λ h. guarded c (row_so_far (heading_kind h))) headings ≡ true
   pub guards_plain : guarded c (row_so_far (statement ExprStmt)) ≡ true
@@ -56,21 +58,22 @@ pub record Spot (c : Nonterminal) : Type 0 where
   pub plain_home : lives c (statement ExprStmt) ≡ true
 
 pub items : Spot Item
-items = record { leafless = λ s t h. cc; no_module = refl; no_bound = refl; no_sequence = refl; no_operand = refl; guards = refl; guards_plain = refl; never = refl; home = λ k ts h. h; plain_home = refl }
+items = record { leafless = λ s t h. cc; no_module = refl; no_inner = refl; no_sequence = refl; no_spread = refl; no_operand = refl; guards = refl; guards_plain = refl; never = refl; home = λ k ts h. h; plain_home = refl }
 
 pub stmts : Spot Stmt
-stmts = record { leafless = λ s t h. cc; no_module = refl; no_bound = refl; no_sequence = refl; no_operand = refl; guards = refl; guards_plain = refl; never = refl; home = λ k ts h. h; plain_home = refl }
+stmts = record { leafless = λ s t h. cc; no_module = refl; no_inner = refl; no_sequence = refl; no_spread = refl; no_operand = refl; guards = refl; guards_plain = refl; never = refl; home = λ k ts h. h; plain_home = refl }
 
 pub subs : Spot SubStmt
-subs = record { leafless = λ s t h. cc; no_module = refl; no_bound = refl; no_sequence = refl; no_operand = refl; guards = refl; guards_plain = refl; never = refl; home = λ k ts h. h; plain_home = refl }
+subs = record { leafless = λ s t h. cc; no_module = refl; no_inner = refl; no_sequence = refl; no_spread = refl; no_operand = refl; guards = refl; guards_plain = refl; never = refl; home = λ k ts h. h; plain_home = refl }
 
 -- what stands at one of them begins with one of those signs, or is an expression
 pub spot_kind : {c : Nonterminal} → Spot c → (l : Kind) (ts : Forest) {A : Type 0} → Taken l → admits c (node l ts) ≡ true → ((g : Heading) → l ≡ heading_kind g → A) → (l ≡ statement ExprStmt → A) → A
 spot_kind s l ts (headed g) h f e = f g refl
 spot_kind s l ts evaluation h f e = e refl
 spot_kind {c} s l ts module' h f e = absurd (clash _ (kind_home c _ ts h) s.no_module)
-spot_kind {c} s l ts bound h f e = absurd (clash _ (kind_home c _ ts h) s.no_bound)
+spot_kind {c} s l ts (inner i) h f e = absurd (clash _ (kind_home c _ ts h) (is_not _ (of_inner (λ j. not (lives c (inner_kind j))) s.no_inner i)))
 spot_kind {c} s l ts sequence h f e = absurd (clash _ (kind_home c _ ts h) s.no_sequence)
+spot_kind {c} s l ts spread h f e = absurd (clash _ (kind_home c _ ts h) s.no_spread)
 spot_kind {c} s l ts (operand m) h f e = absurd (no_operand_at c s.no_operand m (kind_home c _ ts h))
 
 pub spot_ends : {c : Nonterminal} → Spot c → (y : Place) → ends_so_far c y ≡ true
@@ -108,25 +111,48 @@ unless_lost ts k d t (At q e text) n a f =
 braced_evaluation : {R : Relation} {V : _} {x y : Place} {ts : Forest} → IsTrue (is_found (forth (heading_sign heading.Block) x)) → Walk R V (row_so_far (statement ExprStmt)) x ts y → ⊥
 braced_evaluation {x = x} f (next (sign e g) w) = let bad : IsTrue (is_found Lost) = subst (λ p. IsTrue (is_found p)) (sym e ∙ unless_lost heads Punctuator 123 [] x refl refl f) g in cc
 
-semicolon : Closer 59 []
+pub semicolon : Closer 59 []
 semicolon = record { no_less = refl; no_slash = λ s. none_ahead RegExpLiteral Operand 59 s refl refl refl; no_opener = refl }
 
 keyed_evaluation : {v : Surroundings} {c : Nonterminal} {x y : Place} {ts : Forest} (d : ℕ) (w : Text) → Keyed d w → IsTrue (is_found (forth (Tok Operator IdentifierName (d ∷ w)) x)) → Staged v false c x (node (statement ExprStmt) ts) y → ⊥
 keyed_evaluation d w k f r = let bad : key_row (d ∷ w) (row false (statement ExprStmt)) ≡ true = row_key d w (row false (statement ExprStmt)) k (node_walk false (statement ExprStmt) refl r.reads).walk f in cc
 
+-- a word that begins as a name does, and with which no expression begins
+abbrev pub keyed_word : Sign → Bool
+keyed_word (Tok Operator IdentifierName (d ∷ w)) = is_start d && (not (nat_eq d 60) && not (is_head (d ∷ w)))
+keyed_word s = false
+
+pub data KeySign : Sign → Type 0 where
+  key_sign : {d : ℕ} {w : Text} → Keyed d w → KeySign (Tok Operator IdentifierName (d ∷ w))
+
+start_state : (b : Bool) (s : State) → b ≡ true → may_be (cond b InName s) RegExpLiteral ≡ false
+start_state true s e = refl
+start_state false s e = cc
+
+pub keyed : (s : Sign) → keyed_word s ≡ true → KeySign s
+keyed (Tok Operator IdentifierName (d ∷ w)) h =
+    let a = and_right (is_start d) _ h in
+    key_sign (record { no_less = is_not _ (and_left (not (nat_eq d 60)) _ a); no_slash = λ s. none_ahead RegExpLiteral Operand d s refl refl (start_state (is_start d) _ (and_left (is_start d) _ h)); no_head = is_not _ (and_right (not (nat_eq d 60)) _ a) })
+keyed _ h = cc
+
+abbrev is_mark : Heading → Bool
+is_mark heading.Empty = true
+is_mark heading.Block = true
+is_mark h = false
+
+marked_evaluation : {v : Surroundings} {c : Nonterminal} {x y : Place} {ts : Forest} (h : Heading) → is_mark h ≡ true → IsTrue (is_found (forth (heading_sign h) x)) → Staged v false c x (node (statement ExprStmt) ts) y → ⊥
+marked_evaluation heading.Empty m f r = shut_evaluation (closes semicolon f) (of_so_far.from_node (statement ExprStmt) r).walk
+marked_evaluation heading.Block m f r = braced_evaluation f (of_so_far.from_node (statement ExprStmt) r).walk
+marked_evaluation _ m f r = cc
+
+pub worded_evaluation : {v : Surroundings} {c : Nonterminal} {x y : Place} {ts : Forest} {s : Sign} → KeySign s → IsTrue (is_found (forth s x)) → Staged v false c x (node (statement ExprStmt) ts) y → ⊥
+worded_evaluation (key_sign {d} {w} k) f r = keyed_evaluation d w k f r
+
 no_evaluation : {v : Surroundings} {c : Nonterminal} {x y : Place} {ts : Forest} (h : Heading) → IsTrue (is_found (forth (heading_sign h) x)) → Staged v false c x (node (statement ExprStmt) ts) y → ⊥
-no_evaluation heading.Empty f r = shut_evaluation (closes semicolon f) (of_so_far.from_node (statement ExprStmt) r).walk
-no_evaluation heading.Block f r = braced_evaluation f (of_so_far.from_node (statement ExprStmt) r).walk
-no_evaluation (heading.Var declare_word.Var) f r = keyed_evaluation 118 (codes "ar") (record { no_less = refl; no_slash = λ s. none_ahead RegExpLiteral Operand 118 s refl refl refl; no_head = refl }) f r
-no_evaluation (heading.Var declare_word.Let) f r = keyed_evaluation 108 (codes "et") (record { no_less = refl; no_slash = λ s. none_ahead RegExpLiteral Operand 108 s refl refl refl; no_head = refl }) f r
-no_evaluation (heading.Var declare_word.Const) f r = keyed_evaluation 99 (codes "onst") (record { no_less = refl; no_slash = λ s. none_ahead RegExpLiteral Operand 99 s refl refl refl; no_head = refl }) f r
-no_evaluation heading.If f r = keyed_evaluation 105 (codes "f") (record { no_less = refl; no_slash = λ s. none_ahead RegExpLiteral Operand 105 s refl refl refl; no_head = refl }) f r
-no_evaluation heading.Do f r = keyed_evaluation 100 (codes "o") (record { no_less = refl; no_slash = λ s. none_ahead RegExpLiteral Operand 100 s refl refl refl; no_head = refl }) f r
-no_evaluation heading.While f r = keyed_evaluation 119 (codes "hile") (record { no_less = refl; no_slash = λ s. none_ahead RegExpLiteral Operand 119 s refl refl refl; no_head = refl }) f r
-no_evaluation heading.Continue f r = keyed_evaluation 99 (codes "ontinue") (record { no_less = refl; no_slash = λ s. none_ahead RegExpLiteral Operand 99 s refl refl refl; no_head = refl }) f r
-no_evaluation heading.Break f r = keyed_evaluation 98 (codes "reak") (record { no_less = refl; no_slash = λ s. none_ahead RegExpLiteral Operand 98 s refl refl refl; no_head = refl }) f r
-no_evaluation heading.Throw f r = keyed_evaluation 116 (codes "hrow") (record { no_less = refl; no_slash = λ s. none_ahead RegExpLiteral Operand 116 s refl refl refl; no_head = refl }) f r
-no_evaluation heading.Debugger f r = keyed_evaluation 100 (codes "ebugger") (record { no_less = refl; no_slash = λ s. none_ahead RegExpLiteral Operand 100 s refl refl refl; no_head = refl }) f r
+no_evaluation h f r =
+    or_cases (is_mark h) (keyed_word (heading_sign h)) (of_heading (λ j. is_mark j || keyed_word (heading_sign j)) refl h)
+    (λ m. marked_evaluation h m f r)
+    (λ k. worded_evaluation (keyed (heading_sign h) k) f r)
 
 -- ---- which kind stands there
 

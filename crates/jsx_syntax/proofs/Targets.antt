@@ -1,8 +1,8 @@
 -- What may be assigned to, of what is read at the level of calls and members.
-use Rattle.std.proofs.Common.{◌≡◌, ℕ, Bool, true, false, not, refl, sym, ◌∙◌, ap, subst}
+use Rattle.std.proofs.Common.{◌≡◌, Bool, true, false, refl, sym, ◌∙◌, ap}
 use Rattle.jsx_base.specs.Token.{Text, IdentifierName}
-use Rattle.jsx_tree.specs.Kinds.{Kind, Tree, leaf, node, list, Forest}
-use Rattle.jsx_tree.specs.Nonterminals.{Nonterminal, Expr, SimpleTarget, homes, in_homes, leaf_in}
+use Rattle.jsx_tree.specs.Kinds.{Kind, Tree, leaf}
+use Rattle.jsx_tree.specs.Nonterminals.{Expr, SimpleTarget, homes, in_homes, leaf_in}
 use Rattle.jsx_tree.specs.Grammar.{Part}
 use Rattle.jsx_tree.specs.Form.{is_leaf}
 use Rattle.jsx_tree.specs.Reading.{Place, Lost, At}
@@ -10,14 +10,13 @@ use Rattle.jsx_tree.specs.StaticRules.{Surroundings}
 use Rattle.jsx_tree.specs.Walk.{Given, one, Past, tree}
 use Rattle.jsx_tree.specs.Language.{Whole}
 use Rattle.jsx_tree.specs.Answers.{Only, Barred}
-use Rattle.jsx_token.specs.Stage.{value_leaf}
 use Rattle.jsx_syntax.specs.SoFar.{Staged, so_far}
 use Rattle.jsx_token.specs.Marks.{ends_so_far}
 use Rattle.jsx_tree.proofs.Tokens.{and_left}
 use Rattle.jsx_tree.proofs.Apart.{clash}
 use Rattle.jsx_tree.proofs.Rows.Turns.{whole_of}
 use Rattle.jsx_syntax.specs.Climbing.{is_target_kind, is_target}
-use Rattle.jsx_token.proofs.Listed.{Listed, kinds, every, of_each, implies, implied, agree, agreed}
+use Rattle.jsx_token.proofs.Listed.{kinds, every, of_each, implies, implied, agree, agreed}
 use Rattle.jsx_syntax.proofs.Homes.{Literal, IsName, IsNumber, IsLong, IsString, IsPattern, token_kind, Value, literal, made, value}
 use Rattle.jsx_syntax.proofs.Values.{literal_level, node_to, leaf_to}
 use Rattle.jsx_syntax.proofs.Climbing.{node_home}

@@ -17,3 +17,6 @@ forest_more f (b ∷ as') a = ap (part (f b)) (forest_more f as' a)
 
 pub pushed : {A : Type 0} (f : A → Tree) (as' bs : List A) (a : A) → bs ≡ as' ++ a ∷ [] → forest (map f bs) ≡ both (forest (map f as')) (part (f a) none)
 pushed f as' bs a is = ap (λ cs. forest (map f cs)) is ∙ forest_more f as' a
+
+pub pushed_as : {A : Type 0} (f : A → Tree) (as' bs : List A) (a : A) {t : Tree} → f a ≡ t → bs ≡ as' ++ a ∷ [] → forest (map f bs) ≡ both (forest (map f as')) (part t none)
+pushed_as f as' bs a e is = pushed f as' bs a is ∙ ap (λ t. both (forest (map f as')) (part t none)) e

@@ -4,7 +4,7 @@ use Rattle.std.proofs.lemmas.Bool.{eqb-true, eq-eqb}
 use Rattle.std.specs.Prelude.{IsTrue, codes, Option, Some, None, ◌&&◌, ◌||◌}
 use Rattle.jsx_base.specs.Token.{Text, Mode, Operand, Operator, kind_number, TokenKind, NoToken, IdentifierName, Punctuator, NumericLiteral, BigIntLiteral, StringLiteral, RegExpLiteral, Lexeme, is_kind, is_token, among, no_token, breaks, skip, first_is, at_front, token, same}
 use Rattle.jsx_tree.specs.Signs.{Ending, AfterExpr, Sign, Tok, Unless}
-use Rattle.jsx_tree.specs.Kinds.{Declarator, Seq, statement, expression, Kind, Tree, leaf, node, list, Forest, part}
+use Rattle.jsx_tree.specs.Kinds.{Seq, expression, Kind, Tree, leaf, node, list, Forest, part}
 use Rattle.jsx_tree.specs.Nonterminals.{Nonterminal, Expr, DotObject, Argument, Name, homes, in_homes, literal_homes, leaf_in, is_value_word}
 use Rattle.jsx_tree.specs.Grammar.{ListShape, TwoOrMore, Context, Part, Fixed, heads}
 use Rattle.jsx_tree.specs.Form.{admits, enough, is_leaf}
@@ -12,17 +12,18 @@ use Rattle.jsx_tree.specs.Spelling.{mode_of}
 use Rattle.jsx_tree.specs.Reading.{Place, Lost, At, forth}
 use Rattle.jsx_tree.specs.StaticRules.{Surroundings}
 use Rattle.jsx_token.specs.Stage.{leaf_at, value_leaf}
-use Rattle.jsx_tree.specs.Walk.{is_found, is_text, Given, Items, nil, last, more, Past, one, sign, tree, many, Relation, Piece, piece, tail, Walk, next, around}
+use Rattle.jsx_tree.specs.Walk.{is_found, is_text, Given, Items, nil, last, more, Past, one, sign, many, Relation, Piece, piece, tail, Walk, next, around}
 use Rattle.jsx_tree.specs.Language.{Whole}
-use Rattle.jsx_tree.specs.Answers.{Stuck, Only, Barred}
+use Rattle.jsx_tree.specs.Answers.{Stuck, Only}
 use Rattle.jsx_tree.specs.Grows.{is_operand, Onward, starts, stay, step}
 use Rattle.jsx_syntax.specs.SoFar.{Staged, is_number, so_far}
-use Rattle.jsx_token.specs.Marks.{ends_so_far, row_so_far}
+use Rattle.jsx_token.specs.Marks.{row_so_far}
 use Rattle.jsx_tree.proofs.Tokens.{and_left, and_right, and_both, one_text, same_is}
 use Rattle.jsx_tree.proofs.Apart.{by_not, clash, one_token, less_or_other, less_first, less_other, found_token}
 use Rattle.jsx_base.proofs.Fronts.{none_ahead, other_ahead}
 use Rattle.jsx_tree.proofs.Signs.{not_first}
 use Rattle.jsx_tree.proofs.Rows.Bridge.{found_at}
+use Rattle.jsx_tree.proofs.Rows.Closers.{any_operand}
 use Rattle.jsx_tree.proofs.Rows.Stopping.{is_not, or_cases}
 use Rattle.jsx_tree.proofs.Rows.Turns.{whole_of}
 use Rattle.jsx_tree.proofs.Rows.Spines.{grows, grown, spine}
@@ -33,7 +34,8 @@ use Rattle.jsx_syntax.specs.Climbing.{Begins}
 use Rattle.jsx_token.proofs.Listed.{Listed, kinds, every, of_each, of_level}
 use Rattle.jsx_token.specs.Headings.{heading_kind}
 use Rattle.jsx_token.proofs.Headings.{of_heading}
-use Rattle.jsx_syntax.proofs.Homes.{Literal, IsName, IsNumber, IsLong, IsString, IsPattern, token_kind, Value, literal, made, value, AtWhole, single, several, at_whole, Taken, module', headed, bound, evaluation, sequence, operand, staged_leaf, taken_by, home_of, no_list, no_operand, names}
+use Rattle.jsx_syntax.proofs.Inners.{inner_kind, of_inner}
+use Rattle.jsx_syntax.proofs.Homes.{Literal, IsName, IsNumber, IsLong, IsString, IsPattern, token_kind, Value, literal, made, value, AtWhole, single, several, at_whole, Taken, module', headed, inner, evaluation, sequence, operand, staged_leaf, taken_by, home_of, no_list, no_operand, names, spread}
 use Rattle.jsx_token.proofs.Lives.{is_single}
 use Rattle.jsx_token.proofs.Levels.{signed}
 
@@ -204,7 +206,7 @@ pub led_sign : {R : Relation} {V : List Context → Surroundings} (ps : List Pie
 led_sign (piece [] (Fixed s) ∷ ps) h (next (sign e f) w) = found_at e f
 led_sign _ h w = cc
 
-abbrev is_opening : Sign → Bool
+abbrev pub is_opening : Sign → Bool
 is_opening (Tok Operand Punctuator (c ∷ [])) = nat_eq c 60
 is_opening (Tok Operator Punctuator (d ∷ t)) = not (is_slash (d ∷ t)) && (not (nat_eq d 60) && not (among (d ∷ t) heads))
 is_opening (Tok Operator IdentifierName (d ∷ t)) = not (is_slash (d ∷ t)) && (not (nat_eq d 60) && (not (among (d ∷ t) heads) && not (is_value_word (d ∷ t))))
@@ -236,7 +238,7 @@ word_other t IsLong u n h = refl
 word_other t IsString u n h = refl
 word_other t IsPattern u n h = refl
 
-opener : (s : Sign) → is_opening s ≡ true → Opener s
+pub opener : (s : Sign) → is_opening s ≡ true → Opener s
 opener (Tok Operand Punctuator (c ∷ [])) h = subst (λ d. Opener (Tok Operand Punctuator (d ∷ []))) (sym (eqb-true c 60 h)) angle
 opener (Tok Operator Punctuator (d ∷ t)) h =
     let g = and_right (not (is_slash (d ∷ t))) _ h in
@@ -318,9 +320,10 @@ begins_single (Some c) = is_single c
 single_start : (d : Nonterminal) {k : Kind} (ts : Forest) → is_operand d ≡ true → Taken k → admits d (node k ts) ≡ true → begins_single (starts (row_so_far k)) ≡ true
 single_start d ts o module' h = refl
 single_start d ts o (headed g) h = of_heading (λ j. begins_single (starts (row_so_far (heading_kind j)))) refl g
-single_start d ts o bound h = absurd (no_operand d (statement Declarator) ts o refl h)
+single_start d ts o (inner i) h = absurd (no_operand d (inner_kind i) ts o (is_not _ (of_inner (λ j. not (any_operand (homes (inner_kind j)))) refl i)) h)
 single_start d ts o evaluation h = refl
 single_start d ts o sequence h = refl
+single_start d ts o spread h = refl
 single_start d ts o (operand {k} l) h = of_each (λ j. begins_single (starts (row_so_far j))) refl k l
 
 -- so what stands first where no sequence does is none
@@ -342,7 +345,7 @@ pub record Seat (c : Nonterminal) : Type 0 where
   pub long : (t : Text) → leaf_in c BigIntLiteral t ≡ true
   pub string : (t : Text) → leaf_in c StringLiteral t ≡ true
   pub pattern : (t : Text) → leaf_in c RegExpLiteral t ≡ true
-  pub at : (k : TokenKind) (t : Text) → leaf_at c k t ≡ value_leaf true k t
+  pub at : (l : Literal) (t : Text) → value_leaf true (token_kind l) t ≡ true → leaf_at c (token_kind l) t ≡ true
   pub node : (k : Kind) (ts : Forest) → Listed k → admits c (node k ts) ≡ true
 
 pub or_left : (a b : Bool) → a ≡ true → (a || b) ≡ true
@@ -354,13 +357,13 @@ or_right false b h = h
 
 -- where every expression of the language so far may stand
 pub at_any : Seat (Expr 0)
-at_any = record { word = λ t h. h; number = λ t. refl; long = λ t. refl; string = λ t. refl; pattern = λ t. refl; at = λ k t. refl; node = λ k ts l. of_each (λ j. in_homes (Expr 0) (homes j)) refl k l }
+at_any = record { word = λ t h. h; number = λ t. refl; long = λ t. refl; string = λ t. refl; pattern = λ t. refl; at = λ l t h. h; node = λ k ts l. of_each (λ j. in_homes (Expr 0) (homes j)) refl k l }
 
 pub at_one : Seat (Expr 1)
-at_one = record { word = λ t h. h; number = λ t. refl; long = λ t. refl; string = λ t. refl; pattern = λ t. refl; at = λ k t. refl; node = λ k ts l. of_each (λ j. in_homes (Expr 1) (homes j)) refl k l }
+at_one = record { word = λ t h. h; number = λ t. refl; long = λ t. refl; string = λ t. refl; pattern = λ t. refl; at = λ l t h. h; node = λ k ts l. of_each (λ j. in_homes (Expr 1) (homes j)) refl k l }
 
 pub at_argument : Seat Argument
-at_argument = record { word = λ t h. h; number = λ t. refl; long = λ t. refl; string = λ t. refl; pattern = λ t. refl; at = λ k t. refl; node = λ k ts l. of_each (λ j. in_homes Argument (homes j)) refl k l }
+at_argument = record { word = λ t h. h; number = λ t. refl; long = λ t. refl; string = λ t. refl; pattern = λ t. refl; at = λ l t h. h; node = λ k ts l. of_each (λ j. in_homes Argument (homes j)) refl k l }
 
 literal_in : {c : Nonterminal} (l : Literal) (t : Text) → Seat c → value_leaf true (token_kind l) t ≡ true → leaf_in c (token_kind l) t ≡ true
 literal_in IsName t s h = s.word t h
@@ -378,7 +381,7 @@ pub leaf_to : {v : Surroundings} {c : Nonterminal} {x y : Place} {t : Text} (d :
 leaf_to d l i a r = record { reads = record { is = and_both _ _ i (whole_of_leaf l r); is_legal = refl; scans = r.reads.scans; found = r.reads.found }; staged = a }
 
 pub move : {v : Surroundings} {c d : Nonterminal} {x y : Place} {t : Tree} → Seat c → Value t → Staged v false d x t y → Staged v false c x t y
-move {c = c} s (literal l {t} h) r = leaf_to c l (literal_in l t s h) (s.at (token_kind l) t ∙ h) r
+move {c = c} s (literal l {t} h) r = leaf_to c l (literal_in l t s h) (s.at l t h) r
 move {c = c} s (made {k} {ts} l) r = node_to c (s.node k ts l) r
 
 pub no_dot : {v : Surroundings} {x y : Place} (t : Tree) → is_number t ≡ true → Staged v false DotObject x t y → ⊥
@@ -455,33 +458,6 @@ name_ended {t = t} o = name_settled t (whole_of o.past).reads
 -- behind a bracket
 pub sign_ended : {v : Surroundings} {m : _} {k : TokenKind} {c : ℕ} {t : Text} {x y : Place} {g : Given} → Past (Whole so_far) v (Fixed (Tok m k (c ∷ t))) x g y → settled y ≡ true
 sign_ended {m = m} {k} {c} {t} {x} (sign e f) = settled_token m k (c ∷ t) x refl e f
-
--- ---- at other places where an expression stands
-
-pub same_ends : (y : Place) → ends_so_far Argument y ≡ ends_so_far (Expr 1) y
-same_ends Lost = refl
-same_ends (At q e text) = refl
-
-seat_only : {v : Surroundings} {c d : Nonterminal} {x y : Place} {t : Tree} → Seat c → Seat d → is_single c ≡ true → is_single d ≡ true → ((z : Place) → ends_so_far d z ≡ ends_so_far c z) → Only so_far v (Part c) x (one t) y → Only so_far v (Part d) x (one t) y
-seat_only {v} {c} {d} {x} {y} {t} sc sd oc od e o = record { past = tree (to (whole_of o.past)); alone = at }
-  where
-    to : {u : Tree} {z : Place} → Whole so_far v false c x u z → Whole so_far v false d x u z
-    to {u} {z} w = record { reads = move sd (value u oc w.reads) w.reads; ends_there = e z ∙ w.ends_there }
-
-    at : (h : Given) (z : Place) → Past (Whole so_far) v (Part d) x h z → (one t ≡ h) × (y ≡ z)
-    at h z (tree {t = u} w) = o.alone h z (tree (record { reads = move sc (value u od w.reads) w.reads; ends_there = sym (e z) ∙ w.ends_there }))
-
-seat_barred : {v : Surroundings} {c d : Nonterminal} {x : Place} → Seat c → is_single d ≡ true → ((z : Place) → ends_so_far d z ≡ ends_so_far c z) → Barred so_far v (Part c) x → Barred so_far v (Part d) x
-seat_barred {v} {c} {d} {x} sc od e b = record { no = at }
-  where
-    at : (h : Given) (z : Place) → Past (Whole so_far) v (Part d) x h z → ⊥
-    at h z (tree {t = u} w) = b.no h z (tree (record { reads = move sc (value u od w.reads) w.reads; ends_there = sym (e z) ∙ w.ends_there }))
-
-pub only_argument : {v : Surroundings} {x y : Place} {t : Tree} → Only so_far v (Part (Expr 1)) x (one t) y → Only so_far v (Part Argument) x (one t) y
-only_argument o = seat_only at_one at_argument refl refl same_ends o
-
-pub barred_argument : {v : Surroundings} {x : Place} → Barred so_far v (Part (Expr 1)) x → Barred so_far v (Part Argument) x
-barred_argument b = seat_barred at_one refl same_ends b
 
 -- ---- no expression begins as another statement does
 

@@ -16,7 +16,7 @@ use Rattle.jsx_tree.specs.Spelling.{gathered, walk, saids, each_said, spelled}
 use Rattle.jsx_tree.specs.Reading.{scan}
 use Rattle.jsx_tree.specs.View.{view_expr}
 use Rattle.jsx_tree.specs.Told.{told_expr}
-use Rattle.jsx_tree.specs.Spans.{from_first, extent, is_text, start, list_starts, starts, placed, places, each_placed, within, Claim, spans, comes, Holds, Told, tells, Tales, IsTold, AreTold}
+use Rattle.jsx_tree.specs.Spans.{from_first, extent, is_text, start, list_starts, starts, placed, places, each_placed, within, Claim, spans, comes, Holds, Told, tells, Tales, tale, IsTold, AreTold}
 use Rattle.jsx_tree.specs.Walk.{is_found}
 use Rattle.jsx_token.specs.Here.{Here, place_of}
 use Rattle.jsx_make.specs.NodeSpans.{expr_at}
@@ -95,6 +95,10 @@ pub record IsPlacedRow (ps : Production) (ds : Tales) (ts : Forest) (x y : Here)
   pub same : y.end ≡ x.end
   pub leads : IsTrue (is_found (scan (place_of x) (walk ps (saids ts)))) → scan (place_of x) (walk ps (saids ts)) ≡ place_of y
   pub told : IsTrue (is_found (scan (place_of x) (walk ps (saids ts)))) → AreTold ds (places x.end (starts (place_of x) ps (saids ts)) ts)
+
+-- some symbols of a row and their one part, with whatever stands behind them
+pub record IsPlacedFront (ss : Production) (d : Told) (t : Tree) (x y : Here) : Type 0 where
+  pub on : (ps : Production) (ds : Tales) (ts : Forest) (z : Here) → IsPlacedRow ps ds ts y z → IsPlacedRow (ss ++ ps) (tale d ds) (part t ts) x z
 
 -- the same of a list, of arguments or of anything else
 pub record IsPlacedListAs (a : Bool) (s : ListShape) (ds : Tales) (ts : Forest) (x y : Here) : Type 0 where

@@ -62,6 +62,17 @@ pub struct Context<'a> {
 }
 
 impl<'a> Context<'a> {
+    /// The same in the cases of a `switch`.
+    pub fn of_switch(self) -> Context<'a>
+        ensures { around_of result.around ≡ record (around_of self.entry.around) { breakable = true } }
+    {
+        let around = Around {
+            breakable: true,
+            ..self.around
+        };
+        Context { around, ..self }
+    }
+
     /// The same in the body of a loop.
     pub fn of_loop(self) -> Context<'a>
         ensures { around_of result.around ≡ record (around_of self.entry.around) { loop = true; breakable = true } }

@@ -1,9 +1,9 @@
 //! Expressions.
 
 ghost use Rattle.std.specs.Prelude.{◌≡◌, ◌<◌, ◌≤◌, [], ◌∷◌, IfOk, OnOk, IsTrue, map, true};
-ghost use Rattle.jsx_tree.specs.Kinds.{Role, Assign, OpAssign, Unary, Binary, Cond, Call, Member, Index, ImportCall, Parenthesized, Element, expression, jsx, list, none, part, PrefixUpdate, PostfixUpdate};
+ghost use Rattle.jsx_tree.specs.Kinds.{Role, Assign, OpAssign, Unary, Binary, Cond, Call, Member, Index, ImportCall, Array, Spread, Parenthesized, Element, expression, jsx, list, none, part, PrefixUpdate, PostfixUpdate};
 ghost use Rattle.jsx_tree.specs.Nonterminals as grammar;
-ghost use Rattle.jsx_tree.specs.Grammar.{Commas, Many, Part, p};
+ghost use Rattle.jsx_tree.specs.Grammar.{Commas, Elisions, Many, Part, p};
 ghost use Rattle.jsx_tree.specs.View.{forest, inside, text_of, view_access, view_expr, view_operation, view_pattern};
 ghost use Rattle.jsx_tree.specs.ViewOperators.{assign_of, binary_of, unary_of, step_of};
 ghost use Rattle.jsx_tree.specs.StaticRules.{is_name};
@@ -17,6 +17,7 @@ ghost use Rattle.jsx_token.specs.Marks.{row_so_far};
 ghost use Rattle.jsx_token.specs.Here.{place_of, left, sign_of};
 ghost use Rattle.jsx_token.specs.declared.lexer.Fixed.TheVariants as fixed;
 ghost use Rattle.jsx_syntax.specs.Answers.{Refused};
+ghost use Rattle.jsx_syntax.specs.Elements.{OnlyItem, NoItem};
 ghost use Rattle.jsx_syntax.specs.Climbing as climbing;
 ghost use Rattle.jsx_syntax.specs.Climbing.{Begins, behind, NoneBegins};
 ghost use Rattle.jsx_token.specs.Growths.{NoOpening, growth_kind, is_level, mark, opening_kind, opening_sign, settled};
@@ -360,14 +361,89 @@ fn member<'s>(
     Ok(make::member(context.alloc, span, object, name)?)
 }
 
-/// An argument, which stands where its parentheses do, where it has some.
+/// A spread behind its `...`: `...a` (ECMA-262 sections 13.2.4 and 13.3.8).
+#[cycle(expression)]
+fn spread<'s>(context: Context, lexer: &mut Lexer<'s>) -> Result<Box<Expr<'s>>, ParseError>
+    ensures read { IfOk result (λ e. Built so_far (around_of context.entry.around) (tail (row_so_far (expression Spread))) (expression Spread) (λ ts. ts) (view_expr e.value) (place_of lexer.old) (place_of lexer.new)) }
+    ensures span { IfOk result (λ e. Spans (expr_at e.value) (begin_of lexer.old) (end_of lexer.new)) }
+    ensures placed { IfOk result (λ e. IsPlacedBehind (opening_sign (expression Spread)) lexer.old (told_expr e.value) (view_expr e.value) lexer.new) }
+    ensures shorter { OnOk result (left lexer.new < left lexer.old) }
+    ensures refused { Refused result (NoRow so_far (around_of context.entry.around) (tail (row_so_far (expression Spread))) (place_of lexer.old)) }
+{
+    let lo = lexer.last_place();
+    let inner = expression(context, lexer, ASSIGNMENT)?;
+    Ok(make::spread(context.alloc, span_to(lo, lexer), inner)?)
+}
+
+/// What stands in an array and is no hole: an expression, or a spread.
+#[cycle(expression)]
+fn array_item<'s>(context: Context, lexer: &mut Lexer<'s>) -> Result<Box<Expr<'s>>, ParseError>
+    ensures read { IfOk result (λ e. OnlyItem (around_of context.entry.around) grammar.ArrayItem (place_of lexer.old) (view_expr e.value) (place_of lexer.new)) }
+    ensures placed { IfOk result (λ e. IsPlaced (told_expr e.value) (view_expr e.value) lexer.old lexer.new) }
+    ensures shorter { OnOk result (left lexer.new < left lexer.old) }
+    ensures refused { Refused result (NoItem (around_of context.entry.around) grammar.ArrayItem (place_of lexer.old)) }
+{
+    if lexer.take(Fixed::Dots) {
+        return Ok(spread(context, lexer)?);
+    }
+    Ok(expression(context, lexer, ASSIGNMENT)?)
+}
+
+/// What stands in an array behind its `[`, with the `]`: `a, , ...b]`.
+#[cycle(expression)]
+fn array_items<'s>(
+    context: Context,
+    lexer: &mut Lexer<'s>,
+) -> Result<Vec<Box<Expr<'s>>>, ParseError>
+    ensures read { IfOk result (λ v. OnlyRow so_far (around_of context.entry.around) (tail (row_so_far (expression Array))) (place_of lexer.old) (part (list (forest (map (inside view_expr) v.items))) none) (place_of lexer.new)) }
+    ensures placed { IfOk result (λ v. IsPlacedRow (Many Elisions grammar.ArrayItem ∷ p "]" ∷ []) (tale (told_list (map (inside told_expr) v.items)) no_tales) (part (list (forest (map (inside view_expr) v.items))) none) lexer.old lexer.new) }
+    ensures shorter { OnOk result (left lexer.new < left lexer.old) }
+    ensures ended { OnOk result (IsTrue (settled (place_of lexer.new))) }
+    ensures refused { Refused result (NoRow so_far (around_of context.entry.around) (tail (row_so_far (expression Array))) (place_of lexer.old)) }
+{
+    let mut all = Vec::new(context.alloc);
+    'items: while !lexer.take(Fixed::CloseBracket) {
+        if lexer.take(Fixed::Comma) {
+            let hole = make::hole(context.alloc)?;
+            all.push(hole)?;
+        } else {
+            let item = array_item(context, lexer)?;
+            all.push(item)?;
+            if !lexer.take(Fixed::Comma) {
+                expect(context, lexer, Fixed::CloseBracket)?;
+                return Ok(all);
+            }
+        }
+    }
+    Ok(all)
+}
+
+/// An array behind its `[`: `[a, , ...b]` (ECMA-262 section 13.2.4).
+#[cycle(expression)]
+fn array<'s>(context: Context, lexer: &mut Lexer<'s>) -> Result<Box<Expr<'s>>, ParseError>
+    ensures read { IfOk result (λ e. Built so_far (around_of context.entry.around) (tail (row_so_far (expression Array))) (expression Array) (λ ts. ts) (view_expr e.value) (place_of lexer.old) (place_of lexer.new)) }
+    ensures span { IfOk result (λ e. Spans (expr_at e.value) (begin_of lexer.old) (end_of lexer.new)) }
+    ensures placed { IfOk result (λ e. IsPlacedBehind (opening_sign (expression Array)) lexer.old (told_expr e.value) (view_expr e.value) lexer.new) }
+    ensures shorter { OnOk result (left lexer.new < left lexer.old) }
+    ensures ended { OnOk result (IsTrue (settled (place_of lexer.new))) }
+    ensures refused { Refused result (NoRow so_far (around_of context.entry.around) (tail (row_so_far (expression Array))) (place_of lexer.old)) }
+{
+    let lo = lexer.last_place();
+    let all = array_items(context, lexer)?;
+    Ok(make::array(context.alloc, span_to(lo, lexer), all)?)
+}
+
+/// An argument: a spread, or an expression, which stands where its parentheses do, where it has some.
 #[cycle(expression)]
 fn argument<'s>(context: Context, lexer: &mut Lexer<'s>) -> Result<Box<Expr<'s>>, ParseError>
-    ensures read { IfOk result (λ e. Only so_far (around_of context.entry.around) (Part (grammar.Expr 1)) (place_of lexer.old) (one (view_expr e.value)) (place_of lexer.new)) }
+    ensures read { IfOk result (λ e. Only so_far (around_of context.entry.around) (Part grammar.Argument) (place_of lexer.old) (one (view_expr e.value)) (place_of lexer.new)) }
     ensures placed { IfOk result (λ e. IsPlacedAs true (told_expr e.value) (view_expr e.value) lexer.old lexer.new) }
     ensures shorter { OnOk result (left lexer.new < left lexer.old) }
-    ensures refused { Refused result (Barred so_far (around_of context.entry.around) (Part (grammar.Expr 1)) (place_of lexer.old)) }
+    ensures refused { Refused result (Barred so_far (around_of context.entry.around) (Part grammar.Argument) (place_of lexer.old)) }
 {
+    if lexer.take(Fixed::Dots) {
+        return Ok(spread(context, lexer)?);
+    }
     let mut argument = expression(context, lexer, ASSIGNMENT)?;
     place_argument(&mut argument);
     Ok(argument)
@@ -669,6 +745,7 @@ fn open<'s>(
     match opening {
         Opening::ImportCall => Ok(import_call(context, lexer)?),
         Opening::Paren => Ok(parenthesized(context, lexer)?),
+        Opening::Array => Ok(array(context, lexer)?),
         Opening::Unary(operator) => Ok(unary(context, lexer, operator)?),
         Opening::Update(operator) => Ok(prefix_update(context, lexer, operator)?),
     }

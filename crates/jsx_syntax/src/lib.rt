@@ -5,7 +5,9 @@ mod argument;
 mod around;
 mod error;
 mod expression;
+mod for_head;
 mod module;
+mod open_in;
 mod parser;
 mod statement;
 

@@ -1,14 +1,14 @@
 //! Statements.
 
-ghost use Rattle.std.specs.Prelude.{◌≡◌, ◌<◌, ◌≤◌, [], ◌∷◌, IfOk, OnOk, IsTrue, map};
-ghost use Rattle.jsx_tree.specs.Kinds.{Block, Var, Empty, ExprStmt, If, Do, While, Continue, Break, Throw, Debugger, statement, list, none, part};
+ghost use Rattle.std.specs.Prelude.{◌≡◌, ◌<◌, ◌≤◌, [], ◌∷◌, ◌&&◌, ◌||◌, IfOk, OnOk, IsTrue, IsFalse, map};
+ghost use Rattle.jsx_tree.specs.Kinds.{Block, Var, Empty, ExprStmt, If, Do, While, For, Switch, Continue, Break, Throw, Debugger, statement, list, none, part};
 ghost use Rattle.jsx_tree.specs.Nonterminals as grammar;
-ghost use Rattle.jsx_tree.specs.Grammar.{Many, NoTrailing, Part, semi};
-ghost use Rattle.jsx_tree.specs.StaticRules.{all_of, has_init};
+ghost use Rattle.jsx_tree.specs.Grammar.{Lines, NoTrailing, Part, key};
+ghost use Rattle.jsx_tree.specs.StaticRules.{all_of, at_most, has_init, is_default};
 ghost use Rattle.jsx_token.specs.Stage.{is_string};
-ghost use Rattle.jsx_tree.specs.View.{forest, inside, optional_of, view_expr, view_pat, view_stmt, word_of};
+ghost use Rattle.jsx_tree.specs.View.{forest, inside, optional_of, view_control, view_expr, view_pat, view_stmt, word_of};
 ghost use Rattle.jsx_tree.specs.Spans.{no_tales, tale};
-ghost use Rattle.jsx_tree.specs.Told.{told_list, told_optional, told_pat, told_stmt};
+ghost use Rattle.jsx_tree.specs.Told.{tales, told_control, told_list, told_optional, told_pat, told_stmt};
 ghost use Rattle.jsx_tree.specs.Walk.{one, tail};
 ghost use Rattle.jsx_tree.specs.Answers.{Only, Barred, OnlyRow, NoRow, NoNode, BuiltNode};
 ghost use Rattle.jsx_syntax.specs.Around.{around_of};
@@ -18,19 +18,22 @@ ghost use Rattle.jsx_token.specs.Here.{place_of, left};
 ghost use Rattle.jsx_token.specs.Growths.{opening_sign};
 ghost use Rattle.jsx_syntax.specs.Statements.{Closes, alternative_row, alternative_symbols, block_symbols, has_value};
 ghost use Rattle.jsx_token.specs.Headings.{heading_kind, heading_sign};
+ghost use Rattle.jsx_syntax.specs.Heads.{Declares, NotDeclared};
+ghost use Rattle.jsx_syntax.specs.Cases.{IsBody, IsCase, IsDefault, NoCase, NoCases, body_row, cases_row, cases_symbols, default_row};
 ghost use Rattle.jsx_syntax.specs.Answers.{Refused};
 ghost use Rattle.jsx_token.specs.Semicolons.{in_list};
 ghost use Rattle.jsx_make.specs.NodeSpans.{pat_at, stmt_at};
-ghost use Rattle.jsx_syntax.specs.Spans.{IsPlaced, IsPlacedBehind, IsPlacedRow, Spans};
+ghost use Rattle.jsx_syntax.specs.Spans.{IsPlaced, IsPlacedBehind, IsPlacedList, IsPlacedRow, Spans};
 ghost use Rattle.jsx_token.specs.Places.{begin_of, end_of, next_of};
 
 use crate::around::Context;
 use crate::error::ParseError;
 use crate::expression::{ASSIGNMENT, expression, sequence, start_of};
+use crate::for_head::{clause, initial};
 use crate::parser::{binding_identifier, expect, give_up, semicolon, span_to};
 use jsx_make::make;
 use jsx_token::{Ending, Fixed, Heading, Lexer, Word};
-use jsx_tree::{DeclareWord, Expr, LiteralKind, Pat, Stmt};
+use jsx_tree::{Control, DeclareWord, Expr, LiteralKind, Pat, Stmt};
 
 /// A variable, with an initializer or without: `a = b`.
 fn declarator<'s>(context: Context, lexer: &mut Lexer<'s>) -> Result<Box<Pat<'s>>, ParseError>
@@ -62,17 +65,17 @@ fn is_initialized(word: DeclareWord, declarator: &Pat) -> bool
     }
 }
 
-/// One declarator or more behind the word, with commas between, and the semicolon: `a = b, c = d;`.
-fn declarators<'s>(
+/// One declarator or more behind the word, with commas between: `a = b, c = d`.
+pub fn declarators<'s>(
     context: Context,
     lexer: &mut Lexer<'s>,
     word: DeclareWord,
 ) -> Result<Vec<Box<Pat<'s>>>, ParseError>
-    ensures read { IfOk result (λ v. OnlyRow so_far (around_of context.entry.around) (tail (row_so_far (statement (Var (word_of word))))) (place_of lexer.old) (part (list (forest (map (inside view_pat) v.items))) none) (place_of lexer.new)) }
+    ensures read { IfOk result (λ v. Declares (around_of context.entry.around) (place_of lexer.old) (list (forest (map (inside view_pat) v.items))) (place_of lexer.new)) }
     ensures initialized { IfOk result (λ v. IsTrue (all_of (has_init (word_of word)) (forest (map (inside view_pat) v.items)))) }
-    ensures placed { IfOk result (λ v. IsPlacedRow (Many NoTrailing grammar.Declarators ∷ semi ∷ []) (tale (told_list (map (inside told_pat) v.items)) no_tales) (part (list (forest (map (inside view_pat) v.items))) none) lexer.old lexer.new) }
+    ensures placed { IfOk result (λ v. IsPlacedList NoTrailing (tales (map (inside told_pat) v.items)) (forest (map (inside view_pat) v.items)) lexer.old lexer.new) }
     ensures shorter { OnOk result (left lexer.new < left lexer.old) }
-    ensures refused { Refused result (NoNode so_far (around_of context.entry.around) (tail (row_so_far (statement (Var (word_of word))))) (statement (Var (word_of word))) (place_of lexer.old)) }
+    ensures refused { Refused result (NotDeclared (around_of context.entry.around) (word_of word) (place_of lexer.old)) }
 {
     let mut all = Vec::with_capacity(context.alloc, 1)?;
     'declarators: loop {
@@ -82,7 +85,6 @@ fn declarators<'s>(
         }
         all.push(next)?;
         if !lexer.take(Fixed::Comma) {
-            semicolon(context, lexer)?;
             return Ok(all);
         }
     }
@@ -102,6 +104,7 @@ fn declaration<'s>(
 {
     let lo = lexer.last_place();
     let all = declarators(context, lexer, word)?;
+    semicolon(context, lexer)?;
     Ok(make::variables(context.alloc, span_to(lo, lexer), word, all)?)
 }
 
@@ -322,6 +325,140 @@ fn while_statement<'s>(context: Context, lexer: &mut Lexer<'s>) -> Result<Box<St
     Ok(make::while_statement(context.alloc, span, test, body)?)
 }
 
+/// A loop behind its word: `for (let a = 1; a < b; a += 1) c;` (ECMA-262 section 14.7.4).
+#[cycle(statement)]
+fn for_statement<'s>(context: Context, lexer: &mut Lexer<'s>) -> Result<Box<Stmt<'s>>, ParseError>
+    ensures read { IfOk result (λ s. BuiltNode so_far (around_of context.entry.around) (tail (row_so_far (statement For))) (statement For) (view_stmt s.value) (place_of lexer.old) (place_of lexer.new)) }
+    ensures span { IfOk result (λ s. Spans (stmt_at s.value) (begin_of lexer.old) (end_of lexer.new)) }
+    ensures placed { IfOk result (λ s. IsPlacedBehind (opening_sign (statement For)) lexer.old (told_stmt s.value) (view_stmt s.value) lexer.new) }
+    ensures within { OnOk result (left lexer.new ≤ left lexer.old) }
+    ensures refused { Refused result (NoNode so_far (around_of context.entry.around) (tail (row_so_far (statement For))) (statement For) (place_of lexer.old)) }
+{
+    let lo = lexer.last_place();
+    expect(context, lexer, Fixed::Open)?;
+    let init = initial(context, lexer)?;
+    let test = clause(context, lexer, Fixed::Semicolon)?;
+    let update = clause(context, lexer, Fixed::Close)?;
+    let body = nested(context.of_loop(), lexer)?;
+    let span = span_to(lo, lexer);
+    Ok(make::for_statement(context.alloc, span, init, test, update, body)?)
+}
+
+/// The statements of a case, as far as the next case or the `}`: `a; b;`.
+#[cycle(statement)]
+fn case_body<'s>(context: Context, lexer: &mut Lexer<'s>) -> Result<Vec<Box<Stmt<'s>>>, ParseError>
+    ensures read { IfOk result (λ v. IsBody (around_of context.entry.around) (place_of lexer.old) (list (forest (map (inside view_stmt) v.items))) (place_of lexer.new)) }
+    ensures placed { IfOk result (λ v. IsPlacedList Lines (tales (map (inside told_stmt) v.items)) (forest (map (inside view_stmt) v.items)) lexer.old lexer.new) }
+    ensures within { OnOk result (left lexer.new ≤ left lexer.old) }
+    ensures refused { Refused result (NoRow so_far (around_of context.entry.around) body_row (place_of lexer.old)) }
+{
+    let mut all = Vec::new(context.alloc);
+    'statements: while !lexer.ends_case() {
+        let next = statement(context, lexer)?;
+        all.push(next)?;
+    }
+    Ok(all)
+}
+
+/// A case behind its `default`: `default: a;`.
+#[cycle(statement)]
+fn default_clause<'s>(
+    context: Context,
+    lexer: &mut Lexer<'s>,
+) -> Result<Box<Control<'s>>, ParseError>
+    ensures read { IfOk result (λ s. IsDefault (around_of context.entry.around) (place_of lexer.old) (view_control s.value) (place_of lexer.new)) }
+    ensures placed { IfOk result (λ s. IsPlacedBehind (key "default") lexer.old (told_control s.value) (view_control s.value) lexer.new) }
+    ensures shorter { OnOk result (left lexer.new < left lexer.old) }
+    ensures refused { Refused result (NoRow so_far (around_of context.entry.around) default_row (place_of lexer.old)) }
+{
+    let lo = lexer.last_place();
+    expect(context, lexer, Fixed::Colon)?;
+    let body = case_body(context, lexer)?;
+    let span = span_to(lo, lexer);
+    Ok(make::case_clause(context.alloc, span, None, body)?)
+}
+
+/// A case of a `switch`: `case a: b;`, or `default: b;`.
+#[cycle(statement)]
+fn case_clause<'s>(context: Context, lexer: &mut Lexer<'s>) -> Result<Box<Control<'s>>, ParseError>
+    ensures read { IfOk result (λ s. IsCase (around_of context.entry.around) (place_of lexer.old) (view_control s.value) (place_of lexer.new)) }
+    ensures placed { IfOk result (λ s. IsPlaced (told_control s.value) (view_control s.value) lexer.old lexer.new) }
+    ensures shorter { OnOk result (left lexer.new < left lexer.old) }
+    ensures refused { Refused result (NoCase (around_of context.entry.around) (place_of lexer.old)) }
+{
+    if lexer.take(Fixed::Word(Word::Default)) {
+        return Ok(default_clause(context, lexer)?);
+    }
+    expect(context, lexer, Fixed::Word(Word::Case))?;
+    let lo = lexer.last_place();
+    let test = sequence(context, lexer)?;
+    expect(context, lexer, Fixed::Colon)?;
+    let body = case_body(context, lexer)?;
+    let span = span_to(lo, lexer);
+    Ok(make::case_clause(context.alloc, span, Some(test), body)?)
+}
+
+fn is_default(clause: &Control) -> bool
+    ensures { result ≡ is_default (view_control clause.now) }
+{
+    matches!(clause, Control::Case(_, None, _))
+}
+
+/// Whether one of some cases is `default`, with a further one, of which two are refused.
+fn one_default(has_default: bool, clause: &Control, lexer: &Lexer) -> Result<bool, ParseError>
+    ensures has { IfOk result (λ b. b ≡ (has_default || is_default (view_control clause.now))) }
+    ensures one { OnOk result (IsFalse (has_default && is_default (view_control clause.now))) }
+    ensures refused { Refused result (IsTrue (has_default && is_default (view_control clause.now))) }
+{
+    let is_default = is_default(clause);
+    if is_default && has_default {
+        return Err(give_up(lexer));
+    }
+    Ok(has_default || is_default)
+}
+
+/// The cases of a `switch`, behind its `{` and with its `}`, of which one at most is `default`: `case a: b; default: c; }`.
+#[cycle(statement)]
+fn cases<'s>(context: Context, lexer: &mut Lexer<'s>) -> Result<Vec<Box<Control<'s>>>, ParseError>
+    ensures read { IfOk result (λ v. OnlyRow so_far (around_of context.entry.around) cases_row (place_of lexer.old) (part (list (forest (map (inside view_control) v.items))) none) (place_of lexer.new)) }
+    ensures one_default { IfOk result (λ v. IsTrue (at_most 1 is_default (forest (map (inside view_control) v.items)))) }
+    ensures placed { IfOk result (λ v. IsPlacedRow cases_symbols (tale (told_list (map (inside told_control) v.items)) no_tales) (part (list (forest (map (inside view_control) v.items))) none) lexer.old lexer.new) }
+    ensures within { OnOk result (left lexer.new ≤ left lexer.old) }
+    ensures refused { Refused result (NoCases (around_of context.entry.around) (place_of lexer.old)) }
+{
+    let mut all = Vec::new(context.alloc);
+    let mut has_default = false;
+    'cases: while !lexer.take(Fixed::CloseBrace) {
+        let next = case_clause(context, lexer)?;
+        has_default = one_default(has_default, &next, lexer)?;
+        all.push(next)?;
+    }
+    Ok(all)
+}
+
+/// A `switch` statement behind its word: `switch (a) { case b: c; default: d; }` (ECMA-262 section 14.12).
+#[cycle(statement)]
+fn switch_statement<'s>(
+    context: Context,
+    lexer: &mut Lexer<'s>,
+) -> Result<Box<Stmt<'s>>, ParseError>
+    ensures read { IfOk result (λ s. BuiltNode so_far (around_of context.entry.around) (tail (row_so_far (statement Switch))) (statement Switch) (view_stmt s.value) (place_of lexer.old) (place_of lexer.new)) }
+    ensures span { IfOk result (λ s. Spans (stmt_at s.value) (begin_of lexer.old) (end_of lexer.new)) }
+    ensures placed { IfOk result (λ s. IsPlacedBehind (opening_sign (statement Switch)) lexer.old (told_stmt s.value) (view_stmt s.value) lexer.new) }
+    ensures within { OnOk result (left lexer.new ≤ left lexer.old) }
+    ensures refused { Refused result (NoNode so_far (around_of context.entry.around) (tail (row_so_far (statement Switch))) (statement Switch) (place_of lexer.old)) }
+{
+    let lo = lexer.last_place();
+    expect(context, lexer, Fixed::Open)?;
+    let value = sequence(context, lexer)?;
+    expect(context, lexer, Fixed::Close)?;
+    let context = context.of_switch();
+    expect(context, lexer, Fixed::OpenBrace)?;
+    let all = cases(context, lexer)?;
+    let span = span_to(lo, lexer);
+    Ok(make::switch_statement(context.alloc, span, value, all)?)
+}
+
 /// A statement behind its first token.
 #[cycle(statement)]
 fn headed<'s>(
@@ -342,6 +479,8 @@ fn headed<'s>(
         Heading::If => Ok(if_statement(context, lexer)?),
         Heading::Do => Ok(do_statement(context, lexer)?),
         Heading::While => Ok(while_statement(context, lexer)?),
+        Heading::For => Ok(for_statement(context, lexer)?),
+        Heading::Switch => Ok(switch_statement(context, lexer)?),
         Heading::Continue => Ok(continue_statement(context, lexer)?),
         Heading::Break => Ok(break_statement(context, lexer)?),
         Heading::Throw => Ok(throw_statement(context, lexer)?),

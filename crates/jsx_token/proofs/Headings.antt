@@ -8,7 +8,7 @@ use Rattle.jsx_token.specs.declared.heading.Heading.{Heading}
 use Rattle.jsx_token.specs.declared.heading.Heading.TheVariants as heading
 
 abbrev pub headings : List Heading
-headings = heading.Empty ∷ heading.Block ∷ heading.Var declare_word.Var ∷ heading.Var declare_word.Let ∷ heading.Var declare_word.Const ∷ heading.If ∷ heading.Do ∷ heading.While ∷ heading.Continue ∷ heading.Break ∷ heading.Throw ∷ heading.Debugger ∷ []
+headings = heading.Empty ∷ heading.Block ∷ heading.Var declare_word.Var ∷ heading.Var declare_word.Let ∷ heading.Var declare_word.Const ∷ heading.If ∷ heading.Do ∷ heading.While ∷ heading.For ∷ heading.Switch ∷ heading.Continue ∷ heading.Break ∷ heading.Throw ∷ heading.Debugger ∷ []
 
 -- the place of each in the list
 abbrev pub number : Heading → ℕ
@@ -20,10 +20,12 @@ number (heading.Var declare_word.Const) = 4
 number heading.If = 5
 number heading.Do = 6
 number heading.While = 7
-number heading.Continue = 8
-number heading.Break = 9
-number heading.Throw = 10
-number heading.Debugger = 11
+number heading.For = 8
+number heading.Switch = 9
+number heading.Continue = 10
+number heading.Break = 11
+number heading.Throw = 12
+number heading.Debugger = 13
 
 abbrev pub nth : ℕ → List Heading → Option Heading
 nth n [] = None
@@ -39,6 +41,8 @@ there (heading.Var declare_word.Const) = refl
 there heading.If = refl
 there heading.Do = refl
 there heading.While = refl
+there heading.For = refl
+there heading.Switch = refl
 there heading.Continue = refl
 there heading.Break = refl
 there heading.Throw = refl

@@ -171,7 +171,7 @@ token_lacks {h} e r is n k lost l =
 -- ---- a comma goes on with what stands in a list
 
 pub settled_in_list : (x : Place) → settled x ≡ true → in_list x ≡ true
-settled_in_list (At q AfterExpr text) h = refl
+settled_in_list (At q AfterExpr text) h = h
 settled_in_list Lost h = cc
 settled_in_list (At q _ text) h = cc
 

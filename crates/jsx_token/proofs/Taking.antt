@@ -9,6 +9,7 @@ use Rattle.jsx_base.specs.Lines.{size}
 use Rattle.jsx_tree.specs.Signs.{Ending, Tok, AfterExpr}
 use Rattle.jsx_tree.specs.Reading.{Lost, At, forth, go_if}
 use Rattle.jsx_tree.specs.Form.{is_leaf}
+use Rattle.jsx_tree.specs.Walk.{is_found}
 use Rattle.jsx_lex.specs.declared.lexer.Lexer.{Lexer as Tokens}
 use Rattle.jsx_lex.specs.declared.token.Token.{Token}
 use Rattle.jsx_lex.specs.declared.token.TokenKind.{TokenKind}
@@ -46,6 +47,14 @@ taken_by {m} {h} {t} {b} k text n i =
 
 pub missing_by : {m : Mode} {h : Here} {t : Token} {b : Tokens} (k : Kind) (text : Text) → IsNext m h t b → is_it t k text ≡ false → forth (Tok m k text) (place_of h) ≡ Lost
 missing_by {m} {h} k text n i = ap (λ x. go_if x (At text AfterExpr (next_token m h).rest)) (token_is k text n ∙ i)
+
+go_found : (b : Bool) (q : Text) (e : Ending) (s : Text) → b ≡ is_found (go_if b (At q e s))
+go_found true q e s = refl
+go_found false q e s = refl
+
+-- whether it is found there
+pub seen_by : {m : Mode} {h : Here} {t : Token} {b : Tokens} (k : Kind) (text : Text) → IsNext m h t b → is_it t k text ≡ is_found (forth (Tok m k text) (place_of h))
+seen_by {m} {h} k text n = sym (token_is k text n) ∙ go_found (is_token (next_token m h) k text) text AfterExpr (next_token m h).rest
 
 pub none_by : {m : Mode} {h : Here} (k : Kind) (text : Text) → is_kind NoToken k ≡ false → NoNext m h → forth (Tok m k text) (place_of h) ≡ Lost
 none_by {m} {h} k text e n = ap (λ x. go_if (is_kind x k && same (next_token m h).raw text) (At text AfterExpr (next_token m h).rest)) n.none
@@ -93,6 +102,7 @@ fixed_some fixed.CloseBrace = refl
 fixed_some fixed.Comma = refl
 fixed_some fixed.Colon = refl
 fixed_some fixed.Dot = refl
+fixed_some fixed.Dots = refl
 fixed_some fixed.Less = refl
 fixed_some fixed.TagSlash = refl
 fixed_some fixed.TagGreater = refl
@@ -109,6 +119,7 @@ fixed_skips fixed.CloseBrace = refl
 fixed_skips fixed.Comma = refl
 fixed_skips fixed.Colon = refl
 fixed_skips fixed.Dot = refl
+fixed_skips fixed.Dots = refl
 fixed_skips fixed.Less = refl
 fixed_skips fixed.TagSlash = refl
 fixed_skips fixed.TagGreater = refl
@@ -125,6 +136,7 @@ sign_is fixed.CloseBrace = refl
 sign_is fixed.Comma = refl
 sign_is fixed.Colon = refl
 sign_is fixed.Dot = refl
+sign_is fixed.Dots = refl
 sign_is fixed.Less = refl
 sign_is fixed.TagSlash = refl
 sign_is fixed.TagGreater = refl
@@ -134,13 +146,17 @@ fixed_kind_is f t i = kind_some (kind_of t.kind) (fixed_kind f) (fixed_some f) (
 
 pub word_full : (w : Word) → same (word_text w) [] ≡ false
 word_full word.Break = refl
+word_full word.Case = refl
 word_full word.Const = refl
 word_full word.Continue = refl
 word_full word.Debugger = refl
+word_full word.Default = refl
 word_full word.Do = refl
 word_full word.Else = refl
+word_full word.For = refl
 word_full word.If = refl
 word_full word.Let = refl
+word_full word.Switch = refl
 word_full word.Throw = refl
 word_full word.Var = refl
 word_full word.While = refl
@@ -157,6 +173,7 @@ fixed_full fixed.CloseBrace = refl
 fixed_full fixed.Comma = refl
 fixed_full fixed.Colon = refl
 fixed_full fixed.Dot = refl
+fixed_full fixed.Dots = refl
 fixed_full fixed.Less = refl
 fixed_full fixed.TagSlash = refl
 fixed_full fixed.TagGreater = refl

@@ -37,6 +37,8 @@ signs (heading.Var declare_word.Const) = refl
 signs heading.If = refl
 signs heading.Do = refl
 signs heading.While = refl
+signs heading.For = refl
+signs heading.Switch = refl
 signs heading.Continue = refl
 signs heading.Break = refl
 signs heading.Throw = refl
@@ -67,7 +69,7 @@ and_no false = refl
 pub words_chars : (bs : List ℕ) → IsUtf8 bs → first_bytes words bs ≡ first_word words (chars bs)
 words_chars bs u = λ i.
     cond (is_reserved word.Var bs u i) (Some (heading.Var declare_word.Var)) (cond (is_reserved word.Let bs u i) (Some (heading.Var declare_word.Let)) (cond (is_reserved word.Const bs u i) (Some (heading.Var declare_word.Const)) (cond (is_reserved word.If bs u i) (Some heading.If)
-    (cond (is_reserved word.Do bs u i) (Some heading.Do) (cond (is_reserved word.While bs u i) (Some heading.While) (cond (is_reserved word.Continue bs u i) (Some heading.Continue) (cond (is_reserved word.Break bs u i) (Some heading.Break) (cond (is_reserved word.Throw bs u i) (Some heading.Throw) (cond (is_reserved word.Debugger bs u i) (Some heading.Debugger) None)))))))))
+    (cond (is_reserved word.Do bs u i) (Some heading.Do) (cond (is_reserved word.While bs u i) (Some heading.While) (cond (is_reserved word.For bs u i) (Some heading.For) (cond (is_reserved word.Switch bs u i) (Some heading.Switch) (cond (is_reserved word.Continue bs u i) (Some heading.Continue) (cond (is_reserved word.Break bs u i) (Some heading.Break) (cond (is_reserved word.Throw bs u i) (Some heading.Throw) (cond (is_reserved word.Debugger bs u i) (Some heading.Debugger) None)))))))))))
 
 abbrev worded : Heading → Bool
 worded h = is_kind IdentifierName (fixed_kind (fixed_of h))
@@ -110,10 +112,12 @@ found_word t k None e = record { on = on }
     on heading.If = named_not t 3 heading.If a refl
     on heading.Do = named_not t 4 heading.Do a refl
     on heading.While = named_not t 5 heading.While a refl
-    on heading.Continue = named_not t 6 heading.Continue a refl
-    on heading.Break = named_not t 7 heading.Break a refl
-    on heading.Throw = named_not t 8 heading.Throw a refl
-    on heading.Debugger = named_not t 9 heading.Debugger a refl
+    on heading.For = named_not t 6 heading.For a refl
+    on heading.Switch = named_not t 7 heading.Switch a refl
+    on heading.Continue = named_not t 8 heading.Continue a refl
+    on heading.Break = named_not t 9 heading.Break a refl
+    on heading.Throw = named_not t 10 heading.Throw a refl
+    on heading.Debugger = named_not t 11 heading.Debugger a refl
 
 pub found_empty : (t : Token) → t.kind ≡ token.Semicolon → (is_punctuator t.kind ≡ true → chars t.raw.now ≡ spelling t.kind) → is_heading t heading.Empty ≡ true
 found_empty t k s = sym (mark_is true t token.Semicolon fixed.Semicolon ((λ _. k), (λ _. refl)) (record { mark = refl; text = refl; kind = refl }) s)
@@ -140,6 +144,8 @@ no_heading t a b n s = record { on = on }
     on heading.If = other heading.If refl
     on heading.Do = other heading.Do refl
     on heading.While = other heading.While refl
+    on heading.For = other heading.For refl
+    on heading.Switch = other heading.Switch refl
     on heading.Continue = other heading.Continue refl
     on heading.Break = other heading.Break refl
     on heading.Throw = other heading.Throw refl

@@ -110,13 +110,17 @@ is_arrow = is_word (codes "=>") word_arrow
 reserved : (w : Word) → Spelled (word_text w)
 unfolding chars is_utf8 encode
 reserved word.Break = record { same = refl; text = IsUtf8-from_is_utf8 (codes "break") refl }
+reserved word.Case = record { same = refl; text = IsUtf8-from_is_utf8 (codes "case") refl }
 reserved word.Const = record { same = refl; text = IsUtf8-from_is_utf8 (codes "const") refl }
 reserved word.Continue = record { same = refl; text = IsUtf8-from_is_utf8 (codes "continue") refl }
 reserved word.Debugger = record { same = refl; text = IsUtf8-from_is_utf8 (codes "debugger") refl }
+reserved word.Default = record { same = refl; text = IsUtf8-from_is_utf8 (codes "default") refl }
 reserved word.Do = record { same = refl; text = IsUtf8-from_is_utf8 (codes "do") refl }
 reserved word.Else = record { same = refl; text = IsUtf8-from_is_utf8 (codes "else") refl }
+reserved word.For = record { same = refl; text = IsUtf8-from_is_utf8 (codes "for") refl }
 reserved word.If = record { same = refl; text = IsUtf8-from_is_utf8 (codes "if") refl }
 reserved word.Let = record { same = refl; text = IsUtf8-from_is_utf8 (codes "let") refl }
+reserved word.Switch = record { same = refl; text = IsUtf8-from_is_utf8 (codes "switch") refl }
 reserved word.Throw = record { same = refl; text = IsUtf8-from_is_utf8 (codes "throw") refl }
 reserved word.Var = record { same = refl; text = IsUtf8-from_is_utf8 (codes "var") refl }
 reserved word.While = record { same = refl; text = IsUtf8-from_is_utf8 (codes "while") refl }

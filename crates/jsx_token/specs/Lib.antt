@@ -7,6 +7,7 @@ pub mod Gaps
 pub mod Spelled
 pub mod WordTexts
 pub mod Headings
+pub mod CaseEnds
 pub mod Growths
 pub mod GrowthTokens
 pub mod Semicolons

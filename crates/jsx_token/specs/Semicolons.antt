@@ -10,6 +10,6 @@ lacks e raw b = is_do e || (same raw (codes "}") || (b && not (continues e [] ra
 
 -- behind what stands in a list with commas: a comma goes on with it
 abbrev pub in_list : Place → Bool
-in_list (At q AfterExpr text) = true
+in_list (At q AfterExpr text) = not (same q [])
 in_list (At q AfterBinding text) = true
 in_list x = false

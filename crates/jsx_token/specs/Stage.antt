@@ -1,10 +1,10 @@
 -- What of the language the compiler takes so far: a table over kinds, leaves and a few further limits. Widening the language widens this table.
 use Rattle.std.specs.Prelude.{List, [], ◌∷◌, codes, Bool, true, false, IsTrue, not, ◌&&◌}
 use Rattle.std.specs.Char.{is_ascii_alphabetic}
-use Rattle.jsx_base.specs.Token.{Text, TokenKind, IdentifierName, NumericLiteral, BigIntLiteral, StringLiteral, RegExpLiteral, JsxName, same, first_is}
+use Rattle.jsx_base.specs.Token.{Text, TokenKind, IdentifierName, NumericLiteral, BigIntLiteral, StringLiteral, RegExpLiteral, JsxName, Elision, same, first_is}
 use Rattle.jsx_tree.specs.declared.text.Goal.TheVariants as goals
-use Rattle.jsx_tree.specs.Kinds.{Module, Block, Var, Declarator, Empty, ExprStmt, If, Do, While, Continue, Break, Throw, Debugger, Assign, OpAssign, Void, TypeOf, Positive, Negative, Complement, Not, Unary, Binary, Cond, Call, Member, Index, ImportCall, Parenthesized, Element, Kind, program, statement, expression, jsx, Tree, leaf, node, list, Forest, none, part, Delete, PrefixUpdate, PostfixUpdate, Seq}
-use Rattle.jsx_tree.specs.Nonterminals.{Nonterminal, Expr, MemberObject, NullishLeft, Name, Pat, SimpleTarget, Argument, TagName, WholeProgram, DotObject, assigns, is_value_word, has_dash}
+use Rattle.jsx_tree.specs.Kinds.{Module, Block, Var, Declarator, Empty, ExprStmt, If, Do, While, Continue, Break, Throw, Debugger, Assign, OpAssign, Void, TypeOf, Positive, Negative, Complement, Not, Unary, Binary, Cond, Call, Member, Index, ImportCall, Parenthesized, Element, Kind, program, statement, expression, jsx, Tree, leaf, node, list, Forest, none, part, Delete, PrefixUpdate, PostfixUpdate, Seq, For, ForDeclaration, Switch, Case, Default, Array, Spread}
+use Rattle.jsx_tree.specs.Nonterminals.{Nonterminal, Expr, MemberObject, NullishLeft, Name, Pat, SimpleTarget, Argument, TagName, WholeProgram, DotObject, assigns, is_value_word, has_dash, ForInit, ArrayItem}
 use Rattle.jsx_tree.specs.Form.{Position, position, positions}
 use Rattle.jsx_tree.specs.Program.{Reads}
 
@@ -18,6 +18,11 @@ has_kind (statement ExprStmt) = true
 has_kind (statement If) = true
 has_kind (statement Do) = true
 has_kind (statement While) = true
+has_kind (statement For) = true
+has_kind (statement (ForDeclaration v)) = true
+has_kind (statement Switch) = true
+has_kind (statement Case) = true
+has_kind (statement Default) = true
 has_kind (statement Continue) = true
 has_kind (statement Break) = true
 has_kind (statement Throw) = true
@@ -37,6 +42,8 @@ has_kind (expression (Unary Not)) = true
 has_kind (expression (PrefixUpdate o)) = true
 has_kind (expression (PostfixUpdate o)) = true
 has_kind (expression ImportCall) = true
+has_kind (expression Array) = true
+has_kind (expression Spread) = true
 has_kind (expression Parenthesized) = true
 has_kind (expression Call) = true
 has_kind (expression Member) = true
@@ -68,6 +75,9 @@ leaf_at NullishLeft k t = value_leaf true k t
 leaf_at MemberObject k t = value_leaf true k t
 leaf_at DotObject k t = value_leaf false k t
 leaf_at Argument k t = value_leaf true k t
+leaf_at ForInit k t = value_leaf true k t
+leaf_at ArrayItem Elision t = true
+leaf_at ArrayItem k t = value_leaf true k t
 leaf_at c k t = false
 
 -- no statement is a string alone

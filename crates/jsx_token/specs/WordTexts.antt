@@ -6,13 +6,17 @@ use Rattle.jsx_token.specs.declared.word.Word.TheVariants as word
 
 abbrev pub word_text : Word → Text
 word_text word.Break = codes "break"
+word_text word.Case = codes "case"
 word_text word.Const = codes "const"
 word_text word.Continue = codes "continue"
 word_text word.Debugger = codes "debugger"
+word_text word.Default = codes "default"
 word_text word.Do = codes "do"
 word_text word.Else = codes "else"
+word_text word.For = codes "for"
 word_text word.If = codes "if"
 word_text word.Let = codes "let"
+word_text word.Switch = codes "switch"
 word_text word.Throw = codes "throw"
 word_text word.Var = codes "var"
 word_text word.While = codes "while"

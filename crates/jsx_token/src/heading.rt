@@ -23,6 +23,10 @@ pub enum Heading {
     Do,
     /// `while (a) b;`
     While,
+    /// `for (a; b; c) d;`
+    For,
+    /// `switch (a) { case b: c; }`
+    Switch,
     /// `continue;`
     Continue,
     /// `break;`
@@ -47,6 +51,8 @@ impl Heading {
             Heading::If => false,
             Heading::Do => false,
             Heading::While => false,
+            Heading::For => false,
+            Heading::Switch => false,
             Heading::Continue => false,
             Heading::Break => false,
             Heading::Throw => false,
@@ -73,6 +79,8 @@ fn reserved(raw: &str) -> Option<Heading>
         "if" => Some(Heading::If),
         "do" => Some(Heading::Do),
         "while" => Some(Heading::While),
+        "for" => Some(Heading::For),
+        "switch" => Some(Heading::Switch),
         "continue" => Some(Heading::Continue),
         "break" => Some(Heading::Break),
         "throw" => Some(Heading::Throw),

@@ -12,6 +12,8 @@ ghost use Rattle.jsx_lex.specs.Kinds.{is_punctuator, mode_of as mode_read, kind_
 ghost use Rattle.jsx_token.specs.declared.lexer.Fixed.TheVariants as fixed;
 ghost use Rattle.jsx_token.specs.Here.{Here, place_of, ending_of, left, sign_of, leaf_kind, leaf_sign};
 ghost use Rattle.jsx_token.specs.Growths.{NoOpening, growth_kind, is_level, level_of_kind, mark, opening_kind, opening_sign, OnLine, settled};
+ghost use Rattle.jsx_tree.specs.Walk.{is_found};
+ghost use Rattle.jsx_token.specs.CaseEnds.{ends_case};
 ghost use Rattle.jsx_token.specs.Headings.{NoHeading, heading_sign};
 ghost use Rattle.jsx_token.specs.Seen.{IsNext, IsSeen, NoNext, here_of, is_it, next_token};
 ghost use Rattle.jsx_token.specs.Places.{Takes, begin_of, end_of, next_of};
@@ -58,6 +60,8 @@ pub enum Fixed {
     Comma,
     Colon,
     Dot,
+    /// `...`
+    Dots,
     /// `<` where an expression may begin.
     Less,
     /// `/` in a tag.
@@ -108,6 +112,7 @@ impl Fixed {
             Fixed::Comma => TokenKind::Comma,
             Fixed::Colon => TokenKind::Colon,
             Fixed::Dot => TokenKind::Dot,
+            Fixed::Dots => TokenKind::Ellipsis,
             Fixed::Less => TokenKind::Less,
             Fixed::TagSlash => TokenKind::Slash,
             Fixed::TagGreater => TokenKind::Greater,
@@ -282,6 +287,27 @@ impl<'s> Lexer<'s> {
             return false;
         };
         is_arrow(seen.token.raw)
+    }
+
+    /// Whether the next token is this one.
+    fn is_before(&mut self, fixed: Fixed) -> bool
+        ensures ahead { result ≡ is_found (forth (sign_of fixed) (place_of self.old)) }
+        ensures stays { self.new ≡ self.old }
+    {
+        let Some(seen) = self.look(fixed.mode()) else {
+            return false;
+        };
+        fixed.is(&seen.token)
+    }
+
+    /// Whether the next token ends the statements of a case: `case`, `default`, or `}`.
+    pub fn ends_case(&mut self) -> bool
+        ensures ahead { result ≡ ends_case (place_of self.old) }
+        ensures stays { self.new ≡ self.old }
+    {
+        self.is_before(Fixed::CloseBrace)
+            || self.is_before(Fixed::Word(Word::Case))
+            || self.is_before(Fixed::Word(Word::Default))
     }
 
     /// Takes the next token if it is this one.

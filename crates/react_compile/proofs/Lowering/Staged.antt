@@ -3,7 +3,7 @@ use Rattle.std.proofs.Common.{◌≡◌, List, [], ◌∷◌, Bool, true, false,
 use Rattle.std.proofs.lemmas.Bool.{and_parts, and_from, false≢true}
 use Rattle.std.specs.Prelude.{◌&&◌}
 use Rattle.jsx_base.specs.Token.{Text, TokenKind, JsxName}
-use Rattle.jsx_tree.specs.Kinds.{BinaryOp, Nullish, Kind, program, statement, function, expression, jsx, Module, Block, Var, VarWord, LetWord, ConstWord, Declarator, Empty, ExprStmt, If, Do, While, Continue, Break, Throw, Debugger, Seq, Assign, OpAssign, Binary, Unary, Cond, ImportCall, Call, Member, Index, Parenthesized, ParenTarget, Element, Tree, leaf, node, list, Forest, none, part, PrefixUpdate, PostfixUpdate}
+use Rattle.jsx_tree.specs.Kinds.{BinaryOp, Nullish, Kind, program, statement, function, expression, jsx, Module, Block, Var, VarWord, LetWord, ConstWord, Declarator, Empty, ExprStmt, If, Do, While, Continue, Break, Throw, Debugger, Seq, Assign, OpAssign, Binary, Unary, Cond, ImportCall, Call, Member, Index, Parenthesized, ParenTarget, Element, Tree, leaf, node, list, Forest, none, part, PrefixUpdate, PostfixUpdate, For, ForDeclaration, Switch, Case, Default, Array, Spread}
 use Rattle.jsx_tree.specs.Nonterminals.{Nonterminal, TagName, Attributes, WholeProgram, assigns, expr, in_homes, homes}
 use Rattle.jsx_tree.specs.Form.{Position, position, positions, shaped, last_only, admits, fits_below, fit_slots, fit_each, is}
 use Rattle.jsx_tree.specs.Sound.{each_node, each_nodes}
@@ -34,6 +34,13 @@ no_tag (statement Empty) h = record { name = refl; attribute = refl }
 no_tag (statement If) h = record { name = refl; attribute = refl }
 no_tag (statement Do) h = record { name = refl; attribute = refl }
 no_tag (statement While) h = record { name = refl; attribute = refl }
+no_tag (statement For) h = record { name = refl; attribute = refl }
+no_tag (statement Switch) h = record { name = refl; attribute = refl }
+no_tag (statement Case) h = record { name = refl; attribute = refl }
+no_tag (statement Default) h = record { name = refl; attribute = refl }
+no_tag (statement (ForDeclaration VarWord)) h = record { name = refl; attribute = refl }
+no_tag (statement (ForDeclaration LetWord)) h = record { name = refl; attribute = refl }
+no_tag (statement (ForDeclaration ConstWord)) h = record { name = refl; attribute = refl }
 no_tag (statement Continue) h = record { name = refl; attribute = refl }
 no_tag (statement Break) h = record { name = refl; attribute = refl }
 no_tag (statement Throw) h = record { name = refl; attribute = refl }
@@ -50,6 +57,8 @@ no_tag (expression (PrefixUpdate o)) h = record { name = refl; attribute = refl 
 no_tag (expression (PostfixUpdate o)) h = record { name = refl; attribute = refl }
 no_tag (expression ImportCall) h = record { name = refl; attribute = refl }
 no_tag (expression Parenthesized) h = record { name = refl; attribute = refl }
+no_tag (expression Array) h = record { name = refl; attribute = refl }
+no_tag (expression Spread) h = record { name = refl; attribute = refl }
 no_tag (expression Call) h = record { name = refl; attribute = refl }
 no_tag (expression Member) h = record { name = refl; attribute = refl }
 no_tag (expression Index) h = record { name = refl; attribute = refl }

@@ -129,6 +129,14 @@ fn code_of_sources(rt: HostRuntime) -> Result<(), Fail> {
             "(a + b) * c;\nd;\nf(e, /*#__PURE__*/ React.createElement(\"a\", null), g());\n",
         ),
         (
+            "for(let i=0,n=<a/>;i<n;i+=1)f(i);for(;;)break;for((a in b);;);",
+            "for (let i = 0, n = /*#__PURE__*/ React.createElement(\"a\", null); i < n; i += 1) f(i);\nfor (;;) break;\nfor ((a in b);;) ;\n",
+        ),
+        (
+            "switch(a){case 1:f(<b/>);break\ndefault:}",
+            "switch (a) {\n    case 1:\n        f(/*#__PURE__*/ React.createElement(\"b\", null));\n        break;\n    default:\n}\n",
+        ),
+        (
             "x=(-a)**b;(a??b)||c;(a=b).c;(1).d;('e').f;",
             "x = (-a) ** b;\n(a ?? b) || c;\n(a = b).c;\n(1).d;\n'e'.f;\n",
         ),
@@ -139,6 +147,14 @@ fn code_of_sources(rt: HostRuntime) -> Result<(), Fail> {
         (
             "delete a.b;delete(a).b+-(c++);delete(a[b])",
             "delete a.b;\ndelete a.b + -c++;\ndelete a[b];\n",
+        ),
+        (
+            "[];[,];[a,,(b,c),...d,,];f(...[e],(g))[0]",
+            "[];\n[,];\n[a, , (b, c), ...d, ,];\nf(...[e], g)[0];\n",
+        ),
+        (
+            "x=[<a/>,...[(<b/>)]]",
+            "x = [/*#__PURE__*/ React.createElement(\"a\", null), ...[/*#__PURE__*/ React.createElement(\"b\", null)]];\n",
         ),
     ] {
         assert_runs(&rt, &plain(source.as_bytes()), (Status::Done, code, ""))?;
@@ -182,7 +198,7 @@ fn sources_that_do_not_read(rt: HostRuntime) -> Result<(), Fail> {
         b"f(;",
         b"f(,);",
         b"f(a b);",
-        b"f(...a);",
+        b"f(...);",
         b"a ?? b || c;",
         b"a() = b;",
         b"1 = a;",

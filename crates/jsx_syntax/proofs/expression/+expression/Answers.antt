@@ -1,9 +1,9 @@
-use Rattle.std.proofs.Common.{◌≡◌, ◌++◌, true, arith, map, refl, sym, ◌∙◌, ap, subst, [], ◌∷◌, nat_le}
+use Rattle.std.proofs.Common.{◌≡◌, ◌++◌, true, false, arith, map, refl, sym, ◌∙◌, ap, subst, [], ◌∷◌, nat_le}
 use Rattle.std.specs.Prelude.{codes}
 use Rattle.jsx_base.specs.Token.{Operator, Punctuator}
 use Rattle.jsx_tree.specs.Kinds.{Assigns, Assign, expression, node, none, part, Tree}
 use Rattle.jsx_tree.specs.Nonterminals.{Expr}
-use Rattle.jsx_tree.specs.Grammar.{Commas, Part}
+use Rattle.jsx_tree.specs.Grammar.{Commas, Elisions, Part}
 use Rattle.jsx_tree.specs.View.{forest, inside, view_expr}
 use Rattle.jsx_tree.specs.Told.{tales, told_expr, told_node}
 use Rattle.jsx_tree.specs.Reading.{Place}
@@ -23,8 +23,8 @@ use Rattle.jsx_token.specs.Places.{Takes, end_of, next_of}
 use Rattle.jsx_syntax.proofs.OfSoFar.{of_so_far}
 use Rattle.jsx_tree.proofs.Rows.Steps.{both, bar, no_sign, on, only_sign, built_1, built_2, built_3}
 use Rattle.jsx_tree.proofs.Rows.Lists.{begun, ended, ended_behind, no_more, not_closed, item_more, round}
-use Rattle.jsx_syntax.proofs.Values.{only_argument, barred_argument, settled_token, sign_ended}
-use Rattle.jsx_syntax.proofs.Operators.{binary_built, binary_none, unary_none, mark_is, right_is_level, unary_built}
+use Rattle.jsx_syntax.proofs.Values.{settled_token, sign_ended}
+use Rattle.jsx_syntax.proofs.Operators.{binary_built, binary_none, unary_none, mark_is, right_is_level}
 use Rattle.jsx_token.proofs.Levels.{growth_listed, growth_grows}
 use Rattle.jsx_syntax.proofs.Climbing.{climb_only, climb_on, climb_barred, climb_unfit}
 use Rattle.jsx_tree.proofs.Rows.Placing.{no_node}
@@ -39,12 +39,14 @@ use Rattle.jsx_token.proofs.TakingGrowths.{ended as stopped}
 use Rattle.jsx_syntax.proofs.Places.{spans_from}
 use Rattle.jsx_syntax.proofs.Steps.{passed}
 use Rattle.jsx_token.proofs.Ahead.{an_arrow, no_arrow}
-use Rattle.jsx_syntax.proofs.Arguments.{paren_placed, argument_placed}
+use Rattle.jsx_syntax.proofs.Arguments.{paren_placed, argument_placed, spread_argument}
+use Rattle.jsx_syntax.proofs.Elements.{arguments, items, expression_item, no_expression_item, spread_item, no_spread_item, argument_only, argument_as, argument_barred}
+use Rattle.jsx_syntax.proofs.Holes.{before, hole_more, filled_more, shut, none_here, shut_behind, unshut, trails}
 use Rattle.jsx_syntax.proofs.Homes.{never_list}
-use Rattle.jsx_syntax.proofs.Trees.{pushed}
+use Rattle.jsx_syntax.proofs.Trees.{pushed, pushed_as}
 use Rattle.jsx_syntax.proofs.Sequences.{Listing, whole_only, whole_barred, listing_one, listing_more, sequence_only, sequence_barred}
-use Rattle.jsx_syntax.proofs.Placing.{PlacedFront, plain_commas, plain_two, row_end, row_sign, row_list, list_none, front_none, front_more, front_last, list_to, map_pushed, placed_as, placed_from, placed_to}
-use Rattle.jsx_syntax.proofs.PlacedNodes.{led_more, sequence_row, no_trailing, takes_trailing, call_row, index_row, conditional_row, binary_row, assign_row, op_assign_row, unary_row, update_row, import_row}
+use Rattle.jsx_syntax.proofs.Placing.{PlacedFront, plain_commas, plain_elisions, plain_two, hole_item, laid_more, laid_last, takes_from, row_end, row_sign, row_list, list_none, front_none, front_more, front_last, list_to, map_pushed, placed_as, placed_from, placed_to}
+use Rattle.jsx_syntax.proofs.PlacedNodes.{led_more, sequence_row, no_trailing, takes_trailing, call_row, index_row, conditional_row, binary_row, assign_row, op_assign_row, unary_row, update_row, import_row, array_row, spread_row}
 use Rattle.jsx_syntax.proofs.expression.+expression.Goals as goal
 
 pub arguments-arguments-init : goal.arguments-arguments-init
@@ -57,15 +59,15 @@ arguments-arguments-init t c = record {
 
 pub arguments-returns-in_err-argument-clause-refused : goal.arguments-returns-in_err-argument-clause-refused
 arguments-returns-in_err-argument-clause-refused t c = passed _ c.in_err-argument.ensures.refused c.from_residual.ensures.1
-    (λ b. no_more _ c.arguments.invariant.so_far (record { same = sym (ap place_of (c.take.ensures.stays c.arguments-test.true)); stuck = record { is = c.take.ensures.missing c.arguments-test.true } }) (barred_argument b))
+    (λ b. no_more _ c.arguments.invariant.so_far (record { same = sym (ap place_of (c.take.ensures.stays c.arguments-test.true)); stuck = record { is = c.take.ensures.missing c.arguments-test.true } }) b)
 
 pub arguments-returns-in_err-expect-clause-refused : goal.arguments-returns-in_err-expect-clause-refused
 arguments-returns-in_err-expect-clause-refused t c = passed _ c.in_err-expect.ensures.refused c.from_residual-in_err-expect.ensures.1
-    (λ b. not_closed _ of_so_far c.arguments.invariant.so_far (record { same = sym (ap place_of (c.take.ensures.stays c.arguments-test.true)); stuck = record { is = c.take.ensures.missing c.arguments-test.true } }) (only_argument c.in_ok-argument.ensures.read)
+    (λ b. not_closed _ of_so_far c.arguments.invariant.so_far (record { same = sym (ap place_of (c.take.ensures.stays c.arguments-test.true)); stuck = record { is = c.take.ensures.missing c.arguments-test.true } }) c.in_ok-argument.ensures.read
     (record { same = sym (ap place_of (c.take-in-arguments.ensures.stays c.if-not-take.true)); stuck = record { is = c.take-in-arguments.ensures.missing c.if-not-take.true } }) b)
 
 pub arguments-returns-then-not-take-clause-read : goal.arguments-returns-then-not-take-clause-read
-arguments-returns-then-not-take-clause-read t c = ended_behind _ _ of_so_far c.arguments.invariant.so_far (record { same = sym (ap place_of (c.take.ensures.stays c.arguments-test.true)); stuck = record { is = c.take.ensures.missing c.arguments-test.true } }) (only_argument c.in_ok-argument.ensures.read)
+arguments-returns-then-not-take-clause-read t c = ended_behind _ _ of_so_far c.arguments.invariant.so_far (record { same = sym (ap place_of (c.take.ensures.stays c.arguments-test.true)); stuck = record { is = c.take.ensures.missing c.arguments-test.true } }) c.in_ok-argument.ensures.read
     (record { same = sym (ap place_of (c.take-in-arguments.ensures.stays c.if-not-take.true)); stuck = record { is = c.take-in-arguments.ensures.missing c.if-not-take.true } }) c.in_ok-expect.ensures.read (pushed (inside view_expr) _ _ _ c.in_ok-push.ensures.items)
 
 pub arguments-arguments-preserved : goal.arguments-arguments-preserved
@@ -76,7 +78,7 @@ arguments-arguments-preserved t c =
     let told_all = map_pushed (inside told_expr) c.arguments.all.items _ c.in_ok-argument.argument _ c.in_ok-push.ensures.items refl in
     let view_all = map_pushed (inside view_expr) c.arguments.all.items _ c.in_ok-argument.argument _ c.in_ok-push.ensures.items refl in
     record {
-      so_far = item_more _ _ of_so_far refl c.arguments.invariant.so_far (record { same = sym (ap place_of (c.take.ensures.stays c.arguments-test.true)); stuck = record { is = c.take.ensures.missing c.arguments-test.true } }) (only_argument c.in_ok-argument.ensures.read)
+      so_far = item_more _ _ of_so_far refl c.arguments.invariant.so_far (record { same = sym (ap place_of (c.take.ensures.stays c.arguments-test.true)); stuck = record { is = c.take.ensures.missing c.arguments-test.true } }) c.in_ok-argument.ensures.read
           (record { is = c.take-in-arguments.ensures.taken c.if-not-take.false; found = refl }) (pushed (inside view_expr) _ _ _ c.in_ok-push.ensures.items);
       within = omega (arith, same, c.take-in-arguments.ensures.shorter c.if-not-take.false, c.in_ok-argument.ensures.shorter, c.arguments.invariant.within);
       placed = front_more plain_commas c.arguments.invariant.placed argument comma.same comma.leads told_all view_all;
@@ -364,8 +366,139 @@ parenthesized-returns-clause-placed t c = record {
   on = λ w sign begins. placed_to c.is_before_arrow.ensures.stays (placed_as c.in_ok-paren.ensures.told c.in_ok-paren.ensures.view (paren_placed sign c.in_ok-inner.ensures.placed c.in_ok-expect.ensures.takes));
 }
 
+pub argument-returns-in_err-argument-clause-refused : goal.argument-returns-in_err-argument-clause-refused
+argument-returns-in_err-argument-clause-refused t c = passed _ c.in_err-argument.ensures.refused c.from_residual-in_err-argument.ensures.1
+    (λ b. argument_barred (no_expression_item arguments (record { same = sym (ap place_of (c.take.ensures.stays c.if-take.false)); stuck = record { is = c.take.ensures.missing c.if-take.false } }) b))
+
+pub argument-returns-clause-read : goal.argument-returns-clause-read
+argument-returns-clause-read t c = argument_as c.place_argument.ensures.view (argument_only (expression_item arguments (record { same = sym (ap place_of (c.take.ensures.stays c.if-take.false)); stuck = record { is = c.take.ensures.missing c.if-take.false } }) c.in_ok-argument.ensures.read))
+
 pub argument-returns-clause-placed : goal.argument-returns-clause-placed
-argument-returns-clause-placed t c = placed_as c.place_argument.ensures.told c.place_argument.ensures.view (argument_placed _ _ (λ ts e. never_list c.in_ok-argument.ensures.read ts e) c.in_ok-argument.ensures.placed c.in_ok-argument.ensures.span)
+argument-returns-clause-placed t c = placed_from (c.take.ensures.stays c.if-take.false)
+    (placed_as c.place_argument.ensures.told c.place_argument.ensures.view (argument_placed _ _ (λ ts e. never_list c.in_ok-argument.ensures.read ts e) c.in_ok-argument.ensures.placed c.in_ok-argument.ensures.span))
+
+pub argument-returns-in_err-spread-clause-refused : goal.argument-returns-in_err-spread-clause-refused
+argument-returns-in_err-spread-clause-refused t c = passed _ c.in_err-spread.ensures.refused c.from_residual.ensures.1 (λ b. argument_barred (no_spread_item arguments (record { is = c.take.ensures.taken c.if-take.true; found = refl }) b))
+
+pub argument-returns-then-take-clause-read : goal.argument-returns-then-take-clause-read
+argument-returns-then-take-clause-read t c = argument_only (spread_item arguments (record { is = c.take.ensures.taken c.if-take.true; found = refl }) c.in_ok-spread.ensures.read)
+
+pub argument-returns-then-take-clause-placed : goal.argument-returns-then-take-clause-placed
+argument-returns-then-take-clause-placed t c = spread_argument c.in_ok-spread.ensures.read.is
+    (c.in_ok-spread.ensures.placed.on _ (c.take.ensures.takes c.if-take.true) (c.take.ensures.begins c.if-take.true))
+
+pub array_item-returns-in_err-spread-clause-refused : goal.array_item-returns-in_err-spread-clause-refused
+array_item-returns-in_err-spread-clause-refused t c = passed _ c.in_err-spread.ensures.refused c.from_residual.ensures.1 (λ b. no_spread_item items (record { is = c.take.ensures.taken c.if-take.true; found = refl }) b)
+
+pub array_item-returns-then-take-clause-read : goal.array_item-returns-then-take-clause-read
+array_item-returns-then-take-clause-read t c = spread_item items (record { is = c.take.ensures.taken c.if-take.true; found = refl }) c.in_ok-spread.ensures.read
+
+pub array_item-returns-in_err-expression-clause-refused : goal.array_item-returns-in_err-expression-clause-refused
+array_item-returns-in_err-expression-clause-refused t c = passed _ c.in_err-expression.ensures.refused c.from_residual-in_err-expression.ensures.1
+    (λ b. no_expression_item items (record { same = sym (ap place_of (c.take.ensures.stays c.if-take.false)); stuck = record { is = c.take.ensures.missing c.if-take.false } }) b)
+
+pub array_item-returns-clause-read : goal.array_item-returns-clause-read
+array_item-returns-clause-read t c = expression_item items (record { same = sym (ap place_of (c.take.ensures.stays c.if-take.false)); stuck = record { is = c.take.ensures.missing c.if-take.false } }) c.in_ok-expression.ensures.read
+
+pub array_items-items-init : goal.array_items-items-init
+array_items-items-init t c = record {
+  so_far = begun _ (ap (λ xs. forest (map (inside view_expr) xs)) c.new-all.ensures.items);
+  placed = subst (λ xs. PlacedFront false Elisions (map (inside told_expr) xs) (map (inside view_expr) xs) c.args.lexer.now c.args.lexer.now) (sym c.new-all.ensures.items) front_none;
+  closed = subst (λ xs. IsPlacedListAs false Elisions (tales (map (inside told_expr) xs)) (forest (map (inside view_expr) xs)) c.args.lexer.now c.args.lexer.now) (sym c.new-all.ensures.items) list_none;
+  within = omega arith;
+}
+
+pub array_items-items-preserved-in-Continue-branch-2 : goal.array_items-items-preserved-in-Continue-branch-2
+array_items-items-preserved-in-Continue-branch-2 t c =
+    let same : left c.take.new.self ≡ left c.items.lexer = ap left (c.take.ensures.stays c.items-test.true) in
+    let comma = takes_from (c.take.ensures.stays c.items-test.true) (c.take-in-items.ensures.takes c.if-take.true) in
+    let told_all = map_pushed (inside told_expr) c.items.all.items _ c.in_ok-hole.hole _ c.in_ok-push.ensures.items c.in_ok-hole.ensures.told in
+    let view_all = map_pushed (inside view_expr) c.items.all.items _ c.in_ok-hole.hole _ c.in_ok-push.ensures.items c.in_ok-hole.ensures.view in
+    record {
+      so_far = hole_more _ _ c.items.invariant.so_far (record { same = sym (ap place_of (c.take.ensures.stays c.items-test.true)); stuck = record { is = c.take.ensures.missing c.items-test.true } })
+          (record { is = c.take-in-items.ensures.taken c.if-take.true; found = refl }) (pushed_as (inside view_expr) _ _ _ c.in_ok-hole.ensures.view c.in_ok-push.ensures.items);
+      within = omega (arith, same, c.take-in-items.ensures.shorter c.if-take.true, c.items.invariant.within);
+      placed = laid_more plain_elisions c.items.invariant.placed hole_item comma.same comma.leads told_all view_all;
+      closed = laid_last plain_elisions c.items.invariant.placed hole_item comma.same comma.leads told_all view_all;
+    }
+
+pub array_items-returns-in_err-item-clause-refused : goal.array_items-returns-in_err-item-clause-refused
+array_items-returns-in_err-item-clause-refused t c = passed _ c.in_err-item.ensures.refused c.from_residual-in_err-item.ensures.1
+    (λ b. none_here _ c.items.invariant.so_far (record { same = sym (ap place_of (c.take.ensures.stays c.items-test.true)); stuck = record { is = c.take.ensures.missing c.items-test.true } })
+    (record { same = sym (ap place_of (c.take-in-items.ensures.stays c.if-take.false)); stuck = record { is = c.take-in-items.ensures.missing c.if-take.false } }) b)
+
+pub array_items-returns-in_err-expect-clause-refused : goal.array_items-returns-in_err-expect-clause-refused
+array_items-returns-in_err-expect-clause-refused t c = passed _ c.in_err-expect.ensures.refused c.from_residual-in_err-expect.ensures.1
+    (λ b. unshut _ c.items.invariant.so_far (before (record { same = sym (ap place_of (c.take.ensures.stays c.items-test.true)); stuck = record { is = c.take.ensures.missing c.items-test.true } })
+    (record { same = sym (ap place_of (c.take-in-items.ensures.stays c.if-take.false)); stuck = record { is = c.take-in-items.ensures.missing c.if-take.false } }) c.in_ok-item.ensures.read)
+    (record { same = sym (ap place_of (c.take-else-take.ensures.stays c.if-not-take.true)); stuck = record { is = c.take-else-take.ensures.missing c.if-not-take.true } }) b)
+
+pub array_items-returns-then-not-take-clause-read : goal.array_items-returns-then-not-take-clause-read
+array_items-returns-then-not-take-clause-read t c = shut_behind _ _ c.items.invariant.so_far (before (record { same = sym (ap place_of (c.take.ensures.stays c.items-test.true)); stuck = record { is = c.take.ensures.missing c.items-test.true } })
+    (record { same = sym (ap place_of (c.take-in-items.ensures.stays c.if-take.false)); stuck = record { is = c.take-in-items.ensures.missing c.if-take.false } }) c.in_ok-item.ensures.read)
+    (record { same = sym (ap place_of (c.take-else-take.ensures.stays c.if-not-take.true)); stuck = record { is = c.take-else-take.ensures.missing c.if-not-take.true } }) c.in_ok-expect.ensures.read (pushed (inside view_expr) _ _ _ c.in_ok-push-2.ensures.items)
+
+pub array_items-returns-then-not-take-clause-placed : goal.array_items-returns-then-not-take-clause-placed
+array_items-returns-then-not-take-clause-placed t c =
+    let item = placed_from (c.take.ensures.stays c.items-test.true) (placed_from (c.take-in-items.ensures.stays c.if-take.false) c.in_ok-item.ensures.placed) in
+    row_list (list_to (c.take-else-take.ensures.stays c.if-not-take.true) (front_last plain_elisions c.items.invariant.placed item refl (trails _ c.in_ok-item.ensures.read (no_trailing _ (c.take-else-take.ensures.missing c.if-not-take.true)))
+    (map_pushed (inside told_expr) c.items.all.items _ c.in_ok-item.item _ c.in_ok-push-2.ensures.items refl) (map_pushed (inside view_expr) c.items.all.items _ c.in_ok-item.item _ c.in_ok-push-2.ensures.items refl)))
+    (row_sign c.in_ok-expect.ensures.takes row_end)
+
+pub array_items-returns-then-not-take-clause-ended : goal.array_items-returns-then-not-take-clause-ended
+array_items-returns-then-not-take-clause-ended t c = sign_ended c.in_ok-expect.ensures.read.past
+
+pub array_items-items-preserved : goal.array_items-items-preserved
+array_items-items-preserved t c =
+    let same : left c.take.new.self ≡ left c.items.lexer = ap left (c.take.ensures.stays c.items-test.true) in
+    let same' : left c.take-in-items.new.self ≡ left c.take.new.self = ap left (c.take-in-items.ensures.stays c.if-take.false) in
+    let item = placed_from (c.take.ensures.stays c.items-test.true) (placed_from (c.take-in-items.ensures.stays c.if-take.false) c.in_ok-item.ensures.placed) in
+    let comma = c.take-else-take.ensures.takes c.if-not-take.false in
+    let told_all = map_pushed (inside told_expr) c.items.all.items _ c.in_ok-item.item _ c.in_ok-push-2.ensures.items refl in
+    let view_all = map_pushed (inside view_expr) c.items.all.items _ c.in_ok-item.item _ c.in_ok-push-2.ensures.items refl in
+    record {
+      so_far = filled_more _ _ c.items.invariant.so_far (before (record { same = sym (ap place_of (c.take.ensures.stays c.items-test.true)); stuck = record { is = c.take.ensures.missing c.items-test.true } })
+          (record { same = sym (ap place_of (c.take-in-items.ensures.stays c.if-take.false)); stuck = record { is = c.take-in-items.ensures.missing c.if-take.false } }) c.in_ok-item.ensures.read)
+          (record { is = c.take-else-take.ensures.taken c.if-not-take.false; found = refl }) (pushed (inside view_expr) _ _ _ c.in_ok-push-2.ensures.items);
+      within = omega (arith, same, same', c.take-else-take.ensures.shorter c.if-not-take.false, c.in_ok-item.ensures.shorter, c.items.invariant.within);
+      placed = front_more plain_elisions c.items.invariant.placed item comma.same comma.leads told_all view_all;
+      closed = front_last plain_elisions c.items.invariant.placed item comma.same (trails _ c.in_ok-item.ensures.read (takes_trailing comma)) told_all view_all;
+    }
+
+pub array_items-returns-clause-read : goal.array_items-returns-clause-read
+array_items-returns-clause-read t c = shut _ c.items.invariant.so_far (record { is = c.take.ensures.taken c.items-test.false; found = refl })
+
+pub array_items-returns-clause-placed : goal.array_items-returns-clause-placed
+array_items-returns-clause-placed t c = row_list c.items.invariant.closed (row_sign (c.take.ensures.takes c.items-test.false) row_end)
+
+pub array_items-returns-clause-ended : goal.array_items-returns-clause-ended
+array_items-returns-clause-ended t c = settled_token Operator Punctuator (codes "]") (place_of c.items.lexer) refl (sym (c.take.ensures.taken c.items-test.false)) refl
+
+pub array-returns-clause-read : goal.array-returns-clause-read
+array-returns-clause-read t c = record { parts = _; is = c.in_ok-array.ensures.view; row = c.in_ok-all.ensures.read }
+
+pub array-returns-clause-placed : goal.array-returns-clause-placed
+array-returns-clause-placed t c = record {
+  on = λ w sign begins. placed_as c.in_ok-array.ensures.told c.in_ok-array.ensures.view (array_row sign c.in_ok-all.ensures.placed (spans_from c.span_to.ensures refl (c.last_place-lo.ensures ∙ begins) refl));
+}
+
+pub spread-returns-clause-read : goal.spread-returns-clause-read
+spread-returns-clause-read t c = built_1 refl c.in_ok-inner.ensures.read c.in_ok-spread.ensures.view
+
+pub spread-returns-in_err-inner-clause-refused : goal.spread-returns-in_err-inner-clause-refused
+spread-returns-in_err-inner-clause-refused t c = passed _ c.in_err-inner.ensures.refused c.from_residual.ensures.1 (λ b. bar b)
+
+pub spread-returns-clause-placed : goal.spread-returns-clause-placed
+spread-returns-clause-placed t c = record {
+  on = λ w sign begins. placed_as c.in_ok-spread.ensures.told c.in_ok-spread.ensures.view (spread_row sign c.in_ok-inner.ensures.placed (spans_from c.span_to.ensures refl (c.last_place-lo.ensures ∙ begins) refl));
+}
+
+pub open-returns-in_ok-array-in-Array-clause-read : goal.open-returns-in_ok-array-in-Array-clause-read
+open-returns-in_ok-array-in-Array-clause-read t c =
+    opened_node c.args.opening opening.Array c.in-Array.is (kept_behind (opening_kind opening.Array) (opening_listed opening.Array refl) refl refl c.in_ok-array-in-Array.ensures.read)
+
+pub open-returns-in_err-array-in-Array-clause-refused : goal.open-returns-in_err-array-in-Array-clause-refused
+open-returns-in_err-array-in-Array-clause-refused t c = passed _ c.in_err-array-in-Array.ensures.refused c.from_residual-in_err-array-in-Array.ensures.1 (λ n. opened_none c.args.opening opening.Array c.in-Array.is n)
 
 pub prefix_update-returns-in_err-operand-clause-refused : goal.prefix_update-returns-in_err-operand-clause-refused
 prefix_update-returns-in_err-operand-clause-refused t c = passed _ c.in_err-operand.ensures.refused c.from_residual.ensures.1 (λ b. bar (no_target b))

@@ -1,6 +1,6 @@
 use Rattle.std.proofs.Common.{◌≡◌, ◌+◌, ◌*◌, ◌<◌, ◌≤◌, map, true, false}
-use Rattle.jsx_tree.specs.Kinds.{Call, expression}
-use Rattle.jsx_tree.specs.Grammar.{Commas, TwoOrMore}
+use Rattle.jsx_tree.specs.Kinds.{Array, Call, expression}
+use Rattle.jsx_tree.specs.Grammar.{Commas, Elisions, TwoOrMore}
 use Rattle.jsx_tree.specs.Told.{tales, told_expr}
 use Rattle.jsx_tree.specs.View.{forest, inside, view_expr}
 use Rattle.jsx_tree.specs.Walk.{tail}
@@ -46,13 +46,36 @@ abbrev pub decreases-beginning : goal.decreases-beginning
 decreases-beginning l = 6 * left l.lexer.now
 
 abbrev pub decreases-open : goal.decreases-open
-decreases-open l = 6 * left l.lexer.now + 4
+decreases-open l = 6 * left l.lexer.now + 5
 
 abbrev pub decreases-unary : goal.decreases-unary
 decreases-unary l = 6 * left l.lexer.now + 3
 
 abbrev pub decreases-parenthesized : goal.decreases-parenthesized
 decreases-parenthesized l = 6 * left l.lexer.now + 3
+
+abbrev pub decreases-spread : goal.decreases-spread
+decreases-spread l = 6 * left l.lexer.now + 2
+
+abbrev pub decreases-array_item : goal.decreases-array_item
+decreases-array_item l = 6 * left l.lexer.now + 2
+
+abbrev pub decreases-array_items : goal.decreases-array_items
+decreases-array_items l = 6 * left l.lexer.now + 3
+
+abbrev pub invariant-array_items-items : goal.invariant-array_items-items
+invariant-array_items-items l = record {
+  so_far : Turn so_far (around_of l.context.around) (tail (row_so_far (expression Array))) (tail (row_so_far (expression Array))) (place_of l.fn.lexer) (place_of l.lexer) (prepend (forest (map (inside view_expr) l.all.items)));
+  placed : PlacedFront false Elisions (map (inside told_expr) l.all.items) (map (inside view_expr) l.all.items) l.fn.lexer l.lexer;
+  closed : IsPlacedListAs false Elisions (tales (map (inside told_expr) l.all.items)) (forest (map (inside view_expr) l.all.items)) l.fn.lexer l.lexer;
+  within : left l.lexer ≤ left l.fn.lexer;
+}
+
+abbrev pub decreases-array_items-items : goal.decreases-array_items-items
+decreases-array_items-items l = left l.lexer
+
+abbrev pub decreases-array : goal.decreases-array
+decreases-array l = 6 * left l.lexer.now + 4
 
 abbrev pub decreases-argument : goal.decreases-argument
 decreases-argument l = 6 * left l.lexer.now + 2

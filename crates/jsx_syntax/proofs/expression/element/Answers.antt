@@ -1,4 +1,3 @@
-use Rattle.jsx_syntax.specs.Around.{around_of}
 use Rattle.std.proofs.Common.{refl, ◌∙◌}
 use Rattle.jsx_tree.specs.Grammar.{Spaced, Many}
 use Rattle.jsx_tree.specs.Kinds.{list, none}

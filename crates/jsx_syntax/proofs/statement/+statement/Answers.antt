@@ -1,15 +1,20 @@
-use Rattle.std.proofs.Common.{◌≡◌, false, [], arith, map, refl, sym, ◌∙◌, ap, subst}
-use Rattle.jsx_tree.specs.Grammar.{Lines}
+use Rattle.std.proofs.Common.{◌≡◌, true, false, cond, [], arith, map, refl, sym, ◌∙◌, ap, subst}
+use Rattle.std.specs.Prelude.{◌&&◌, ◌||◌}
+use Rattle.jsx_tree.specs.Walk.{one}
+use Rattle.jsx_tree.specs.Grammar.{Lines, Fixed, Part, key}
+use Rattle.jsx_tree.specs.Nonterminals.{Stmt}
+use Rattle.jsx_tree.specs.StaticRules.{is_default}
 use Rattle.jsx_tree.specs.Kinds.{ExprStmt, statement, list, none, part}
 use Rattle.jsx_tree.specs.Spans.{no_tales, tale}
-use Rattle.jsx_tree.specs.Told.{tales, told_list, told_stmt}
-use Rattle.jsx_tree.specs.View.{forest, inside, view_stmt}
-use Rattle.jsx_tree.specs.Answers.{OnlyRow, NoNode, BuiltNode}
+use Rattle.jsx_tree.specs.Told.{tales, told_control, told_list, told_stmt}
+use Rattle.jsx_tree.specs.View.{forest, inside, view_control, view_stmt}
+use Rattle.jsx_tree.specs.Answers.{Only, Barred, OnlyRow, NoNode, BuiltNode}
 use Rattle.jsx_tree.proofs.Rows.Bridge.{found_at}
 use Rattle.jsx_tree.proofs.Rows.Lists.{begun}
 use Rattle.jsx_tree.proofs.Rows.Placing.{no_node}
 use Rattle.jsx_tree.proofs.Rows.Steps.{bar, on, only_sign}
 use Rattle.jsx_syntax.specs.Around.{around_of}
+use Rattle.jsx_syntax.specs.Cases.{IsBody}
 use Rattle.jsx_syntax.specs.Statements.{alternative_row, alternative_symbols}
 use Rattle.jsx_token.specs.Here.{place_of, left}
 use Rattle.jsx_token.specs.Marks.{row_so_far}
@@ -17,13 +22,15 @@ use Rattle.jsx_syntax.specs.SoFar.{so_far}
 use Rattle.jsx_syntax.specs.Spans.{IsPlacedList, IsPlacedRow}
 use Rattle.jsx_syntax.proofs.Blocks.{block_built, line_barred, line_ended, line_more}
 use Rattle.jsx_syntax.proofs.Controls.{barred_in, do_built, no_while_body, only_in, while_built}
+use Rattle.jsx_syntax.proofs.Cases.{ahead_more, ahead_none, body_barred, body_ended, body_more, case_at, case_is, case_word, cases_barred, cases_ended, cases_more, default_is, defaults, defaults_next, few_defaults, more_defaults, no_case, no_clause, no_default, no_switch_brace, no_switch_cases, second_default, switch_built}
+use Rattle.jsx_syntax.proofs.Heads.{for_built, no_for_body, no_for_initial, no_for_test, no_for_update}
 use Rattle.jsx_syntax.proofs.Elses.{if_built, no_else, none_else, some_else}
 use Rattle.jsx_syntax.proofs.Statements.{headed_barred, headed_only, homeless_barred, lexical_home, nested_home, plain_barred, plain_only, stmt_home, stmts, subs}
 use Rattle.jsx_syntax.proofs.Steps.{passed}
 use Rattle.jsx_syntax.proofs.Trees.{pushed}
-use Rattle.jsx_syntax.proofs.Placing.{PlacedFront, plain_lines, front_last, front_more, front_none, list_none, map_pushed, placed_as, placed_from, row_end, row_list, row_quiet, row_sign, takes_ends}
+use Rattle.jsx_syntax.proofs.Placing.{PlacedFront, plain_lines, front_last, front_more, front_none, list_none, map_pushed, placed_as, placed_from, row_end, row_list, row_quiet, row_sign, takes_ends, list_to}
 use Rattle.jsx_syntax.proofs.Places.{spans_from}
-use Rattle.jsx_syntax.proofs.PlacedNodes.{block_placed, do_placed, else_placed, if_placed, no_else_placed, while_placed}
+use Rattle.jsx_syntax.proofs.PlacedNodes.{block_placed, case_placed, default_placed, do_placed, else_placed, for_placed, if_placed, no_else_placed, switch_placed, while_placed}
 use Rattle.jsx_syntax.proofs.statement.+statement.Goals as goal
 
 pub statements-statements-init : goal.statements-statements-init
@@ -167,6 +174,179 @@ while_statement-returns-clause-read t c = while_built c.of_loop.ensures c.in_ok-
 pub while_statement-returns-clause-placed : goal.while_statement-returns-clause-placed
 while_statement-returns-clause-placed t c = record {
   on = λ w sign begins. placed_as c.in_ok-while_statement.ensures.told c.in_ok-while_statement.ensures.view (while_placed sign c.in_ok-expect.ensures.takes c.in_ok-test.ensures.placed c.in_ok-expect-2.ensures.takes c.in_ok-body.ensures.placed (spans_from c.span_to-span.ensures refl (c.last_place-lo.ensures ∙ begins) refl));
+}
+
+pub for_statement-returns-in_err-expect-clause-refused : goal.for_statement-returns-in_err-expect-clause-refused
+for_statement-returns-in_err-expect-clause-refused t c = passed _ c.in_err-expect.ensures.refused c.from_residual.ensures.1 (λ b. no_node (bar b))
+
+pub for_statement-returns-in_err-init-clause-refused : goal.for_statement-returns-in_err-init-clause-refused
+for_statement-returns-in_err-init-clause-refused t c = passed _ c.in_err-init.ensures.refused c.from_residual-in_err-init.ensures.1 (λ n. no_for_initial c.in_ok-expect.ensures.read n)
+
+pub for_statement-returns-in_err-test-clause-refused : goal.for_statement-returns-in_err-test-clause-refused
+for_statement-returns-in_err-test-clause-refused t c = passed _ c.in_err-test.ensures.refused c.from_residual-in_err-test.ensures.1 (λ n. no_for_test c.in_ok-expect.ensures.read c.in_ok-init.ensures.read n)
+
+pub for_statement-returns-in_err-update-clause-refused : goal.for_statement-returns-in_err-update-clause-refused
+for_statement-returns-in_err-update-clause-refused t c = passed _ c.in_err-update.ensures.refused c.from_residual-in_err-update.ensures.1 (λ n. no_for_update c.in_ok-expect.ensures.read c.in_ok-init.ensures.read c.in_ok-test.ensures.read n)
+
+pub for_statement-returns-in_err-body-clause-refused : goal.for_statement-returns-in_err-body-clause-refused
+for_statement-returns-in_err-body-clause-refused t c = passed _ c.in_err-body.ensures.refused c.from_residual-in_err-body.ensures.1
+    (λ b. no_for_body c.of_loop.ensures c.in_ok-expect.ensures.read c.in_ok-init.ensures.read c.in_ok-test.ensures.read c.in_ok-update.ensures.read b)
+
+pub for_statement-returns-clause-read : goal.for_statement-returns-clause-read
+for_statement-returns-clause-read t c = for_built c.of_loop.ensures c.in_ok-expect.ensures.read c.in_ok-init.ensures.read c.in_ok-init.ensures.closed c.in_ok-test.ensures.read c.in_ok-update.ensures.read c.in_ok-body.ensures.read c.in_ok-for_statement.ensures.view
+
+pub for_statement-returns-clause-placed : goal.for_statement-returns-clause-placed
+for_statement-returns-clause-placed t c = record {
+  on = λ w sign begins. placed_as c.in_ok-for_statement.ensures.told c.in_ok-for_statement.ensures.view
+      (for_placed sign c.in_ok-expect.ensures.takes c.in_ok-init.ensures.placed c.in_ok-test.ensures.placed c.in_ok-update.ensures.placed c.in_ok-body.ensures.placed (spans_from c.span_to-span.ensures refl (c.last_place-lo.ensures ∙ begins) refl));
+}
+
+pub case_body-statements-init : goal.case_body-statements-init
+case_body-statements-init t c = record {
+  ahead = ahead_none _ (ap (λ xs. forest (map (inside view_stmt) xs)) c.new-all.ensures.items);
+  so_far = begun _ (ap (λ xs. forest (map (inside view_stmt) xs)) c.new-all.ensures.items);
+  placed = subst (λ xs. PlacedFront false Lines (map (inside told_stmt) xs) (map (inside view_stmt) xs) c.args.lexer.now c.args.lexer.now) (sym c.new-all.ensures.items) front_none;
+  closed = subst (λ xs. IsPlacedList Lines (tales (map (inside told_stmt) xs)) (forest (map (inside view_stmt) xs)) c.args.lexer.now c.args.lexer.now) (sym c.new-all.ensures.items) list_none;
+  within = omega arith;
+}
+
+pub case_body-returns-in_err-next-clause-refused : goal.case_body-returns-in_err-next-clause-refused
+case_body-returns-in_err-next-clause-refused t c =
+    passed _ c.in_err-next.ensures.refused c.from_residual.ensures.1
+    (λ b. body_barred _ c.statements.invariant.so_far (sym c.ends_case.ensures.ahead ∙ c.statements-test.true) (subst (λ h. Barred so_far (around_of c.args.context.around) (Part Stmt) (place_of h)) c.ends_case.ensures.stays b))
+
+pub case_body-statements-preserved : goal.case_body-statements-preserved
+case_body-statements-preserved t c =
+    let same : left c.ends_case.new.self ≡ left c.statements.lexer = ap left c.ends_case.ensures.stays in
+    let next = placed_from c.ends_case.ensures.stays c.in_ok-next.ensures.placed in
+    let read = subst (λ p. Only so_far (around_of c.args.context.around) (Part Stmt) p (one (view_stmt c.in_ok-next.next.value)) (place_of c.statement.new.lexer)) (ap place_of c.ends_case.ensures.stays) c.in_ok-next.ensures.read in
+    let told_all = map_pushed (inside told_stmt) c.statements.all.items _ c.in_ok-next.next _ c.in_ok-push.ensures.items refl in
+    let view_all = map_pushed (inside view_stmt) c.statements.all.items _ c.in_ok-next.next _ c.in_ok-push.ensures.items refl in
+    record {
+      ahead = ahead_more _ _ c.statements.invariant.ahead read (pushed (inside view_stmt) _ _ _ c.in_ok-push.ensures.items);
+      so_far = body_more _ _ c.statements.invariant.so_far (sym c.ends_case.ensures.ahead ∙ c.statements-test.true) read (pushed (inside view_stmt) _ _ _ c.in_ok-push.ensures.items);
+      within = omega (arith, same, c.in_ok-next.ensures.shorter, c.statements.invariant.within);
+      placed = front_more plain_lines c.statements.invariant.placed next refl refl told_all view_all;
+      closed = front_last plain_lines c.statements.invariant.placed next refl refl told_all view_all;
+    }
+
+pub case_body-returns-clause-read : goal.case_body-returns-clause-read
+case_body-returns-clause-read t c =
+    subst (λ p. IsBody (around_of c.args.context.around) (place_of c.args.lexer.now) (list (forest (map (inside view_stmt) c.statements.all.items))) p) (sym (ap place_of c.ends_case.ensures.stays))
+    (body_ended _ c.statements.invariant.ahead c.statements.invariant.so_far (sym c.ends_case.ensures.ahead ∙ c.statements-test.false) refl)
+
+pub case_body-returns-clause-placed : goal.case_body-returns-clause-placed
+case_body-returns-clause-placed t c = list_to c.ends_case.ensures.stays c.statements.invariant.closed
+
+pub default_clause-returns-in_err-expect-clause-refused : goal.default_clause-returns-in_err-expect-clause-refused
+default_clause-returns-in_err-expect-clause-refused t c = passed _ c.in_err-expect.ensures.refused c.from_residual.ensures.1 (λ b. bar b)
+
+pub default_clause-returns-in_err-body-clause-refused : goal.default_clause-returns-in_err-body-clause-refused
+default_clause-returns-in_err-body-clause-refused t c = passed _ c.in_err-body.ensures.refused c.from_residual-in_err-body.ensures.1 (λ n. on c.in_ok-expect.ensures.read n)
+
+pub case_clause-returns-in_err-default_clause-clause-refused : goal.case_clause-returns-in_err-default_clause-clause-refused
+case_clause-returns-in_err-default_clause-clause-refused t c = passed _ c.in_err-default_clause.ensures.refused c.from_residual.ensures.1 (λ n. no_default (record { is = c.take.ensures.taken c.if-take.true; found = refl }) n)
+
+pub case_clause-returns-then-take-clause-read : goal.case_clause-returns-then-take-clause-read
+case_clause-returns-then-take-clause-read t c = default_is (record { is = c.take.ensures.taken c.if-take.true; found = refl }) c.in_ok-default_clause.ensures.read
+
+pub default_clause-returns-clause-read : goal.default_clause-returns-clause-read
+default_clause-returns-clause-read t c = record { body = _; begin = _; is = c.in_ok-case_clause.ensures.view; colon = sym (c.in_ok-expect.ensures.takes.leads); reads = c.in_ok-body.ensures.read }
+
+pub default_clause-returns-clause-placed : goal.default_clause-returns-clause-placed
+default_clause-returns-clause-placed t c = record {
+  on = λ w sign begins. placed_as c.in_ok-case_clause.ensures.told c.in_ok-case_clause.ensures.view (default_placed sign c.in_ok-expect.ensures.takes c.in_ok-body.ensures.placed (spans_from c.span_to-span.ensures refl (c.last_place-lo.ensures ∙ begins) refl));
+}
+
+pub case_clause-returns-then-take-clause-placed : goal.case_clause-returns-then-take-clause-placed
+case_clause-returns-then-take-clause-placed t c = c.in_ok-default_clause.ensures.placed.on c.args.lexer.now (c.take.ensures.takes c.if-take.true) (c.take.ensures.begins c.if-take.true)
+
+pub case_clause-returns-in_err-expect-clause-refused : goal.case_clause-returns-in_err-expect-clause-refused
+case_clause-returns-in_err-expect-clause-refused t c = passed _ c.in_err-expect.ensures.refused c.from_residual-in_err-expect.ensures.1 (λ b. no_clause (c.take.ensures.missing c.if-take.false) (subst (λ h. Barred so_far (around_of c.args.context.around) (Fixed (key "case")) (place_of h)) (c.take.ensures.stays c.if-take.false) b))
+
+pub case_clause-returns-in_err-test-clause-refused : goal.case_clause-returns-in_err-test-clause-refused
+case_clause-returns-in_err-test-clause-refused t c = passed _ c.in_err-test.ensures.refused c.from_residual-in_err-test.ensures.1 (λ b. no_case (case_word (c.take.ensures.stays c.if-take.false) c.in_ok-expect.ensures.takes) (bar b))
+
+pub case_clause-returns-in_err-expect-2-clause-refused : goal.case_clause-returns-in_err-expect-2-clause-refused
+case_clause-returns-in_err-expect-2-clause-refused t c = passed _ c.in_err-expect-2.ensures.refused c.from_residual-in_err-expect-2.ensures.1 (λ b. no_case (case_word (c.take.ensures.stays c.if-take.false) c.in_ok-expect.ensures.takes) (on c.in_ok-test.ensures.read (bar b)))
+
+pub case_clause-returns-in_err-body-clause-refused : goal.case_clause-returns-in_err-body-clause-refused
+case_clause-returns-in_err-body-clause-refused t c = passed _ c.in_err-body.ensures.refused c.from_residual-in_err-body.ensures.1
+    (λ n. no_case (case_word (c.take.ensures.stays c.if-take.false) c.in_ok-expect.ensures.takes) (on c.in_ok-test.ensures.read (on c.in_ok-expect-2.ensures.read n)))
+
+pub case_clause-returns-clause-read : goal.case_clause-returns-clause-read
+case_clause-returns-clause-read t c = case_is (case_word (c.take.ensures.stays c.if-take.false) c.in_ok-expect.ensures.takes) c.in_ok-test.ensures.read c.in_ok-expect-2.ensures.read c.in_ok-body.ensures.read c.in_ok-case_clause.ensures.view
+
+pub case_clause-returns-clause-placed : goal.case_clause-returns-clause-placed
+case_clause-returns-clause-placed t c =
+    placed_from (c.take.ensures.stays c.if-take.false)
+    (placed_as c.in_ok-case_clause.ensures.told c.in_ok-case_clause.ensures.view (case_placed c.in_ok-expect.ensures.takes c.in_ok-test.ensures.placed c.in_ok-expect-2.ensures.takes c.in_ok-body.ensures.placed (spans_from c.span_to-span.ensures refl (c.last_place-lo.ensures ∙ c.in_ok-expect.ensures.begins) refl)))
+
+pub cases-cases-init : goal.cases-cases-init
+cases-cases-init t c = record {
+  so_far = begun _ (ap (λ xs. forest (map (inside view_control) xs)) c.new-all.ensures.items);
+  defaults = subst (λ xs. defaults (forest (map (inside view_control) xs)) ≡ 0) (sym c.new-all.ensures.items) refl;
+  placed = subst (λ xs. PlacedFront false Lines (map (inside told_control) xs) (map (inside view_control) xs) c.args.lexer.now c.args.lexer.now) (sym c.new-all.ensures.items) front_none;
+  closed = subst (λ xs. IsPlacedList Lines (tales (map (inside told_control) xs)) (forest (map (inside view_control) xs)) c.args.lexer.now c.args.lexer.now) (sym c.new-all.ensures.items) list_none;
+  within = omega arith;
+}
+
+pub cases-returns-in_err-next-clause-refused : goal.cases-returns-in_err-next-clause-refused
+cases-returns-in_err-next-clause-refused t c = passed _ c.in_err-next.ensures.refused c.from_residual.ensures.1 (λ n. cases_barred _ c.cases.invariant.so_far (record { same = sym (ap place_of (c.take.ensures.stays c.cases-test.true)); stuck = record { is = c.take.ensures.missing c.cases-test.true } }) n)
+
+pub cases-returns-in_err-has_default-clause-refused : goal.cases-returns-in_err-has_default-clause-refused
+cases-returns-in_err-has_default-clause-refused t c = passed _ c.in_err-has_default.ensures.refused c.from_residual-in_err-has_default.ensures.1
+    (λ b. second_default c.cases.has_default _ c.cases.invariant.so_far (case_at (c.take.ensures.stays c.cases-test.true) c.in_ok-next.ensures.read) c.cases.invariant.defaults (subst (λ s. (c.cases.has_default && is_default (view_control s)) ≡ true) c.deref.ensures b))
+
+pub cases-cases-preserved : goal.cases-cases-preserved
+cases-cases-preserved t c =
+    let same : left c.take.new.self ≡ left c.cases.lexer = ap left (c.take.ensures.stays c.cases-test.true) in
+    let next = placed_from (c.take.ensures.stays c.cases-test.true) c.in_ok-next.ensures.placed in
+    let told_all = map_pushed (inside told_control) c.cases.all.items _ c.in_ok-next.next _ c.in_ok-push.ensures.items refl in
+    let view_all = map_pushed (inside view_control) c.cases.all.items _ c.in_ok-next.next _ c.in_ok-push.ensures.items refl in
+    let all = pushed (inside view_control) _ _ _ c.in_ok-push.ensures.items in
+    record {
+      so_far = cases_more _ _ c.cases.invariant.so_far (case_at (c.take.ensures.stays c.cases-test.true) c.in_ok-next.ensures.read) all;
+      defaults = ap defaults all ∙ (defaults_next c.cases.has_default (is_default (view_control c.in_ok-next.next.value)) _ _ c.cases.invariant.defaults (subst (λ s. (c.cases.has_default && is_default (view_control s)) ≡ false) c.deref.ensures c.in_ok-has_default.ensures.one) (more_defaults (forest (map (inside view_control) c.cases.all.items)) (view_control c.in_ok-next.next.value)) ∙ ap (λ b. cond b 1 0) (sym (subst (λ s. c.in_ok-has_default.has_default ≡ (c.cases.has_default || is_default (view_control s))) c.deref.ensures c.in_ok-has_default.ensures.has)));
+      within = omega (arith, same, c.in_ok-next.ensures.shorter, c.cases.invariant.within);
+      placed = front_more plain_lines c.cases.invariant.placed next refl refl told_all view_all;
+      closed = front_last plain_lines c.cases.invariant.placed next refl refl told_all view_all;
+    }
+
+pub cases-returns-clause-one_default : goal.cases-returns-clause-one_default
+cases-returns-clause-one_default t c = few_defaults c.cases.has_default (forest (map (inside view_control) c.cases.all.items)) c.cases.invariant.defaults
+
+pub cases-returns-clause-read : goal.cases-returns-clause-read
+cases-returns-clause-read t c = cases_ended _ c.cases.invariant.so_far (record { is = c.take.ensures.taken c.cases-test.false; found = refl })
+
+pub cases-returns-clause-placed : goal.cases-returns-clause-placed
+cases-returns-clause-placed t c = row_list c.cases.invariant.closed (row_quiet (λ q. refl) (row_sign (c.take.ensures.takes c.cases-test.false) row_end))
+
+pub switch_statement-returns-in_err-expect-clause-refused : goal.switch_statement-returns-in_err-expect-clause-refused
+switch_statement-returns-in_err-expect-clause-refused t c = passed _ c.in_err-expect.ensures.refused c.from_residual.ensures.1 (λ b. no_node (bar b))
+
+pub switch_statement-returns-in_err-value-clause-refused : goal.switch_statement-returns-in_err-value-clause-refused
+switch_statement-returns-in_err-value-clause-refused t c = passed _ c.in_err-value.ensures.refused c.from_residual-in_err-value.ensures.1 (λ b. no_node (on c.in_ok-expect.ensures.read (bar b)))
+
+pub switch_statement-returns-in_err-expect-2-clause-refused : goal.switch_statement-returns-in_err-expect-2-clause-refused
+switch_statement-returns-in_err-expect-2-clause-refused t c = passed _ c.in_err-expect-2.ensures.refused c.from_residual-in_err-expect-2.ensures.1 (λ b. no_node (on c.in_ok-expect.ensures.read (on c.in_ok-value.ensures.read (bar b))))
+
+pub switch_statement-returns-in_err-expect-3-clause-refused : goal.switch_statement-returns-in_err-expect-3-clause-refused
+switch_statement-returns-in_err-expect-3-clause-refused t c = passed _ c.in_err-expect-3.ensures.refused c.from_residual-in_err-expect-3.ensures.1
+    (λ b. no_switch_brace c.of_switch-context.ensures c.in_ok-expect.ensures.read c.in_ok-value.ensures.read c.in_ok-expect-2.ensures.read b)
+
+pub switch_statement-returns-in_err-all-clause-refused : goal.switch_statement-returns-in_err-all-clause-refused
+switch_statement-returns-in_err-all-clause-refused t c = passed _ c.in_err-all.ensures.refused c.from_residual-in_err-all.ensures.1
+    (λ n. no_switch_cases c.of_switch-context.ensures c.in_ok-expect.ensures.read c.in_ok-value.ensures.read c.in_ok-expect-2.ensures.read c.in_ok-expect-3.ensures.read n)
+
+pub switch_statement-returns-clause-read : goal.switch_statement-returns-clause-read
+switch_statement-returns-clause-read t c =
+    switch_built c.of_switch-context.ensures c.in_ok-expect.ensures.read c.in_ok-value.ensures.read c.in_ok-expect-2.ensures.read c.in_ok-expect-3.ensures.read c.in_ok-all.ensures.read c.in_ok-all.ensures.one_default c.in_ok-switch_statement.ensures.view
+
+pub switch_statement-returns-clause-placed : goal.switch_statement-returns-clause-placed
+switch_statement-returns-clause-placed t c = record {
+  on = λ w sign begins. placed_as c.in_ok-switch_statement.ensures.told c.in_ok-switch_statement.ensures.view
+      (switch_placed sign c.in_ok-expect.ensures.takes c.in_ok-value.ensures.placed c.in_ok-expect-2.ensures.takes c.in_ok-expect-3.ensures.takes c.in_ok-all.ensures.placed (spans_from c.span_to-span.ensures refl (c.last_place-lo.ensures ∙ begins) refl));
 }
 
 pub nested-returns-in_default-clause-read : goal.nested-returns-in_default-clause-read

@@ -1,13 +1,15 @@
-use Rattle.std.proofs.Common.{◌≡◌, false, ◌+◌, ◌*◌, ◌≤◌, map}
+use Rattle.std.proofs.Common.{◌≡◌, false, cond, ◌+◌, ◌*◌, ◌≤◌, map}
 use Rattle.jsx_tree.specs.Grammar.{Lines}
-use Rattle.jsx_tree.specs.Told.{tales, told_stmt}
-use Rattle.jsx_tree.specs.View.{forest, inside, view_stmt}
+use Rattle.jsx_tree.specs.Told.{tales, told_control, told_stmt}
+use Rattle.jsx_tree.specs.View.{forest, inside, view_control, view_stmt}
 use Rattle.jsx_tree.proofs.Rows.Turns.{Turn, prepend}
 use Rattle.jsx_syntax.specs.Around.{around_of}
 use Rattle.jsx_token.specs.Here.{place_of, left}
 use Rattle.jsx_syntax.specs.SoFar.{so_far}
 use Rattle.jsx_syntax.specs.Spans.{IsPlacedList}
+use Rattle.jsx_syntax.specs.Cases.{body_row, cases_row}
 use Rattle.jsx_syntax.proofs.Blocks.{braced}
+use Rattle.jsx_syntax.proofs.Cases.{Ahead, defaults}
 use Rattle.jsx_syntax.proofs.Placing.{PlacedFront}
 use Rattle.jsx_syntax.proofs.statement.+statement.Given as goal
 
@@ -35,6 +37,24 @@ decreases-do_statement l = 6 * left l.lexer.now + 3
 abbrev pub decreases-while_statement : goal.decreases-while_statement
 decreases-while_statement l = 6 * left l.lexer.now + 3
 
+abbrev pub decreases-for_statement : goal.decreases-for_statement
+decreases-for_statement l = 6 * left l.lexer.now + 3
+
+abbrev pub decreases-case_body : goal.decreases-case_body
+decreases-case_body l = 6 * left l.lexer.now + 2
+
+abbrev pub decreases-default_clause : goal.decreases-default_clause
+decreases-default_clause l = 6 * left l.lexer.now + 3
+
+abbrev pub decreases-case_clause : goal.decreases-case_clause
+decreases-case_clause l = 6 * left l.lexer.now + 3
+
+abbrev pub decreases-cases : goal.decreases-cases
+decreases-cases l = 6 * left l.lexer.now + 4
+
+abbrev pub decreases-switch_statement : goal.decreases-switch_statement
+decreases-switch_statement l = 6 * left l.lexer.now + 3
+
 abbrev pub decreases-headed : goal.decreases-headed
 decreases-headed l = 6 * left l.lexer.now + 4
 
@@ -48,3 +68,27 @@ invariant-statements-statements l = record {
 
 abbrev pub decreases-statements-statements : goal.decreases-statements-statements
 decreases-statements-statements l = left l.lexer
+
+abbrev pub invariant-case_body-statements : goal.invariant-case_body-statements
+invariant-case_body-statements l = record {
+  ahead : Ahead (around_of l.context.around) (place_of l.fn.lexer) (forest (map (inside view_stmt) l.all.items)) (place_of l.lexer);
+  so_far : Turn so_far (around_of l.context.around) body_row body_row (place_of l.fn.lexer) (place_of l.lexer) (prepend (forest (map (inside view_stmt) l.all.items)));
+  placed : PlacedFront false Lines (map (inside told_stmt) l.all.items) (map (inside view_stmt) l.all.items) l.fn.lexer l.lexer;
+  closed : IsPlacedList Lines (tales (map (inside told_stmt) l.all.items)) (forest (map (inside view_stmt) l.all.items)) l.fn.lexer l.lexer;
+  within : left l.lexer ≤ left l.fn.lexer;
+}
+
+abbrev pub decreases-case_body-statements : goal.decreases-case_body-statements
+decreases-case_body-statements l = left l.lexer
+
+abbrev pub invariant-cases-cases : goal.invariant-cases-cases
+invariant-cases-cases l = record {
+  so_far : Turn so_far (around_of l.context.around) cases_row cases_row (place_of l.fn.lexer) (place_of l.lexer) (prepend (forest (map (inside view_control) l.all.items)));
+  defaults : defaults (forest (map (inside view_control) l.all.items)) ≡ cond l.has_default 1 0;
+  placed : PlacedFront false Lines (map (inside told_control) l.all.items) (map (inside view_control) l.all.items) l.fn.lexer l.lexer;
+  closed : IsPlacedList Lines (tales (map (inside told_control) l.all.items)) (forest (map (inside view_control) l.all.items)) l.fn.lexer l.lexer;
+  within : left l.lexer ≤ left l.fn.lexer;
+}
+
+abbrev pub decreases-cases-cases : goal.decreases-cases-cases
+decreases-cases-cases l = left l.lexer

@@ -7,13 +7,17 @@ use Rattle.jsx_syntax.specs.SoFar.{so_far}
 use Rattle.jsx_syntax.specs.Around.{around_of}
 use Rattle.jsx_token.specs.Here.{place_of, left}
 use Rattle.jsx_tree.proofs.Rows.Turns.{Turn, prepend}
-use Rattle.jsx_syntax.proofs.Items.{behind_word, inits}
+use Rattle.jsx_syntax.specs.Heads.{free_row, marked_row}
+use Rattle.jsx_syntax.proofs.Items.{inits}
+use Rattle.jsx_syntax.proofs.Heads.{Leads}
 use Rattle.jsx_syntax.proofs.Placing.{PlacedFront}
 use Rattle.jsx_syntax.proofs.statement.declarators.Given as goal
 
 abbrev pub invariant-declarators : goal.invariant-declarators
 invariant-declarators l = record {
-  so_far : Turn so_far (around_of l.context.around) (behind_word (word_of l.word)) (behind_word (word_of l.word)) (place_of l.fn.lexer) (place_of l.lexer) (prepend (forest (map (inside view_pat) l.all.items)));
+  leads : Leads (around_of l.context.around) (place_of l.fn.lexer) (forest (map (inside view_pat) l.all.items)) (place_of l.lexer);
+  free : Turn so_far (around_of l.context.around) free_row free_row (place_of l.fn.lexer) (place_of l.lexer) (prepend (forest (map (inside view_pat) l.all.items)));
+  marked : Turn so_far (around_of l.context.around) marked_row marked_row (place_of l.fn.lexer) (place_of l.lexer) (prepend (forest (map (inside view_pat) l.all.items)));
   initialized : IsTrue (inits (word_of l.word) (forest (map (inside view_pat) l.all.items)));
   placed : PlacedFront false NoTrailing (map (inside told_pat) l.all.items) (map (inside view_pat) l.all.items) l.fn.lexer l.lexer;
   within : left l.lexer ≤ left l.fn.lexer;

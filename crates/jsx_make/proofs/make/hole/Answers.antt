@@ -1,0 +1,15 @@
+use Rattle.std.proofs.Common.{◌∙◌}
+use Rattle.jsx_tree.specs.declared.tree.Expr.TheVariants as expr
+use Rattle.jsx_tree.specs.declared.tree.Operation.TheVariants as operation
+use Rattle.jsx_tree.specs.View.{view_expr}
+use Rattle.jsx_tree.specs.Told.{told_expr}
+use Rattle.jsx_tree.proofs.Views.{view-Expr-Operation, view-Operation-Hole}
+use Rattle.jsx_tree.proofs.Telling.{told-Expr-Operation, told-Operation-Hole}
+use Rattle.jsx_make.proofs.Making.{shows}
+use Rattle.jsx_make.proofs.make.hole.Goals as goal
+
+pub returns-clause-view : goal.returns-clause-view
+returns-clause-view c = shows view_expr c.boxed.result (expr.Operation operation.Hole) c.boxed.ensures (view-Expr-Operation operation.Hole ∙ view-Operation-Hole)
+
+pub returns-clause-told : goal.returns-clause-told
+returns-clause-told c = shows told_expr c.boxed.result (expr.Operation operation.Hole) c.boxed.ensures (told-Expr-Operation operation.Hole ∙ told-Operation-Hole)
