@@ -19,9 +19,9 @@ use Rattle.jsx_tree.proofs.Rows.Turns.{whole_of}
 use Rattle.jsx_base.specs.Token.{breaks}
 use Rattle.jsx_token.specs.Here.{Here, place_of}
 use Rattle.jsx_token.specs.Marks.{row_so_far}
-use Rattle.jsx_syntax.specs.SoFar.{so_far}
-use Rattle.jsx_syntax.proofs.OfSoFar.{of_so_far}
-use Rattle.jsx_syntax.proofs.Homes.{no_idents}
+use Rattle.jsx_expression.specs.SoFar.{so_far}
+use Rattle.jsx_expression.proofs.OfSoFar.{of_so_far}
+use Rattle.jsx_expression.proofs.Homes.{no_idents}
 use Rattle.jsx_syntax.proofs.Items.{unless_none}
 use Rattle.jsx_syntax.proofs.Statements.{plain_node}
 

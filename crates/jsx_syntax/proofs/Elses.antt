@@ -23,14 +23,14 @@ use Rattle.jsx_tree.proofs.Rows.Laws.{end_found, lost_barred}
 use Rattle.jsx_tree.proofs.Rows.Optionals.{turn_absent, turn_present}
 use Rattle.jsx_tree.proofs.Rows.Steps.{end, then'}
 use Rattle.jsx_tree.proofs.Rows.Turns.{turn_only, whole_of}
-use Rattle.jsx_syntax.specs.SoFar.{Staged, so_far}
+use Rattle.jsx_expression.specs.SoFar.{Staged, so_far}
 use Rattle.jsx_token.specs.Marks.{row_so_far}
 use Rattle.jsx_syntax.specs.Statements.{Closes, alternative_row}
 use Rattle.jsx_token.specs.Headings.{heading_kind}
 use Rattle.jsx_token.specs.declared.heading.Heading.{Heading}
 use Rattle.jsx_token.proofs.Headings.{of_heading}
-use Rattle.jsx_syntax.proofs.OfSoFar.{of_so_far}
-use Rattle.jsx_syntax.proofs.Homes.{no_list, taken_by, home_of}
+use Rattle.jsx_expression.proofs.OfSoFar.{of_so_far}
+use Rattle.jsx_expression.proofs.Homes.{no_list, taken_by, home_of}
 use Rattle.jsx_syntax.proofs.Statements.{Spot, subs, spot_kind, unless_lost}
 
 -- ---- a token that is spelled `else` is that word

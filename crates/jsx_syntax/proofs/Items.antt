@@ -14,7 +14,7 @@ use Rattle.jsx_tree.specs.Walk.{is_found, nothing, one, Piece, piece, tail, Give
 use Rattle.jsx_tree.specs.Stops.{going}
 use Rattle.jsx_tree.specs.Language.{Language, Whole}
 use Rattle.jsx_tree.specs.Answers.{Moves, Stuck, Only, Barred, OnlyRow, NoRow, NoNode, BuiltNode}
-use Rattle.jsx_syntax.specs.SoFar.{Staged, so_far}
+use Rattle.jsx_expression.specs.SoFar.{Staged, so_far}
 use Rattle.jsx_token.specs.Marks.{ends_so_far, row_so_far}
 use Rattle.jsx_tree.proofs.Tokens.{and_left, and_right, and_both}
 use Rattle.jsx_tree.proofs.Apart.{clash}
@@ -28,15 +28,15 @@ use Rattle.jsx_tree.proofs.Rows.Lists.{all_with}
 use Rattle.jsx_tree.proofs.Rows.Optionals.{turn_absent, present_last, none_last}
 use Rattle.jsx_tree.proofs.Rows.Laws.{lost_barred, end_found, start_found}
 use Rattle.jsx_tree.proofs.Rows.Placing.{Chosen, OnlyAt, NoneAt, then_at, only_at, barred_at}
-use Rattle.jsx_syntax.proofs.OfSoFar.{of_so_far}
-use Rattle.jsx_syntax.proofs.Homes.{IsName, patterns, no_list, Taken, module', headed, evaluation, sequence, operand, no_operand_at, taken_by, home_of, inner, spread}
+use Rattle.jsx_expression.proofs.OfSoFar.{of_so_far}
+use Rattle.jsx_expression.proofs.Homes.{IsName, patterns, no_list, Taken, module', headed, evaluation, sequence, operand, no_operand_at, taken_by, home_of, inner, spread}
 use Rattle.jsx_token.proofs.Lives.{lives}
 use Rattle.jsx_syntax.specs.Statements.{has_value}
 use Rattle.jsx_token.specs.Headings.{heading_kind}
 use Rattle.jsx_token.proofs.Headings.{of_heading}
-use Rattle.jsx_syntax.proofs.Inners.{declarator, declaration, case', default'}
+use Rattle.jsx_expression.proofs.Inners.{declarator, declaration, case', default'}
 use Rattle.jsx_token.specs.Growths.{settled}
-use Rattle.jsx_syntax.proofs.Values.{settled_token, leaf_full, is_next, found_next, no_heads}
+use Rattle.jsx_expression.proofs.Values.{settled_token, leaf_full, is_next, found_next, no_heads}
 
 -- ---- a variable and its initializer
 

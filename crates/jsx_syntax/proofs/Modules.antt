@@ -16,7 +16,7 @@ use Rattle.jsx_tree.specs.Walk.{Items, nil, last, more, tree, many, Walk, done, 
 use Rattle.jsx_tree.specs.Texts.{start}
 use Rattle.jsx_tree.specs.Language.{Whole}
 use Rattle.jsx_tree.specs.Answers.{Barred, ToEnd}
-use Rattle.jsx_syntax.specs.SoFar.{Staged, so_far, in_module}
+use Rattle.jsx_expression.specs.SoFar.{Staged, so_far, in_module}
 use Rattle.jsx_token.specs.Marks.{row_so_far}
 use Rattle.jsx_tree.proofs.Tokens.{and_left, and_right, and_both, same_is}
 use Rattle.jsx_tree.proofs.Rows.Texts.{program_walk}
@@ -24,8 +24,8 @@ use Rattle.jsx_tree.proofs.Rows.Stopping.{is_not, not_is, never_stops}
 use Rattle.jsx_tree.proofs.Rows.Guarded.{weaken_items, whole_items}
 use Rattle.jsx_tree.proofs.Rows.Optionals.{end_shut}
 use Rattle.jsx_tree.proofs.Rows.Lines.{found_end}
-use Rattle.jsx_syntax.proofs.OfSoFar.{of_so_far}
-use Rattle.jsx_syntax.proofs.Homes.{taken_by, home_of, no_directives}
+use Rattle.jsx_expression.proofs.OfSoFar.{of_so_far}
+use Rattle.jsx_expression.proofs.Homes.{taken_by, home_of, no_directives}
 use Rattle.jsx_token.specs.declared.heading.Heading.{Heading}
 use Rattle.jsx_token.specs.Growths.{is_code}
 use Rattle.jsx_token.specs.Headings.{heading_kind, heading_sign}

@@ -26,14 +26,14 @@ use Rattle.jsx_tree.proofs.Tokens.{and_left, and_right}
 use Rattle.jsx_tree.proofs.Views.{views}
 use Rattle.jsx_tree.proofs.Rows.Stopping.{is_not, or_cases}
 use Rattle.jsx_token.specs.Stage.{has_kind, limits, in_stage, in_stages, each_in_stage}
-use Rattle.jsx_syntax.specs.SoFar.{Staged, so_far}
+use Rattle.jsx_expression.specs.SoFar.{Staged, so_far}
 use Rattle.jsx_token.specs.Marks.{row_so_far}
 use Rattle.jsx_syntax.specs.OpenIn.{spreads, fronts, opens, any_of, first_of, is_several, opens_listed, opens_whole, some_of, opens_declared, any_opens}
-use Rattle.jsx_syntax.proofs.OfSoFar.{of_so_far}
+use Rattle.jsx_expression.proofs.OfSoFar.{of_so_far}
 use Rattle.jsx_token.proofs.Listed.{Listed, kinds, every, of_each}
-use Rattle.jsx_syntax.proofs.Homes.{Value, literal, made, operand_kind, nowhere, patterns, taken, taken_by, home_of, no_list, AtWhole, single, several, at_whole}
+use Rattle.jsx_expression.proofs.Homes.{Value, literal, made, operand_kind, nowhere, patterns, taken, taken_by, home_of, no_list, AtWhole, single, several, at_whole}
 use Rattle.jsx_token.proofs.Lives.{is_single}
-use Rattle.jsx_syntax.proofs.Values.{at_one, move}
+use Rattle.jsx_expression.proofs.Values.{at_one, move}
 use Rattle.jsx_syntax.proofs.Items.{bound_kind}
 
 -- ---- the variants of the code's tree

@@ -26,21 +26,21 @@ use Rattle.jsx_tree.proofs.Rows.Closers.{Closer, Shut, closes, shut_reading}
 use Rattle.jsx_tree.proofs.Rows.Steps.{only_sign, then'}
 use Rattle.jsx_tree.proofs.Rows.Placing.{Chosen, free, only_node, barred_node}
 use Rattle.jsx_token.specs.Stage.{leaf_at}
-use Rattle.jsx_syntax.specs.SoFar.{Staged, so_far}
+use Rattle.jsx_expression.specs.SoFar.{Staged, so_far}
 use Rattle.jsx_token.specs.Marks.{ends_so_far, row_so_far}
 use Rattle.jsx_token.specs.Growths.{is_code, lead, same_sign}
 use Rattle.jsx_token.specs.Headings.{NoHeading, heading_kind, heading_sign, is_lexical}
 use Rattle.jsx_token.specs.declared.heading.Heading.{Heading}
 use Rattle.jsx_token.specs.declared.heading.Heading.TheVariants as heading
-use Rattle.jsx_syntax.proofs.OfSoFar.{of_so_far}
+use Rattle.jsx_expression.proofs.OfSoFar.{of_so_far}
 use Rattle.jsx_token.proofs.Headings.{headings, number, every_heading, of_heading, of_two_headings, one_number}
-use Rattle.jsx_syntax.proofs.Inners.{inner_kind, every_inner, of_inner}
+use Rattle.jsx_expression.proofs.Inners.{inner_kind, every_inner, of_inner}
 use Rattle.jsx_token.proofs.Listed.{kinds, every, implies, implied, agree, agreed}
 use Rattle.jsx_token.proofs.Marks.{one_sign}
-use Rattle.jsx_syntax.proofs.Homes.{Taken, module', headed, evaluation, sequence, operand, no_list, no_operand_at, taken_by, home_of, inner, spread}
+use Rattle.jsx_expression.proofs.Homes.{Taken, module', headed, evaluation, sequence, operand, no_list, no_operand_at, taken_by, home_of, inner, spread}
 use Rattle.jsx_token.proofs.Lives.{lives}
 use Rattle.jsx_token.proofs.Levels.{signed}
-use Rattle.jsx_syntax.proofs.Values.{led_sign}
+use Rattle.jsx_expression.proofs.Values.{led_sign}
 
 -- ---- the places of statements
 

@@ -9,8 +9,8 @@ use Rattle.jsx_token.specs.Stage.{ReadsSoFar}
 use Rattle.jsx_tree.specs.View.{forest}
 use Rattle.jsx_tree.specs.Texts.{start}
 use Rattle.jsx_tree.specs.Answers.{ToEnd, OnlyToEnd, NoneToEnd}
-use Rattle.jsx_syntax.specs.SoFar.{in_module, so_far}
-use Rattle.jsx_syntax.specs.Answers.{NoTree}
+use Rattle.jsx_expression.specs.SoFar.{in_module, so_far}
+use Rattle.jsx_expression.specs.Answers.{NoTree}
 use Rattle.jsx_syntax.proofs.Modules.{module_reads, module_statements}
 
 pub whole : {v : Surroundings} {text : Text} {x : Place} {ds : List Tree} {ts : Forest} → v ≡ in_module → x ≡ start text → OnlyToEnd so_far v Item x ts → ds ≡ [] → ReadsSoFar text (node (program Module) (part (list (forest ds)) (part (list ts) none)))

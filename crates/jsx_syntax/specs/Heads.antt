@@ -15,7 +15,7 @@ use Rattle.jsx_token.specs.declared.lexer.Fixed.{Fixed}
 use Rattle.jsx_token.specs.declared.lexer.Fixed.TheVariants as fixed
 use Rattle.jsx_token.specs.Here.{sign_of}
 use Rattle.jsx_token.specs.Marks.{ends_so_far}
-use Rattle.jsx_syntax.specs.SoFar.{so_far}
+use Rattle.jsx_expression.specs.SoFar.{so_far}
 use Rattle.jsx_token.specs.Headings.{declaring}
 
 -- ---- a row begins with a part, and goes on as another does

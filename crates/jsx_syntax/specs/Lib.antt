@@ -1,10 +1,4 @@
-pub mod SoFar
-pub mod Around
-pub mod Spans
-pub mod Answers
-pub mod Elements
 pub mod Statements
 pub mod Heads
 pub mod Cases
 pub mod OpenIn
-pub mod Climbing

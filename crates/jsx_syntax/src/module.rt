@@ -11,15 +11,14 @@ ghost use Rattle.jsx_tree.specs.Told.{tales, told, told_item};
 ghost use Rattle.jsx_token.specs.Here.{place_of};
 ghost use Rattle.jsx_tree.specs.Nonterminals as grammar;
 ghost use Rattle.jsx_tree.specs.Answers.{OnlyToEnd, NoneToEnd};
-ghost use Rattle.jsx_syntax.specs.Around.{around_of};
-ghost use Rattle.jsx_syntax.specs.SoFar.{so_far};
-ghost use Rattle.jsx_syntax.specs.Answers.{Refused, NoTree, IsWithin};
-ghost use Rattle.jsx_syntax.specs.Spans.{IsPlacedList, Spans, program_at};
+ghost use Rattle.jsx_expression.specs.Around.{around_of};
+ghost use Rattle.jsx_expression.specs.SoFar.{so_far};
+ghost use Rattle.jsx_expression.specs.Answers.{Refused, NoTree, IsWithin};
+ghost use Rattle.jsx_expression.specs.Spans.{IsPlacedList, Spans, program_at};
 
-use crate::around::{Around, Context, Labels};
-use crate::error::ParseError;
 use crate::statement::statement;
 use jsx_base::{BytePos, Span};
+use jsx_expression::{Around, Context, Labels, ParseError};
 use jsx_token::Lexer;
 use jsx_tree::{Item, Module, Program};
 use std::alloc::Global;
@@ -72,8 +71,8 @@ pub fn parse<'s>(alloc: Global, text: &'s str) -> Result<Program<'s>, ParseError
 mod tests {
     use super::parse;
     use crate::ParseError;
-    use crate::expression::level;
     use jsx_base::BytePos;
+    use jsx_expression::expression::level;
     use jsx_tree::{Expr, Item, Operation, Program, Stmt};
     use std::alloc::Global;
 

@@ -11,26 +11,26 @@ ghost use Rattle.jsx_tree.specs.Spans.{no_tales, tale};
 ghost use Rattle.jsx_tree.specs.Told.{tales, told_control, told_list, told_optional, told_pat, told_stmt};
 ghost use Rattle.jsx_tree.specs.Walk.{one, tail};
 ghost use Rattle.jsx_tree.specs.Answers.{Only, Barred, OnlyRow, NoRow, NoNode, BuiltNode};
-ghost use Rattle.jsx_syntax.specs.Around.{around_of};
+ghost use Rattle.jsx_expression.specs.Around.{around_of};
 ghost use Rattle.jsx_token.specs.Marks.{row_so_far};
-ghost use Rattle.jsx_syntax.specs.SoFar.{so_far};
+ghost use Rattle.jsx_expression.specs.SoFar.{so_far};
 ghost use Rattle.jsx_token.specs.Here.{place_of, left};
 ghost use Rattle.jsx_token.specs.Growths.{opening_sign};
 ghost use Rattle.jsx_syntax.specs.Statements.{Closes, alternative_row, alternative_symbols, block_symbols, has_value};
 ghost use Rattle.jsx_token.specs.Headings.{heading_kind, heading_sign};
 ghost use Rattle.jsx_syntax.specs.Heads.{Declares, NotDeclared};
 ghost use Rattle.jsx_syntax.specs.Cases.{IsBody, IsCase, IsDefault, NoCase, NoCases, body_row, cases_row, cases_symbols, default_row};
-ghost use Rattle.jsx_syntax.specs.Answers.{Refused};
+ghost use Rattle.jsx_expression.specs.Answers.{Refused};
 ghost use Rattle.jsx_token.specs.Semicolons.{in_list};
 ghost use Rattle.jsx_make.specs.NodeSpans.{pat_at, stmt_at};
-ghost use Rattle.jsx_syntax.specs.Spans.{IsPlaced, IsPlacedBehind, IsPlacedList, IsPlacedRow, Spans};
+ghost use Rattle.jsx_expression.specs.Spans.{IsPlaced, IsPlacedBehind, IsPlacedList, IsPlacedRow, Spans};
 ghost use Rattle.jsx_token.specs.Places.{begin_of, end_of, next_of};
 
-use crate::around::Context;
-use crate::error::ParseError;
-use crate::expression::{ASSIGNMENT, expression, sequence, start_of};
 use crate::for_head::{clause, initial};
-use crate::parser::{binding_identifier, expect, give_up, semicolon, span_to};
+use jsx_expression::expression::{ASSIGNMENT, expression, sequence, start_of};
+use jsx_expression::{
+    Context, ParseError, binding_identifier, expect, give_up, semicolon, span_to,
+};
 use jsx_make::make;
 use jsx_token::{Ending, Fixed, Heading, Lexer, Word};
 use jsx_tree::{Control, DeclareWord, Expr, LiteralKind, Pat, Stmt};

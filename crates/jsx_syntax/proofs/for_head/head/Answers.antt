@@ -2,7 +2,7 @@ use Rattle.std.proofs.Common.{refl, sym, subst}
 use Rattle.jsx_syntax.specs.Heads.{NoDeclaring}
 use Rattle.jsx_token.specs.Here.{place_of}
 use Rattle.jsx_syntax.proofs.Heads.{declared_head, no_declared_head}
-use Rattle.jsx_syntax.proofs.Steps.{passed}
+use Rattle.jsx_expression.proofs.Steps.{passed}
 use Rattle.jsx_syntax.proofs.for_head.head.Goals as goal
 
 pub value_head-requires : goal.value_head-requires

@@ -1,4 +1,4 @@
-use Rattle.jsx_syntax.specs.Around.{around_of}
+use Rattle.jsx_expression.specs.Around.{around_of}
 use Rattle.std.proofs.Common.{refl, sym, ◌∙◌, ap, map}
 use Rattle.jsx_tree.specs.Kinds.{Assigns}
 use Rattle.jsx_tree.specs.View.{forest, inside, view_pat, word_of}
@@ -6,9 +6,9 @@ use Rattle.jsx_tree.specs.StaticRules.{open_in}
 use Rattle.jsx_syntax.specs.OpenIn.{any_opens}
 use Rattle.jsx_syntax.proofs.Items.{head_keeps}
 use Rattle.jsx_syntax.proofs.Heads.{any_closed, not_headed, open_headed}
-use Rattle.jsx_syntax.proofs.Steps.{passed}
-use Rattle.jsx_syntax.proofs.Placing.{placed_as}
-use Rattle.jsx_syntax.proofs.Places.{spans_from}
+use Rattle.jsx_expression.proofs.Steps.{passed}
+use Rattle.jsx_expression.proofs.Placing.{placed_as}
+use Rattle.jsx_expression.proofs.Places.{spans_from}
 use Rattle.jsx_syntax.proofs.PlacedNodes.{head_placed}
 use Rattle.jsx_syntax.proofs.for_head.head_declaration.Goals as goal
 

@@ -2,9 +2,9 @@ use Rattle.std.proofs.Common.{refl, sym, ap}
 use Rattle.jsx_token.specs.Here.{place_of}
 use Rattle.jsx_tree.specs.View.{view_target}
 use Rattle.jsx_syntax.proofs.Heads.{head_from, initial_closed, initial_none, no_initial, some_initial, unended_initial}
-use Rattle.jsx_syntax.proofs.Placing.{placed_from}
+use Rattle.jsx_expression.proofs.Placing.{placed_from}
 use Rattle.jsx_syntax.proofs.PlacedNodes.{initial_placed, no_initial_placed}
-use Rattle.jsx_syntax.proofs.Steps.{passed}
+use Rattle.jsx_expression.proofs.Steps.{passed}
 use Rattle.jsx_syntax.proofs.for_head.initial.Goals as goal
 
 pub returns-then-take-clause-read : goal.returns-then-take-clause-read

@@ -1,13 +1,13 @@
 use Rattle.std.proofs.Common.{sym, ◌∙◌, ap, subst}
 use Rattle.jsx_tree.specs.Kinds.{Assigns}
 use Rattle.jsx_tree.specs.View.{view_expr}
-use Rattle.jsx_syntax.specs.Around.{around_of}
+use Rattle.jsx_expression.specs.Around.{around_of}
 use Rattle.jsx_syntax.specs.Heads.{IsHead}
 use Rattle.jsx_token.specs.Here.{place_of}
 use Rattle.jsx_syntax.specs.OpenIn.{opens_whole}
 use Rattle.jsx_syntax.proofs.Heads.{no_value_head, open_head, value_head}
-use Rattle.jsx_syntax.proofs.Placing.{placed_as}
-use Rattle.jsx_syntax.proofs.Steps.{passed}
+use Rattle.jsx_expression.proofs.Placing.{placed_as}
+use Rattle.jsx_expression.proofs.Steps.{passed}
 use Rattle.jsx_syntax.proofs.for_head.value_head.Goals as goal
 
 pub returns-in_err-expr-clause-refused : goal.returns-in_err-expr-clause-refused

@@ -6,17 +6,17 @@ use Rattle.jsx_tree.specs.View.{forest, view_stmt}
 use Rattle.jsx_tree.specs.ViewProgram.{view_item}
 use Rattle.jsx_tree.specs.Walk.{one}
 use Rattle.jsx_tree.specs.Answers.{Only, Barred}
-use Rattle.jsx_syntax.specs.SoFar.{so_far}
-use Rattle.jsx_syntax.specs.Around.{around_of}
+use Rattle.jsx_expression.specs.SoFar.{so_far}
+use Rattle.jsx_expression.specs.Around.{around_of}
 use Rattle.jsx_token.specs.Here.{place_of}
-use Rattle.jsx_syntax.specs.Spans.{IsPlacedList}
+use Rattle.jsx_expression.specs.Spans.{IsPlacedList}
 use Rattle.jsx_tree.proofs.Rows.Lines.{Onto, onto_none, onto_more, onto_end, onto_barred}
-use Rattle.jsx_syntax.proofs.OfSoFar.{of_so_far}
+use Rattle.jsx_expression.proofs.OfSoFar.{of_so_far}
 use Rattle.jsx_syntax.proofs.Modules.{none_at_end}
 use Rattle.jsx_syntax.proofs.Statements.{as_item, no_item}
-use Rattle.jsx_syntax.proofs.Steps.{passed}
-use Rattle.jsx_syntax.proofs.Trees.{pushed}
-use Rattle.jsx_syntax.proofs.Placing.{PlacedFront, plain_top_lines, front_more, front_last, front_none, list_none, list_to, map_pushed, placed_from}
+use Rattle.jsx_expression.proofs.Steps.{passed}
+use Rattle.jsx_expression.proofs.Trees.{pushed}
+use Rattle.jsx_expression.proofs.Placing.{PlacedFront, plain_top_lines, front_more, front_last, front_none, list_none, list_to, map_pushed, placed_from}
 use Rattle.jsx_syntax.proofs.module.items.Goals as goal
 
 pub statements-init : goal.statements-init

@@ -4,10 +4,10 @@ use Rattle.jsx_tree.specs.Grammar.{TopLines}
 use Rattle.jsx_tree.specs.View.{forest}
 use Rattle.jsx_tree.specs.ViewProgram.{view_item}
 use Rattle.jsx_tree.specs.Told.{tales, told_item}
-use Rattle.jsx_syntax.specs.Spans.{IsPlacedList}
-use Rattle.jsx_syntax.proofs.Placing.{PlacedFront}
-use Rattle.jsx_syntax.specs.SoFar.{so_far}
-use Rattle.jsx_syntax.specs.Around.{around_of}
+use Rattle.jsx_expression.specs.Spans.{IsPlacedList}
+use Rattle.jsx_expression.proofs.Placing.{PlacedFront}
+use Rattle.jsx_expression.specs.SoFar.{so_far}
+use Rattle.jsx_expression.specs.Around.{around_of}
 use Rattle.jsx_token.specs.Here.{place_of, left}
 use Rattle.jsx_tree.proofs.Rows.Lines.{Onto}
 use Rattle.jsx_syntax.proofs.module.items.Given as goal

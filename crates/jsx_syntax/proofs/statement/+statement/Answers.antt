@@ -13,23 +13,23 @@ use Rattle.jsx_tree.proofs.Rows.Bridge.{found_at}
 use Rattle.jsx_tree.proofs.Rows.Lists.{begun}
 use Rattle.jsx_tree.proofs.Rows.Placing.{no_node}
 use Rattle.jsx_tree.proofs.Rows.Steps.{bar, on, only_sign}
-use Rattle.jsx_syntax.specs.Around.{around_of}
+use Rattle.jsx_expression.specs.Around.{around_of}
 use Rattle.jsx_syntax.specs.Cases.{IsBody}
 use Rattle.jsx_syntax.specs.Statements.{alternative_row, alternative_symbols}
 use Rattle.jsx_token.specs.Here.{place_of, left}
 use Rattle.jsx_token.specs.Marks.{row_so_far}
-use Rattle.jsx_syntax.specs.SoFar.{so_far}
-use Rattle.jsx_syntax.specs.Spans.{IsPlacedList, IsPlacedRow}
+use Rattle.jsx_expression.specs.SoFar.{so_far}
+use Rattle.jsx_expression.specs.Spans.{IsPlacedList, IsPlacedRow}
 use Rattle.jsx_syntax.proofs.Blocks.{block_built, line_barred, line_ended, line_more}
 use Rattle.jsx_syntax.proofs.Controls.{barred_in, do_built, no_while_body, only_in, while_built}
 use Rattle.jsx_syntax.proofs.Cases.{ahead_more, ahead_none, body_barred, body_ended, body_more, case_at, case_is, case_word, cases_barred, cases_ended, cases_more, default_is, defaults, defaults_next, few_defaults, more_defaults, no_case, no_clause, no_default, no_switch_brace, no_switch_cases, second_default, switch_built}
 use Rattle.jsx_syntax.proofs.Heads.{for_built, no_for_body, no_for_initial, no_for_test, no_for_update}
 use Rattle.jsx_syntax.proofs.Elses.{if_built, no_else, none_else, some_else}
 use Rattle.jsx_syntax.proofs.Statements.{headed_barred, headed_only, homeless_barred, lexical_home, nested_home, plain_barred, plain_only, stmt_home, stmts, subs}
-use Rattle.jsx_syntax.proofs.Steps.{passed}
-use Rattle.jsx_syntax.proofs.Trees.{pushed}
-use Rattle.jsx_syntax.proofs.Placing.{PlacedFront, plain_lines, front_last, front_more, front_none, list_none, map_pushed, placed_as, placed_from, row_end, row_list, row_quiet, row_sign, takes_ends, list_to}
-use Rattle.jsx_syntax.proofs.Places.{spans_from}
+use Rattle.jsx_expression.proofs.Steps.{passed}
+use Rattle.jsx_expression.proofs.Trees.{pushed}
+use Rattle.jsx_expression.proofs.Placing.{PlacedFront, plain_lines, front_last, front_more, front_none, list_none, map_pushed, placed_as, placed_from, row_end, row_list, row_quiet, row_sign, takes_ends, list_to}
+use Rattle.jsx_expression.proofs.Places.{spans_from}
 use Rattle.jsx_syntax.proofs.PlacedNodes.{block_placed, case_placed, default_placed, do_placed, else_placed, for_placed, if_placed, no_else_placed, switch_placed, while_placed}
 use Rattle.jsx_syntax.proofs.statement.+statement.Goals as goal
 

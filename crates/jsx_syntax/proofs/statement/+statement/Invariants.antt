@@ -3,14 +3,14 @@ use Rattle.jsx_tree.specs.Grammar.{Lines}
 use Rattle.jsx_tree.specs.Told.{tales, told_control, told_stmt}
 use Rattle.jsx_tree.specs.View.{forest, inside, view_control, view_stmt}
 use Rattle.jsx_tree.proofs.Rows.Turns.{Turn, prepend}
-use Rattle.jsx_syntax.specs.Around.{around_of}
+use Rattle.jsx_expression.specs.Around.{around_of}
 use Rattle.jsx_token.specs.Here.{place_of, left}
-use Rattle.jsx_syntax.specs.SoFar.{so_far}
-use Rattle.jsx_syntax.specs.Spans.{IsPlacedList}
+use Rattle.jsx_expression.specs.SoFar.{so_far}
+use Rattle.jsx_expression.specs.Spans.{IsPlacedList}
 use Rattle.jsx_syntax.specs.Cases.{body_row, cases_row}
 use Rattle.jsx_syntax.proofs.Blocks.{braced}
 use Rattle.jsx_syntax.proofs.Cases.{Ahead, defaults}
-use Rattle.jsx_syntax.proofs.Placing.{PlacedFront}
+use Rattle.jsx_expression.proofs.Placing.{PlacedFront}
 use Rattle.jsx_syntax.proofs.statement.+statement.Given as goal
 
 abbrev pub decreases-statement : goal.decreases-statement

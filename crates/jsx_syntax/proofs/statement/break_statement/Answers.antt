@@ -2,9 +2,9 @@ use Rattle.std.proofs.Common.{refl, ◌∙◌, ap}
 use Rattle.jsx_tree.proofs.Rows.Placing.{no_node}
 use Rattle.jsx_token.specs.Here.{place_of}
 use Rattle.jsx_syntax.proofs.Controls.{break_built, no_break, unended}
-use Rattle.jsx_syntax.proofs.Steps.{passed}
-use Rattle.jsx_syntax.proofs.Placing.{placed_as, takes_ends}
-use Rattle.jsx_syntax.proofs.Places.{spans_from}
+use Rattle.jsx_expression.proofs.Steps.{passed}
+use Rattle.jsx_expression.proofs.Placing.{placed_as, takes_ends}
+use Rattle.jsx_expression.proofs.Places.{spans_from}
 use Rattle.jsx_syntax.proofs.PlacedNodes.{break_placed}
 use Rattle.jsx_syntax.proofs.statement.break_statement.Goals as goal
 

@@ -6,14 +6,14 @@ use Rattle.jsx_tree.specs.Told.{told_pat}
 use Rattle.jsx_tree.specs.Walk.{is_found}
 use Rattle.jsx_syntax.specs.Statements.{has_value}
 use Rattle.jsx_token.specs.Here.{place_of}
-use Rattle.jsx_syntax.proofs.OfSoFar.{of_so_far}
+use Rattle.jsx_expression.proofs.OfSoFar.{of_so_far}
 use Rattle.jsx_tree.proofs.Rows.Lists.{begun, one_next}
 use Rattle.jsx_syntax.proofs.Items.{inits, inits_more, read_value}
 use Rattle.jsx_syntax.proofs.Heads.{declares, leads_more, leads_none, not_declared, not_initialized}
-use Rattle.jsx_syntax.proofs.Steps.{passed}
+use Rattle.jsx_expression.proofs.Steps.{passed}
 use Rattle.jsx_token.proofs.Semicolons.{comma_first, one_more}
-use Rattle.jsx_syntax.proofs.Trees.{pushed}
-use Rattle.jsx_syntax.proofs.Placing.{PlacedFront, plain_no_trailing, front_more, front_last, front_none, list_to, map_pushed}
+use Rattle.jsx_expression.proofs.Trees.{pushed}
+use Rattle.jsx_expression.proofs.Placing.{PlacedFront, plain_no_trailing, front_more, front_last, front_none, list_to, map_pushed}
 use Rattle.jsx_syntax.proofs.statement.declarators.Goals as goal
 
 pub declarators-init : goal.declarators-init

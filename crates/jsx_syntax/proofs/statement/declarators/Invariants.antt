@@ -3,14 +3,14 @@ use Rattle.std.specs.Prelude.{IsTrue}
 use Rattle.jsx_tree.specs.Grammar.{NoTrailing}
 use Rattle.jsx_tree.specs.View.{forest, inside, view_pat, word_of}
 use Rattle.jsx_tree.specs.Told.{told_pat}
-use Rattle.jsx_syntax.specs.SoFar.{so_far}
-use Rattle.jsx_syntax.specs.Around.{around_of}
+use Rattle.jsx_expression.specs.SoFar.{so_far}
+use Rattle.jsx_expression.specs.Around.{around_of}
 use Rattle.jsx_token.specs.Here.{place_of, left}
 use Rattle.jsx_tree.proofs.Rows.Turns.{Turn, prepend}
 use Rattle.jsx_syntax.specs.Heads.{free_row, marked_row}
 use Rattle.jsx_syntax.proofs.Items.{inits}
 use Rattle.jsx_syntax.proofs.Heads.{Leads}
-use Rattle.jsx_syntax.proofs.Placing.{PlacedFront}
+use Rattle.jsx_expression.proofs.Placing.{PlacedFront}
 use Rattle.jsx_syntax.proofs.statement.declarators.Given as goal
 
 abbrev pub invariant-declarators : goal.invariant-declarators

@@ -2,13 +2,13 @@ use Rattle.std.proofs.Common.{refl, sym, ◌∙◌, ap, subst}
 use Rattle.jsx_token.specs.Stage.{is_string}
 use Rattle.jsx_tree.specs.View.{view_expr}
 use Rattle.jsx_make.specs.NodeSpans.{expr_at}
-use Rattle.jsx_syntax.specs.Spans.{Spans}
+use Rattle.jsx_expression.specs.Spans.{Spans}
 use Rattle.jsx_token.specs.Places.{end_of, next_of}
 use Rattle.jsx_tree.proofs.Rows.Placing.{no_node}
 use Rattle.jsx_syntax.proofs.Items.{statement_built, no_value_statement, string_statement, unfinished}
-use Rattle.jsx_syntax.proofs.Steps.{passed}
-use Rattle.jsx_syntax.proofs.Places.{spans_from}
-use Rattle.jsx_syntax.proofs.Placing.{placed_as}
+use Rattle.jsx_expression.proofs.Steps.{passed}
+use Rattle.jsx_expression.proofs.Places.{spans_from}
+use Rattle.jsx_expression.proofs.Placing.{placed_as}
 use Rattle.jsx_syntax.proofs.PlacedNodes.{evaluation_placed}
 use Rattle.jsx_syntax.proofs.statement.expression_statement.Goals as goal
 

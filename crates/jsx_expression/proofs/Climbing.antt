@@ -1,0 +1,448 @@
+-- An expression that grows to the right at some level: which step comes next, and where none does. Each fact on the kinds is one test of all of them.
+use Rattle.std.proofs.Common.{◌≡◌, ℕ, nat_eq, nat_le, Bool, true, false, not, cond, List, [], ◌∷◌, refl, sym, ◌∙◌, ap, subst, arith}
+use Rattle.std.specs.Prelude.{IsTrue, Some, ◌&&◌}
+use Rattle.std.proofs.lemmas.Bool.{leb-true, le-leb}
+use Rattle.jsx_base.specs.Token.{Lexeme, Text, Operator, IdentifierName, NumericLiteral, BigIntLiteral, StringLiteral, TokenKind, breaks, token, same, RegExpLiteral}
+use Rattle.jsx_tree.specs.Signs.{Ending, AfterExpr, SameLine}
+use Rattle.jsx_tree.specs.Kinds.{Module, Var, ConstWord, Declarator, ExprStmt, Assigns, Assign, OpAssign, Delete, Void, TypeOf, Positive, Negative, Complement, Not, Unary, Binary, Cond, Call, Member, Index, ImportCall, Parenthesized, Element, Kind, program, statement, expression, jsx, Tree, leaf, node, Forest, part, PrefixUpdate, PostfixUpdate, Seq, Spread, Array}
+use Rattle.jsx_tree.specs.Nonterminals.{Nonterminal, Expr, NullishLeft, MemberObject, DotObject, SimpleTarget, Pat, is_bound, homes, in_homes, leaf_in, is_value_word}
+use Rattle.jsx_tree.specs.Grammar.{Context, Fixed, Part, pun}
+use Rattle.jsx_tree.specs.Form.{admits, fits_below, is_leaf}
+use Rattle.jsx_tree.specs.Reading.{Place, Lost, At, forth, go_if}
+use Rattle.jsx_tree.specs.StaticRules.{Surroundings, rule, stands, has_plain_params}
+use Rattle.jsx_token.specs.Stage.{has_kind, limits, leaf_at, value_leaf}
+use Rattle.jsx_tree.specs.Walk.{is_found, one, Relation, IsRead, Piece, piece, tail, sign, tree, Walk, next, around, steady}
+use Rattle.jsx_tree.specs.Language.{Whole}
+use Rattle.jsx_tree.specs.Answers.{Moves, Only, Barred, NoRow, NoNode, Built, BuiltNode}
+use Rattle.jsx_tree.specs.Grows.{starts, is_operand, Onward, stay, step, Steps, Decides, Joins, Stays}
+use Rattle.jsx_expression.specs.SoFar.{Staged, is_number, so_far}
+use Rattle.jsx_token.specs.Marks.{goes_at, marks, is_sign, is_mark, ends_so_far, row_so_far, goers}
+use Rattle.jsx_tree.proofs.Tokens.{and_left, and_right, and_both}
+use Rattle.jsx_tree.proofs.Apart.{clash}
+use Rattle.jsx_tree.proofs.Rows.Bridge.{found_at, found_first}
+use Rattle.jsx_tree.proofs.Rows.Stopping.{stays as stays_on, is_not, heeds, sign_stops}
+use Rattle.jsx_tree.proofs.Rows.Guarded.{whole_walk, loosen, to_grammar}
+use Rattle.jsx_tree.proofs.Rows.Bodies.{plain}
+use Rattle.jsx_tree.proofs.Rows.Firsts.{kind_home}
+use Rattle.jsx_tree.proofs.Rows.Closers.{any_operand, homes_operand}
+use Rattle.jsx_tree.proofs.Rows.Placing.{free_around, moved}
+use Rattle.jsx_tree.proofs.Rows.Spines.{grows}
+use Rattle.jsx_tree.proofs.Rows.Growing.{grown_only, step_barred, left_barred, step_follows}
+use Rattle.jsx_tree.proofs.Rows.Steps.{on, then', only_sign}
+use Rattle.jsx_expression.proofs.OfSoFar.{of_so_far}
+use Rattle.jsx_token.specs.Growths.{OnLine, begins_line, lead, mark, on_line, past_line, same_sign, is_level, level_of_kind, fits_by, takes_target, settled}
+use Rattle.jsx_expression.specs.Climbing.{behind, level, fits, is_target_kind, is_target, Climbs}
+use Rattle.jsx_token.proofs.Listed.{Listed, listed, code, every_two, of_two, one_place, of_level, implies, implied, agree, agreed, is_apart}
+use Rattle.jsx_token.proofs.Marks.{mark_by, seen_sign, one_sign}
+use Rattle.jsx_expression.proofs.Homes.{Literal, IsName, IsNumber, IsLong, IsString, IsPattern, token_kind, Value, literal, made, value}
+use Rattle.jsx_token.proofs.Lives.{is_single}
+use Rattle.jsx_token.proofs.Levels.{signed, Fitting, Formed, Leaves, assigned, at_level, edge, fitting_in, formed, grows_on, is_left, is_ruled, is_side, mark_among, mark_is_code, side, side_of, takes_number}
+use Rattle.jsx_expression.proofs.Values.{lead_row, led_sign, literal_level, node_to, leaf_to, level_single, or_right}
+
+-- of two: what may stand at the left of the first; and that the mark of the first, behind the second, ends the second's last part
+abbrev sinks : Kind → Kind → Bool
+sinks l k = implies (grows_on l && in_homes (side l) (homes k)) (nat_le (level_of_kind l) (level_of_kind k) && heeds (edge k) (mark l))
+
+all_sink : every_two sinks ≡ true
+all_sink = refl
+
+abbrev apart : Kind → Kind → Bool
+apart l k = implies (grows_on l && grows_on k) (implies (same_sign (mark l) (mark k)) (nat_eq (code l) (code k)))
+
+all_apart : every_two apart ≡ true
+all_apart = refl
+
+abbrev fitting : Kind → Kind → Bool
+fitting k l = implies (grows_on k) (agree (cond (takes_target k) (is_target_kind l) (fits_by k (level_of_kind l) false)) (in_homes (side k) (homes l)))
+
+all_fitting : every_two fitting ≡ true
+all_fitting = refl
+
+record Sunk (l k : Kind) : Type 0 where
+  below : nat_le (level_of_kind l) (level_of_kind k) ≡ true
+  heard : heeds (edge k) (mark l) ≡ true
+
+sunk : (l k : Kind) → Listed l → Listed k → grows_on l ≡ true → in_homes (side l) (homes k) ≡ true → Sunk l k
+sunk l k m n g h =
+    let a = implied (grows_on l && in_homes (side l) (homes k)) _ (of_two sinks all_sink l k m n) (and_both _ _ g h) in
+    record { below = and_left (nat_le (level_of_kind l) (level_of_kind k)) _ a; heard = and_right (nat_le (level_of_kind l) (level_of_kind k)) _ a }
+
+-- ---- rows
+
+begins_grows : (ps : List Piece) {c : Nonterminal} → starts ps ≡ Some c → grows ps ≡ true
+begins_grows (piece [] (Part d) ∷ ps) e = refl
+begins_grows _ e = cc
+
+begins_side : (ps : List Piece) → grows ps ≡ true → starts ps ≡ Some (side_of (starts ps))
+begins_side (piece [] (Part d) ∷ ps) g = refl
+begins_side _ g = cc
+
+led_row : (ps : List Piece) → grows ps ≡ true → piece [] (Part (side_of (starts ps))) ∷ tail ps ≡ ps
+led_row (piece [] (Part d) ∷ ps) g = refl
+led_row _ g = cc
+
+-- a mark that stands on the line
+line_place : (x : Place) → IsTrue (is_found (forth SameLine x)) → forth SameLine x ≡ x
+line_place x f = stays_on SameLine x refl f
+
+mark_found : {R : Relation} {V : List Context → Surroundings} (ps : List Piece) {a y : Place} {ts : Forest} → signed (past_line ps) ≡ true → Walk R V ps a ts y → IsTrue (is_found (forth (lead (past_line ps)) a))
+mark_found (piece [] (Fixed SameLine) ∷ ps) {a} h (next (sign e f) w) = subst (λ p. IsTrue (is_found (forth (lead ps) p))) (sym e ∙ line_place a (found_at e f)) (led_sign ps h w)
+mark_found ps h w = led_sign ps h w
+
+line_kept : {R : Relation} {V : List Context → Surroundings} (ps : List Piece) {a y : Place} {ts : Forest} → begins_line ps ≡ true → Walk R V ps a ts y → forth SameLine a ≡ a
+line_kept (piece [] (Fixed SameLine) ∷ ps) {a} h (next (sign e f) w) = line_place a (found_at e f)
+line_kept _ h w = cc
+
+-- ---- a step
+
+not_apart : (k : Kind) {c : Nonterminal} → starts (row_so_far k) ≡ Some c → is_apart k ≡ false
+not_apart (expression Seq) b = cc
+not_apart (expression Spread) b = cc
+not_apart _ b = refl
+
+listed_node : {v : Surroundings} {c d : Nonterminal} {k : Kind} {x y : Place} {ts : Forest} → is_operand c ≡ true → starts (row_so_far k) ≡ Some d → Staged v false c x (node k ts) y → Listed k
+listed_node {c = c} {k = k} {ts = ts} o b r = listed k (and_left (has_kind k) _ r.staged) (homes_operand c (homes k) o (kind_home c k ts (and_left (admits c (node k ts)) (fits_below c (node k ts)) r.reads.is))) (not_apart k b)
+
+pub node_home : {v : Surroundings} {c : Nonterminal} {k : Kind} {x y : Place} {ts : Forest} → Staged v false c x (node k ts) y → in_homes c (homes k) ≡ true
+node_home {c = c} {k = k} {ts = ts} r = kind_home c k ts (and_left (admits c (node k ts)) (fits_below c (node k ts)) r.reads.is)
+
+side_is : (k : Kind) {c : Nonterminal} → starts (row_so_far k) ≡ Some c → side k ≡ c
+side_is k e = ap side_of e
+
+step_listed : {v : Surroundings} {c : Nonterminal} {x a y : Place} {t : Tree} {l : Kind} {ts : Forest} → Steps so_far v c x t a l ts y → Listed l
+step_listed p = listed_node p.operand p.begins p.reads
+
+step_grows : {v : Surroundings} {c : Nonterminal} {x a y : Place} {t : Tree} {l : Kind} {ts : Forest} → Steps so_far v c x t a l ts y → grows_on l ≡ true
+step_grows {l = l} p = begins_grows (row_so_far l) p.begins
+
+step_sign : {v : Surroundings} {c : Nonterminal} {x a y : Place} {t : Tree} {l : Kind} {ts : Forest} → Steps so_far v c x t a l ts y → IsTrue (is_found (forth (mark l) a))
+step_sign {l = l} p = mark_found (tail (row_so_far l)) (formed l (step_listed p) (step_grows p)).led p.walk
+
+step_line : {v : Surroundings} {c : Nonterminal} {x a y : Place} {t : Tree} {l : Kind} {ts : Forest} → Steps so_far v c x t a l ts y → OnLine l a
+step_line {l = l} p = record { stays = λ on. line_kept (tail (row_so_far l)) on p.walk }
+
+single_side : (k : Kind) → Formed k → is_single (side k) ≡ true
+single_side k f = at (side k) f.sided
+  where
+    at : (c : Nonterminal) → is_side c ≡ true → is_single c ≡ true
+    at (Expr n) h = and_right (nat_le n 18) _ h
+    at NullishLeft h = refl
+    at MemberObject h = refl
+    at DotObject h = refl
+    at SimpleTarget h = refl
+    at (Pat Assigns) h = refl
+    at _ h = cc
+
+-- ---- what stands at the left of a step may stand where the step does
+
+pub below_level : (n m k : ℕ) → nat_le n m ≡ true → nat_le m k ≡ true → nat_le n k ≡ true
+below_level n m k a b = le-leb n k (omega (arith, leb-true n m a, leb-true m k b))
+
+value_low : {v : Surroundings} {n : ℕ} {d : Nonterminal} {x y : Place} {t : Tree} → is_level n ≡ true → Value t → nat_le n (level t) ≡ true → Staged v false d x t y → Staged v false (Expr n) x t y
+value_low {n = n} h (literal l {t} w) e r = leaf_to (Expr n) l (literal_level n l t h w) w r
+value_low {n = n} h (made {k} {ts} m) e r = node_to (Expr n) ((at_level h k m).home ∙ e) r
+
+value_level : (n : ℕ) {t : Tree} → is_level n ≡ true → Value t → ((k : Kind) (ts : Forest) → t ≡ node k ts → Listed k → nat_le n (level_of_kind k) ≡ true) → nat_le n (level t) ≡ true
+value_level n h (literal l w) f = of_level (λ m. nat_le m 17) refl h
+value_level n h (made {k} {ts} m) f = f k ts refl m
+
+left_low : {v : Surroundings} {n : ℕ} {l : Kind} {c : Nonterminal} {x y : Place} {t : Tree} → is_level n ≡ true → Listed l → starts (row_so_far l) ≡ Some c → nat_le n (level_of_kind l) ≡ true → Staged v false c x t y → Staged v false (Expr n) x t y
+left_low {v} {n} {l} {c} {x} {y} {t} h m b e r =
+    let g = begins_grows (row_so_far l) b in
+    let f = formed l m g in
+    let q : Staged v false (side l) x t y = subst (λ d. Staged v false d x t y) (sym (side_is l b)) r in
+    let w = value t (single_side l f) q in
+    value_low h w (value_level n h w (λ k ts is j. below_level n (level_of_kind l) (level_of_kind k) e (sunk l k m j g (node_home (subst (λ u. Staged v false (side l) x u y) is q))).below)) r
+
+pub node_level : {v : Surroundings} {n : ℕ} {k : Kind} {x y : Place} {ts : Forest} → is_level n ≡ true → Listed k → Staged v false (Expr n) x (node k ts) y → nat_le n (level_of_kind k) ≡ true
+node_level h m r = sym (at_level h _ m).home ∙ node_home r
+
+pub low : {v : Surroundings} {n : ℕ} {x y z : Place} {t u : Tree} → is_level n ≡ true → Onward so_far v x t y u z → Staged v false (Expr n) x u z → Staged v false (Expr n) x t y
+low h stay r = r
+low h (step k c d b i w o q on) r =
+    let up = low h on r in
+    let m = listed_node o b q in
+    left_low h m b (node_level h m up) i
+
+step_low : {v : Surroundings} {n : ℕ} {x a y : Place} {t : Tree} {l : Kind} {ts : Forest} → is_level n ≡ true → Steps so_far v (Expr n) x t a l ts y → nat_le n (level_of_kind l) ≡ true
+step_low h p = node_level h (step_listed p) (low h p.onward p.whole.reads)
+
+-- ---- what a step's row ends with has come to its end
+
+pub edge_on : {v : Surroundings} {n : ℕ} {x y z : Place} {u : Tree} {us : Forest} (k : Kind) (m : Tree) → is_level n ≡ true → Listed k → m ≡ node k us → Onward so_far v x m y u z → Whole so_far v false (Expr n) x u z → ends_so_far (edge k) y ≡ true
+edge_on {v} {n} {x} {y} k m h j e stay w = of_so_far.covered (Expr n) (edge k) y ((at_level h k j).covered (node_level h j (subst (λ p. Staged v false (Expr n) x p y) e w.reads))) w.ends_there
+edge_on {v} {n} {x} {y} k m h j e (step l c d b i r o q on) w =
+    let n' = listed_node o b q in
+    let g = begins_grows (row_so_far l) b in
+    let f = formed l n' g in
+    let home : in_homes (side l) (homes k) ≡ true = node_home (subst (λ p. Staged v false (side l) x p y) e (subst (λ s. Staged v false s x m y) (sym (side_is l b)) i)) in
+    of_so_far.ends_there (edge k) y (sign_stops (edge k) (mark l) y (sunk l k n' j g home).heard (mark_found (tail (row_so_far l)) f.led r))
+
+step_ends : {v : Surroundings} {n : ℕ} {x a y : Place} {t : Tree} {k : Kind} {ts : Forest} → is_level n ≡ true → Steps so_far v (Expr n) x t a k ts y → Walk (Whole so_far) (steady v) (tail (row_so_far k)) a ts y
+step_ends {v} {t = t} {k} {ts} h p =
+    let m = step_listed p in
+    let f = formed k m (step_grows p) in
+    moved (λ a i. free_around a (part t ts) v i) f.freed (whole_walk of_so_far (edge k) (tail (row_so_far k)) f.closed (edge_on k (node k (part t ts)) h m refl p.onward p.whole) p.walk)
+
+-- ---- the token that comes next
+
+step_kind : {v : Surroundings} {c : Nonterminal} {x a y : Place} {t : Tree} {k l : Kind} {ts : Forest} → Listed k → grows_on k ≡ true → IsTrue (is_found (forth (mark k) a)) → Steps so_far v c x t a l ts y → l ≡ k
+step_kind {a = a} {k = k} {l = l} m g f p =
+    let n = step_listed p in
+    let h = step_grows p in
+    one_place l k n m (implied (same_sign (mark l) (mark k)) _ (implied (grows_on l && grows_on k) _ (of_two apart all_apart l k n m) (and_both _ _ h g)) (one_sign (mark l) (mark k) a (formed l n h).coded (formed k m g).coded (step_sign p) f))
+
+pub mark_is_one : (k : Kind) → Listed k → grows_on k ≡ true → (x : Lexeme) → is_sign x (mark k) ≡ true → is_mark x marks ≡ true
+mark_is_one k m g x e = mark_by (mark k) marks (formed k m g).marked x e
+
+and_true : (b : Bool) → (b && true) ≡ b
+and_true true = refl
+and_true false = refl
+
+-- a mark that comes next goes on as its level says
+no_break : (k : Kind) (q : Text) (e : Ending) (text : Text) → OnLine k (At q e text) → (on_line k && breaks text) ≡ false
+no_break k q e text o = by_line (on_line k) refl
+  where
+    by_line : (b : Bool) → on_line k ≡ b → (b && breaks text) ≡ false
+    by_line false i = refl
+    by_line true i = kept (breaks text) (o.stays i)
+      where
+        kept : (b : Bool) → go_if (not b) (At q e text) ≡ At q e text → b ≡ false
+        kept true f = let bad : false ≡ true = ap is_found f in cc
+        kept false f = refl
+
+mark_goes : (n : ℕ) (k : Kind) (a : Place) → is_level n ≡ true → Listed k → grows_on k ≡ true → settled a ≡ true → OnLine k a → IsTrue (is_found (forth (mark k) a)) → ends_so_far (Expr n) a ≡ not (nat_le n (level_of_kind k))
+mark_goes n k Lost h m g s o f = cc
+mark_goes n k (At q AfterExpr text) h m g s o f =
+    let i = seen_sign (mark k) q AfterExpr text (mark_is_code k m g) f in
+    let raw = mark_among n k h m g (breaks text) (token Operator (same q []) text) i ∙ ((λ j. nat_le n (level_of_kind k) && not (no_break k q AfterExpr text o j)) ∙ and_true (nat_le n (level_of_kind k))) in
+    let there : is_mark (token Operator (same q []) text) goers ≡ true = or_right (is_sign (token Operator (same q []) text) (pun ",")) _ (mark_is_one k m g (token Operator (same q []) text) i) in
+    ap (λ b. not (goes_at n (breaks text) (token Operator b text).raw && is_mark (token Operator b text) goers)) (sym (is_not (same q []) s)) ∙ ((λ j. not (raw j && there j)) ∙ ap not (and_true _))
+mark_goes n k (At q _ text) h m g s o f = cc
+
+-- ---- what the parser's loop says
+
+-- no mark comes next that goes on at the level
+pub stays : {v : Surroundings} {n : ℕ} {x a : Place} {t : Tree} → is_level n ≡ true → settled a ≡ true → ends_so_far (Expr n) a ≡ true → Stays so_far v (Expr n) x t a
+stays {n = n} {a = a} h s e = record {
+  none_on = λ l ts y p.
+      let b : ends_so_far (Expr n) a ≡ not (nat_le n (level_of_kind l)) = mark_goes n l a h (step_listed p) (step_grows p) s (step_line p) (step_sign p) in
+      clash (nat_le n (level_of_kind l)) (step_low h p) (is_not _ (sym b ∙ e));
+}
+
+pub climb_only : {v : Surroundings} {n : ℕ} {x a : Place} {t : Tree} → is_level n ≡ true → Climbs v n x t a → ends_so_far (Expr n) a ≡ true → Only so_far v (Part (Expr n)) x (one t) a
+climb_only h c e = grown_only c.follows (stays h c.ended e) c.reads e
+
+-- a mark that comes next and goes on at the level decides
+decides : {v : Surroundings} {n : ℕ} {x a : Place} {t : Tree} {k : Kind} → is_level n ≡ true → settled a ≡ true → Listed k → grows_on k ≡ true → nat_le n (level_of_kind k) ≡ true → OnLine k a → IsTrue (is_found (forth (mark k) a)) → Decides so_far v (Expr n) x t a k
+decides {n = n} {a = a} {k = k} h s m g e o f = record {
+  goes = λ i. clash (ends_so_far (Expr n) a) i (mark_goes n k a h m g s o f ∙ ap not e);
+  kind = λ l ts y p. step_kind m g f p;
+  ends = λ ts y p. step_ends h p;
+}
+
+-- what fits stands at the left of the kind; what doesn't, doesn't
+side_admits : (c : Nonterminal) (l : Kind) (ts : Forest) → is_side c ≡ true → in_homes c (homes l) ≡ true → admits c (node l ts) ≡ true
+side_admits (Expr n) l ts h i = i
+side_admits NullishLeft l ts h i = i
+side_admits MemberObject l ts h i = i
+side_admits DotObject l ts h i = i
+side_admits SimpleTarget l ts h i = i
+side_admits (Pat Assigns) l ts h i = i
+side_admits _ l ts h i = cc
+
+side_word : (c : Nonterminal) (t : Text) → is_side c ≡ true → is_left c ≡ false → is_value_word t ≡ true → leaf_in c IdentifierName t ≡ true
+side_word (Expr n) t h l w = and_both _ _ (and_left (nat_le n 18) _ h) w
+side_word NullishLeft t h l w = w
+side_word MemberObject t h l w = w
+side_word DotObject t h l w = w
+side_word SimpleTarget t h l w = cc
+side_word (Pat Assigns) t h l w = cc
+side_word _ t h l w = cc
+
+side_leaf : (c : Nonterminal) (k : TokenKind) (t : Text) → is_side c ≡ true → is_left c ≡ false → leaf_at c k t ≡ value_leaf (takes_number c) k t
+side_leaf (Expr n) k t h l = refl
+side_leaf NullishLeft k t h l = refl
+side_leaf MemberObject k t h l = refl
+side_leaf DotObject k t h l = refl
+side_leaf SimpleTarget k t h l = cc
+side_leaf (Pat Assigns) k t h l = cc
+side_leaf _ k t h l = cc
+
+left_word : (c : Nonterminal) (t : Text) → is_left c ≡ true → is_bound t ≡ true → leaf_in c IdentifierName t ≡ true
+left_word SimpleTarget t h w = w
+left_word (Pat Assigns) t h w = w
+left_word _ t h w = cc
+
+left_takes : (c : Nonterminal) (t : Text) → is_left c ≡ true → leaf_at c IdentifierName t ≡ true
+left_takes SimpleTarget t h = refl
+left_takes (Pat Assigns) t h = refl
+left_takes _ t h = cc
+
+-- of all leaves a name alone stands at the left of an assignment, where it may be bound
+bound_left : (c : Nonterminal) (t : Text) → is_left c ≡ true → leaf_in c IdentifierName t ≡ true → is_bound t ≡ true
+bound_left SimpleTarget t h i = i
+bound_left (Pat Assigns) t h i = i
+bound_left _ t h i = cc
+
+no_literal_left : (c : Nonterminal) (l : Literal) (t : Text) → is_left c ≡ true → leaf_at c (token_kind l) t ≡ true → l ≡ IsName
+no_literal_left c IsName t h a = refl
+no_literal_left SimpleTarget IsNumber t h a = cc
+no_literal_left SimpleTarget IsLong t h a = cc
+no_literal_left SimpleTarget IsString t h a = cc
+no_literal_left SimpleTarget IsPattern t h a = cc
+no_literal_left (Pat Assigns) IsNumber t h a = cc
+no_literal_left (Pat Assigns) IsLong t h a = cc
+no_literal_left (Pat Assigns) IsString t h a = cc
+no_literal_left (Pat Assigns) IsPattern t h a = cc
+no_literal_left _ l t h a = cc
+
+by_fits : (k : Kind) (t : Tree) (b c : Bool) → takes_target k ≡ b → fits k t ≡ c → cond b (is_target t) (fits_by k (level t) (is_number t)) ≡ c
+by_fits k t b c e f = subst (λ d. cond d (is_target t) (fits_by k (level t) (is_number t)) ≡ c) e f
+
+literal_side : {v : Surroundings} {d : Nonterminal} {x y : Place} {t : Text} (k : Kind) (l : Literal) → Formed k → Fitting k → value_leaf true (token_kind l) t ≡ true → fits_by k (level (leaf (token_kind l) t)) (is_number (leaf (token_kind l) t)) ≡ true → Staged v false d x (leaf (token_kind l) t) y → Staged v false (side k) x (leaf (token_kind l) t) y
+literal_side {t = t} k IsName fm fi w f r = leaf_to (side k) IsName (side_word (side k) t fm.sided fi.beside w) (side_leaf (side k) IdentifierName t fm.sided fi.beside ∙ w) r
+literal_side {t = t} k IsLong fm fi w f r = leaf_to (side k) IsLong fi.longs (side_leaf (side k) BigIntLiteral t fm.sided fi.beside) r
+literal_side {t = t} k IsString fm fi w f r = leaf_to (side k) IsString fi.strings (side_leaf (side k) StringLiteral t fm.sided fi.beside) r
+literal_side {t = t} k IsPattern fm fi w f r = leaf_to (side k) IsPattern fi.patterns (side_leaf (side k) RegExpLiteral t fm.sided fi.beside) r
+literal_side {t = t} k IsNumber fm fi w f r = leaf_to (side k) IsNumber fi.numbers (side_leaf (side k) NumericLiteral t fm.sided fi.beside ∙ (ap (λ b. value_leaf b NumericLiteral t) (sym fi.number ∙ f) ∙ w)) r
+
+target_side : {v : Surroundings} {d : Nonterminal} {x y : Place} {t : Text} (k : Kind) (l : Literal) → is_left (side k) ≡ true → is_target (leaf (token_kind l) t) ≡ true → Staged v false d x (leaf (token_kind l) t) y → Staged v false (side k) x (leaf (token_kind l) t) y
+target_side {t = t} k IsName s f r = leaf_to (side k) IsName (left_word (side k) t s f) (left_takes (side k) t s) r
+target_side k IsLong s f r = cc
+target_side k IsString s f r = cc
+target_side k IsPattern s f r = cc
+target_side k IsNumber s f r = cc
+
+leaf_side : {v : Surroundings} {d : Nonterminal} {x y : Place} {t : Text} (k : Kind) (l : Literal) → Formed k → Leaves k → value_leaf true (token_kind l) t ≡ true → fits k (leaf (token_kind l) t) ≡ true → Staged v false d x (leaf (token_kind l) t) y → Staged v false (side k) x (leaf (token_kind l) t) y
+leaf_side {t = t} k l fm (assigned e s) w f r = target_side k l s (by_fits k (leaf (token_kind l) t) true true e f) r
+leaf_side {t = t} k l fm (fitting_in e fi) w f r = literal_side k l fm fi w (by_fits k (leaf (token_kind l) t) false true e f) r
+
+value_side : {v : Surroundings} {d : Nonterminal} {x y : Place} {t : Tree} (k : Kind) → Listed k → grows_on k ≡ true → Value t → fits k t ≡ true → Staged v false d x t y → Staged v false (side k) x t y
+value_side k m g (literal l {t} w) f r = let fm = formed k m g in leaf_side k l fm fm.leaves w f r
+value_side k m g (made {k = l} {ts} j) f r =
+    let fm = formed k m g in
+    node_to (side k) (side_admits (side k) l ts fm.sided (sym (agreed (cond (takes_target k) (is_target_kind l) (fits_by k (level_of_kind l) false)) (in_homes (side k) (homes l)) (implied (grows_on k) _ (of_two fitting all_fitting k l m j) g)) ∙ f)) r
+
+literal_unfit : {v : Surroundings} {x y : Place} {t : Text} (k : Kind) (l : Literal) → Formed k → Fitting k → value_leaf true (token_kind l) t ≡ true → fits_by k (level (leaf (token_kind l) t)) (is_number (leaf (token_kind l) t)) ≡ false → Staged v false (side k) x (leaf (token_kind l) t) y → ⊥
+literal_unfit k IsName fm fi w f r = clash _ fi.leaves f
+literal_unfit k IsLong fm fi w f r = clash _ fi.leaves f
+literal_unfit k IsString fm fi w f r = clash _ fi.leaves f
+literal_unfit k IsPattern fm fi w f r = clash _ fi.leaves f
+literal_unfit {t = t} k IsNumber fm fi w f r =
+    clash (value_leaf (takes_number (side k)) NumericLiteral t) (sym (side_leaf (side k) NumericLiteral t fm.sided fi.beside) ∙ r.staged) (ap (λ b. value_leaf b NumericLiteral t) (sym fi.number ∙ f))
+
+target_unfit : {v : Surroundings} {x y : Place} {t : Text} (k : Kind) (l : Literal) → is_left (side k) ≡ true → is_target (leaf (token_kind l) t) ≡ false → Staged v false (side k) x (leaf (token_kind l) t) y → ⊥
+target_unfit {t = t} k IsName s f r = clash (is_bound t) (bound_left (side k) t s (and_left (leaf_in (side k) IdentifierName t) (is_leaf IdentifierName t) r.reads.is)) f
+target_unfit {t = t} k IsLong s f r = let e = no_literal_left (side k) IsLong t s r.staged in cc
+target_unfit {t = t} k IsString s f r = let e = no_literal_left (side k) IsString t s r.staged in cc
+target_unfit {t = t} k IsPattern s f r = let e = no_literal_left (side k) IsPattern t s r.staged in cc
+target_unfit {t = t} k IsNumber s f r = let e = no_literal_left (side k) IsNumber t s r.staged in cc
+
+leaf_unfit : {v : Surroundings} {x y : Place} {t : Text} (k : Kind) (l : Literal) → Formed k → Leaves k → value_leaf true (token_kind l) t ≡ true → fits k (leaf (token_kind l) t) ≡ false → Staged v false (side k) x (leaf (token_kind l) t) y → ⊥
+leaf_unfit {t = t} k l fm (assigned e s) w f r = target_unfit k l s (by_fits k (leaf (token_kind l) t) true false e f) r
+leaf_unfit {t = t} k l fm (fitting_in e fi) w f r = literal_unfit k l fm fi w (by_fits k (leaf (token_kind l) t) false false e f) r
+
+value_unfit : {v : Surroundings} {x y : Place} {t : Tree} (k : Kind) → Listed k → grows_on k ≡ true → Value t → fits k t ≡ false → Staged v false (side k) x t y → ⊥
+value_unfit k m g (literal l {t} w) f r = let fm = formed k m g in leaf_unfit k l fm fm.leaves w f r
+value_unfit k m g (made {k = l} {ts} j) f r =
+    clash _ (agreed (cond (takes_target k) (is_target_kind l) (fits_by k (level_of_kind l) false)) (in_homes (side k) (homes l)) (implied (grows_on k) _ (of_two fitting all_fitting k l m j) g) ∙ node_home r) f
+
+-- the rules of a kind of expression ask nothing of its parts, but for these
+pub plain_kind : (k : Kind) (ts : Forest) (v : Surroundings) → is_ruled k ≡ false → has_kind k ≡ true → any_operand (homes k) ≡ true → has_plain_params ts ≡ true → (limits k ts && (rule k ts && stands k ts v)) ≡ true
+plain_kind (expression Seq) ts v n h a p = and_both _ _ p refl
+plain_kind (expression (Binary o)) ts v n h a p = and_both _ _ p refl
+plain_kind (expression Assign) ts v n h a p = and_both _ _ p refl
+plain_kind (expression (OpAssign o)) ts v n h a p = and_both _ _ p refl
+plain_kind (expression Cond) ts v n h a p = and_both _ _ p refl
+plain_kind (expression (Unary Delete)) ts v n h a p = cc
+plain_kind (expression (Unary Void)) ts v n h a p = and_both _ _ p refl
+plain_kind (expression (Unary TypeOf)) ts v n h a p = and_both _ _ p refl
+plain_kind (expression (Unary Positive)) ts v n h a p = and_both _ _ p refl
+plain_kind (expression (Unary Negative)) ts v n h a p = and_both _ _ p refl
+plain_kind (expression (Unary Complement)) ts v n h a p = and_both _ _ p refl
+plain_kind (expression (Unary Not)) ts v n h a p = and_both _ _ p refl
+plain_kind (expression Call) ts v n h a p = and_both _ _ p refl
+plain_kind (expression Member) ts v n h a p = and_both _ _ p refl
+plain_kind (expression Index) ts v n h a p = and_both _ _ p refl
+plain_kind (expression (PostfixUpdate o)) ts v n h a p = and_both _ _ p refl
+plain_kind (expression (PrefixUpdate o)) ts v n h a p = and_both _ _ p refl
+plain_kind (expression ImportCall) ts v n h a p = and_both _ _ p refl
+plain_kind (expression Parenthesized) ts v n h a p = and_both _ _ p refl
+plain_kind (expression Array) ts v n h a p = and_both _ _ p refl
+plain_kind (expression Spread) ts v n h a p = and_both _ _ p refl
+plain_kind (jsx Element) ts v n h a p = and_both _ _ p refl
+plain_kind (program Module) ts v n h a p = cc
+plain_kind (statement ExprStmt) ts v n h a p = cc
+plain_kind (statement Declarator) ts v n h a p = cc
+plain_kind (statement (Var ConstWord)) ts v n h a p = cc
+plain_kind _ ts v n h a p = cc
+
+whole_row : {v : Surroundings} {x a y : Place} {t : Tree} {ts : Forest} (k : Kind) → Formed k → grows_on k ≡ true → Staged v false (side k) x t a → Walk (Whole so_far) (steady v) (tail (row_so_far k)) a ts y → Walk Staged (around v (part t ts)) (row_so_far k) x (part t ts) y
+whole_row {v} {x} {y = y} {t} {ts} k fm g s w = subst (λ ps. Walk Staged (around v (part t ts)) ps x (part t ts) y) (led_row (row_so_far k) g) (next (tree s) (loosen (moved (λ a h. sym (free_around a (part t ts) v h)) fm.freed w)))
+
+grammar_row : {v : Surroundings} {x a y : Place} {t : Tree} {ts : Forest} (k : Kind) → Formed k → grows_on k ≡ true → Staged v false (side k) x t a → Walk (Whole so_far) (steady v) (tail (row_so_far k)) a ts y → has_plain_params (part t ts) ≡ true
+grammar_row {v} {x} {y = y} {t} {ts} k fm g s w = plain (row_so_far k) fm.bare (subst (λ ps. Walk IsRead (around v (part t ts)) ps x (part t ts) y) (led_row (row_so_far k) g) (next (tree s.reads) (to_grammar of_so_far (moved (λ a h. sym (free_around a (part t ts) v h)) fm.freed w))))
+
+keeps : {v : Surroundings} {x a y : Place} {t : Tree} {ts : Forest} (k : Kind) → Formed k → grows_on k ≡ true → Staged v false (side k) x t a → Walk (Whole so_far) (steady v) (tail (row_so_far k)) a ts y → so_far.keeps k v (part t ts) ≡ true
+keeps {v} {t = t} {ts} k fm g s w = and_both _ _ fm.taken (plain_kind k (part t ts) v fm.unruled fm.taken fm.stood (grammar_row k fm g s w))
+
+joins : (n : ℕ) {v : Surroundings} {x a : Place} {t : Tree} {k : Kind} → is_level n ≡ true → Listed k → grows_on k ≡ true → nat_le n (level_of_kind k) ≡ true → Staged v false (side k) x t a → Joins so_far v x t a k
+joins n {v} {x} {a} {t} {k} h m g e s =
+    let fm = formed k m g in
+    record {
+      side = side k;
+      begins = begins_side (row_so_far k) g;
+      left = s;
+      frees = λ ts y w. moved (λ b i. sym (free_around b (part t ts) v i)) fm.freed w;
+      home = Expr n;
+      operand = refl;
+      at_home = λ ts. (at_level h k m).home ∙ e;
+      keeps = λ ts y w. keeps k fm g s w;
+    }
+
+-- what stands behind the sign with which a row begins, with that sign
+pub signed_built : {v : Surroundings} {k : Kind} {before : Forest → Forest} {w : Tree} {a b y : Place} (ps : List Piece) → signed ps ≡ true → Moves (lead ps) a b → Built so_far v (tail ps) k before w b y → Built so_far v ps k before w a y
+signed_built {v} {k} {before} {w} {a} {y = y} ps l m b = subst (λ qs. Built so_far v qs k before w a y) (lead_row ps l) (record { parts = b.parts; is = b.is; row = then' (only_sign m) b.row })
+
+pub signed_node : {v : Surroundings} {k : Kind} {w : Tree} {a b y : Place} (ps : List Piece) → signed ps ≡ true → Moves (lead ps) a b → BuiltNode so_far v (tail ps) k w b y → BuiltNode so_far v ps k w a y
+signed_node {v} {k} {w} {a} {y = y} ps l m b = subst (λ qs. BuiltNode so_far v qs k w a y) (lead_row ps l) (record { parts = b.parts; is = b.is; row = then' (only_sign m) b.row; keeps = b.keeps })
+
+pub signed_no_node : {v : Surroundings} {k : Kind} {a b : Place} (ps : List Piece) → signed ps ≡ true → Moves (lead ps) a b → NoNode so_far v (tail ps) k b → NoNode so_far v ps k a
+signed_no_node {v} {k} {a} {b} ps l m n = subst (λ qs. NoNode so_far v qs k a) (lead_row ps l) (record { no = at })
+  where
+    at : (us : Forest) (w : Place) → Walk (Whole so_far) (steady v) (piece [] (Fixed (lead ps)) ∷ tail ps) a us w → so_far.keeps k v us ≡ true → ⊥
+    at us w (next (sign e f) walk) h = n.no us w (subst (λ p. Walk (Whole so_far) (steady v) (tail ps) p us w) (sym e ∙ sym m.is) walk) h
+
+pub signed_none : {v : Surroundings} {a b : Place} (ps : List Piece) → signed ps ≡ true → Moves (lead ps) a b → NoRow so_far v (tail ps) b → NoRow so_far v ps a
+signed_none {v} {a} ps l m n = subst (λ qs. NoRow so_far v qs a) (lead_row ps l) (on (only_sign m) n)
+
+-- the same of a mark, which may have to stand on the line
+marked_built : {v : Surroundings} {k : Kind} {before : Forest → Forest} {w : Tree} {a b y : Place} (ps : List Piece) → signed (past_line ps) ≡ true → (begins_line ps ≡ true → forth SameLine a ≡ a) → Moves (lead (past_line ps)) a b → Built so_far v (tail (past_line ps)) k before w b y → Built so_far v ps k before w a y
+marked_built {a = a} (piece [] (Fixed SameLine) ∷ ps) l o m b =
+    let all = signed_built ps l m b in
+    record { parts = all.parts; is = all.is; row = then' (only_sign (record { is = sym (o refl); found = found_first (lead ps ∷ []) a (found_at (sym m.is) m.found) })) all.row }
+marked_built ps l o m b = signed_built ps l m b
+
+marked_none : {v : Surroundings} {a b : Place} (ps : List Piece) → signed (past_line ps) ≡ true → (begins_line ps ≡ true → forth SameLine a ≡ a) → Moves (lead (past_line ps)) a b → NoRow so_far v (tail (past_line ps)) b → NoRow so_far v ps a
+marked_none {a = a} (piece [] (Fixed SameLine) ∷ ps) l o m n = on (only_sign (record { is = sym (o refl); found = found_first (lead ps ∷ []) a (found_at (sym m.is) m.found) })) (signed_none ps l m n)
+marked_none ps l o m n = signed_none ps l m n
+
+-- the step is read
+pub climb_on : {v : Surroundings} {n : ℕ} {x a b y : Place} {t w : Tree} (k : Kind) → is_level n ≡ true → Listed k → grows_on k ≡ true → Climbs v n x t a → OnLine k a → Moves (mark k) a b → nat_le n (level_of_kind k) ≡ true → fits k t ≡ true → Built so_far v (behind k) k (part t) w b y → settled y ≡ true → Climbs v n x w y
+climb_on {v} {n} {x} {a} {b} {y} {t} {w} k h m g c o f e i built s =
+    let fm = formed k m g in
+    let left = value_side k m g (value t (level_single n h) c.reads) i c.reads in
+    let all = marked_built (tail (row_so_far k)) fm.led o.stays f built in
+    record {
+      follows = step_follows of_so_far c.follows (decides h c.ended m g e o (found_at (sym f.is) f.found)) (joins n h m g e left) all;
+      reads = subst (λ u. Staged v false (Expr n) x u y) (sym all.is) (of_so_far.to_node k ((at_level h k m).home ∙ e) (record { walk = whole_row k fm g left all.row.walk; keeps = keeps k fm g left all.row.walk }));
+      ended = s;
+    }
+
+-- it can't be read, or the tree may not stand at its left
+pub climb_barred : {v : Surroundings} {n : ℕ} {x a b : Place} {t : Tree} (k : Kind) → is_level n ≡ true → Listed k → grows_on k ≡ true → Climbs v n x t a → OnLine k a → Moves (mark k) a b → nat_le n (level_of_kind k) ≡ true → NoRow so_far v (behind k) b → Barred so_far v (Part (Expr n)) x
+climb_barred k h m g c o f e n = step_barred c.follows (decides h c.ended m g e o (found_at (sym f.is) f.found)) (marked_none (tail (row_so_far k)) (formed k m g).led o.stays f n)
+
+pub climb_unfit : {v : Surroundings} {n : ℕ} {x a b : Place} {t : Tree} (k : Kind) → is_level n ≡ true → Listed k → grows_on k ≡ true → Climbs v n x t a → OnLine k a → Moves (mark k) a b → nat_le n (level_of_kind k) ≡ true → fits k t ≡ false → Barred so_far v (Part (Expr n)) x
+climb_unfit {t = t} k h m g c o f e i = left_barred c.follows (decides h c.ended m g e o (found_at (sym f.is) f.found)) (begins_side (row_so_far k) g) (λ r. value_unfit k m g (value t (single_side k (formed k m g)) r) i r)

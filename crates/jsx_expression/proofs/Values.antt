@@ -1,0 +1,563 @@
+-- Expressions of the language so far: what they begin with, where they may stand, and how they go on.
+use Rattle.std.proofs.Common.{◌≡◌, ℕ, nat_eq, nat_le, Bool, true, false, not, cond, [], ◌∷◌, refl, sym, ◌∙◌, ap, subst, List}
+use Rattle.std.proofs.lemmas.Bool.{eqb-true, eq-eqb}
+use Rattle.std.specs.Prelude.{IsTrue, codes, Option, Some, None, ◌&&◌, ◌||◌}
+use Rattle.jsx_base.specs.Token.{Text, Mode, Operand, Operator, kind_number, TokenKind, NoToken, IdentifierName, Punctuator, NumericLiteral, BigIntLiteral, StringLiteral, RegExpLiteral, Lexeme, is_kind, is_token, among, no_token, breaks, skip, first_is, at_front, token, same}
+use Rattle.jsx_tree.specs.Signs.{Ending, AfterExpr, Sign, Tok, Unless}
+use Rattle.jsx_tree.specs.Kinds.{Seq, expression, Kind, Tree, leaf, node, list, Forest, part}
+use Rattle.jsx_tree.specs.Nonterminals.{Nonterminal, Expr, DotObject, Argument, Name, homes, in_homes, literal_homes, leaf_in, is_value_word}
+use Rattle.jsx_tree.specs.Grammar.{ListShape, TwoOrMore, Context, Part, Fixed, heads}
+use Rattle.jsx_tree.specs.Form.{admits, enough, is_leaf}
+use Rattle.jsx_tree.specs.Spelling.{mode_of}
+use Rattle.jsx_tree.specs.Reading.{Place, Lost, At, forth}
+use Rattle.jsx_tree.specs.StaticRules.{Surroundings}
+use Rattle.jsx_token.specs.Stage.{leaf_at, value_leaf}
+use Rattle.jsx_tree.specs.Walk.{is_found, is_text, Given, Items, nil, last, more, Past, one, sign, many, Relation, Piece, piece, tail, Walk, next, around}
+use Rattle.jsx_tree.specs.Language.{Whole}
+use Rattle.jsx_tree.specs.Answers.{Stuck, Only}
+use Rattle.jsx_tree.specs.Grows.{is_operand, Onward, starts, stay, step}
+use Rattle.jsx_expression.specs.SoFar.{Staged, is_number, so_far}
+use Rattle.jsx_token.specs.Marks.{row_so_far}
+use Rattle.jsx_tree.proofs.Tokens.{and_left, and_right, and_both, one_text, same_is}
+use Rattle.jsx_tree.proofs.Apart.{by_not, clash, one_token, less_or_other, less_first, less_other, found_token}
+use Rattle.jsx_base.proofs.Fronts.{none_ahead, other_ahead}
+use Rattle.jsx_tree.proofs.Signs.{not_first}
+use Rattle.jsx_tree.proofs.Rows.Bridge.{found_at}
+use Rattle.jsx_tree.proofs.Rows.Closers.{any_operand}
+use Rattle.jsx_tree.proofs.Rows.Stopping.{is_not, or_cases}
+use Rattle.jsx_tree.proofs.Rows.Turns.{whole_of}
+use Rattle.jsx_tree.proofs.Rows.Spines.{grows, grown, spine}
+use Rattle.jsx_expression.proofs.OfSoFar.{of_so_far}
+use Rattle.jsx_expression.proofs.Slashes.{is_slash, regexp_slash}
+use Rattle.jsx_token.specs.Growths.{lead, opening_sign, same_sign, is_level, settled}
+use Rattle.jsx_expression.specs.Climbing.{Begins}
+use Rattle.jsx_token.proofs.Listed.{Listed, kinds, every, of_each, of_level}
+use Rattle.jsx_token.specs.Headings.{heading_kind}
+use Rattle.jsx_token.proofs.Headings.{of_heading}
+use Rattle.jsx_expression.proofs.Inners.{inner_kind, of_inner}
+use Rattle.jsx_expression.proofs.Homes.{Literal, IsName, IsNumber, IsLong, IsString, IsPattern, token_kind, Value, literal, made, value, AtWhole, single, several, at_whole, Taken, module', headed, inner, evaluation, sequence, operand, staged_leaf, taken_by, home_of, no_list, no_operand, names, spread}
+use Rattle.jsx_token.proofs.Lives.{is_single}
+use Rattle.jsx_token.proofs.Levels.{signed}
+
+-- ---- where a token ended
+
+settled_by : (b : Bool) (t rest : Text) (y : Place) → cond b (At t AfterExpr rest) Lost ≡ y → IsTrue (is_found y) → same t [] ≡ false → settled y ≡ true
+settled_by true t rest y e f n = subst (λ p. settled p ≡ true) e (ap not n)
+settled_by false t rest y e f n = let bad : IsTrue (is_found Lost) = subst (λ p. IsTrue (is_found p)) (sym e) f in cc
+
+pub settled_token : (m : _) (k : TokenKind) (t : Text) (x : Place) {y : Place} → same t [] ≡ false → forth (Tok m k t) x ≡ y → IsTrue (is_found y) → settled y ≡ true
+settled_token m k t Lost n e f = let bad : IsTrue (is_found Lost) = found_at e f in cc
+settled_token m k t (At q g text) {y} n e f = settled_by (is_token (token m (same q []) text) k t) t (token m (same q []) text).rest y e f n
+
+pub leaf_full : (l : Literal) (t : Text) → is_leaf (token_kind l) t ≡ true → same t [] ≡ false
+leaf_full l (c ∷ t) e = refl
+leaf_full IsName [] e = cc
+leaf_full IsNumber [] e = cc
+leaf_full IsLong [] e = cc
+leaf_full IsString [] e = cc
+leaf_full IsPattern [] e = cc
+
+-- whether a mark comes next
+abbrev pub is_next : Text → Place → Bool
+is_next t Lost = false
+is_next t (At q e text) = is_token (token Operator false text) Punctuator t
+
+mark_next : (d : ℕ) (t q : Text) (e : Ending) (text : Text) → IsTrue (is_found (forth (Tok Operator Punctuator (d ∷ t)) (At q e text))) → is_next (d ∷ t) (At q e text) ≡ true
+mark_next d t q e text f =
+    let m = token Operator (same q []) text in
+    let h : is_token m Punctuator (d ∷ t) ≡ true = found_token (is_token m Punctuator (d ∷ t)) (At (d ∷ t) AfterExpr m.rest) f in
+    ap (λ x. is_token x Punctuator (d ∷ t)) (not_first (λ x. is_token x Punctuator (d ∷ t)) (λ s. and_false' (is_kind (no_token s).kind Punctuator)) (same q []) text h) ∙ h
+  where
+    and_false' : (a : Bool) → (a && false) ≡ false
+    and_false' true = refl
+    and_false' false = refl
+
+pub found_next : (d : ℕ) (t : Text) (a : Place) → IsTrue (is_found (forth (Tok Operator Punctuator (d ∷ t)) a)) → is_next (d ∷ t) a ≡ true
+found_next d t Lost f = cc
+found_next d t (At q e text) f = mark_next d t q e text f
+
+not_lost : (b : Bool) (y : Place) → IsTrue (is_found y) → cond b y Lost ≡ Lost → b ≡ false
+not_lost true y f e = let bad : IsTrue (is_found Lost) = subst (λ p. IsTrue (is_found p)) e f in cc
+not_lost false y f e = refl
+
+pub stuck_next : (t : Text) (a : Place) → settled a ≡ true → Stuck (Tok Operator Punctuator t) a → is_next t a ≡ false
+stuck_next t Lost s k = refl
+stuck_next t (At q AfterExpr text) s k =
+    let same' : token Operator (same q []) text ≡ token Operator false text = ap (λ v. token Operator v text) (is_not _ s) in
+    ap (λ x. is_token x Punctuator t) (sym same') ∙ not_lost _ (At t AfterExpr (token Operator (same q []) text).rest) refl k.is
+stuck_next t (At q e text) s k = cc
+
+-- ---- one literal at one place, and no element
+
+-- a token with its kind and text, and whether it is read as an operator is, as all but a regular expression are
+abbrev pub literal_sign : Literal → Text → Sign
+literal_sign l t = Tok (mode_of (token_kind l)) (token_kind l) t
+
+abbrev is_plain : Literal → Bool
+is_plain IsPattern = false
+is_plain l = true
+
+plain_there : (l : Literal) (t : Text) (x : Place) → is_plain l ≡ true → IsTrue (is_found (forth (literal_sign l t) x)) → IsTrue (is_found (forth (Tok Operator (token_kind l) t) x))
+plain_there IsName t x p f = f
+plain_there IsNumber t x p f = f
+plain_there IsLong t x p f = f
+plain_there IsString t x p f = f
+plain_there IsPattern t x p f = cc
+
+pattern_is : (l : Literal) → is_plain l ≡ false → l ≡ IsPattern
+pattern_is IsPattern p = refl
+pattern_is IsName p = cc
+pattern_is IsNumber p = cc
+pattern_is IsLong p = cc
+pattern_is IsString p = cc
+
+pattern_there : {l : Literal} (t : Text) (x : Place) → l ≡ IsPattern → IsTrue (is_found (forth (literal_sign l t) x)) → IsTrue (is_found (forth (Tok Operand RegExpLiteral t) x))
+pattern_there t x e f = subst (λ l. IsTrue (is_found (forth (literal_sign l t) x))) e f
+
+-- a literal by the number of its kind
+abbrev number_literal : ℕ → Literal
+number_literal n = cond (nat_eq n (kind_number NumericLiteral)) IsNumber (cond (nat_eq n (kind_number BigIntLiteral)) IsLong (cond (nat_eq n (kind_number StringLiteral)) IsString (cond (nat_eq n (kind_number RegExpLiteral)) IsPattern IsName)))
+
+numbered : (l : Literal) → number_literal (kind_number (token_kind l)) ≡ l
+numbered IsName = refl
+numbered IsNumber = refl
+numbered IsLong = refl
+numbered IsString = refl
+numbered IsPattern = refl
+
+by_kind : (l m : Literal) → is_kind (token_kind l) (token_kind m) ≡ true → l ≡ m
+by_kind l m h = sym (numbered l) ∙ (ap number_literal (eqb-true (kind_number (token_kind l)) (kind_number (token_kind m)) h) ∙ numbered m)
+
+-- where a regular expression may be read, a `/` or a `/=` stands as an operator
+record SlashToken (k : TokenKind) (t : Text) : Type 0 where
+  kind : kind_number k ≡ kind_number Punctuator
+  text : is_slash t ≡ true
+
+slash_token : (k : TokenKind) (t u : Text) (x : Place) → IsTrue (is_found (forth (Tok Operator k t) x)) → IsTrue (is_found (forth (Tok Operand RegExpLiteral u) x)) → SlashToken k t
+slash_token k t u Lost f g = cc
+slash_token k t u (At q e text) f g =
+    let m = token Operator (same q []) text in
+    let i : is_token m k t ≡ true = found_token (is_token m k t) (At t AfterExpr m.rest) f in
+    let s = regexp_slash u q e text g in
+    record { kind = sym (eqb-true (kind_number m.kind) (kind_number k) (and_left _ _ i)) ∙ s.kind; text = subst (λ v. is_slash v ≡ true) (same_is m.raw t (and_right _ _ i)) s.text }
+
+no_slash : (l : Literal) (t u : Text) (x : Place) → is_plain l ≡ true → IsTrue (is_found (forth (literal_sign l t) x)) → IsTrue (is_found (forth (Tok Operand RegExpLiteral u) x)) → ⊥
+no_slash l t u x p f g = by l p (slash_token (token_kind l) t u x (plain_there l t x p f) g).kind
+  where
+    by : (l : Literal) → is_plain l ≡ true → kind_number (token_kind l) ≡ kind_number Punctuator → ⊥
+    by IsName p e = cc
+    by IsNumber p e = cc
+    by IsLong p e = cc
+    by IsString p e = cc
+    by IsPattern p e = cc
+
+same_literal : (l m : Literal) (t u : Text) (x : Place) → IsTrue (is_found (forth (literal_sign l t) x)) → IsTrue (is_found (forth (literal_sign m u) x)) → l ≡ m
+same_literal l m t u x f g = by (is_plain l) (is_plain m) refl refl
+  where
+    by : (a b : Bool) → is_plain l ≡ a → is_plain m ≡ b → l ≡ m
+    by true true p q = by_kind l m (and_left (is_kind (token_kind l) (token_kind m)) _ (one_token (token_kind l) (token_kind m) t u x (plain_there l t x p f) (plain_there m u x q g)))
+    by true false p q = absurd (no_slash l t u x p f (pattern_there u x (pattern_is m q) g))
+    by false true p q = absurd (no_slash m u t x q g (pattern_there t x (pattern_is l p) f))
+    by false false p q = pattern_is l p ∙ sym (pattern_is m q)
+
+no_literal_front : (l : Literal) (t : Text) (f : Bool) (s : Text) → is_plain l ≡ true → first_is (nat_eq 60) s ≡ true → is_token (at_front Operator f s) (token_kind l) t ≡ true → ⊥
+no_literal_front l t f [] p e h = cc
+no_literal_front l t f (c ∷ s) p e h = clash _ (subst (λ v. is_token (at_front Operator f (v ∷ s)) (token_kind l) t ≡ true) (sym (eqb-true 60 c e)) h) (no_one l p)
+  where
+    no_one : (l : Literal) → is_plain l ≡ true → is_token (at_front Operator f (60 ∷ s)) (token_kind l) t ≡ false
+    no_one IsName p = ap (λ b. b && same (at_front Operator f (60 ∷ s)).raw t) ((none_ahead IdentifierName Operator 60 s refl refl refl).none f)
+    no_one IsNumber p = ap (λ b. b && same (at_front Operator f (60 ∷ s)).raw t) ((none_ahead NumericLiteral Operator 60 s refl refl refl).none f)
+    no_one IsLong p = ap (λ b. b && same (at_front Operator f (60 ∷ s)).raw t) ((none_ahead BigIntLiteral Operator 60 s refl refl refl).none f)
+    no_one IsString p = ap (λ b. b && same (at_front Operator f (60 ∷ s)).raw t) ((none_ahead StringLiteral Operator 60 s refl refl refl).none f)
+    no_one IsPattern p = cc
+
+-- two kinds of token in one mode
+one_kind : (m : Mode) (k l : TokenKind) (t u : Text) (x : Place) → IsTrue (is_found (forth (Tok m k t) x)) → IsTrue (is_found (forth (Tok m l u) x)) → kind_number k ≡ kind_number l
+one_kind m k l t u Lost f g = cc
+one_kind m k l t u (At q e text) f g =
+    let x = token m (same q []) text in
+    let i : is_token x k t ≡ true = found_token (is_token x k t) (At t AfterExpr x.rest) f in
+    let j : is_token x l u ≡ true = found_token (is_token x l u) (At u AfterExpr x.rest) g in
+    sym (eqb-true (kind_number x.kind) (kind_number k) (and_left _ _ i)) ∙ eqb-true (kind_number x.kind) (kind_number l) (and_left _ _ j)
+
+less_pattern : (t : Text) (x : Place) → IsTrue (is_found (forth (Tok Operand Punctuator (codes "<")) x)) → IsTrue (is_found (forth (Tok Operand RegExpLiteral t) x)) → ⊥
+less_pattern t x a b = let bad : kind_number Punctuator ≡ kind_number RegExpLiteral = one_kind Operand Punctuator RegExpLiteral (codes "<") t x a b in cc
+
+less_plain : (l : Literal) (t : Text) (x : Place) → is_plain l ≡ true → IsTrue (is_found (forth (Tok Operand Punctuator (codes "<")) x)) → IsTrue (is_found (forth (Tok Operator (token_kind l) t) x)) → ⊥
+less_plain l t Lost p a b = cc
+less_plain l t (At q e text) p a b =
+    let first = same q [] || breaks text in
+    no_literal_front l t first (skip text) p (less_first first (skip text) (found_token _ (At (codes "<") AfterExpr (token Operand (same q []) text).rest) a)) (found_token _ (At t AfterExpr (token Operator (same q []) text).rest) b)
+
+pub less_literal : (l : Literal) (t : Text) (x : Place) → IsTrue (is_found (forth (Tok Operand Punctuator (codes "<")) x)) → IsTrue (is_found (forth (literal_sign l t) x)) → ⊥
+less_literal l t x a b = by (is_plain l) refl
+  where
+    by : (c : Bool) → is_plain l ≡ c → ⊥
+    by true p = less_plain l t x p a (plain_there l t x p b)
+    by false p = less_pattern t x a (pattern_there t x (pattern_is l p) b)
+
+-- ---- the signs with which an expression begins that is no literal
+
+pub lead_row : (ps : List Piece) → signed ps ≡ true → piece [] (Fixed (lead ps)) ∷ tail ps ≡ ps
+lead_row (piece [] (Fixed s) ∷ ps) g = refl
+lead_row _ g = cc
+
+pub led_sign : {R : Relation} {V : List Context → Surroundings} (ps : List Piece) {a y : Place} {ts : Forest} → signed ps ≡ true → Walk R V ps a ts y → IsTrue (is_found (forth (lead ps) a))
+led_sign (piece [] (Fixed s) ∷ ps) h (next (sign e f) w) = found_at e f
+led_sign _ h w = cc
+
+abbrev pub is_opening : Sign → Bool
+is_opening (Tok Operand Punctuator (c ∷ [])) = nat_eq c 60
+is_opening (Tok Operator Punctuator (d ∷ t)) = not (is_slash (d ∷ t)) && (not (nat_eq d 60) && not (among (d ∷ t) heads))
+is_opening (Tok Operator IdentifierName (d ∷ t)) = not (is_slash (d ∷ t)) && (not (nat_eq d 60) && (not (among (d ∷ t) heads) && not (is_value_word (d ∷ t))))
+is_opening s = false
+
+-- a token that no literal is
+pub record IsOpener (k : TokenKind) (d : ℕ) (t : Text) : Type 0 where
+  unslashed : is_slash (d ∷ t) ≡ false
+  low : nat_eq d 60 ≡ false
+  head : among (d ∷ t) heads ≡ false
+  some : is_kind NoToken k ≡ false
+  other : (l : Literal) (u : Text) → value_leaf true (token_kind l) u ≡ true → (is_kind k (token_kind l) && same (d ∷ t) u) ≡ false
+
+pub data Opener : Sign → Type 0 where
+  angle : Opener (Tok Operand Punctuator (60 ∷ []))
+  plain : {k : TokenKind} {d : ℕ} {t : Text} → IsOpener k d t → Opener (Tok Operator k (d ∷ t))
+
+mark_other : (t : Text) (l : Literal) (u : Text) → (is_kind Punctuator (token_kind l) && same t u) ≡ false
+mark_other t IsName u = refl
+mark_other t IsNumber u = refl
+mark_other t IsLong u = refl
+mark_other t IsString u = refl
+mark_other t IsPattern u = refl
+
+word_other : (t : Text) (l : Literal) (u : Text) → is_value_word t ≡ false → value_leaf true (token_kind l) u ≡ true → (is_kind IdentifierName (token_kind l) && same t u) ≡ false
+word_other t IsName u n h = by_not _ (λ e. clash _ h (ap is_value_word (sym (same_is t u e)) ∙ n))
+word_other t IsNumber u n h = refl
+word_other t IsLong u n h = refl
+word_other t IsString u n h = refl
+word_other t IsPattern u n h = refl
+
+pub opener : (s : Sign) → is_opening s ≡ true → Opener s
+opener (Tok Operand Punctuator (c ∷ [])) h = subst (λ d. Opener (Tok Operand Punctuator (d ∷ []))) (sym (eqb-true c 60 h)) angle
+opener (Tok Operator Punctuator (d ∷ t)) h =
+    let g = and_right (not (is_slash (d ∷ t))) _ h in
+    plain (record { unslashed = is_not _ (and_left (not (is_slash (d ∷ t))) _ h); low = is_not _ (and_left (not (nat_eq d 60)) _ g); head = is_not _ (and_right (not (nat_eq d 60)) _ g); some = refl; other = λ l u i. mark_other (d ∷ t) l u })
+opener (Tok Operator IdentifierName (d ∷ t)) h =
+    let g = and_right (not (is_slash (d ∷ t))) _ h in
+    let a = and_right (not (nat_eq d 60)) _ g in
+    plain (record { unslashed = is_not _ (and_left (not (is_slash (d ∷ t))) _ h); low = is_not _ (and_left (not (nat_eq d 60)) _ g); head = is_not _ (and_left (not (among (d ∷ t) heads)) _ a); some = refl; other = λ l u i. word_other (d ∷ t) l u (is_not _ (and_right (not (among (d ∷ t) heads)) _ a)) i })
+opener _ h = cc
+
+-- one of them at one place
+pub one_opening : (s u : Sign) (x : Place) → Opener s → Opener u → IsTrue (is_found (forth s x)) → IsTrue (is_found (forth u x)) → same_sign s u ≡ true
+one_opening s u x angle angle f g = refl
+one_opening s u x angle (plain {k} {d} {t} o) f g = absurd (less_other k d t x o.low f g)
+one_opening s u x (plain {k} {d} {t} o) angle f g = absurd (less_other k d t x o.low g f)
+one_opening s u x (plain {k} {d} {t} o) (plain {k = l} {d = e} {t = w} q) f g = one_token k l (d ∷ t) (e ∷ w) x f g
+
+-- and no literal where one of them is
+pub literal_opening : (l : Literal) (t : Text) (s : Sign) (x : Place) → Opener s → value_leaf true (token_kind l) t ≡ true → IsTrue (is_found (forth (literal_sign l t) x)) → IsTrue (is_found (forth s x)) → ⊥
+literal_opening l t s x angle h f g = less_literal l t x g f
+literal_opening l t s x (plain {k} {d} {t = u} o) h f g = by (is_plain l) refl
+  where
+    by : (c : Bool) → is_plain l ≡ c → ⊥
+    by true p = clash _ (one_token k (token_kind l) (d ∷ u) t x g (plain_there l t x p f)) (o.other l t h)
+    by false p = clash _ (slash_token k (d ∷ u) t x g (pattern_there t x (pattern_is l p) f)).text o.unslashed
+
+-- ---- the sign with which the row of a kind begins, where that is no part
+
+abbrev opens_well : Kind → Bool
+opens_well k = grows (row_so_far k) || (signed (row_so_far k) && is_opening (opening_sign k))
+
+all_open_well : every opens_well kinds ≡ true
+all_open_well = refl
+
+opens_so : (k : Kind) → Listed k → grows (row_so_far k) ≡ false → (signed (row_so_far k) && is_opening (opening_sign k)) ≡ true
+opens_so k l g = or_cases (grows (row_so_far k)) _ (of_each opens_well all_open_well k l) (λ h. absurd (clash _ h g)) (λ e. e)
+
+pub opener_of : (k : Kind) → Listed k → grows (row_so_far k) ≡ false → Opener (opening_sign k)
+opener_of k l g = opener (opening_sign k) (and_right (signed (row_so_far k)) _ (opens_so k l g))
+
+pub opened_led : (k : Kind) → Listed k → grows (row_so_far k) ≡ false → signed (row_so_far k) ≡ true
+opened_led k l g = and_left (signed (row_so_far k)) _ (opens_so k l g)
+
+pub opened_sign : {v : Surroundings} {d : Nonterminal} {x p : Place} {ts : Forest} (k : Kind) → Listed k → grows (row_so_far k) ≡ false → Staged v false d x (node k ts) p → IsTrue (is_found (forth (opening_sign k) x))
+opened_sign k l g r = led_sign (row_so_far k) (opened_led k l g) (of_so_far.from_node k r).walk
+
+-- ---- what an expression begins with
+
+-- what stands there is a literal, or a node whose row begins with a sign
+pub data First (v : Surroundings) (x : Place) : Tree → Place → Type 0 where
+  name : (l : Literal) {t : Text} {p : Place} → value_leaf true (token_kind l) t ≡ true → is_leaf (token_kind l) t ≡ true → forth (literal_sign l t) x ≡ p → IsTrue (is_found p) → First v x (leaf (token_kind l) t) p
+  opened : (d : Nonterminal) {k : Kind} {ts : Forest} {p : Place} → Listed k → grows (row_so_far k) ≡ false → Staged v false d x (node k ts) p → First v x (node k ts) p
+
+pub leaf_forth : {v : Surroundings} {d : Nonterminal} {x p : Place} {t : Text} (l : Literal) → Staged v false d x (leaf (token_kind l) t) p → forth (literal_sign l t) x ≡ p
+leaf_forth IsName r = r.reads.scans
+leaf_forth IsNumber r = r.reads.scans
+leaf_forth IsLong r = r.reads.scans
+leaf_forth IsString r = r.reads.scans
+leaf_forth IsPattern r = r.reads.scans
+
+pub whole_of_leaf : {v : Surroundings} {d : Nonterminal} {x p : Place} {t : Text} (l : Literal) → Staged v false d x (leaf (token_kind l) t) p → is_leaf (token_kind l) t ≡ true
+whole_of_leaf {d = d} {t = t} l r = and_right (leaf_in d (token_kind l) t) (is_leaf (token_kind l) t) r.reads.is
+
+first_by : {v : Surroundings} {d : Nonterminal} {x p : Place} {t : Tree} → Value t → grown so_far t ≡ false → Staged v false d x t p → First v x t p
+first_by (literal l h) g r = name l h (whole_of_leaf l r) (leaf_forth l r) r.reads.found
+first_by {d = d} (made l) g r = opened d l g r
+
+pub record Begun (v : Surroundings) (x : Place) (u : Tree) (z : Place) : Type 0 where
+  pub tree : Tree
+  pub place : Place
+  pub first : First v x tree place
+  pub onward : Onward so_far v x tree place u z
+
+-- no row begins with a sequence
+abbrev begins_single : Option Nonterminal → Bool
+begins_single None = true
+begins_single (Some c) = is_single c
+
+single_start : (d : Nonterminal) {k : Kind} (ts : Forest) → is_operand d ≡ true → Taken k → admits d (node k ts) ≡ true → begins_single (starts (row_so_far k)) ≡ true
+single_start d ts o module' h = refl
+single_start d ts o (headed g) h = of_heading (λ j. begins_single (starts (row_so_far (heading_kind j)))) refl g
+single_start d ts o (inner i) h = absurd (no_operand d (inner_kind i) ts o (is_not _ (of_inner (λ j. not (any_operand (homes (inner_kind j)))) refl i)) h)
+single_start d ts o evaluation h = refl
+single_start d ts o sequence h = refl
+single_start d ts o spread h = refl
+single_start d ts o (operand {k} l) h = of_each (λ j. begins_single (starts (row_so_far j))) refl k l
+
+-- so what stands first where no sequence does is none
+first_value : {v : Surroundings} {c d : Nonterminal} {x p z : Place} {f u : Tree} → is_single c ≡ true → Staged v false c x u z → Staged v false d x f p → Onward so_far v x f p u z → Value f
+first_value {f = f} o r s stay = value f o r
+first_value {f = f} o r s (step k c d {ts = ts} b i w e q on) = value f (subst (λ a. begins_single a ≡ true) b (single_start d (part f ts) e (taken_by q) (home_of q))) i
+
+pub begun : {v : Surroundings} {c : Nonterminal} {x z : Place} → is_single c ≡ true → (u : Tree) → Staged v false c x u z → Begun v x u z
+begun {c = c} o u r = let s = spine of_so_far u (and_left (is_operand c) _ o) r in record { tree = s.first; place = s.place; first = first_by (first_value o r s.reads s.onward) s.stands s.reads; onward = s.onward }
+
+pub level_single : (n : ℕ) → is_level n ≡ true → is_single (Expr n) ≡ true
+level_single n h = of_level (λ m. is_single (Expr m)) refl {n = n} h
+
+-- ---- where a value may stand
+
+pub record Seat (c : Nonterminal) : Type 0 where
+  pub word : (t : Text) → is_value_word t ≡ true → leaf_in c IdentifierName t ≡ true
+  pub number : (t : Text) → leaf_in c NumericLiteral t ≡ true
+  pub long : (t : Text) → leaf_in c BigIntLiteral t ≡ true
+  pub string : (t : Text) → leaf_in c StringLiteral t ≡ true
+  pub pattern : (t : Text) → leaf_in c RegExpLiteral t ≡ true
+  pub at : (l : Literal) (t : Text) → value_leaf true (token_kind l) t ≡ true → leaf_at c (token_kind l) t ≡ true
+  pub node : (k : Kind) (ts : Forest) → Listed k → admits c (node k ts) ≡ true
+
+pub or_left : (a b : Bool) → a ≡ true → (a || b) ≡ true
+or_left a b h = ap (λ c. c || b) h
+
+pub or_right : (a b : Bool) → b ≡ true → (a || b) ≡ true
+or_right true b h = refl
+or_right false b h = h
+
+-- where every expression of the language so far may stand
+pub at_any : Seat (Expr 0)
+at_any = record { word = λ t h. h; number = λ t. refl; long = λ t. refl; string = λ t. refl; pattern = λ t. refl; at = λ l t h. h; node = λ k ts l. of_each (λ j. in_homes (Expr 0) (homes j)) refl k l }
+
+pub at_one : Seat (Expr 1)
+at_one = record { word = λ t h. h; number = λ t. refl; long = λ t. refl; string = λ t. refl; pattern = λ t. refl; at = λ l t h. h; node = λ k ts l. of_each (λ j. in_homes (Expr 1) (homes j)) refl k l }
+
+pub at_argument : Seat Argument
+at_argument = record { word = λ t h. h; number = λ t. refl; long = λ t. refl; string = λ t. refl; pattern = λ t. refl; at = λ l t h. h; node = λ k ts l. of_each (λ j. in_homes Argument (homes j)) refl k l }
+
+literal_in : {c : Nonterminal} (l : Literal) (t : Text) → Seat c → value_leaf true (token_kind l) t ≡ true → leaf_in c (token_kind l) t ≡ true
+literal_in IsName t s h = s.word t h
+literal_in IsNumber t s h = s.number t
+literal_in IsLong t s h = s.long t
+literal_in IsString t s h = s.string t
+literal_in IsPattern t s h = s.pattern t
+
+-- a node somewhere else
+pub node_to : {v : Surroundings} {c : Nonterminal} {x y : Place} {k : Kind} {ts : Forest} (d : Nonterminal) → admits d (node k ts) ≡ true → Staged v false c x (node k ts) y → Staged v false d x (node k ts) y
+node_to {c = c} {k = k} {ts = ts} d a r = record { reads = record { is = and_both _ _ a (and_right (admits c (node k ts)) _ r.reads.is); is_legal = r.reads.is_legal; scans = r.reads.scans; found = r.reads.found }; staged = r.staged }
+
+-- a leaf somewhere else
+pub leaf_to : {v : Surroundings} {c : Nonterminal} {x y : Place} {t : Text} (d : Nonterminal) (l : Literal) → leaf_in d (token_kind l) t ≡ true → leaf_at d (token_kind l) t ≡ true → Staged v false c x (leaf (token_kind l) t) y → Staged v false d x (leaf (token_kind l) t) y
+leaf_to d l i a r = record { reads = record { is = and_both _ _ i (whole_of_leaf l r); is_legal = refl; scans = r.reads.scans; found = r.reads.found }; staged = a }
+
+pub move : {v : Surroundings} {c d : Nonterminal} {x y : Place} {t : Tree} → Seat c → Value t → Staged v false d x t y → Staged v false c x t y
+move {c = c} s (literal l {t} h) r = leaf_to c l (literal_in l t s h) (s.at l t h) r
+move {c = c} s (made {k} {ts} l) r = node_to c (s.node k ts l) r
+
+pub no_dot : {v : Surroundings} {x y : Place} (t : Tree) → is_number t ≡ true → Staged v false DotObject x t y → ⊥
+no_dot (leaf NumericLiteral t) n r = let bad = r.staged in cc
+no_dot (leaf _ t) n r = cc
+no_dot (node k ts) n r = cc
+no_dot (list ts) n r = cc
+
+-- ---- what an expression that begins so is
+
+pub word_level : (n : ℕ) (t : Text) → is_level n ≡ true → is_value_word t ≡ true → leaf_in (Expr n) IdentifierName t ≡ true
+word_level n t h w = and_both _ _ (of_level (λ m. nat_le m 18) refl h) w
+
+pub literal_level : (n : ℕ) (l : Literal) (t : Text) → is_level n ≡ true → value_leaf true (token_kind l) t ≡ true → leaf_in (Expr n) (token_kind l) t ≡ true
+literal_level n IsName t h w = word_level n t h w
+literal_level n IsNumber t h w = of_level (λ m. in_homes (Expr m) (literal_homes NumericLiteral)) refl h
+literal_level n IsLong t h w = of_level (λ m. in_homes (Expr m) (literal_homes BigIntLiteral)) refl h
+literal_level n IsString t h w = of_level (λ m. in_homes (Expr m) (literal_homes StringLiteral)) refl h
+literal_level n IsPattern t h w = of_level (λ m. in_homes (Expr m) (literal_homes RegExpLiteral)) refl h
+
+literal_staged : {v : Surroundings} {n : ℕ} {x y : Place} (l : Literal) (t : Text) → is_level n ≡ true → value_leaf true (token_kind l) t ≡ true → is_leaf (token_kind l) t ≡ true → y ≡ forth (literal_sign l t) x → IsTrue (is_found y) → Staged v false (Expr n) x (leaf (token_kind l) t) y
+literal_staged {n = n} IsName t i h w e f = staged_leaf refl (literal_level n IsName t i h) h w e f
+literal_staged {n = n} IsNumber t i h w e f = staged_leaf refl (literal_level n IsNumber t i h) h w e f
+literal_staged {n = n} IsLong t i h w e f = staged_leaf refl (literal_level n IsLong t i h) h w e f
+literal_staged {n = n} IsString t i h w e f = staged_leaf refl (literal_level n IsString t i h) h w e f
+literal_staged {n = n} IsPattern t i h w e f = staged_leaf refl (literal_level n IsPattern t i h) h w e f
+
+leaf_is : {l m : Literal} {t u : Text} → l ≡ m → t ≡ u → leaf (token_kind l) t ≡ leaf (token_kind m) u
+leaf_is e f = λ i. leaf (token_kind (e i)) (f i)
+
+pub record SameFirst (f t : Tree) (p y : Place) : Type 0 where
+  pub tree : f ≡ t
+  pub place : p ≡ y
+
+pub record SameLiteral (l m : Literal) (t u : Text) : Type 0 where
+  pub kinds : l ≡ m
+  pub texts : t ≡ u
+
+pub same_both : (l m : Literal) (t u : Text) (x : Place) → IsTrue (is_found (forth (literal_sign l t) x)) → IsTrue (is_found (forth (literal_sign m u) x)) → SameLiteral l m t u
+same_both l m t u x f g =
+    let k = same_literal l m t u x f g in
+    record { kinds = k; texts = one_text (mode_of (token_kind l)) (token_kind l) t u x f (subst (λ n. IsTrue (is_found (forth (literal_sign n u) x))) (sym k) g) }
+
+to_literal : {v : Surroundings} {x y p : Place} {f : Tree} (l : Literal) (t : Text) → value_leaf true (token_kind l) t ≡ true → y ≡ forth (literal_sign l t) x → IsTrue (is_found y) → First v x f p → SameFirst f (leaf (token_kind l) t) p y
+to_literal {x = x} l t i e g (name m {t = u} h w e' g') =
+    let s = same_both m l u t x (found_at e' g') (found_at (sym e) g) in
+    record { tree = leaf_is s.kinds s.texts; place = sym e' ∙ ((λ i. forth (literal_sign (s.kinds i) (s.texts i)) x) ∙ sym e) }
+to_literal {x = x} l t i e g (opened d {k} m o r) = absurd (literal_opening l t (opening_sign k) x (opener_of k m o) i (found_at (sym e) g) (opened_sign k m o r))
+
+pub onto : {v : Surroundings} {x : Place} {f t u : Tree} {p y z : Place} → SameFirst f t p y → Onward so_far v x f p u z → Onward so_far v x t y u z
+onto {v} {x} {f} {t} {u} {p} {y} {z} s o = subst (λ q. Onward so_far v x t q u z) s.place (subst (λ q. Onward so_far v x q p u z) s.tree o)
+
+pub literal_follows : {v : Surroundings} {x y : Place} (l : Literal) (t : Text) → value_leaf true (token_kind l) t ≡ true → is_leaf (token_kind l) t ≡ true → y ≡ forth (literal_sign l t) x → IsTrue (is_found y) → Begins v x (leaf (token_kind l) t) y
+literal_follows {x = x} l t h w e f = record {
+  on = λ n i j. record {
+    follows = record { home = Expr n; operand = refl; reads = literal_staged l t i h w e f; all = λ u z q. let b = begun (level_single n i) u q.reads in onto (to_literal l t h e f b.first) b.onward };
+    reads = literal_staged l t i h w e f;
+    ended = settled_token (mode_of (token_kind l)) (token_kind l) t x (leaf_full l t w) (sym e) f;
+  };
+  low = λ n i j. absurd (clash (nat_le n 17) (of_level (λ m. nat_le m 17) refl i) j);
+}
+
+-- ---- where a name and a sign ended
+
+name_settled : {v : Surroundings} {x y : Place} (t : Tree) → Staged v false Name x t y → settled y ≡ true
+name_settled {x = x} (leaf IdentifierName t) r = settled_token Operator IdentifierName t x (leaf_full IsName t (and_right true _ r.reads.is)) r.reads.scans r.reads.found
+name_settled (leaf _ t) r = let bad = r.staged in cc
+name_settled (node k ts) r = absurd (names.node k ts (taken_by r) (home_of r))
+name_settled (list ts) r = absurd (no_list r)
+
+pub name_ended : {v : Surroundings} {x y : Place} {t : Tree} → Only so_far v (Part Name) x (one t) y → settled y ≡ true
+name_ended {t = t} o = name_settled t (whole_of o.past).reads
+
+-- behind a bracket
+pub sign_ended : {v : Surroundings} {m : _} {k : TokenKind} {c : ℕ} {t : Text} {x y : Place} {g : Given} → Past (Whole so_far) v (Fixed (Tok m k (c ∷ t))) x g y → settled y ≡ true
+sign_ended {m = m} {k} {c} {t} {x} (sign e f) = settled_token m k (c ∷ t) x refl e f
+
+-- ---- no expression begins as another statement does
+
+not_same : (t u : Text) (p : Text → Bool) → p t ≡ true → p u ≡ false → same t u ≡ false
+not_same t u p a b = by_not _ (λ h. clash (p u) (subst (λ v. p v ≡ true) (same_is t u h) a) b)
+
+none_of : (t : Text) → same t (codes "{") ≡ false → same t (codes "function") ≡ false → same t (codes "class") ≡ false → among t heads ≡ false
+none_of t a b c = (λ i. a i || (b i || (c i || false)))
+
+abbrev may_be : Literal → Text → Bool
+may_be l t = value_leaf true (token_kind l) t && is_leaf (token_kind l) t
+
+no_head : (l : Literal) (t : Text) → may_be l t ≡ true → among t heads ≡ false
+no_head IsName t a = none_of t (not_same t (codes "{") (may_be IsName) a refl) (not_same t (codes "function") (may_be IsName) a refl) (not_same t (codes "class") (may_be IsName) a refl)
+no_head IsNumber t a = none_of t (not_same t (codes "{") (may_be IsNumber) a refl) (not_same t (codes "function") (may_be IsNumber) a refl) (not_same t (codes "class") (may_be IsNumber) a refl)
+no_head IsLong t a = none_of t (not_same t (codes "{") (may_be IsLong) a refl) (not_same t (codes "function") (may_be IsLong) a refl) (not_same t (codes "class") (may_be IsLong) a refl)
+no_head IsPattern t a = none_of t (not_same t (codes "{") (may_be IsPattern) a refl) (not_same t (codes "function") (may_be IsPattern) a refl) (not_same t (codes "class") (may_be IsPattern) a refl)
+no_head IsString t a = none_of t (not_same t (codes "{") (may_be IsString) a refl) (not_same t (codes "function") (may_be IsString) a refl) (not_same t (codes "class") (may_be IsString) a refl)
+
+raw_not : (x : Lexeme) (t : Text) → is_token x x.kind t ≡ false → same x.raw t ≡ false
+raw_not x t e = by_not _ (λ h. clash _ (and_both _ _ (eq-eqb (kind_number x.kind) (kind_number x.kind) refl) h) e)
+
+less_no_head : (f : Bool) (s : Text) → first_is (nat_eq 60) s ≡ true → among (at_front Operator f s).raw heads ≡ false
+less_no_head f s h =
+    let x = at_front Operator f s in
+    none_of x.raw
+    (raw_not x (codes "{") ((other_ahead x.kind 123 [] Operator s (less_or_other 123 s refl h)).not_it f))
+    (raw_not x (codes "function") ((other_ahead x.kind 102 (codes "unction") Operator s (less_or_other 102 s refl h)).not_it f))
+    (raw_not x (codes "class") ((other_ahead x.kind 99 (codes "lass") Operator s (less_or_other 99 s refl h)).not_it f))
+
+no_literal : (l : Literal) (t s : Text) → is_token (no_token s) (token_kind l) t ≡ false
+no_literal IsName t s = refl
+no_literal IsNumber t s = refl
+no_literal IsLong t s = refl
+no_literal IsString t s = refl
+no_literal IsPattern t s = refl
+
+go_on : (b : Bool) (x : Place) → b ≡ false → cond (not b) x Lost ≡ x
+go_on true x e = cc
+go_on false x e = refl
+
+no_token_is : (k : TokenKind) (t s : Text) → is_kind NoToken k ≡ false → is_token (no_token s) k t ≡ false
+no_token_is k t s n = ap (λ b. b && same (no_token s).raw t) n
+
+opener_heads : {s : Sign} (x : Place) → Opener s → IsTrue (is_found (forth s x)) → forth (Unless heads) x ≡ x
+opener_heads Lost o f = refl
+opener_heads (At q e text) angle f = go_on _ _ (less_no_head (breaks text) (skip text) (less_first (same q [] || breaks text) (skip text) (found_token _ (At (codes "<") AfterExpr (token Operand (same q []) text).rest) f)))
+opener_heads (At q e text) (plain {k} {d} {t} o) f =
+    let m = token Operator (same q []) text in
+    let i : is_token m k (d ∷ t) ≡ true = found_token (is_token m k (d ∷ t)) (At (d ∷ t) AfterExpr m.rest) f in
+    let raw : (token Operator false text).raw ≡ d ∷ t = ap (λ x. x.raw) (not_first (λ x. is_token x k (d ∷ t)) (λ s. no_token_is k (d ∷ t) s o.some) (same q []) text i) ∙ same_is m.raw (d ∷ t) (and_right _ _ i) in
+    go_on _ _ (ap (λ v. among v heads) raw ∙ o.head)
+
+slash_head : (t : Text) → is_slash t ≡ true → among t heads ≡ false
+slash_head t h = or_cases (same t (codes "/")) (same t (codes "/=")) h (λ e. ap (λ v. among v heads) (same_is t (codes "/") e)) (λ e. ap (λ v. among v heads) (same_is t (codes "/=") e))
+
+pattern_heads : (t : Text) (x : Place) → IsTrue (is_found (forth (Tok Operand RegExpLiteral t) x)) → forth (Unless heads) x ≡ x
+pattern_heads t Lost f = refl
+pattern_heads t (At q e text) f =
+    let m = token Operator (same q []) text in
+    let i : is_slash m.raw ≡ true = (regexp_slash t q e text f).text in
+    let raw : (token Operator false text).raw ≡ m.raw = ap (λ x. x.raw) (not_first (λ x. is_slash x.raw) (λ s. refl) (same q []) text i) in
+    go_on _ _ (ap (λ v. among v heads) raw ∙ slash_head m.raw i)
+
+plain_heads : (l : Literal) (t : Text) (x : Place) → (value_leaf true (token_kind l) t && is_leaf (token_kind l) t) ≡ true → IsTrue (is_found (forth (Tok Operator (token_kind l) t) x)) → forth (Unless heads) x ≡ x
+plain_heads l t Lost h f = refl
+plain_heads l t (At q e text) h f =
+    let m = token Operator (same q []) text in
+    let i : is_token m (token_kind l) t ≡ true = found_token (is_token m (token_kind l) t) (At t AfterExpr m.rest) f in
+    let raw : (token Operator false text).raw ≡ t = ap (λ x. x.raw) (not_first (λ x. is_token x (token_kind l) t) (no_literal l t) (same q []) text i) ∙ same_is m.raw t (and_right _ _ i) in
+    go_on _ _ (ap (λ v. among v heads) raw ∙ no_head l t h)
+
+literal_heads : (l : Literal) (t : Text) (x : Place) → (value_leaf true (token_kind l) t && is_leaf (token_kind l) t) ≡ true → IsTrue (is_found (forth (literal_sign l t) x)) → forth (Unless heads) x ≡ x
+literal_heads l t x h f = by (is_plain l) refl
+  where
+    by : (c : Bool) → is_plain l ≡ c → forth (Unless heads) x ≡ x
+    by true p = plain_heads l t x h (plain_there l t x p f)
+    by false p = pattern_heads t x (pattern_there t x (pattern_is l p) f)
+
+first_heads : {v : Surroundings} {x p : Place} {f : Tree} → First v x f p → forth (Unless heads) x ≡ x
+first_heads {x = x} (name l {t = t} h w g f) = literal_heads l t x (and_both _ _ h w) (found_at g f)
+first_heads {x = x} (opened d {k} l g r) = opener_heads x (opener_of k l g) (opened_sign k l g r)
+
+-- what a sequence begins with
+pub record Item (v : Surroundings) (x : Place) : Type 0 where
+  pub tree : Tree
+  pub place : Place
+  pub reads : Staged v false (Expr 1) x tree place
+
+first_item : {v : Surroundings} {s : ListShape} {x z : Place} {ts : Forest} → enough TwoOrMore ts ≡ true → Items Staged v s (Expr 1) x ts z → is_text s ≡ false → Item v x
+first_item n (nil f) c = cc
+first_item {v} {s} {x} n (last {y = y} {t = t} r e f) c = record { tree = t; place = y; reads = subst (λ b. Staged v b (Expr 1) x t y) c r }
+first_item {v} {s} {x} n (more {y = y} {t = t} m r e all) c = record { tree = t; place = y; reads = subst (λ b. Staged v b (Expr 1) x t y) c r }
+
+item_of_walk : {v : Surroundings} (us : Forest) {x z : Place} {ts : Forest} → Walk Staged (around v us) (row_so_far (expression Seq)) x ts z → Item v x
+item_of_walk us (next (many e all) w) = first_item e all refl
+
+whole_heads : {v : Surroundings} {x z : Place} {u : Tree} → AtWhole u → Staged v false (Expr 0) x u z → forth (Unless heads) x ≡ x
+whole_heads {u = u} (single a) r = first_heads (begun refl u (move at_one a r)).first
+whole_heads (several {ts}) r = let i = item_of_walk ts (of_so_far.from_node (expression Seq) r).walk in first_heads (begun refl i.tree i.reads).first
+
+pub no_heads : {v : Surroundings} {x z : Place} {u : Tree} → Staged v false (Expr 0) x u z → forth (Unless heads) x ≡ x
+no_heads {u = u} r = whole_heads (at_whole u r) r

@@ -1,0 +1,6 @@
+pub mod SoFar
+pub mod Around
+pub mod Spans
+pub mod Answers
+pub mod Elements
+pub mod Climbing
