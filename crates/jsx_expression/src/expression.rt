@@ -71,7 +71,9 @@ fn element<'s>(context: Context, lexer: &mut Lexer<'s>) -> Result<Box<Expr<'s>>,
     )?)
 }
 
-/// A primary expression: an identifier, a literal or an element.
+/// A primary expression: an identifier, a literal or an element. It is kept out of the frame that each level of nesting
+/// takes.
+#[inline(never)]
 fn primary<'s>(context: Context, lexer: &mut Lexer<'s>) -> Result<Box<Expr<'s>>, ParseError>
     requires { NoOpening (place_of lexer.old) }
     ensures read { IfOk result (λ e. Begins (around_of context.entry.around) (place_of lexer.old) (view_expr e.value) (place_of lexer.new)) }
@@ -728,8 +730,9 @@ fn parenthesized<'s>(context: Context, lexer: &mut Lexer<'s>) -> Result<Box<Expr
     Ok(make::paren(context.alloc, span_to(lo, lexer), inner)?)
 }
 
-/// What an expression is, behind its first token.
+/// What an expression is, behind its first token. It is kept out of the frame that each level of calls takes.
 #[cycle(expression)]
+#[inline(never)]
 fn open<'s>(
     context: Context,
     lexer: &mut Lexer<'s>,
