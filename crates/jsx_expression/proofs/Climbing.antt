@@ -4,7 +4,7 @@ use Rattle.std.specs.Prelude.{IsTrue, Some, ◌&&◌}
 use Rattle.std.proofs.lemmas.Bool.{leb-true, le-leb}
 use Rattle.jsx_base.specs.Token.{Lexeme, Text, Operator, IdentifierName, NumericLiteral, BigIntLiteral, StringLiteral, TokenKind, breaks, token, same, RegExpLiteral}
 use Rattle.jsx_tree.specs.Signs.{Ending, AfterExpr, SameLine}
-use Rattle.jsx_tree.specs.Kinds.{Module, Var, ConstWord, Declarator, ExprStmt, Assigns, Assign, OpAssign, Delete, Void, TypeOf, Positive, Negative, Complement, Not, Unary, Binary, Cond, Call, Member, Index, ImportCall, Parenthesized, Element, Kind, program, statement, expression, jsx, Tree, leaf, node, Forest, part, PrefixUpdate, PostfixUpdate, Seq, Spread, Array}
+use Rattle.jsx_tree.specs.Kinds.{Module, Var, ConstWord, Declarator, ExprStmt, Assigns, Assign, OpAssign, Delete, Void, TypeOf, Positive, Negative, Complement, Not, Unary, Binary, Cond, Call, Member, Index, ImportCall, Parenthesized, Element, Kind, program, statement, expression, jsx, Tree, leaf, node, Forest, part, PrefixUpdate, PostfixUpdate, Seq, Spread, Array, ComputedKey, function}
 use Rattle.jsx_tree.specs.Nonterminals.{Nonterminal, Expr, NullishLeft, MemberObject, DotObject, SimpleTarget, Pat, is_bound, homes, in_homes, leaf_in, is_value_word}
 use Rattle.jsx_tree.specs.Grammar.{Context, Fixed, Part, pun}
 use Rattle.jsx_tree.specs.Form.{admits, fits_below, is_leaf}
@@ -373,6 +373,7 @@ plain_kind (expression Array) ts v n h a p = and_both _ _ p refl
 plain_kind (expression Spread) ts v n h a p = and_both _ _ p refl
 plain_kind (jsx Element) ts v n h a p = and_both _ _ p refl
 plain_kind (program Module) ts v n h a p = cc
+plain_kind (function ComputedKey) ts v n h a p = cc
 plain_kind (statement ExprStmt) ts v n h a p = cc
 plain_kind (statement Declarator) ts v n h a p = cc
 plain_kind (statement (Var ConstWord)) ts v n h a p = cc

@@ -147,7 +147,7 @@ from_one {y = y} {t = t} s w = record { reads = move s.seat (value t refl w.read
 stuck_not : {s : Sign} {x : Place} → Stuck s x → IsTrue (is_found (forth s x)) → ⊥
 stuck_not k f = let bad : IsTrue (is_found Lost) = subst (λ p. IsTrue (is_found p)) k.is f in cc
 
-dots_led : {v : Surroundings} {c : Nonterminal} {x z : Place} {ts : Forest} → Staged v false c x (node (expression Spread) ts) z → IsTrue (is_found (forth (pun "...") x))
+pub dots_led : {v : Surroundings} {c : Nonterminal} {x z : Place} {ts : Forest} → Staged v false c x (node (expression Spread) ts) z → IsTrue (is_found (forth (pun "...") x))
 dots_led r = led_sign (row_so_far (expression Spread)) refl (of_so_far.from_node (expression Spread) r).walk
 
 abbrev begins_none : Sign → Kind → Bool
@@ -189,11 +189,11 @@ no_expression_item {v} {c} {x} s m given = record { no = λ u z n w. at n w (at_
 
 -- ---- a spread
 
-spread_ends : {v : Surroundings} {a y : Place} {ts : Forest} → Walk (Whole so_far) (steady v) (tail (row_so_far (expression Spread))) a ts y → ends_so_far (Expr 1) y ≡ true
+pub spread_ends : {v : Surroundings} {a y : Place} {ts : Forest} → Walk (Whole so_far) (steady v) (tail (row_so_far (expression Spread))) a ts y → ends_so_far (Expr 1) y ≡ true
 spread_ends (next (tree w) (done f)) = w.ends_there
 
 -- its row, read to the end of its expression
-spread_whole : {v : Surroundings} {c : Nonterminal} {x z : Place} {ts : Forest} → Staged v false c x (node (expression Spread) ts) z → ends_so_far (Expr 1) z ≡ true → Walk (Whole so_far) (steady v) (row_so_far (expression Spread)) x ts z
+pub spread_whole : {v : Surroundings} {c : Nonterminal} {x z : Place} {ts : Forest} → Staged v false c x (node (expression Spread) ts) z → ends_so_far (Expr 1) z ≡ true → Walk (Whole so_far) (steady v) (row_so_far (expression Spread)) x ts z
 spread_whole {v} {ts = ts} r e = moved (λ a h. free_around a ts v h) refl (whole_walk of_so_far (Expr 1) (row_so_far (expression Spread)) refl e (of_so_far.from_node (expression Spread) r).walk)
 
 pub spread_item : {v : Surroundings} {c : Nonterminal} {x a y : Place} {t : Tree} → Slot c → Moves (pun "...") x a → Built so_far v (tail (row_so_far (expression Spread))) (expression Spread) (λ ts. ts) t a y → OnlyItem v c x t y

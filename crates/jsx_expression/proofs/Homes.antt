@@ -3,8 +3,8 @@ use Rattle.std.proofs.Common.{◌≡◌, true, false, not, refl, sym, ◌∙◌,
 use Rattle.std.specs.Prelude.{IsTrue, codes, [], ◌∷◌, ◌&&◌, ◌||◌}
 use Rattle.jsx_base.specs.Token.{Text, TokenKind, IdentifierName, NumericLiteral, BigIntLiteral, StringLiteral, JsxName, Elision, RegExpLiteral, among}
 use Rattle.jsx_tree.specs.Signs.{Tok}
-use Rattle.jsx_tree.specs.Kinds.{VarWord, LetWord, ConstWord, Block, Empty, If, Do, While, Continue, Break, Throw, Debugger, Module, Var, Declarator, ExprStmt, Binds, Assigns, Assign, OpAssign, Nullish, Or, And, BitOr, BitXor, BitAnd, ShiftLeft, ShiftRight, ShiftOut, Add, Subtract, Multiply, Divide, Remainder, Exponentiate, Void, TypeOf, Positive, Negative, Complement, Not, Unary, Binary, Cond, Call, Member, Index, ImportCall, Parenthesized, Element, Kind, program, statement, expression, jsx, Tree, leaf, node, list, Forest, Delete, PrefixUpdate, PostfixUpdate, Increment, Decrement, Seq, For, ForDeclaration, Switch, Case, Default, Array, Spread}
-use Rattle.jsx_tree.specs.Nonterminals.{Nonterminal, Expr, NullishLeft, MemberObject, DotObject, SimpleTarget, Argument, Ident, Name, Pat, TagName, Attributes, DirectiveOnly, is_ident, is_bound, is_value_word, leaf_in, homes}
+use Rattle.jsx_tree.specs.Kinds.{VarWord, LetWord, ConstWord, Block, Empty, If, Do, While, Continue, Break, Throw, Debugger, Module, Directive, Var, Declarator, ExprStmt, Binds, Assigns, Assign, OpAssign, Nullish, Or, And, BitOr, BitXor, BitAnd, ShiftLeft, ShiftRight, ShiftOut, Add, Subtract, Multiply, Divide, Remainder, Exponentiate, Void, TypeOf, Positive, Negative, Complement, Not, Unary, Binary, Cond, Call, Member, Index, ImportCall, Parenthesized, Element, Kind, program, statement, expression, jsx, Tree, leaf, node, list, Forest, Delete, PrefixUpdate, PostfixUpdate, Increment, Decrement, Seq, For, ForDeclaration, Switch, Case, Default, Array, Spread, Try, Catch, Object, Property, Shorthand, ComputedKey, function}
+use Rattle.jsx_tree.specs.Nonterminals.{Nonterminal, Expr, NullishLeft, MemberObject, DotObject, SimpleTarget, Argument, Ident, Name, StringOnly, Pat, TagName, Attributes, is_ident, is_bound, is_value_word, leaf_in, homes}
 use Rattle.jsx_tree.specs.Grammar.{Part}
 use Rattle.jsx_tree.specs.Form.{admits, fits_below, is_leaf}
 use Rattle.jsx_tree.specs.Spelling.{mode_of, spelled}
@@ -29,7 +29,7 @@ use Rattle.jsx_token.specs.declared.heading.Heading.{Heading}
 use Rattle.jsx_token.specs.declared.heading.Heading.TheVariants as heading
 use Rattle.jsx_token.specs.Headings.{heading_kind}
 use Rattle.jsx_token.proofs.Headings.{headings, every_heading, of_heading}
-use Rattle.jsx_expression.proofs.Inners.{Inner, declarator, declaration, case', default', inner_kind, every_inner, of_inner}
+use Rattle.jsx_expression.proofs.Inners.{Inner, directive, declarator, declaration, case', default', inner_kind, every_inner, of_inner, catch', property, shorthand, computed}
 use Rattle.jsx_token.proofs.Listed.{Listed, listed, listed_binary, kinds, every, of_each}
 use Rattle.jsx_token.proofs.Lives.{is_single, lives}
 
@@ -45,6 +45,7 @@ pub data Taken : Kind → Type 0 where
 
 pub taken : (k : Kind) → has_kind k ≡ true → Taken k
 taken (program Module) h = module'
+taken (program Directive) h = inner directive
 taken (statement (Var VarWord)) h = headed (heading.Var declare_word.Var)
 taken (statement (Var LetWord)) h = headed (heading.Var declare_word.Let)
 taken (statement (Var ConstWord)) h = headed (heading.Var declare_word.Const)
@@ -58,11 +59,13 @@ taken (statement Switch) h = headed heading.Switch
 taken (statement Continue) h = headed heading.Continue
 taken (statement Break) h = headed heading.Break
 taken (statement Throw) h = headed heading.Throw
+taken (statement Try) h = headed heading.Try
 taken (statement Debugger) h = headed heading.Debugger
 taken (statement Declarator) h = inner declarator
 taken (statement (ForDeclaration w)) h = inner (declaration w)
 taken (statement Case) h = inner case'
 taken (statement Default) h = inner default'
+taken (statement Catch) h = inner catch'
 taken (statement ExprStmt) h = evaluation
 taken (expression Seq) h = sequence
 taken (expression Spread) h = spread
@@ -97,6 +100,10 @@ taken (expression (Unary Not)) h = operand (listed (expression (Unary Not)) refl
 taken (expression ImportCall) h = operand (listed (expression ImportCall) refl refl refl)
 taken (expression Parenthesized) h = operand (listed (expression Parenthesized) refl refl refl)
 taken (expression Array) h = operand (listed (expression Array) refl refl refl)
+taken (expression Object) h = operand (listed (expression Object) refl refl refl)
+taken (expression Property) h = inner property
+taken (expression Shorthand) h = inner shorthand
+taken (function ComputedKey) h = inner computed
 taken (expression (PrefixUpdate Increment)) h = operand (listed (expression (PrefixUpdate Increment)) refl refl refl)
 taken (expression (PrefixUpdate Decrement)) h = operand (listed (expression (PrefixUpdate Decrement)) refl refl refl)
 taken (expression (PostfixUpdate Increment)) h = operand (listed (expression (PostfixUpdate Increment)) refl refl refl)
@@ -215,14 +222,28 @@ name_kind : (l : TokenKind) (t : Text) → leaf_at Name l t ≡ true → l ≡ I
 name_kind IdentifierName t h = refl
 name_kind _ t h = cc
 
+string_kind : (l : TokenKind) (t : Text) → leaf_at StringOnly l t ≡ true → l ≡ StringLiteral
+string_kind StringLiteral t h = refl
+string_kind _ t h = cc
+
+ident_kind : (l : TokenKind) (t : Text) → leaf_at Ident l t ≡ true → l ≡ IdentifierName
+ident_kind IdentifierName t h = refl
+ident_kind _ t h = cc
+
 pub tags : LeafOnly TagName JsxName
 tags = record { token = refl; never = refl; node = λ l ts. nowhere TagName refl refl refl refl refl refl refl; kind = tag_kind }
 
 pub patterns : LeafOnly (Pat Binds) IdentifierName
 patterns = record { token = refl; never = refl; node = λ l ts. nowhere (Pat Binds) refl refl refl refl refl refl refl; kind = pattern_kind }
 
+pub strings : LeafOnly StringOnly StringLiteral
+strings = record { token = refl; never = refl; node = λ l ts. nowhere StringOnly refl refl refl refl refl refl refl; kind = string_kind }
+
 pub names : LeafOnly Name IdentifierName
 names = record { token = refl; never = refl; node = λ l ts. nowhere Name refl refl refl refl refl refl refl; kind = name_kind }
+
+pub idents : LeafOnly Ident IdentifierName
+idents = record { token = refl; never = refl; node = λ l ts. nowhere Ident refl refl refl refl refl refl refl; kind = ident_kind }
 
 -- ---- where nothing stands
 
@@ -236,12 +257,6 @@ none_there {v} {c} {x} f g = record { no = at }
 
 pub no_attributes : {v : Surroundings} {x : Place} → Barred so_far v (Part Attributes) x
 no_attributes = none_there (λ l t h. cc) (λ l ts. nowhere Attributes refl refl refl refl refl refl refl)
-
-pub no_directives : {v : Surroundings} {x : Place} → Barred so_far v (Part DirectiveOnly) x
-no_directives = none_there (λ l t h. cc) (λ l ts. nowhere DirectiveOnly refl refl refl refl refl refl refl)
-
-pub no_idents : {v : Surroundings} {x : Place} → Barred so_far v (Part Ident) x
-no_idents = none_there (λ l t h. cc) (λ l ts. nowhere Ident refl refl refl refl refl refl refl)
 
 -- ---- values
 
@@ -290,8 +305,10 @@ operand_leaf Argument k t o i h = h
 operand_leaf DotObject k t o i h = dot_leaf k t h
 operand_leaf (Pat Assigns) IdentifierName t o i h = bound_word t i
 operand_leaf SimpleTarget IdentifierName t o i h = bound_word t i
+operand_leaf Ident IdentifierName t o i h = ap (λ b. b || among t (codes "this" ∷ codes "null" ∷ codes "true" ∷ codes "false" ∷ [])) i
 operand_leaf (Pat Binds) k t o i h = cc
 operand_leaf Name k t o i h = cc
+operand_leaf StringOnly k t o i h = cc
 operand_leaf TagName k t o i h = cc
 operand_leaf _ k t o i h = cc
 

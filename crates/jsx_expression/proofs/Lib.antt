@@ -2,6 +2,7 @@ pub mod OfSoFar
 pub mod Places
 pub mod Inners
 pub mod Homes
+pub mod Standing
 pub mod Slashes
 pub mod Values
 pub mod Climbing
@@ -12,6 +13,9 @@ pub mod Operators
 pub mod Sequences
 pub mod Elements
 pub mod Holes
+pub mod Keys
+pub mod Members
+pub mod Protos
 pub mod Leveling
 pub mod Targeting
 pub mod Naming

@@ -2,12 +2,12 @@
 use Rattle.std.proofs.Common.{◌≡◌, nat_eq, Bool, true, false, List, [], ◌∷◌, ◌++◌, append_assoc, map, refl, sym, ◌∙◌, ap, subst, Option, Box, Vec, Global}
 use Rattle.std.specs.Prelude.{IsTrue, codes, cond, ◌||◌}
 use Rattle.std.proofs.lemmas.Bool.{eqb-true}
-use Rattle.jsx_base.specs.Token.{Text, Operator, Punctuator, JsxName, IdentifierName, Lexeme, breaks, skip, at_front, token, same, first_is, is_token}
+use Rattle.jsx_base.specs.Token.{Text, Operator, Punctuator, JsxName, IdentifierName, StringLiteral, NumericLiteral, BigIntLiteral, Lexeme, breaks, skip, at_front, token, same, first_is, is_token}
 use Rattle.jsx_base.specs.declared.place.Span.{Span}
 use Rattle.jsx_tree.specs.declared.text.Text.{Text as TreeText}
 use Rattle.jsx_tree.specs.declared.tree.Jsx.{Jsx}
 use Rattle.jsx_tree.specs.Signs.{End, AfterExpr, Tok, TrailingComma, Sign}
-use Rattle.jsx_tree.specs.Kinds.{BinaryOp, Nullish, Exponentiate, UnaryOp, Delete, Void, TypeOf, Positive, Negative, Complement, Not, Assign, OpAssign, Unary, Binary, Cond, Call, Member, Index, ImportCall, Element, expression, jsx, Tree, leaf, node, list, Forest, none, part, UpdateOp, Increment, Decrement, PrefixUpdate, PostfixUpdate, Seq, Array, Spread}
+use Rattle.jsx_tree.specs.Kinds.{BinaryOp, Nullish, Exponentiate, UnaryOp, Delete, Void, TypeOf, Positive, Negative, Complement, Not, Assign, OpAssign, Unary, Binary, Cond, Call, Member, Index, ImportCall, Element, expression, jsx, Tree, leaf, node, list, Forest, none, part, UpdateOp, Increment, Decrement, PrefixUpdate, PostfixUpdate, Seq, Array, Object, Property, Shorthand, Spread, ComputedKey, function}
 use Rattle.jsx_tree.specs.Nonterminals as grammar
 use Rattle.jsx_tree.specs.Grammar.{Commas, TwoOrMore, Many, Part, p, pun, sp, count, left_of, right_of, Elisions}
 use Rattle.jsx_tree.specs.Grows.{operator_sign}
@@ -20,6 +20,7 @@ use Rattle.jsx_tree.specs.Walk.{is_found}
 use Rattle.jsx_token.specs.Here.{Here, place_of, sign_of}
 use Rattle.jsx_token.specs.declared.lexer.Fixed.TheVariants as fixed
 use Rattle.jsx_expression.specs.Spans.{Spans, is_argument, IsPlaced, IsPlacedRow, IsPlacedList}
+use Rattle.jsx_expression.specs.Members.{behind_brace}
 use Rattle.jsx_token.specs.Places.{next_of, end_of, Takes}
 use Rattle.jsx_token.specs.Marks.{assign_sign}
 use Rattle.jsx_token.specs.Growths.{mark, opening_sign}
@@ -61,7 +62,7 @@ no_trailing (At q d text) e =
     let found : is_found (forth (sign_of fixed.Comma) (At q d text)) ≡ true = (λ i. is_found (cond (there i) (At (codes ",") AfterExpr (token Operator (same q []) text).rest) Lost)) in
     clash _ found (ap is_found e))
 
-name_placed : {a : TreeText} {x y : Here} → Takes (Tok Operator IdentifierName (text_of a)) x y → Comes a (next_of x) → IsPlaced (told_text a) (leaf IdentifierName (text_of a)) x y
+pub name_placed : {a : TreeText} {x y : Here} → Takes (Tok Operator IdentifierName (text_of a)) x y → Comes a (next_of x) → IsPlaced (told_text a) (leaf IdentifierName (text_of a)) x y
 name_placed k c = leaf_is refl refl (c, tt) k
 
 tag_placed : {a : TreeText} {x y : Here} → Takes (Tok (mode_of JsxName) JsxName (text_of a)) x y → Comes a (next_of x) → IsPlaced (told_text a) (leaf JsxName (text_of a)) x y
@@ -161,3 +162,27 @@ array_row sign r s = node_is (λ c e ps. refl) (λ ms text. refl) s (row_quiet (
 
 pub spread_row : {at : Option Span} {e : Told} {u : Tree} {w x y : Here} → Takes (opening_sign (expression Spread)) w x → IsPlaced e u x y → Spans at (next_of w) (end_of y) → IsPlaced (told_node at (e ∷ [])) (node (expression Spread) (part u none)) w y
 spread_row sign r s = node_is (λ c e ps. refl) (λ ms text. refl) s (row_sign sign (row_part r row_end))
+
+-- ---- an object, and what stands in it
+
+pub object_row : {at : Option Span} {ds : Tales} {us : Forest} {w x y : Here} → Takes (opening_sign (expression Object)) w x → IsPlacedRow behind_brace (tale (tells [] ds) no_tales) (part (list us) none) x y → Spans at (next_of w) (end_of y)
+    → IsPlaced (tells (spans at ∷ []) (tale (tells [] ds) no_tales)) (node (expression Object) (part (list us) none)) w y
+object_row sign r s = node_is (λ c e ps. refl) (λ ms text. refl) s (row_quiet (λ q. refl) (row_sign sign (row_quiet (λ q. refl) r)))
+
+pub string_placed : {a : TreeText} {x y : Here} → Takes (Tok Operator StringLiteral (text_of a)) x y → Comes a (next_of x) → IsPlaced (told_text a) (leaf StringLiteral (text_of a)) x y
+string_placed k c = leaf_is refl refl (c, tt) k
+
+pub number_placed : {a : TreeText} {x y : Here} → Takes (Tok Operator NumericLiteral (text_of a)) x y → Comes a (next_of x) → IsPlaced (told_text a) (leaf NumericLiteral (text_of a)) x y
+number_placed k c = leaf_is refl refl (c, tt) k
+
+pub long_placed : {a : TreeText} {x y : Here} → Takes (Tok Operator BigIntLiteral (text_of a)) x y → Comes a (next_of x) → IsPlaced (told_text a) (leaf BigIntLiteral (text_of a)) x y
+long_placed k c = leaf_is refl refl (c, tt) k
+
+pub computed_row : {at : Option Span} {e : Told} {u : Tree} {w x y v : Here} → Takes (sign_of fixed.OpenBracket) w x → IsPlaced e u x y → Takes (sign_of fixed.CloseBracket) y v → Spans at (next_of w) (end_of v) → IsPlaced (told_node at (e ∷ [])) (node (function ComputedKey) (part u none)) w v
+computed_row sign r close s = node_is (λ c e ps. refl) (λ ms text. refl) s (row_sign sign (row_part r (row_sign close row_end)))
+
+pub property_row : {at : Option Span} {d e : Told} {t u : Tree} {w z x y : Here} → IsPlaced d t w z → Takes (sign_of fixed.Colon) z x → IsPlaced e u x y → Spans at (next_of w) (end_of y) → IsPlaced (told_node at (d ∷ e ∷ [])) (node (expression Property) (part t (part u none))) w y
+property_row l colon r s = node_is (λ c e ps. refl) (led l _) s (row_quiet (λ q. refl) (row_part l (row_sign colon (row_quiet (λ q. refl) (row_part r row_end)))))
+
+pub shorthand_row : {at : Option Span} {a : TreeText} {x y : Here} → Takes (Tok Operator IdentifierName (text_of a)) x y → Comes a (next_of x) → Spans at (next_of x) (end_of y) → IsPlaced (told_node at (told_text a ∷ [])) (node (expression Shorthand) (part (leaf IdentifierName (text_of a)) none)) x y
+shorthand_row {a = a} name comes s = let l = name_placed {a = a} name comes in node_is (λ c e ps. refl) (led l []) s (row_quiet (λ q. refl) (row_part l row_end))

@@ -124,6 +124,28 @@ row_present {a} {c} {ps} {d} {ds} {t} {ts} {x} {y} {z} {w} same lead l r =
       );
     }
 
+-- the same with signs behind it too: `catch (a) {}`
+pub row_around : {a b : List Sign} {c : Nonterminal} {ps : Production} {d : Told} {ds : Tales} {t : Tree} {ts : Forest} {x y z w u : Here} → y.end ≡ x.end → scan (place_of x) a ≡ place_of y → IsPlacedAs (is_argument c) d t y z → w.end ≡ z.end → scan (place_of z) b ≡ place_of w → IsPlacedRow ps ds ts w u
+    → IsPlacedRow (Optional a c b [] ∷ ps) (tale (tells [] (tale d no_tales)) ds) (part (list (part t none)) ts) x u
+row_around {a} {b} {c} {ps} {d} {ds} {t} {ts} {x} {y} {z} {w} {u} same lead l same' close r =
+    let ms = walk ps (saids ts) in
+    let ns = a ++ (spelled t ++ b) in
+    let behind : Place = scan (place_of x) ns in
+    let short : behind ≡ scan (scan (place_of y) (spelled t)) b = scan_append (place_of x) a (spelled t ++ b) ∙ (ap (λ q. scan q (spelled t ++ b)) lead ∙ scan_append (place_of y) (spelled t) b) in
+    let app : scan (place_of x) (ns ++ ms) ≡ scan behind ms = scan_append (place_of x) ns ms in
+    let on : is_found (scan (place_of x) (ns ++ ms)) ≡ true → is_found (scan behind ms) ≡ true = λ f. subst (λ q. is_found q ≡ true) app f in
+    let here : is_found (scan (place_of x) (ns ++ ms)) ≡ true → is_found (scan (place_of y) (spelled t)) ≡ true = λ f. found_first b (scan (place_of y) (spelled t)) (subst (λ q. is_found q ≡ true) short (found_first ms behind (on f))) in
+    let there : is_found (scan (place_of x) (ns ++ ms)) ≡ true → behind ≡ place_of w = λ f. short ∙ (ap (λ q. scan q b) (l.leads (here f)) ∙ close) in
+    let goes : is_found (scan (place_of x) (ns ++ ms)) ≡ true → is_found (scan (place_of w) ms) ≡ true = λ f. subst (λ q. is_found (scan q ms) ≡ true) (there f) (on f) in
+    record {
+      same = r.same ∙ (same' ∙ (l.same ∙ same));
+      leads = λ f. app ∙ (ap (λ q. scan q ms) (there f) ∙ r.leads (goes f));
+      told = λ f. (
+        (refl, (subst (λ m. IsTold d (placed m (start c false (scan (place_of x) a ∷ [])) t)) same (subst (λ q. IsTold d (placed y.end (start c false (q ∷ [])) t)) (sym lead) (l.told (here f) c refl)), tt)),
+        subst (λ m. AreTold ds (places m (starts behind ps (saids ts)) ts)) (same' ∙ (l.same ∙ same)) (subst (λ q. AreTold ds (places w.end (starts q ps (saids ts)) ts)) (sym (there f)) (r.told (goes f))),
+      );
+    }
+
 pub row_absent : {a b : List Sign} {c : Nonterminal} {ps : Production} {ds : Tales} {ts : Forest} {x w : Here} → IsPlacedRow ps ds ts x w → IsPlacedRow (Optional a c b [] ∷ ps) (tale (tells [] no_tales) ds) (part (list none) ts) x w
 row_absent r = record { same = r.same; leads = r.leads; told = λ f. ((refl, tt), r.told f) }
 

@@ -4,9 +4,9 @@ use Rattle.std.proofs.lemmas.Bool.{eqb-true, eq-eqb}
 use Rattle.std.specs.Prelude.{IsTrue, codes, Option, Some, None, ◌&&◌, ◌||◌}
 use Rattle.jsx_base.specs.Token.{Text, Mode, Operand, Operator, kind_number, TokenKind, NoToken, IdentifierName, Punctuator, NumericLiteral, BigIntLiteral, StringLiteral, RegExpLiteral, Lexeme, is_kind, is_token, among, no_token, breaks, skip, first_is, at_front, token, same}
 use Rattle.jsx_tree.specs.Signs.{Ending, AfterExpr, Sign, Tok, Unless}
-use Rattle.jsx_tree.specs.Kinds.{Seq, expression, Kind, Tree, leaf, node, list, Forest, part}
+use Rattle.jsx_tree.specs.Kinds.{Object, Seq, expression, Kind, Tree, leaf, node, list, Forest, part}
 use Rattle.jsx_tree.specs.Nonterminals.{Nonterminal, Expr, DotObject, Argument, Name, homes, in_homes, literal_homes, leaf_in, is_value_word}
-use Rattle.jsx_tree.specs.Grammar.{ListShape, TwoOrMore, Context, Part, Fixed, heads}
+use Rattle.jsx_tree.specs.Grammar.{ListShape, TwoOrMore, Context, Part, Fixed, heads, pun}
 use Rattle.jsx_tree.specs.Form.{admits, enough, is_leaf}
 use Rattle.jsx_tree.specs.Spelling.{mode_of}
 use Rattle.jsx_tree.specs.Reading.{Place, Lost, At, forth}
@@ -31,7 +31,7 @@ use Rattle.jsx_expression.proofs.OfSoFar.{of_so_far}
 use Rattle.jsx_expression.proofs.Slashes.{is_slash, regexp_slash}
 use Rattle.jsx_token.specs.Growths.{lead, opening_sign, same_sign, is_level, settled}
 use Rattle.jsx_expression.specs.Climbing.{Begins}
-use Rattle.jsx_token.proofs.Listed.{Listed, kinds, every, of_each, of_level}
+use Rattle.jsx_token.proofs.Listed.{Listed, listed, code, kinds, every, of_each, of_level, one_place}
 use Rattle.jsx_token.specs.Headings.{heading_kind}
 use Rattle.jsx_token.proofs.Headings.{of_heading}
 use Rattle.jsx_expression.proofs.Inners.{inner_kind, of_inner}
@@ -93,11 +93,11 @@ stuck_next t (At q e text) s k = cc
 abbrev pub literal_sign : Literal → Text → Sign
 literal_sign l t = Tok (mode_of (token_kind l)) (token_kind l) t
 
-abbrev is_plain : Literal → Bool
+abbrev pub is_plain : Literal → Bool
 is_plain IsPattern = false
 is_plain l = true
 
-plain_there : (l : Literal) (t : Text) (x : Place) → is_plain l ≡ true → IsTrue (is_found (forth (literal_sign l t) x)) → IsTrue (is_found (forth (Tok Operator (token_kind l) t) x))
+pub plain_there : (l : Literal) (t : Text) (x : Place) → is_plain l ≡ true → IsTrue (is_found (forth (literal_sign l t) x)) → IsTrue (is_found (forth (Tok Operator (token_kind l) t) x))
 plain_there IsName t x p f = f
 plain_there IsNumber t x p f = f
 plain_there IsLong t x p f = f
@@ -208,15 +208,14 @@ led_sign _ h w = cc
 
 abbrev pub is_opening : Sign → Bool
 is_opening (Tok Operand Punctuator (c ∷ [])) = nat_eq c 60
-is_opening (Tok Operator Punctuator (d ∷ t)) = not (is_slash (d ∷ t)) && (not (nat_eq d 60) && not (among (d ∷ t) heads))
-is_opening (Tok Operator IdentifierName (d ∷ t)) = not (is_slash (d ∷ t)) && (not (nat_eq d 60) && (not (among (d ∷ t) heads) && not (is_value_word (d ∷ t))))
+is_opening (Tok Operator Punctuator (d ∷ t)) = not (is_slash (d ∷ t)) && not (nat_eq d 60)
+is_opening (Tok Operator IdentifierName (d ∷ t)) = not (is_slash (d ∷ t)) && (not (nat_eq d 60) && not (is_value_word (d ∷ t)))
 is_opening s = false
 
 -- a token that no literal is
 pub record IsOpener (k : TokenKind) (d : ℕ) (t : Text) : Type 0 where
   unslashed : is_slash (d ∷ t) ≡ false
   low : nat_eq d 60 ≡ false
-  head : among (d ∷ t) heads ≡ false
   some : is_kind NoToken k ≡ false
   other : (l : Literal) (u : Text) → value_leaf true (token_kind l) u ≡ true → (is_kind k (token_kind l) && same (d ∷ t) u) ≡ false
 
@@ -224,7 +223,7 @@ pub data Opener : Sign → Type 0 where
   angle : Opener (Tok Operand Punctuator (60 ∷ []))
   plain : {k : TokenKind} {d : ℕ} {t : Text} → IsOpener k d t → Opener (Tok Operator k (d ∷ t))
 
-mark_other : (t : Text) (l : Literal) (u : Text) → (is_kind Punctuator (token_kind l) && same t u) ≡ false
+pub mark_other : (t : Text) (l : Literal) (u : Text) → (is_kind Punctuator (token_kind l) && same t u) ≡ false
 mark_other t IsName u = refl
 mark_other t IsNumber u = refl
 mark_other t IsLong u = refl
@@ -242,11 +241,10 @@ pub opener : (s : Sign) → is_opening s ≡ true → Opener s
 opener (Tok Operand Punctuator (c ∷ [])) h = subst (λ d. Opener (Tok Operand Punctuator (d ∷ []))) (sym (eqb-true c 60 h)) angle
 opener (Tok Operator Punctuator (d ∷ t)) h =
     let g = and_right (not (is_slash (d ∷ t))) _ h in
-    plain (record { unslashed = is_not _ (and_left (not (is_slash (d ∷ t))) _ h); low = is_not _ (and_left (not (nat_eq d 60)) _ g); head = is_not _ (and_right (not (nat_eq d 60)) _ g); some = refl; other = λ l u i. mark_other (d ∷ t) l u })
+    plain (record { unslashed = is_not _ (and_left (not (is_slash (d ∷ t))) _ h); low = is_not _ g; some = refl; other = λ l u i. mark_other (d ∷ t) l u })
 opener (Tok Operator IdentifierName (d ∷ t)) h =
     let g = and_right (not (is_slash (d ∷ t))) _ h in
-    let a = and_right (not (nat_eq d 60)) _ g in
-    plain (record { unslashed = is_not _ (and_left (not (is_slash (d ∷ t))) _ h); low = is_not _ (and_left (not (nat_eq d 60)) _ g); head = is_not _ (and_left (not (among (d ∷ t) heads)) _ a); some = refl; other = λ l u i. word_other (d ∷ t) l u (is_not _ (and_right (not (among (d ∷ t) heads)) _ a)) i })
+    plain (record { unslashed = is_not _ (and_left (not (is_slash (d ∷ t))) _ h); low = is_not _ (and_left (not (nat_eq d 60)) _ g); some = refl; other = λ l u i. word_other (d ∷ t) l u (is_not _ (and_right (not (nat_eq d 60)) _ g)) i })
 opener _ h = cc
 
 -- one of them at one place
@@ -409,7 +407,7 @@ literal_staged {n = n} IsLong t i h w e f = staged_leaf refl (literal_level n Is
 literal_staged {n = n} IsString t i h w e f = staged_leaf refl (literal_level n IsString t i h) h w e f
 literal_staged {n = n} IsPattern t i h w e f = staged_leaf refl (literal_level n IsPattern t i h) h w e f
 
-leaf_is : {l m : Literal} {t u : Text} → l ≡ m → t ≡ u → leaf (token_kind l) t ≡ leaf (token_kind m) u
+pub leaf_is : {l m : Literal} {t u : Text} → l ≡ m → t ≡ u → leaf (token_kind l) t ≡ leaf (token_kind m) u
 leaf_is e f = λ i. leaf (token_kind (e i)) (f i)
 
 pub record SameFirst (f t : Tree) (p y : Place) : Type 0 where
@@ -502,14 +500,20 @@ go_on false x e = refl
 no_token_is : (k : TokenKind) (t s : Text) → is_kind NoToken k ≡ false → is_token (no_token s) k t ≡ false
 no_token_is k t s n = ap (λ b. b && same (no_token s).raw t) n
 
-opener_heads : {s : Sign} (x : Place) → Opener s → IsTrue (is_found (forth s x)) → forth (Unless heads) x ≡ x
-opener_heads Lost o f = refl
-opener_heads (At q e text) angle f = go_on _ _ (less_no_head (breaks text) (skip text) (less_first (same q [] || breaks text) (skip text) (found_token _ (At (codes "<") AfterExpr (token Operand (same q []) text).rest) f)))
-opener_heads (At q e text) (plain {k} {d} {t} o) f =
+-- whether the text of a sign is none of these
+abbrev is_headless : Sign → Bool
+is_headless (Tok Operand Punctuator t) = true
+is_headless (Tok m k t) = not (among t heads)
+is_headless s = true
+
+opener_heads : {s : Sign} (x : Place) → Opener s → is_headless s ≡ true → IsTrue (is_found (forth s x)) → forth (Unless heads) x ≡ x
+opener_heads Lost o h f = refl
+opener_heads (At q e text) angle h f = go_on _ _ (less_no_head (breaks text) (skip text) (less_first (same q [] || breaks text) (skip text) (found_token _ (At (codes "<") AfterExpr (token Operand (same q []) text).rest) f)))
+opener_heads (At q e text) (plain {k} {d} {t} o) h f =
     let m = token Operator (same q []) text in
     let i : is_token m k (d ∷ t) ≡ true = found_token (is_token m k (d ∷ t)) (At (d ∷ t) AfterExpr m.rest) f in
     let raw : (token Operator false text).raw ≡ d ∷ t = ap (λ x. x.raw) (not_first (λ x. is_token x k (d ∷ t)) (λ s. no_token_is k (d ∷ t) s o.some) (same q []) text i) ∙ same_is m.raw (d ∷ t) (and_right _ _ i) in
-    go_on _ _ (ap (λ v. among v heads) raw ∙ o.head)
+    go_on _ _ (ap (λ v. among v heads) raw ∙ is_not _ h)
 
 slash_head : (t : Text) → is_slash t ≡ true → among t heads ≡ false
 slash_head t h = or_cases (same t (codes "/")) (same t (codes "/=")) h (λ e. ap (λ v. among v heads) (same_is t (codes "/") e)) (λ e. ap (λ v. among v heads) (same_is t (codes "/=") e))
@@ -537,9 +541,26 @@ literal_heads l t x h f = by (is_plain l) refl
     by true p = plain_heads l t x h (plain_there l t x p f)
     by false p = pattern_heads t x (pattern_there t x (pattern_is l p) f)
 
-first_heads : {v : Surroundings} {x p : Place} {f : Tree} → First v x f p → forth (Unless heads) x ≡ x
-first_heads {x = x} (name l {t = t} h w g f) = literal_heads l t x (and_both _ _ h w) (found_at g f)
-first_heads {x = x} (opened d {k} l g r) = opener_heads x (opener_of k l g) (opened_sign k l g r)
+-- a brace is the one of them that an expression begins with
+abbrev heads_well : Kind → Bool
+heads_well k = grows (row_so_far k) || (is_headless (opening_sign k) || nat_eq (code k) (code (expression Object)))
+
+all_heads_well : every heads_well kinds ≡ true
+all_heads_well = refl
+
+first_heads : {v : Surroundings} {x p : Place} {f : Tree} → Stuck (pun "{") x → First v x f p → forth (Unless heads) x ≡ x
+first_heads {x = x} s (name l {t = t} h w g f) = literal_heads l t x (and_both _ _ h w) (found_at g f)
+first_heads {x = x} s (opened d {k} l g r) =
+    or_cases (grows (row_so_far k)) _ (of_each heads_well all_heads_well k l) (λ h. absurd (clash _ h g))
+    (λ e. or_cases (is_headless (opening_sign k)) (nat_eq (code k) (code (expression Object))) e (λ h. opener_heads x (opener_of k l g) h there) (λ h. absurd (braced h)))
+  where
+    there : IsTrue (is_found (forth (opening_sign k) x))
+    there = opened_sign k l g r
+
+    braced : nat_eq (code k) (code (expression Object)) ≡ true → ⊥
+    braced h =
+        let brace = subst (λ j. IsTrue (is_found (forth (opening_sign j) x))) (one_place k (expression Object) l (listed (expression Object) refl refl refl) h) there in
+        let bad : IsTrue (is_found Lost) = subst (λ p. IsTrue (is_found p)) s.is brace in cc
 
 -- what a sequence begins with
 pub record Item (v : Surroundings) (x : Place) : Type 0 where
@@ -555,9 +576,9 @@ first_item {v} {s} {x} n (more {y = y} {t = t} m r e all) c = record { tree = t;
 item_of_walk : {v : Surroundings} (us : Forest) {x z : Place} {ts : Forest} → Walk Staged (around v us) (row_so_far (expression Seq)) x ts z → Item v x
 item_of_walk us (next (many e all) w) = first_item e all refl
 
-whole_heads : {v : Surroundings} {x z : Place} {u : Tree} → AtWhole u → Staged v false (Expr 0) x u z → forth (Unless heads) x ≡ x
-whole_heads {u = u} (single a) r = first_heads (begun refl u (move at_one a r)).first
-whole_heads (several {ts}) r = let i = item_of_walk ts (of_so_far.from_node (expression Seq) r).walk in first_heads (begun refl i.tree i.reads).first
+whole_heads : {v : Surroundings} {x z : Place} {u : Tree} → Stuck (pun "{") x → AtWhole u → Staged v false (Expr 0) x u z → forth (Unless heads) x ≡ x
+whole_heads {u = u} s (single a) r = first_heads s (begun refl u (move at_one a r)).first
+whole_heads s (several {ts}) r = let i = item_of_walk ts (of_so_far.from_node (expression Seq) r).walk in first_heads s (begun refl i.tree i.reads).first
 
-pub no_heads : {v : Surroundings} {x z : Place} {u : Tree} → Staged v false (Expr 0) x u z → forth (Unless heads) x ≡ x
-no_heads {u = u} r = whole_heads (at_whole u r) r
+pub no_heads : {v : Surroundings} {x z : Place} {u : Tree} → Stuck (pun "{") x → Staged v false (Expr 0) x u z → forth (Unless heads) x ≡ x
+no_heads {u = u} s r = whole_heads s (at_whole u r) r

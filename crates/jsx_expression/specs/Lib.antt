@@ -3,4 +3,5 @@ pub mod Around
 pub mod Spans
 pub mod Answers
 pub mod Elements
+pub mod Members
 pub mod Climbing

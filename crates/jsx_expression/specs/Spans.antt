@@ -113,6 +113,10 @@ IsPlacedList s ds ts x y = IsPlacedListAs false s ds ts x y
 pub record IsPlacedOn (s : Sign) (first : Expr) (x : Here) (whole : Expr) (y : Here) : Type 0 where
   pub on : (w z : Here) → Spans (expr_at first) (next_of w) (end_of z) → IsPlaced (told_expr first) (view_expr first) w z → Takes s z x → IsPlaced (told_expr whole) (view_expr whole) w y
 
+-- a node that begins with a part from a place, behind which the rest of it stands
+pub record IsPlacedPast (lo : ℕ) (d : Told) (t : Tree) (x : Here) (e : Told) (u : Tree) (y : Here) : Type 0 where
+  pub on : (w : Here) → lo ≡ next_of w → IsPlaced d t w x → IsPlaced e u w y
+
 -- a node that begins with a sign, behind which it stands
 pub record IsPlacedBehind (s : Sign) (x : Here) (d : Told) (t : Tree) (y : Here) : Type 0 where
   pub on : (w : Here) → Takes s w x → begin_of x ≡ next_of w → IsPlaced d t w y

@@ -1,15 +1,19 @@
 //! Expressions.
 
-ghost use Rattle.std.specs.Prelude.{◌≡◌, ◌<◌, ◌≤◌, [], ◌∷◌, IfOk, OnOk, IsTrue, map, true};
-ghost use Rattle.jsx_tree.specs.Kinds.{Role, Assign, OpAssign, Unary, Binary, Cond, Call, Member, Index, ImportCall, Array, Spread, Parenthesized, Element, expression, jsx, list, none, part, PrefixUpdate, PostfixUpdate};
+ghost use Rattle.std.specs.Prelude.{◌≡◌, ◌<◌, ◌≤◌, ◌||◌, [], ◌∷◌, IfOk, OnOk, IsTrue, map, true, false};
+ghost use Rattle.std.specs.Str.{chars};
+ghost use Rattle.jsx_base.specs.Token.{among};
+ghost use Rattle.jsx_tree.specs.Kinds.{Role, Assign, OpAssign, Unary, Binary, Cond, Call, Member, Index, ImportCall, Array, Object, Property, Spread, ComputedKey, function, Parenthesized, Element, expression, jsx, list, none, part, PrefixUpdate, PostfixUpdate};
 ghost use Rattle.jsx_tree.specs.Nonterminals as grammar;
 ghost use Rattle.jsx_tree.specs.Grammar.{Commas, Elisions, Many, Part, p};
-ghost use Rattle.jsx_tree.specs.View.{forest, inside, text_of, view_access, view_expr, view_operation, view_pattern};
+ghost use Rattle.jsx_tree.specs.View.{forest, inside, text_of, view_access, view_expr, view_key, view_operation, view_pattern};
+ghost use Rattle.jsx_make.specs.Members.{view_prop};
 ghost use Rattle.jsx_tree.specs.ViewOperators.{assign_of, binary_of, unary_of, step_of};
 ghost use Rattle.jsx_tree.specs.StaticRules.{is_name};
 ghost use Rattle.jsx_tree.specs.Spans.{no_tales, tale};
-ghost use Rattle.jsx_tree.specs.Told.{told_expr, told_list, told_pat};
-ghost use Rattle.jsx_tree.specs.Walk.{one, tail};
+ghost use Rattle.jsx_tree.specs.Told.{told_expr, told_key, told_list, told_pat, told_prop};
+ghost use Rattle.jsx_tree.specs.Reading.{forth};
+ghost use Rattle.jsx_tree.specs.Walk.{is_found, one, tail};
 ghost use Rattle.jsx_tree.specs.Answers.{Only, Barred, OnlyRow, NoRow, Built, NoNode, BuiltNode};
 ghost use Rattle.jsx_expression.specs.Around.{around_of};
 ghost use Rattle.jsx_expression.specs.SoFar.{is_number, so_far};
@@ -18,24 +22,26 @@ ghost use Rattle.jsx_token.specs.Here.{place_of, left, sign_of};
 ghost use Rattle.jsx_token.specs.declared.lexer.Fixed.TheVariants as fixed;
 ghost use Rattle.jsx_expression.specs.Answers.{Refused};
 ghost use Rattle.jsx_expression.specs.Elements.{OnlyItem, NoItem};
+ghost use Rattle.jsx_expression.specs.Members.{OnlyMember, NoMember, NoOtherKey, behind_brace, is_word};
 ghost use Rattle.jsx_expression.specs.Climbing as climbing;
 ghost use Rattle.jsx_expression.specs.Climbing.{Begins, behind, NoneBegins};
 ghost use Rattle.jsx_token.specs.Growths.{NoOpening, growth_kind, is_level, mark, opening_kind, opening_sign, settled};
 ghost use Rattle.jsx_make.specs.NodeSpans.{access_at, expr_at, jsx_at, operation_at};
-ghost use Rattle.jsx_expression.specs.Spans.{Extends, IsPlaced, IsPlacedAs, IsPlacedBehind, IsPlacedOn, IsPlacedRow, Spans, Starts};
+ghost use Rattle.jsx_expression.specs.Spans.{Extends, IsPlaced, IsPlacedAs, IsPlacedBehind, IsPlacedOn, IsPlacedPast, IsPlacedRow, Spans, Starts};
 ghost use Rattle.jsx_token.specs.Places.{begin_of, end_of, next_of};
 
 use crate::argument::place_argument;
 use crate::around::Context;
 use crate::error::ParseError;
 use crate::parser::{expect, give_up, identifier_name, span_to, tag_name};
+use crate::proto::has_two_protos;
 use jsx_base::{BytePos, Span};
 use jsx_make::make;
 use jsx_token::growth::{self, Growth};
 use jsx_token::{Fixed, Leaf, Lexer, Opening, is_bound, is_reserved, value_word};
 use jsx_tree::{
-    Access, AssignOp, BinaryOp, Expr, Ident, Jsx, LiteralKind, Operation, Pat, Tag, Text, UnaryOp,
-    UpdateOp,
+    Access, AssignOp, BinaryOp, Expr, Ident, Jsx, Key, LiteralKind, Operation, Pat, Prop, Tag,
+    Text, UnaryOp, UpdateOp,
 };
 use std::alloc::{AllocError, Global};
 
@@ -435,6 +441,154 @@ fn array<'s>(context: Context, lexer: &mut Lexer<'s>) -> Result<Box<Expr<'s>>, P
     Ok(make::array(context.alloc, span_to(lo, lexer), all)?)
 }
 
+/// A spread in an object behind its `...`: `...a` (ECMA-262 section 13.2.5).
+#[cycle(expression)]
+fn spread_member<'s>(context: Context, lexer: &mut Lexer<'s>) -> Result<Box<Prop<'s>>, ParseError>
+    ensures read { IfOk result (λ p. Built so_far (around_of context.entry.around) (tail (row_so_far (expression Spread))) (expression Spread) (λ ts. ts) (view_prop p.value) (place_of lexer.old) (place_of lexer.new)) }
+    ensures placed { IfOk result (λ p. IsPlacedBehind (opening_sign (expression Spread)) lexer.old (told_prop p.value) (view_prop p.value) lexer.new) }
+    ensures shorter { OnOk result (left lexer.new < left lexer.old) }
+    ensures refused { Refused result (NoRow so_far (around_of context.entry.around) (tail (row_so_far (expression Spread))) (place_of lexer.old)) }
+{
+    let lo = lexer.last_place();
+    let inner = expression(context, lexer, ASSIGNMENT)?;
+    Ok(make::spread_member(context.alloc, span_to(lo, lexer), inner)?)
+}
+
+/// A key that is computed, behind its `[`: `[a]` (ECMA-262 section 13.2.5).
+#[cycle(expression)]
+fn computed_key<'s>(context: Context, lexer: &mut Lexer<'s>) -> Result<Key<'s>, ParseError>
+    ensures read { IfOk result (λ k. Built so_far (around_of context.entry.around) (tail (row_so_far (function ComputedKey))) (function ComputedKey) (λ ts. ts) (view_key k) (place_of lexer.old) (place_of lexer.new)) }
+    ensures placed { IfOk result (λ k. IsPlacedBehind (sign_of fixed.OpenBracket) lexer.old (told_key k) (view_key k) lexer.new) }
+    ensures shorter { OnOk result (left lexer.new < left lexer.old) }
+    ensures refused { Refused result (NoRow so_far (around_of context.entry.around) (tail (row_so_far (function ComputedKey))) (place_of lexer.old)) }
+{
+    let lo = lexer.last_place();
+    let inner = expression(context, lexer, ASSIGNMENT)?;
+    expect(context, lexer, Fixed::CloseBracket)?;
+    Ok(make::computed_key(span_to(lo, lexer), inner))
+}
+
+/// A key that is a string or a number (ECMA-262 section 13.2.5).
+fn literal_key<'s>(context: Context, lexer: &mut Lexer<'s>) -> Result<Key<'s>, ParseError>
+    requires { NoOtherKey (place_of lexer.old) }
+    ensures read { IfOk result (λ k. Only so_far (around_of context.entry.around) (Part grammar.Key) (place_of lexer.old) (one (view_key k)) (place_of lexer.new)) }
+    ensures literal { IfOk result (λ k. is_word (view_key k) ≡ false) }
+    ensures placed { IfOk result (λ k. IsPlaced (told_key k) (view_key k) lexer.old lexer.new) }
+    ensures begins { OnOk result (begin_of lexer.new ≡ next_of lexer.old) }
+    ensures shorter { OnOk result (left lexer.new < left lexer.old) }
+    ensures refused { Refused result (Barred so_far (around_of context.entry.around) (Part grammar.Key) (place_of lexer.old)) }
+{
+    if let Some(raw) = lexer.leaf(Leaf::Str) {
+        let text = Text::Read(raw, lexer.last_place());
+        return Ok(make::literal_key(LiteralKind::Str, text));
+    }
+    if let Some(raw) = lexer.leaf(Leaf::Num) {
+        let text = Text::Read(raw, lexer.last_place());
+        return Ok(make::literal_key(LiteralKind::Num, text));
+    }
+    if let Some(raw) = lexer.leaf(Leaf::BigInt) {
+        let text = Text::Read(raw, lexer.last_place());
+        return Ok(make::literal_key(LiteralKind::BigInt, text));
+    }
+    Err(give_up(lexer))
+}
+
+/// Whether a name, behind which the lexer stands, is the key of a property.
+fn is_paired(lexer: &mut Lexer, name: &str) -> bool
+    ensures paired { result ≡ (among (chars name.now) grammar.reserved || is_found (forth (sign_of fixed.Colon) (place_of lexer.old))) }
+    ensures stays { lexer.new ≡ lexer.old }
+{
+    is_reserved(name) || lexer.is_before(Fixed::Colon)
+}
+
+/// A property behind its key, which begins at a place: `a: b` (ECMA-262 section 13.2.5).
+#[cycle(expression)]
+fn property<'s>(
+    context: Context,
+    lexer: &mut Lexer<'s>,
+    lo: BytePos,
+    key: Key<'s>,
+) -> Result<Box<Prop<'s>>, ParseError>
+    ensures read { IfOk result (λ p. Built so_far (around_of context.entry.around) (tail (row_so_far (expression Property))) (expression Property) (part (view_key key.entry)) (view_prop p.value) (place_of lexer.old) (place_of lexer.new)) }
+    ensures placed { IfOk result (λ p. IsPlacedPast lo.0 (told_key key.entry) (view_key key.entry) lexer.old (told_prop p.value) (view_prop p.value) lexer.new) }
+    ensures shorter { OnOk result (left lexer.new < left lexer.old) }
+    ensures refused { Refused result (NoRow so_far (around_of context.entry.around) (tail (row_so_far (expression Property))) (place_of lexer.old)) }
+{
+    expect(context, lexer, Fixed::Colon)?;
+    let value = expression(context, lexer, ASSIGNMENT)?;
+    Ok(make::property(context.alloc, span_to(lo, lexer), key, value)?)
+}
+
+/// What stands in an object: a property, a name for one and its value, or a spread (ECMA-262 section 13.2.5).
+#[cycle(expression)]
+fn object_member<'s>(context: Context, lexer: &mut Lexer<'s>) -> Result<Box<Prop<'s>>, ParseError>
+    ensures read { IfOk result (λ p. OnlyMember (around_of context.entry.around) (place_of lexer.old) (view_prop p.value) (place_of lexer.new)) }
+    ensures placed { IfOk result (λ p. IsPlaced (told_prop p.value) (view_prop p.value) lexer.old lexer.new) }
+    ensures shorter { OnOk result (left lexer.new < left lexer.old) }
+    ensures refused { Refused result (NoMember (around_of context.entry.around) (place_of lexer.old)) }
+{
+    if lexer.take(Fixed::Dots) {
+        return Ok(spread_member(context, lexer)?);
+    }
+    if lexer.take(Fixed::OpenBracket) {
+        let lo = lexer.last_place();
+        let key = computed_key(context, lexer)?;
+        return Ok(property(context, lexer, lo, key)?);
+    }
+    if let Some(raw) = lexer.leaf(Leaf::Name) {
+        let lo = lexer.last_place();
+        let text = Text::Read(raw, lo);
+        if is_paired(lexer, raw) {
+            return Ok(property(context, lexer, lo, make::name_key(text))?);
+        }
+        return Ok(make::shorthand(context.alloc, span_to(lo, lexer), Ident { text })?);
+    }
+    let key = literal_key(context, lexer)?;
+    Ok(property(context, lexer, lexer.last_place(), key)?)
+}
+
+/// What stands in an object behind its `{`, with the `}`: `a, b: c, ...d}`.
+#[cycle(expression)]
+fn object_members<'s>(
+    context: Context,
+    lexer: &mut Lexer<'s>,
+) -> Result<Vec<Box<Prop<'s>>>, ParseError>
+    ensures read { IfOk result (λ v. OnlyRow so_far (around_of context.entry.around) (tail (row_so_far (expression Object))) (place_of lexer.old) (part (list (forest (map (inside view_prop) v.items))) none) (place_of lexer.new)) }
+    ensures placed { IfOk result (λ v. IsPlacedRow behind_brace (tale (told_list (map (inside told_prop) v.items)) no_tales) (part (list (forest (map (inside view_prop) v.items))) none) lexer.old lexer.new) }
+    ensures shorter { OnOk result (left lexer.new < left lexer.old) }
+    ensures ended { OnOk result (IsTrue (settled (place_of lexer.new))) }
+    ensures refused { Refused result (NoRow so_far (around_of context.entry.around) (tail (row_so_far (expression Object))) (place_of lexer.old)) }
+{
+    let mut all = Vec::new(context.alloc);
+    'members: while !lexer.take(Fixed::CloseBrace) {
+        let member = object_member(context, lexer)?;
+        all.push(member)?;
+        if !lexer.take(Fixed::Comma) {
+            expect(context, lexer, Fixed::CloseBrace)?;
+            return Ok(all);
+        }
+    }
+    Ok(all)
+}
+
+/// An object behind its `{`: `{a, b: c, ...d}` (ECMA-262 section 13.2.5). One `__proto__: a` stands in it at most.
+#[cycle(expression)]
+fn object<'s>(context: Context, lexer: &mut Lexer<'s>) -> Result<Box<Expr<'s>>, ParseError>
+    ensures read { IfOk result (λ e. BuiltNode so_far (around_of context.entry.around) (tail (row_so_far (expression Object))) (expression Object) (view_expr e.value) (place_of lexer.old) (place_of lexer.new)) }
+    ensures span { IfOk result (λ e. Spans (expr_at e.value) (begin_of lexer.old) (end_of lexer.new)) }
+    ensures placed { IfOk result (λ e. IsPlacedBehind (opening_sign (expression Object)) lexer.old (told_expr e.value) (view_expr e.value) lexer.new) }
+    ensures shorter { OnOk result (left lexer.new < left lexer.old) }
+    ensures ended { OnOk result (IsTrue (settled (place_of lexer.new))) }
+    ensures refused { Refused result (NoNode so_far (around_of context.entry.around) (tail (row_so_far (expression Object))) (expression Object) (place_of lexer.old)) }
+{
+    let lo = lexer.last_place();
+    let all = object_members(context, lexer)?;
+    if has_two_protos(&all) {
+        return Err(give_up(lexer));
+    }
+    Ok(make::object(context.alloc, span_to(lo, lexer), all)?)
+}
+
 /// An argument: a spread, or an expression, which stands where its parentheses do, where it has some.
 #[cycle(expression)]
 fn argument<'s>(context: Context, lexer: &mut Lexer<'s>) -> Result<Box<Expr<'s>>, ParseError>
@@ -749,6 +903,7 @@ fn open<'s>(
         Opening::ImportCall => Ok(import_call(context, lexer)?),
         Opening::Paren => Ok(parenthesized(context, lexer)?),
         Opening::Array => Ok(array(context, lexer)?),
+        Opening::Object => Ok(object(context, lexer)?),
         Opening::Unary(operator) => Ok(unary(context, lexer, operator)?),
         Opening::Update(operator) => Ok(prefix_update(context, lexer, operator)?),
     }

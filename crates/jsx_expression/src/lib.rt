@@ -6,6 +6,7 @@ mod around;
 mod error;
 pub mod expression;
 mod parser;
+mod proto;
 
 pub use around::{Around, Context, Labels};
 pub use error::ParseError;

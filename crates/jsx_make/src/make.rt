@@ -2,18 +2,19 @@
 //! by value much.
 
 ghost use Rattle.std.specs.Prelude.{◌≡◌, [], ◌∷◌, IfOk, map};
-ghost use Rattle.jsx_tree.specs.Kinds.{Role, Block, Var, Declarator, Empty, If, Do, While, Continue, Break, Throw, Debugger, Assigns, ExprStmt, Assign, OpAssign, Unary, Binary, Cond, Call, Member, Index, ImportCall, Parenthesized, Element, statement, expression, jsx, leaf, node, list, none, part, PrefixUpdate, PostfixUpdate, Seq, For, ForDeclaration, Switch, Array, Spread};
-ghost use Rattle.jsx_tree.specs.View.{text_of, word, view_word, name_of, kind_of_literal, word_of, inside, forest, optional_name, optional_of, view_tag, view_expr, view_pattern, view_pat, view_stmt, view_jsx, optional_at_of, clause_of, view_control};
+ghost use Rattle.jsx_tree.specs.Kinds.{Role, Block, Var, Declarator, Empty, If, Do, While, Continue, Break, Throw, Debugger, Assigns, ExprStmt, Assign, OpAssign, Unary, Binary, Cond, Call, Member, Index, ImportCall, Parenthesized, Element, statement, expression, jsx, leaf, node, list, none, part, PrefixUpdate, PostfixUpdate, Seq, For, ForDeclaration, Switch, Array, Spread, Try, Catch, Binds, Object, Property, Shorthand, ComputedKey, function};
+ghost use Rattle.jsx_tree.specs.View.{text_of, word, view_word, name_of, kind_of_literal, word_of, inside, forest, optional_name, optional_of, view_tag, view_expr, view_pattern, view_pat, view_stmt, view_jsx, optional_at_of, clause_of, view_control, view_key};
 ghost use Rattle.jsx_tree.specs.ViewOperators.{assign_of, binary_of, unary_of, step_of};
-ghost use Rattle.jsx_tree.specs.Told.{told_list, told_name, told_optional, told_text, told_leaf, told_node, told_tag, told_expr, told_pat, told_stmt, told_jsx, led_by, told_control};
+ghost use Rattle.jsx_tree.specs.Told.{told_list, told_name, told_optional, told_text, told_leaf, told_node, told_tag, told_expr, told_pat, told_stmt, told_jsx, led_by, told_control, told_key, told_prop};
 ghost use Rattle.jsx_base.specs.Token.{Elision};
 ghost use Rattle.jsx_tree.specs.Spans.{no_tales, tells};
-ghost use Rattle.jsx_make.specs.NodeSpans.{expr_at, pat_at, stmt_at};
+ghost use Rattle.jsx_make.specs.NodeSpans.{expr_at, member_at, pat_at, stmt_at};
+ghost use Rattle.jsx_make.specs.Members.{view_prop};
 
 use jsx_base::Span;
 use jsx_tree::{
-    Access, AssignOp, BinaryOp, Control, DeclareWord, Expr, Ident, Jsx, LiteralKind, Operation,
-    Pat, Stmt, Tag, Text, UnaryOp, UpdateOp, UpdateSide, Word,
+    Access, AssignOp, BinaryOp, Control, DeclareWord, Expr, Ident, Jsx, Key, LiteralKind,
+    Operation, Pat, Prop, Stmt, Tag, Text, UnaryOp, UpdateOp, UpdateSide, Word,
 };
 use std::alloc::{AllocError, Global};
 
@@ -139,6 +140,83 @@ pub fn spread<'s>(
     ensures span { IfOk result (λ e. expr_at e.value ≡ at) }
 {
     boxed(alloc, Expr::Operation(Operation::Spread(at, inner)))
+}
+
+/// `{a, b: c}`
+pub fn object<'s>(
+    alloc: Global,
+    at: Option<Span>,
+    members: Vec<Box<Prop<'s>>>,
+) -> Result<Box<Expr<'s>>, AllocError>
+    ensures view { IfOk result (λ e. view_expr e.value ≡ node (expression Object) (part (list (forest (map (inside view_prop) members.entry.items))) none)) }
+    ensures told { IfOk result (λ e. told_expr e.value ≡ told_node at (told_list (map (inside told_prop) members.entry.items) ∷ [])) }
+    ensures span { IfOk result (λ e. expr_at e.value ≡ at) }
+{
+    boxed(alloc, Expr::Object(at, members))
+}
+
+/// `a: b` in an object
+pub fn property<'s>(
+    alloc: Global,
+    at: Option<Span>,
+    key: Key<'s>,
+    value: Box<Expr<'s>>,
+) -> Result<Box<Prop<'s>>, AllocError>
+    ensures view { IfOk result (λ p. view_prop p.value ≡ node (expression Property) (part (view_key key.entry) (part (view_expr value.entry.value) none))) }
+    ensures told { IfOk result (λ p. told_prop p.value ≡ told_node at (told_key key.entry ∷ told_expr value.entry.value ∷ [])) }
+    ensures span { IfOk result (λ p. member_at p.value ≡ at) }
+{
+    boxed(alloc, Prop::Pair(at, key, value))
+}
+
+/// `a` in an object
+pub fn shorthand<'s>(
+    alloc: Global,
+    at: Option<Span>,
+    name: Ident<'s>,
+) -> Result<Box<Prop<'s>>, AllocError>
+    ensures view { IfOk result (λ p. view_prop p.value ≡ node (expression Shorthand) (part (name_of name.entry) none)) }
+    ensures told { IfOk result (λ p. told_prop p.value ≡ told_node at (told_text name.entry.text ∷ [])) }
+    ensures span { IfOk result (λ p. member_at p.value ≡ at) }
+{
+    boxed(alloc, Prop::Shorthand(at, name))
+}
+
+/// `...a` in an object
+pub fn spread_member<'s>(
+    alloc: Global,
+    at: Option<Span>,
+    inner: Box<Expr<'s>>,
+) -> Result<Box<Prop<'s>>, AllocError>
+    ensures view { IfOk result (λ p. view_prop p.value ≡ node (expression Spread) (part (view_expr inner.entry.value) none)) }
+    ensures told { IfOk result (λ p. told_prop p.value ≡ told_node at (told_expr inner.entry.value ∷ [])) }
+    ensures span { IfOk result (λ p. member_at p.value ≡ at) }
+{
+    boxed(alloc, Prop::Spread(at, inner))
+}
+
+/// A key that is a name.
+pub fn name_key<'s>(name: Text<'s>) -> Key<'s>
+    ensures view { view_key result ≡ word name.entry }
+    ensures told { told_key result ≡ told_text name.entry }
+{
+    Key::Name(name)
+}
+
+/// A key that is a string or a number.
+pub fn literal_key<'s>(kind: LiteralKind, text: Text<'s>) -> Key<'s>
+    ensures view { view_key result ≡ leaf (kind_of_literal kind) (text_of text.entry) }
+    ensures told { told_key result ≡ told_text text.entry }
+{
+    Key::Literal(kind, text)
+}
+
+/// A key that is computed: `[a]`
+pub fn computed_key<'s>(at: Option<Span>, inner: Box<Expr<'s>>) -> Key<'s>
+    ensures view { view_key result ≡ node (function ComputedKey) (part (view_expr inner.entry.value) none) }
+    ensures told { told_key result ≡ told_node at (told_expr inner.entry.value ∷ []) }
+{
+    Key::Computed(at, inner)
 }
 
 /// `a.b`
@@ -548,4 +626,35 @@ pub fn case_clause<'s>(
     ensures told { IfOk result (λ s. told_control s.value ≡ told_node at (led_by told_expr test.entry (told_list (map (inside told_stmt) body.entry.items) ∷ []))) }
 {
     boxed(alloc, Control::Case(at, test, body))
+}
+
+/// `try {} catch (a) {} finally {}`, each block a `Stmt::Block`, what is caught a `Control::Catch`.
+pub fn try_statement<'s>(
+    alloc: Global,
+    at: Option<Span>,
+    body: Box<Stmt<'s>>,
+    handler: Option<Box<Control<'s>>>,
+    finalizer: Option<Box<Stmt<'s>>>,
+) -> Result<Box<Stmt<'s>>, AllocError>
+    ensures view { IfOk result (λ s. view_stmt s.value ≡ node (statement Try) (part (view_stmt body.entry.value) (part (optional_of view_control handler.entry) (part (optional_of view_stmt finalizer.entry) none)))) }
+    ensures told { IfOk result (λ s. told_stmt s.value ≡ told_node at (told_stmt body.entry.value ∷ told_optional told_control handler.entry ∷ told_optional told_stmt finalizer.entry ∷ [])) }
+    ensures span { IfOk result (λ s. stmt_at s.value ≡ at) }
+{
+    boxed(
+        alloc,
+        Stmt::Control(Control::Try(at, body, handler, finalizer)),
+    )
+}
+
+/// `catch (a) {}`, or `catch {}`
+pub fn catch_clause<'s>(
+    alloc: Global,
+    at: Option<Span>,
+    parameter: Option<Box<Pat<'s>>>,
+    body: Box<Stmt<'s>>,
+) -> Result<Box<Control<'s>>, AllocError>
+    ensures view { IfOk result (λ s. view_control s.value ≡ node (statement Catch) (part (optional_at_of Binds view_pattern parameter.entry) (part (view_stmt body.entry.value) none))) }
+    ensures told { IfOk result (λ s. told_control s.value ≡ told_node at (told_optional told_pat parameter.entry ∷ told_stmt body.entry.value ∷ [])) }
+{
+    boxed(alloc, Control::Catch(at, parameter, body))
 }

@@ -35,10 +35,10 @@ use Rattle.jsx_token.specs.Marks.{row_so_far}
 use Rattle.jsx_token.specs.Places.{Takes}
 use Rattle.jsx_expression.proofs.OfSoFar.{of_so_far}
 use Rattle.jsx_token.proofs.Headings.{headings, every_heading, of_heading}
-use Rattle.jsx_expression.proofs.Inners.{declarator, declaration, case', default'}
 use Rattle.jsx_token.proofs.Marks.{one_sign}
-use Rattle.jsx_expression.proofs.Homes.{Taken, module', headed, inner, evaluation, sequence, spread, operand, no_list, no_operand_at, taken_by, home_of}
-use Rattle.jsx_token.proofs.Lives.{lives}
+use Rattle.jsx_expression.proofs.Standing.{standing}
+use Rattle.jsx_tree.proofs.Rows.Firsts.{kind_home}
+use Rattle.jsx_expression.proofs.Homes.{Taken, no_list, taken_by, home_of}
 use Rattle.jsx_expression.proofs.Values.{led_sign}
 use Rattle.jsx_syntax.proofs.Blocks.{both_none, no_functions, no_heading, turn_line, turn_none_left}
 use Rattle.jsx_syntax.proofs.Heads.{as_front, as_turn, behind_both, head_of, items_of, rest_of}
@@ -61,17 +61,18 @@ data ClauseKind : Kind → Type 0 where
   of_case : ClauseKind (statement Case)
   of_default : ClauseKind (statement Default)
 
+abbrev is_clause : Kind → Bool
+is_clause (statement Case) = true
+is_clause (statement Default) = true
+is_clause k = false
+
+clause_is : (k : Kind) → is_clause k ≡ true → ClauseKind k
+clause_is (statement Case) h = of_case
+clause_is (statement Default) h = of_default
+clause_is _ h = cc
+
 clause_kind : (l : Kind) (ts : Forest) → Taken l → admits CaseClause (node l ts) ≡ true → ClauseKind l
-clause_kind l ts (inner case') h = of_case
-clause_kind l ts (inner default') h = of_default
-clause_kind l ts (inner declarator) h = cc
-clause_kind l ts (inner (declaration w)) h = cc
-clause_kind l ts module' h = cc
-clause_kind l ts evaluation h = cc
-clause_kind l ts sequence h = cc
-clause_kind l ts spread h = cc
-clause_kind l ts (operand m) h = absurd (no_operand_at CaseClause refl m h)
-clause_kind l ts (headed g) h = absurd (clash _ h (is_not _ (of_heading (λ j. not (lives CaseClause (heading_kind j))) refl g)))
+clause_kind l ts t h = clause_is l (standing CaseClause is_clause refl l t (kind_home CaseClause l ts h))
 
 -- what stands at a case's place
 data Clause (v : Surroundings) (x : Place) : Tree → Place → Type 0 where

@@ -5,7 +5,7 @@ use Rattle.std.proofs.lemmas.Bool.{eqb-true, eq-eqb}
 use Rattle.jsx_base.specs.Token.{Text, Operator, IdentifierName, InName, Dead, accepts, ended, is_dead, is_kind, is_part, is_token, last_state, among, at_front, breaks, skip, token, same, first_is}
 use Rattle.jsx_base.proofs.Fronts.{other_ahead}
 use Rattle.jsx_tree.specs.Signs.{AfterExpr, Unless}
-use Rattle.jsx_tree.specs.Kinds.{If, Kind, statement, Tree, leaf, node, list, Forest, none, part}
+use Rattle.jsx_tree.specs.Kinds.{If, Try, Kind, statement, Tree, leaf, node, list, Forest, none, part}
 use Rattle.jsx_tree.specs.Nonterminals.{Nonterminal, Expr, SubStmt}
 use Rattle.jsx_tree.specs.Grammar.{Context, Fixed, Part, Optional, Many, Within, key, pun, production}
 use Rattle.jsx_tree.specs.Reading.{Place, Lost, At, forth, go_if}
@@ -31,6 +31,7 @@ use Rattle.jsx_token.specs.declared.heading.Heading.{Heading}
 use Rattle.jsx_token.proofs.Headings.{of_heading}
 use Rattle.jsx_expression.proofs.OfSoFar.{of_so_far}
 use Rattle.jsx_expression.proofs.Homes.{no_list, taken_by, home_of}
+use Rattle.jsx_syntax.proofs.Tries.{try_closed}
 use Rattle.jsx_syntax.proofs.Statements.{Spot, subs, spot_kind, unless_lost}
 
 -- ---- a token that is spelled `else` is that word
@@ -210,14 +211,24 @@ if_kind : (k : Kind) → is_if k ≡ true → k ≡ statement If
 if_kind (statement If) e = refl
 if_kind _ e = cc
 
-kind_closed : {V : List Context → Surroundings} {x y : Place} {us : Forest} (k : Kind) → (is_if k || ends_shut k) ≡ true → AllClosed us → Walk Staged V (row_so_far k) x us y → Ahead y → open_if (node k us) ≡ false
+abbrev is_try : Kind → Bool
+is_try (statement Try) = true
+is_try k = false
+
+try_kind : (k : Kind) → is_try k ≡ true → k ≡ statement Try
+try_kind (statement Try) e = refl
+try_kind _ e = cc
+
+kind_closed : {V : List Context → Surroundings} {x y : Place} {us : Forest} (k : Kind) → (is_if k || (is_try k || ends_shut k)) ≡ true → AllClosed us → Walk Staged V (row_so_far k) x us y → Ahead y → open_if (node k us) ≡ false
 kind_closed {V} {x} {y} {us} k s a w h =
-    or_cases (is_if k) (ends_shut k) s
+    or_cases (is_if k) (is_try k || ends_shut k) s
     (λ i. subst (λ l. Walk Staged V (row_so_far l) x us y → open_if (node l us) ≡ false) (sym (if_kind k i)) (λ w. if_closed a w h) w)
-    (λ e. shut_closed k e a w h)
+    (λ n. or_cases (is_try k) (ends_shut k) n
+    (λ i. subst (λ l. Walk Staged V (row_so_far l) x us y → open_if (node l us) ≡ false) (sym (try_kind k i)) (λ w. try_closed w) w)
+    (λ e. shut_closed k e a w h))
 
 heading_closed : (g : Heading) {V : List Context → Surroundings} {x y : Place} {us : Forest} → AllClosed us → Walk Staged V (row_so_far (heading_kind g)) x us y → Ahead y → open_if (node (heading_kind g) us) ≡ false
-heading_closed g a w h = kind_closed (heading_kind g) (of_heading (λ j. is_if (heading_kind j) || ends_shut (heading_kind j)) refl g) a w h
+heading_closed g a w h = kind_closed (heading_kind g) (of_heading (λ j. is_if (heading_kind j) || (is_try (heading_kind j) || ends_shut (heading_kind j))) refl g) a w h
 
 node_closed : (k : Kind) (ts : Forest) → AllClosed ts → Closed (node k ts)
 node_closed k ts a = record {

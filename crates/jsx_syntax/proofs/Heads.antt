@@ -19,10 +19,10 @@ use Rattle.jsx_tree.specs.declared.text.DeclareWord.TheVariants as declare_word
 use Rattle.jsx_tree.proofs.Tokens.{and_both, found_first, one_text, same_self}
 use Rattle.jsx_tree.proofs.Apart.{clash, never_both}
 use Rattle.jsx_tree.proofs.Rows.Bridge.{found_at}
-use Rattle.jsx_tree.proofs.Rows.Stopping.{is_not}
+use Rattle.jsx_tree.proofs.Rows.Stopping.{is_not, or_cases}
 use Rattle.jsx_tree.proofs.Rows.Guarded.{loosen, whole_walk}
 use Rattle.jsx_tree.proofs.Rows.Laws.{end_found, shut_out, start_found}
-use Rattle.jsx_tree.proofs.Rows.Firsts.{no_expression}
+use Rattle.jsx_tree.proofs.Rows.Firsts.{kind_home, no_expression}
 use Rattle.jsx_tree.proofs.Rows.Closers.{Shut, closes, shut_reading}
 use Rattle.jsx_tree.proofs.Rows.Lists.{none_next, round}
 use Rattle.jsx_tree.proofs.Rows.Optionals.{turn_absent, turn_present}
@@ -40,7 +40,7 @@ use Rattle.jsx_token.specs.declared.lexer.Fixed.{Fixed as Mark}
 use Rattle.jsx_token.specs.declared.lexer.Fixed.TheVariants as fixed
 use Rattle.jsx_expression.proofs.OfSoFar.{of_so_far}
 use Rattle.jsx_token.proofs.Headings.{of_heading}
-use Rattle.jsx_expression.proofs.Inners.{declarator, declaration, case', default'}
+use Rattle.jsx_expression.proofs.Inners.{inner_kind, of_inner, declaration}
 use Rattle.jsx_token.proofs.Listed.{agree, agreed, of_each}
 use Rattle.jsx_token.proofs.Marks.{by_sign}
 use Rattle.jsx_expression.proofs.Homes.{Taken, module', headed, inner, evaluation, sequence, spread, operand, no_list, taken_by, home_of, AtWhole, single, several, at_whole, made, value_kind}
@@ -175,14 +175,22 @@ data Begin (x : Place) : Tree → Type 0 where
   of_value : {t : Tree} → AtWhole t → Begin x t
   of_declaration : (w : DeclareWord) (ts : Forest) → IsTrue (is_found (forth (Tok Operator IdentifierName (vars w)) x)) → Begin x (node (statement (ForDeclaration w)) ts)
 
+abbrev is_head : Kind → Bool
+is_head (statement (ForDeclaration w)) = true
+is_head k = false
+
+head_begins : {v : Surroundings} {x y : Place} (l : Kind) (ts : Forest) → is_head l ≡ true → Staged v false ForInit x (node l ts) y → Begin x (node l ts)
+head_begins (statement (ForDeclaration w)) ts h r = of_declaration w ts (led_sign (row_so_far (statement (ForDeclaration w))) refl (of_so_far.from_node (statement (ForDeclaration w)) r).walk)
+head_begins _ ts h r = cc
+
 begin_kind : {v : Surroundings} {x y : Place} (l : Kind) (ts : Forest) → Taken l → admits ForInit (node l ts) ≡ true → Staged v false ForInit x (node l ts) y → Begin x (node l ts)
 begin_kind l ts (operand m) h r = of_value (single (made m))
 begin_kind l ts sequence h r = of_value several
 begin_kind l ts spread h r = cc
-begin_kind l ts (inner (declaration w)) h r = of_declaration w ts (led_sign (row_so_far (statement (ForDeclaration w))) refl (of_so_far.from_node (statement (ForDeclaration w)) r).walk)
-begin_kind l ts (inner declarator) h r = cc
-begin_kind l ts (inner case') h r = cc
-begin_kind l ts (inner default') h r = cc
+begin_kind l ts (inner i) h r =
+    head_begins (inner_kind i) ts
+    (or_cases (not (lives ForInit (inner_kind i))) (is_head (inner_kind i)) (of_inner (λ j. not (lives ForInit (inner_kind j)) || is_head (inner_kind j)) refl i) (λ n. absurd (clash _ (kind_home ForInit (inner_kind i) ts h) (is_not _ n))) (λ e. e))
+    r
 begin_kind l ts module' h r = cc
 begin_kind l ts evaluation h r = cc
 begin_kind l ts (headed g) h r = absurd (clash _ h (is_not _ (of_heading (λ j. not (lives ForInit (heading_kind j))) refl g)))

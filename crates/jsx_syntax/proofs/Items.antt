@@ -9,7 +9,6 @@ use Rattle.jsx_tree.specs.Grammar.{NoTrailing, Part, Fixed, Many, pun, heads, se
 use Rattle.jsx_tree.specs.Form.{admits}
 use Rattle.jsx_tree.specs.Reading.{Place, Lost, At, forth}
 use Rattle.jsx_tree.specs.StaticRules.{Surroundings, all_of, list_rule, has_init}
-use Rattle.jsx_token.specs.Stage.{limits, is_string}
 use Rattle.jsx_tree.specs.Walk.{is_found, nothing, one, Piece, piece, tail, Given, Past, sign, tree, Walk, next, steady}
 use Rattle.jsx_tree.specs.Stops.{going}
 use Rattle.jsx_tree.specs.Language.{Language, Whole}
@@ -29,28 +28,26 @@ use Rattle.jsx_tree.proofs.Rows.Optionals.{turn_absent, present_last, none_last}
 use Rattle.jsx_tree.proofs.Rows.Laws.{lost_barred, end_found, start_found}
 use Rattle.jsx_tree.proofs.Rows.Placing.{Chosen, OnlyAt, NoneAt, then_at, only_at, barred_at}
 use Rattle.jsx_expression.proofs.OfSoFar.{of_so_far}
-use Rattle.jsx_expression.proofs.Homes.{IsName, patterns, no_list, Taken, module', headed, evaluation, sequence, operand, no_operand_at, taken_by, home_of, inner, spread}
-use Rattle.jsx_token.proofs.Lives.{lives}
+use Rattle.jsx_expression.proofs.Standing.{standing}
+use Rattle.jsx_tree.proofs.Rows.Firsts.{kind_home}
+use Rattle.jsx_expression.proofs.Homes.{IsName, patterns, no_list, Taken, taken_by, home_of}
 use Rattle.jsx_syntax.specs.Statements.{has_value}
-use Rattle.jsx_token.specs.Headings.{heading_kind}
-use Rattle.jsx_token.proofs.Headings.{of_heading}
-use Rattle.jsx_expression.proofs.Inners.{declarator, declaration, case', default'}
+use Rattle.jsx_expression.proofs.Inners.{declaration}
 use Rattle.jsx_token.specs.Growths.{settled}
 use Rattle.jsx_expression.proofs.Values.{settled_token, leaf_full, is_next, found_next, no_heads}
 
 -- ---- a variable and its initializer
 
+abbrev is_declarator : Kind → Bool
+is_declarator (statement Declarator) = true
+is_declarator k = false
+
+declarator_is : (k : Kind) → is_declarator k ≡ true → k ≡ statement Declarator
+declarator_is (statement Declarator) h = refl
+declarator_is _ h = cc
+
 pub bound_kind : (l : Kind) (ts : Forest) → Taken l → admits Declarators (node l ts) ≡ true → l ≡ statement Declarator
-bound_kind l ts (inner declarator) h = refl
-bound_kind l ts (inner (declaration w)) h = cc
-bound_kind l ts (inner case') h = cc
-bound_kind l ts (inner default') h = cc
-bound_kind l ts module' h = cc
-bound_kind l ts (headed g) h = absurd (clash _ h (is_not _ (of_heading (λ j. not (lives Declarators (heading_kind j))) refl g)))
-bound_kind l ts evaluation h = cc
-bound_kind l ts sequence h = cc
-bound_kind l ts spread h = cc
-bound_kind l ts (operand m) h = absurd (no_operand_at Declarators refl m h)
+bound_kind l ts t h = declarator_is l (standing Declarators is_declarator refl l t (kind_home Declarators l ts h))
 
 bound_chosen : {v : Surroundings} {x : Place} → Chosen so_far v Declarators (statement Declarator) x
 bound_chosen = record { no_leaf = λ s t y w. let bad = w.reads.staged in cc; kind = λ l ts y w. bound_kind l ts (taken_by w.reads) (home_of w.reads) }
@@ -206,16 +203,16 @@ read_value w {t = t} o = tree_value w t (whole_of o.past).reads
 heads_only : {v : Surroundings} {x : Place} → IsTrue (is_found x) → forth (Unless heads) x ≡ x → Only so_far v (Fixed (Unless heads)) x nothing x
 heads_only f e = only_sign (record { is = sym e; found = f })
 
-statement_row : {v : Surroundings} {x y z : Place} {t : Tree} → Only so_far v (Part (Expr 0)) x (one t) y → Only so_far v semi y nothing z → OnlyRow so_far v (row_so_far (statement ExprStmt)) x (part t none) z
-statement_row o s = then' (heads_only (start_found of_so_far (whole_of o.past).reads) (no_heads (whole_of o.past).reads)) (then' o (then' s (end (sign_found s.past))))
+statement_row : {v : Surroundings} {x y z : Place} {t : Tree} → Stuck (pun "{") x → Only so_far v (Part (Expr 0)) x (one t) y → Only so_far v semi y nothing z → OnlyRow so_far v (row_so_far (statement ExprStmt)) x (part t none) z
+statement_row k o s = then' (heads_only (start_found of_so_far (whole_of o.past).reads) (no_heads k (whole_of o.past).reads)) (then' o (then' s (end (sign_found s.past))))
   where
     sign_found : {v : Surroundings} {s : Sign} {x y : Place} {g : Given} → Past (Whole so_far) v (Fixed s) x g y → IsTrue (is_found y)
     sign_found (sign e f) = f
 
-pub statement_built : {v : Surroundings} {x y z : Place} {t w : Tree} → Only so_far v (Part (Expr 0)) x (one t) y → is_string t ≡ false → Only so_far v semi y nothing z → w ≡ node (statement ExprStmt) (part t none) → BuiltNode so_far v (row_so_far (statement ExprStmt)) (statement ExprStmt) w x z
-statement_built {v} {t = t} o n s is =
-    let r = statement_row o s in
-    record { parts = part t none; is = is; row = r; keeps = and_both _ _ (not_is _ n) (and_both _ _ (plain (row_so_far (statement ExprStmt)) refl (to_grammar of_so_far r.walk)) refl) }
+pub statement_built : {v : Surroundings} {x y z : Place} {t w : Tree} → Stuck (pun "{") x → Only so_far v (Part (Expr 0)) x (one t) y → Only so_far v semi y nothing z → w ≡ node (statement ExprStmt) (part t none) → BuiltNode so_far v (row_so_far (statement ExprStmt)) (statement ExprStmt) w x z
+statement_built {v} {t = t} k o s is =
+    let r = statement_row k o s in
+    record { parts = part t none; is = is; row = r; keeps = and_both _ _ (plain (row_so_far (statement ExprStmt)) refl (to_grammar of_so_far r.walk)) refl }
 
 pub no_value_statement : {v : Surroundings} {x : Place} → Barred so_far v (Part (Expr 0)) x → NoRow so_far v (row_so_far (statement ExprStmt)) x
 no_value_statement {v} {x} b = record { no = at }
@@ -223,20 +220,5 @@ no_value_statement {v} {x} b = record { no = at }
     at : (us : Forest) (w : Place) → Walk (Whole so_far) (steady v) (row_so_far (statement ExprStmt)) x us w → ⊥
     at us w (next (sign e f) (next {y = z} {g = g} q walk)) = b.no g z (subst (λ p. Past (Whole so_far) v (Part (Expr 0)) p g z) (sym e ∙ stays (Unless heads) x refl (found_at e f)) q)
 
-pub unfinished : {v : Surroundings} {x y : Place} {t : Tree} → Only so_far v (Part (Expr 0)) x (one t) y → Barred so_far v semi y → NoRow so_far v (row_so_far (statement ExprStmt)) x
-unfinished o s = on (heads_only (start_found of_so_far (whole_of o.past).reads) (no_heads (whole_of o.past).reads)) (on o (bar s))
-
-string_limits : (t : Tree) (us : Forest) → is_string t ≡ true → limits (statement ExprStmt) (part t us) ≡ false
-string_limits t us e = ap not e
-
-pub string_statement : {v : Surroundings} {x y : Place} {t : Tree} → Only so_far v (Part (Expr 0)) x (one t) y → is_string t ≡ true → NoNode so_far v (row_so_far (statement ExprStmt)) (statement ExprStmt) x
-string_statement {v} {x} {y} {t} o s = record { no = at }
-  where
-    one_is : {t u : Tree} → one t ≡ one u → t ≡ u
-    one_is e = cc
-
-    at : (us : Forest) (w : Place) → Walk (Whole so_far) (steady v) (row_so_far (statement ExprStmt)) x us w → so_far.keeps (statement ExprStmt) v us ≡ true → ⊥
-    at us w (next (sign e f) (next {y = z} {ts = vs} (tree {t = u} q) walk)) k =
-        let there = sym e ∙ stays (Unless heads) x refl (found_at e f) in
-        let same = o.alone (one u) z (tree (subst (λ p. Whole so_far v false (Expr 0) p u z) there q)) in
-        clash _ (and_left (limits (statement ExprStmt) (part u vs)) _ k) (string_limits u vs (subst (λ p. is_string p ≡ true) (one_is same.0) s))
+pub unfinished : {v : Surroundings} {x y : Place} {t : Tree} → Stuck (pun "{") x → Only so_far v (Part (Expr 0)) x (one t) y → Barred so_far v semi y → NoRow so_far v (row_so_far (statement ExprStmt)) x
+unfinished k o s = on (heads_only (start_found of_so_far (whole_of o.past).reads) (no_heads k (whole_of o.past).reads)) (on o (bar s))

@@ -1,19 +1,19 @@
 -- The places of the statements that the parser makes, and of a module: each along its row.
-use Rattle.std.proofs.Common.{◌≡◌, true, not, List, [], ◌∷◌, map, refl, sym, ap, subst, Option}
-use Rattle.jsx_base.specs.Token.{Text, Operator, IdentifierName, breaks}
+use Rattle.std.proofs.Common.{◌≡◌, ◌-◌, true, false, not, List, [], ◌∷◌, ◌++◌, map, refl, sym, ◌∙◌, ap, subst, Option}
+use Rattle.jsx_base.specs.Token.{Text, Operator, IdentifierName, StringLiteral, breaks}
 use Rattle.jsx_base.specs.Lines.{size}
 use Rattle.jsx_base.specs.declared.place.Span.{Span}
 use Rattle.jsx_tree.specs.declared.text.Text.{Text as TreeText}
-use Rattle.jsx_tree.specs.Signs.{SameLine, AfterExpr, AfterBinding, AfterWord, AfterDo, Tok, Semicolon, Ends}
-use Rattle.jsx_tree.specs.Kinds.{DeclareWord, Module, Block, Var, Declarator, Empty, ExprStmt, If, Do, While, Continue, Break, Throw, Debugger, program, statement, Tree, node, list, Forest, none, part, For, ForDeclaration, Switch, Case, Default}
-use Rattle.jsx_tree.specs.Grammar.{NoTrailing, TopLines, production, Lines, key, vars}
-use Rattle.jsx_tree.specs.Spelling.{saids, spelled}
-use Rattle.jsx_tree.specs.Reading.{At, go_if, scan}
-use Rattle.jsx_tree.specs.Spans.{spans, Told, tells, Tales, no_tales, tale, IsTold, AreTold, starts, places, placed_in}
-use Rattle.jsx_tree.specs.View.{forest, directive, word_of}
+use Rattle.jsx_tree.specs.Signs.{SameLine, AfterExpr, AfterBinding, AfterWord, AfterDo, Tok, Semicolon, Unless, Ends}
+use Rattle.jsx_tree.specs.Kinds.{DeclareWord, Module, Block, Var, Declarator, Empty, ExprStmt, If, Do, While, Continue, Break, Throw, Debugger, program, statement, Tree, leaf, node, list, Forest, none, part, For, ForDeclaration, Switch, Case, Default, Try, Catch}
+use Rattle.jsx_tree.specs.Grammar.{NoTrailing, TopLines, production, Lines, heads, key, vars, pun}
+use Rattle.jsx_tree.specs.Spelling.{leaf_signs, saids, spelled}
+use Rattle.jsx_tree.specs.Reading.{At, forth, go_if, scan}
+use Rattle.jsx_tree.specs.Spans.{Comes, spans, Told, tells, Tales, no_tales, tale, IsTold, AreTold, from_first, rest_at, starts, places, placed_in}
+use Rattle.jsx_tree.specs.View.{forest, directive, text_of, word_of}
 use Rattle.jsx_tree.specs.declared.text.DeclareWord as code
 use Rattle.jsx_tree.specs.declared.text.DeclareWord.TheVariants as declare_word
-use Rattle.jsx_tree.specs.Told.{told_list, told_node, told_directive}
+use Rattle.jsx_tree.specs.Told.{tales, told_leaf, told_list, told_node, told_directive}
 use Rattle.jsx_tree.specs.Walk.{is_found}
 use Rattle.jsx_token.specs.Here.{Here, place_of, sign_of}
 use Rattle.jsx_token.specs.declared.lexer.Fixed.{Fixed}
@@ -21,11 +21,12 @@ use Rattle.jsx_token.specs.declared.lexer.Fixed.TheVariants as fixed
 use Rattle.jsx_syntax.specs.Cases.{cases_symbols}
 use Rattle.jsx_syntax.specs.Heads.{clause_symbols, declare_sign, initial_symbols}
 use Rattle.jsx_token.specs.declared.word.Word.TheVariants as word
+use Rattle.jsx_syntax.specs.Modules.{module_symbols}
 use Rattle.jsx_syntax.specs.Statements.{alternative_symbols, block_symbols}
 use Rattle.jsx_expression.specs.Spans.{Spans, IsPlaced, IsPlacedFront, IsPlacedRow, IsPlacedList}
 use Rattle.jsx_token.specs.Places.{next_of, end_of, Takes}
 use Rattle.jsx_token.specs.Growths.{opening_sign}
-use Rattle.jsx_expression.proofs.Placing.{row_end, row_sign, row_quiet, row_unless, row_within, row_part, row_list, row_present, row_absent, row_guarded, row_unguarded, list_none, node_is, led}
+use Rattle.jsx_expression.proofs.Placing.{IsItem, PlacedFront, row_end, row_sign, row_quiet, row_unless, row_within, row_part, row_list, row_present, row_absent, row_guarded, row_unguarded, list_none, front_last, front_more, front_none, laid_last, laid_more, map_pushed, plain_top_lines, node_is, led, row_around}
 
 -- ---- nodes
 
@@ -106,6 +107,22 @@ pub switch_placed : {at : Option Span} {d : Told} {t : Tree} {ds : Tales} {ts : 
 switch_placed sign bracket value close brace r s =
     node_is (λ c e ps. refl) (λ ms text. refl) s (row_quiet (λ q. refl) (row_sign sign (row_quiet (λ q. refl) (row_sign bracket (row_part value (row_sign close (row_quiet (λ q. refl) (row_within (row_sign brace (row_quiet (λ q. refl) r))))))))))
 
+pub try_caught_placed : {at : Option Span} {d e : Told} {t u : Tree} {w x y z q : Here} → Takes (opening_sign (statement Try)) w x → IsPlaced d t x y → Takes (sign_of (fixed.Word word.Catch)) y z → IsPlaced e u z q → Spans at (next_of w) (end_of q)
+    → IsPlaced (told_node at (d ∷ told_list (e ∷ []) ∷ told_list [] ∷ [])) (node (statement Try) (part t (part (list (part u none)) (part (list none) none)))) w q
+try_caught_placed sign body word handler s = node_is (λ c e ps. refl) (λ ms text. refl) s (row_quiet (λ q. refl) (row_sign sign (row_quiet (λ q. refl) (row_part body (row_present word.same word.leads handler (row_absent row_end))))))
+
+pub try_done_placed : {at : Option Span} {d e : Told} {t u : Tree} {w x y z q : Here} → Takes (opening_sign (statement Try)) w x → IsPlaced d t x y → Takes (sign_of (fixed.Word word.Finally)) y z → IsPlaced e u z q → Spans at (next_of w) (end_of q)
+    → IsPlaced (told_node at (d ∷ told_list [] ∷ told_list (e ∷ []) ∷ [])) (node (statement Try) (part t (part (list none) (part (list (part u none)) none)))) w q
+try_done_placed sign body word finalizer s = node_is (λ c e ps. refl) (λ ms text. refl) s (row_quiet (λ q. refl) (row_sign sign (row_quiet (λ q. refl) (row_part body (row_absent (row_present word.same word.leads finalizer row_end))))))
+
+pub caught_placed : {at : Option Span} {d e : Told} {t u : Tree} {w x y z q : Here} → Takes (pun "(") w x → IsPlaced d t x y → Takes (sign_of fixed.Close) y z → IsPlaced e u z q → Spans at (next_of w) (end_of q)
+    → IsPlaced (told_node at (told_list (d ∷ []) ∷ e ∷ [])) (node (statement Catch) (part (list (part t none)) (part u none))) w q
+caught_placed sign name close body s = node_is (λ c e ps. refl) (λ ms text. refl) s (row_around sign.same sign.leads name close.same close.leads (row_part body row_end))
+
+pub bare_placed : {at : Option Span} {e : Told} {u : Tree} {w q : Here} → IsPlaced e u w q → Spans at (next_of w) (end_of q)
+    → IsPlaced (told_node at (told_list [] ∷ e ∷ [])) (node (statement Catch) (part (list none) (part u none))) w q
+bare_placed body s = node_is (λ c e ps. refl) (led body _) s (row_absent (row_part body row_end))
+
 pub break_placed : {at : Option Span} {w x y z : Here} → Takes (opening_sign (statement Break)) w x → Takes (Ends AfterWord) x y → Takes Semicolon y z → Spans at (next_of w) (end_of z) → IsPlaced (told_node at (told_list [] ∷ [])) (node (statement Break) (part (list none) none)) w z
 break_placed sign ends end s = node_is (λ c e ps. refl) (λ ms text. refl) s (row_quiet (λ q. refl) (row_sign sign (row_sign ends (row_absent (row_sign end row_end)))))
 
@@ -123,27 +140,62 @@ debugger_placed sign ends end s = node_is (λ c e ps. refl) (λ ms text. refl) s
 
 -- ---- a whole module
 
-module_row : {es : Tales} {us : Forest} {x y : Here} → IsPlacedList TopLines es us x y → IsPlacedRow (production (program Module)) (tale (tells [] no_tales) (tale (tells [] es) no_tales)) (part (list none) (part (list us) none)) x y
-module_row l = row_within (row_list list_none (row_list l row_end))
+-- a statement that is a string alone, as a directive
+abbrev pub string_statement : TreeText → Tree
+string_statement a = node (statement ExprStmt) (part (leaf StringLiteral (text_of a)) none)
 
-module_told : {es : Tales} {us : Forest} {x y : Here} (text : Text) → place_of x ≡ At [] AfterExpr text → x.end ≡ size text → IsPlacedList TopLines es us x y
-    → is_found (scan (At [] AfterExpr text) (spelled (node (program Module) (part (list none) (part (list us) none))))) ≡ true
-    → IsTold (tells [] (tale (tells [] no_tales) (tale (tells [] es) no_tales))) (placed_in text (node (program Module) (part (list none) (part (list us) none))))
-module_told {es} {us} {x} {y} text e n l f =
-    let ts = part (list none) (part (list us) none) in
-    let ds = tale (tells [] no_tales) (tale (tells [] es) no_tales) in
-    let r = module_row l in
+pub directive_item : {at inner : Option Span} {a : TreeText} {x z : Here} → forth (Unless heads) (place_of x) ≡ place_of x → IsPlaced (told_node at (told_leaf inner a ∷ [])) (string_statement a) x z → IsItem false (told_directive a) (directive a) x z
+directive_item {a = a} {x} {z} e l =
+    let ms = spelled (directive a) in
+    let same : scan (place_of x) (spelled (string_statement a)) ≡ scan (place_of x) ms = ap (λ p. scan p ms) e in
+    let on : is_found (scan (place_of x) ms) ≡ true → is_found (scan (place_of x) (spelled (string_statement a))) ≡ true = λ f. subst (λ p. is_found p ≡ true) (sym same) f in
+    record {
+      same = l.same;
+      leads = λ f. sym same ∙ l.leads (on f);
+      told = λ f c i. (
+        tt,
+        (((subst (λ p. Comes a (x.end - size (from_first (leaf_signs StringLiteral (text_of a)) (rest_at p)))) e (l.told (on f) c i).1.0.0.1.0, tt), refl), tt),
+      );
+    }
+
+-- directives, and items behind them
+pub record PlacedModule (ds : List TreeText) (es : List Told) (ts : List Tree) (x y : Here) : Type 0 where
+  pub middle : Here
+  pub first : PlacedFront false TopLines (map told_directive ds) (map directive ds) x middle
+  pub directives : IsPlacedList TopLines (tales (map told_directive ds)) (forest (map directive ds)) x middle
+  pub rest : PlacedFront false TopLines es ts middle y
+  pub items : IsPlacedList TopLines (tales es) (forest ts) middle y
+  pub together : ts ≡ [] → middle ≡ y
+
+pub placed_none : {x : Here} → PlacedModule [] [] [] x x
+placed_none {x} = record { middle = x; first = front_none; directives = list_none; rest = front_none; items = list_none; together = λ e. refl }
+
+pub placed_directive : {ds vs : List TreeText} {es : List Told} {ts : List Tree} {d : TreeText} {x y z : Here} → PlacedModule ds es ts x y → ts ≡ [] → es ≡ [] → vs ≡ ds ++ d ∷ [] → IsItem false (told_directive d) (directive d) y z → PlacedModule vs [] [] x z
+placed_directive {ds} {vs} {d = d} {x} {y} {z} m e o is q =
+    let here : IsItem false (told_directive d) (directive d) m.middle z = subst (λ h. IsItem false (told_directive d) (directive d) h z) (sym (m.together e)) q in
+    let told = map_pushed told_directive ds _ d _ is refl in
+    let trees = map_pushed directive ds _ d _ is refl in
+    record { middle = z; first = laid_more plain_top_lines m.first here refl refl told trees; directives = laid_last plain_top_lines m.first here refl refl told trees; rest = front_none; items = list_none; together = λ e. refl }
+
+pub placed_item : {ds : List TreeText} {es fs : List Told} {ts us : List Tree} {e : Told} {t : Tree} {x y z : Here} → PlacedModule ds es ts x y → fs ≡ es ++ e ∷ [] → us ≡ ts ++ t ∷ [] → IsPlaced e t y z → PlacedModule ds fs us x z
+placed_item {ts = ts} {t = t} m p q l = record { middle = m.middle; first = m.first; directives = m.directives; rest = front_more plain_top_lines m.rest l refl refl p q; items = front_last plain_top_lines m.rest l refl refl p q; together = λ e. absurd (never ts (sym q ∙ e)) }
+  where
+    never : (us : List Tree) → us ++ t ∷ [] ≡ [] → ⊥
+    never [] e = cc
+    never (u ∷ us) e = cc
+
+-- to the same place
+pub placed_end : {ds : List TreeText} {es : List Told} {ts : List Tree} {x y z : Here} → z ≡ y → PlacedModule ds es ts x y → PlacedModule ds es ts x z
+placed_end {ds} {es} {ts} {x} e m = subst (PlacedModule ds es ts x) (sym e) m
+
+pub placed_module : {ds : List TreeText} {es : List Told} {ts : List Tree} {x y : Here} → PlacedModule ds es ts x y → IsPlacedRow module_symbols (tales (told_list (map told_directive ds) ∷ told_list es ∷ [])) (part (list (forest (map directive ds))) (part (list (forest ts)) none)) x y
+placed_module m = row_list m.directives (row_list m.items row_end)
+
+pub module_placed : {ds : Tales} {ts : Forest} {x y : Here} (text : Text) → place_of x ≡ At [] AfterExpr text → x.end ≡ size text → IsPlacedRow module_symbols ds ts x y → is_found (scan (At [] AfterExpr text) (spelled (node (program Module) ts))) ≡ true → IsTold (tells [] ds) (placed_in text (node (program Module) ts))
+module_placed {ds} {ts} {x} {y} text e n l f =
+    let r : IsPlacedRow (production (program Module)) ds ts x y = row_within l in
     let ms = spelled (node (program Module) ts) in (
       tt,
       subst (λ m. AreTold ds (places m (starts (At [] AfterExpr text) (production (program Module)) (saids ts)) ts)) n
           (subst (λ q. AreTold ds (places x.end (starts q (production (program Module)) (saids ts)) ts)) e (r.told (subst (λ q. is_found (scan q ms) ≡ true) (sym e) f))),
     )
-
--- a module without directives
-pub module_placed : {ds : List TreeText} {es : Tales} {us : Forest} {x y : Here} (text : Text) → ds ≡ [] → place_of x ≡ At [] AfterExpr text → x.end ≡ size text → IsPlacedList TopLines es us x y
-    → is_found (scan (At [] AfterExpr text) (spelled (node (program Module) (part (list (forest (map directive ds))) (part (list us) none))))) ≡ true
-    → IsTold (tells [] (tale (told_list (map told_directive ds)) (tale (tells [] es) no_tales))) (placed_in text (node (program Module) (part (list (forest (map directive ds))) (part (list us) none))))
-module_placed {ds} {es} {us} {x} {y} text none_of e n l =
-    subst (λ vs. is_found (scan (At [] AfterExpr text) (spelled (node (program Module) (part (list (forest (map directive vs))) (part (list us) none))))) ≡ true
-    → IsTold (tells [] (tale (told_list (map told_directive vs)) (tale (tells [] es) no_tales))) (placed_in text (node (program Module) (part (list (forest (map directive vs))) (part (list us) none)))))
-    (sym none_of) (module_told text e n l)

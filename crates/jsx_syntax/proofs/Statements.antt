@@ -19,14 +19,15 @@ use Rattle.jsx_tree.proofs.Apart.{clash, found_token}
 use Rattle.jsx_tree.proofs.Signs.{not_first}
 use Rattle.jsx_tree.proofs.Rows.Bridge.{found_at, node_walk}
 use Rattle.jsx_tree.proofs.Rows.Stopping.{is_never, is_not, never_stops, or_cases, stays}
-use Rattle.jsx_tree.proofs.Rows.Guarded.{guarded, to_grammar}
+use Rattle.jsx_tree.proofs.Rows.Guarded.{guarded, loosen, to_grammar, whole_walk}
 use Rattle.jsx_tree.proofs.Rows.Bodies.{bodiless, plain}
 use Rattle.jsx_tree.proofs.Rows.Firsts.{Keyed, is_head, kind_home, key_row, row_key}
 use Rattle.jsx_tree.proofs.Rows.Closers.{Closer, Shut, closes, shut_reading}
 use Rattle.jsx_tree.proofs.Rows.Steps.{only_sign, then'}
-use Rattle.jsx_tree.proofs.Rows.Placing.{Chosen, free, only_node, barred_node}
+use Rattle.jsx_tree.proofs.Rows.Placing.{Chosen, free, free_around, moved, only_node, barred_node}
 use Rattle.jsx_token.specs.Stage.{leaf_at}
 use Rattle.jsx_expression.specs.SoFar.{Staged, so_far}
+use Rattle.jsx_syntax.specs.Statements.{OnlyNode}
 use Rattle.jsx_token.specs.Marks.{ends_so_far, row_so_far}
 use Rattle.jsx_token.specs.Growths.{is_code, lead, same_sign}
 use Rattle.jsx_token.specs.Headings.{NoHeading, heading_kind, heading_sign, is_lexical}
@@ -177,11 +178,11 @@ plain_chosen {v} {c} {x} s n = record {
 
 -- ---- behind its sign, and with it
 
-signed_row : {v : Surroundings} {x y z : Place} {ts : Forest} (ps : List Piece) → signed ps ≡ true → Moves (lead ps) x y → OnlyRow so_far v (tail ps) y ts z → OnlyRow so_far v ps x ts z
+pub signed_row : {v : Surroundings} {x y z : Place} {ts : Forest} (ps : List Piece) → signed ps ≡ true → Moves (lead ps) x y → OnlyRow so_far v (tail ps) y ts z → OnlyRow so_far v ps x ts z
 signed_row (piece [] (Fixed s) ∷ ps) g m o = then' (only_sign m) o
 signed_row _ g m o = cc
 
-signed_none : {v : Surroundings} {x y : Place} (k : Kind) (ps : List Piece) → signed ps ≡ true → Moves (lead ps) x y → NoNode so_far v (tail ps) k y → NoNode so_far v ps k x
+pub signed_none : {v : Surroundings} {x y : Place} (k : Kind) (ps : List Piece) → signed ps ≡ true → Moves (lead ps) x y → NoNode so_far v (tail ps) k y → NoNode so_far v ps k x
 signed_none {v} {x} {y} k (piece [] (Fixed s) ∷ ps) g m n = record { no = at }
   where
     at : (ts : Forest) (z : Place) → Walk (Whole so_far) (steady v) (piece [] (Fixed s) ∷ ps) x ts z → so_far.keeps k v ts ≡ true → ⊥
@@ -194,10 +195,36 @@ heading_signed h = of_heading (λ j. signed (row_so_far (heading_kind j))) refl 
 heading_free : (h : Heading) → free (row_so_far (heading_kind h)) ≡ true
 heading_free h = of_heading (λ j. free (row_so_far (heading_kind j))) refl h
 
-pub headed_only : {v : Surroundings} {c : Nonterminal} {x y z : Place} {t : Tree} → Spot c → (h : Heading) → lives c (heading_kind h) ≡ true → Moves (heading_sign h) x y → BuiltNode so_far v (tail (row_so_far (heading_kind h))) (heading_kind h) t y z → Only so_far v (Part c) x (one t) z
-headed_only {c = c} {z = z} s h l m b =
-    only_node of_so_far (headed_chosen s h (found_at (sym m.is) m.found)) (of_heading (λ j. guarded c (row_so_far (heading_kind j))) s.guards h) (heading_free h) (λ ts. s.home (heading_kind h) ts l)
-    (record { parts = b.parts; is = b.is; row = signed_row (row_so_far (heading_kind h)) (heading_signed h) m b.row }) b.keeps (spot_ends s z)
+pub of_built : {v : Surroundings} {ps : List Piece} {k : Kind} {t : Tree} {x y : Place} → BuiltNode so_far v ps k t x y → OnlyNode v ps k t x y
+of_built b = record { parts = b.parts; is = b.is; walk = b.row.walk; keeps = b.keeps; alone = λ us z w h. b.row.alone us z w }
+
+signed_only : {v : Surroundings} {k : Kind} {t : Tree} {x y z : Place} (ps : List Piece) → signed ps ≡ true → Moves (lead ps) x y → OnlyNode v (tail ps) k t y z → OnlyNode v ps k t x z
+signed_only {v} {k} {t} {x} {y} {z} (piece [] (Fixed s) ∷ ps) g m o = record { parts = o.parts; is = o.is; walk = next (sign (sym m.is) m.found) o.walk; keeps = o.keeps; alone = at }
+  where
+    at : (us : Forest) (w : Place) → Walk (Whole so_far) (steady v) (piece [] (Fixed s) ∷ ps) x us w → so_far.keeps k v us ≡ true → (o.parts ≡ us) × (z ≡ w)
+    at us w (next {ts = vs} (sign e f) r) h = o.alone vs w (subst (λ p. Walk (Whole so_far) (steady v) ps p vs w) (sym e ∙ sym m.is) r) h
+signed_only _ g m o = cc
+
+node_only : {v : Surroundings} {c : Nonterminal} {k : Kind} {x y : Place} {t : Tree} → Chosen so_far v c k x → guarded c (row_so_far k) ≡ true → free (row_so_far k) ≡ true → ((ts : Forest) → admits c (node k ts) ≡ true) → OnlyNode v (row_so_far k) k t x y → ends_so_far c y ≡ true → Only so_far v (Part c) x (one t) y
+node_only {v} {c} {k} {x} {y} {t} ch g f a o st = record {
+  past = tree (subst (λ u. Whole so_far v false c x u y) (sym o.is) (record { reads = of_so_far.to_node k (a o.parts) (record { walk = moved (λ b h. sym (free_around b o.parts v h)) f (loosen o.walk); keeps = o.keeps }); ends_there = st }));
+  alone = at;
+}
+  where
+    at : (h : Given) (z : Place) → Past (Whole so_far) v (Part c) x h z → (one t ≡ h) × (y ≡ z)
+    at h z (tree {t = leaf s r} w) = absurd (ch.no_leaf s r z w)
+    at h z (tree {t = list us} w) = absurd (no_list w.reads)
+    at h z (tree {t = node l us} w) =
+        let e = ch.kind l us z w in
+        let w' : Whole so_far v false c x (node k us) z = subst (λ m. Whole so_far v false c x (node m us) z) e w in
+        let p = of_so_far.from_node k w'.reads in
+        let same' = o.alone us z (moved (λ b h. free_around b us v h) f (whole_walk of_so_far c (row_so_far k) g w'.ends_there p.walk)) p.keeps in
+        (ap one (o.is ∙ (ap (node k) same'.0 ∙ ap (λ m. node m us) (sym e))), same'.1)
+
+pub headed_only : {v : Surroundings} {c : Nonterminal} {x y z : Place} {t : Tree} → Spot c → (h : Heading) → lives c (heading_kind h) ≡ true → Moves (heading_sign h) x y → OnlyNode v (tail (row_so_far (heading_kind h))) (heading_kind h) t y z → Only so_far v (Part c) x (one t) z
+headed_only {c = c} {z = z} s h l m o =
+    node_only (headed_chosen s h (found_at (sym m.is) m.found)) (of_heading (λ j. guarded c (row_so_far (heading_kind j))) s.guards h) (heading_free h) (λ ts. s.home (heading_kind h) ts l)
+    (signed_only (row_so_far (heading_kind h)) (heading_signed h) m o) (spot_ends s z)
 
 pub headed_barred : {v : Surroundings} {c : Nonterminal} {x y : Place} → Spot c → (h : Heading) → Moves (heading_sign h) x y → NoNode so_far v (tail (row_so_far (heading_kind h))) (heading_kind h) y → Barred so_far v (Part c) x
 headed_barred {c = c} s h m n =

@@ -1,4 +1,6 @@
 pub mod Statements
 pub mod Heads
 pub mod Cases
+pub mod Modules
+pub mod Tries
 pub mod OpenIn

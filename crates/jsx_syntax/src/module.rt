@@ -1,40 +1,66 @@
 //! A whole text.
 
-ghost use Rattle.std.specs.Prelude.{◌≡◌, ◌<◌, ◌≤◌, IfOk, IfErr, Some, length, map, ℕ};
+ghost use Rattle.std.specs.Prelude.{◌≡◌, ◌<◌, IfOk, IfErr, IfNone, MatchOption, Some, length, false};
 ghost use Rattle.std.specs.Str.{chars};
 ghost use Rattle.jsx_token.specs.Stage.{ReadsSoFar};
-ghost use Rattle.jsx_tree.specs.Grammar.{TopLines};
-ghost use Rattle.jsx_tree.specs.View.{forest};
-ghost use Rattle.jsx_tree.specs.ViewProgram.{view, view_item};
+ghost use Rattle.jsx_tree.specs.StaticRules.{is_string_stmt};
+ghost use Rattle.jsx_tree.specs.View.{view_stmt};
+ghost use Rattle.jsx_tree.specs.ViewProgram.{view};
 ghost use Rattle.jsx_tree.specs.Spans.{IsTold, placed_in};
-ghost use Rattle.jsx_tree.specs.Told.{tales, told, told_item};
+ghost use Rattle.jsx_tree.specs.Told.{told};
 ghost use Rattle.jsx_token.specs.Here.{place_of};
-ghost use Rattle.jsx_tree.specs.Nonterminals as grammar;
-ghost use Rattle.jsx_tree.specs.Answers.{OnlyToEnd, NoneToEnd};
 ghost use Rattle.jsx_expression.specs.Around.{around_of};
-ghost use Rattle.jsx_expression.specs.SoFar.{so_far};
 ghost use Rattle.jsx_expression.specs.Answers.{Refused, NoTree, IsWithin};
-ghost use Rattle.jsx_expression.specs.Spans.{IsPlacedList, Spans, program_at};
+ghost use Rattle.jsx_expression.specs.Spans.{IsPlacedRow, Spans, program_at};
+ghost use Rattle.jsx_syntax.specs.Modules.{IsString, NoModule, OnlyModule, module_parts, module_symbols, module_tales};
 
 use crate::statement::statement;
 use jsx_base::{BytePos, Span};
 use jsx_expression::{Around, Context, Labels, ParseError};
 use jsx_token::Lexer;
-use jsx_tree::{Item, Module, Program};
+use jsx_tree::{Expr, Item, LiteralKind, Module, Program, Stmt, Text};
 use std::alloc::Global;
+use std::mem;
 
-/// The statements up to the end of the text.
-fn items<'s>(context: Context, lexer: &mut Lexer<'s>) -> Result<Vec<Item<'s>>, ParseError>
-    ensures read { IfOk result (λ v. OnlyToEnd so_far (around_of context.entry.around) grammar.Item (place_of lexer.old) (forest (map view_item v.items))) }
-    ensures placed { IfOk result (λ v. IsPlacedList TopLines (tales (map told_item v.items)) (forest (map view_item v.items)) lexer.old lexer.new) }
-    ensures refused { Refused result (NoneToEnd so_far (around_of context.entry.around) grammar.Item (place_of lexer.old)) }
+/// The text of a string that is a statement alone, without parentheses, taken out of it.
+fn take_string<'s>(statement: &mut Stmt<'s>) -> Option<Text<'s>>
+    ensures taken { MatchOption result (is_string_stmt (view_stmt statement.old) ≡ false) (λ t. IsString t statement.old) }
+    ensures stays { IfNone result (statement.new ≡ statement.old) }
 {
-    let mut items = Vec::new(context.alloc);
+    let Stmt::Expr(_, expr) = statement else {
+        return None;
+    };
+    let Expr::Literal(_, LiteralKind::Str, text) = &mut **expr else {
+        return None;
+    };
+    Some(mem::replace(text, Text::Read("", BytePos(0))))
+}
+
+/// The directives and the items of a module, up to the end of the text. A string alone is a directive where nothing else stands
+/// before it (ECMA-262 section 11.2.1): `"use strict"; a`.
+fn module<'s>(context: Context, lexer: &mut Lexer<'s>, span: Span) -> Result<Module<'s>, ParseError>
+    ensures read { IfOk result (λ m. OnlyModule (around_of context.entry.around) (place_of lexer.old) (module_parts m)) }
+    ensures span { IfOk result (λ m. m.span ≡ span) }
+    ensures placed { IfOk result (λ m. IsPlacedRow module_symbols (module_tales m) (module_parts m) lexer.old lexer.new) }
+    ensures refused { Refused result (NoModule (around_of context.entry.around) (place_of lexer.old)) }
+{
+    let mut directives = Vec::new(context.alloc);
+    let mut body = Vec::new(context.alloc);
     'statements: while !lexer.is_at_end() {
-        let statement = statement(context, lexer)?;
-        items.push(Item::Stmt(statement))?;
+        let mut next = statement(context, lexer)?;
+        if body.is_empty() {
+            if let Some(text) = take_string(&mut next) {
+                directives.push(text)?;
+                continue 'statements;
+            }
+        }
+        body.push(Item::Stmt(next))?;
     }
-    Ok(items)
+    Ok(Module {
+        span,
+        directives,
+        body,
+    })
 }
 
 /// The module that a text is.
@@ -53,15 +79,12 @@ pub fn parse<'s>(alloc: Global, text: &'s str) -> Result<Program<'s>, ParseError
     let labels = Labels::None;
     let around = Around::of_module(&labels);
     let mut lexer = Lexer::new(text);
-    match items(Context { alloc, around }, &mut lexer) {
-        Ok(body) => Ok(Program::Module(Module {
-            span: Span {
-                lo: BytePos(0),
-                hi: end,
-            },
-            directives: Vec::new(alloc),
-            body,
-        })),
+    let span = Span {
+        lo: BytePos(0),
+        hi: end,
+    };
+    match module(Context { alloc, around }, &mut lexer, span) {
+        Ok(module) => Ok(Program::Module(module)),
         Err(ParseError::Syntax(at)) => Err(ParseError::Syntax(at.min(end))),
         Err(ParseError::Memory) => Err(ParseError::Memory),
     }
@@ -84,6 +107,40 @@ mod tests {
         match parse(alloc, text)? {
             Program::Module(module) => Ok(module.body.len()),
             Program::Script(script) => Ok(script.body.len()),
+        }
+    }
+
+    /// The numbers of directives and of statements.
+    fn parts(alloc: Global, text: &str) -> Result<(usize, usize), ParseError> {
+        if text.len() >= 1000 {
+            return Err(ParseError::Memory);
+        }
+        match parse(alloc, text)? {
+            Program::Module(module) => Ok((module.directives.len(), module.body.len())),
+            Program::Script(_) => Err(ParseError::Memory),
+        }
+    }
+
+    #[test]
+    fn reads_directives(rt: HostRuntime) {
+        for (text, want) in &[
+            ("'use strict'", (1, 0)),
+            ("'use client'; \"use strict\"\nb", (2, 1)),
+            ("'a'\n'b' /* \n */ 'c'", (3, 0)),
+            ("b;'a'", (0, 2)),
+            (";'a'", (0, 2)),
+            ("('a');'b'", (0, 2)),
+            ("'a';('b');'c'", (1, 2)),
+            ("'a'.b;'c'", (0, 2)),
+            ("'a'\n(b)", (0, 1)),
+            ("'a'\n+ b", (0, 1)),
+            ("'a', b", (0, 1)),
+            ("'a';'b'.c;'d'", (1, 2)),
+            ("{'a'}", (0, 1)),
+            ("if (a) 'b'; else 'c'", (0, 1)),
+            ("'use strict';'use strict';", (2, 0)),
+        ] {
+            assert!(rt; parts(rt.alloc(), text) == Ok(*want), "at {text}");
         }
     }
 
@@ -140,6 +197,11 @@ mod tests {
                 "for ((a in b); c in d; e in f) g;for (let a = b[c in d](e in f);;);",
                 2,
             ),
+            ("try {} catch {}try {a} finally {b}try {} catch (c) {d;}", 3),
+            (
+                "if (a) try {} catch (b) {}\nelse while (c) try {break} finally {}",
+                1,
+            ),
             (
                 "for (a = 1, b = c; a, b; a++, --b) d;for ((a, b in c), d;;);",
                 2,
@@ -161,6 +223,21 @@ mod tests {
             ("[];[a];[a, b,];[,];[, a, , ...b, [c]];", 5),
             ("f(...a, b, ...[c], );[a, b][0].c;[(a), (b, c)] + -[d];", 3),
             ("a\n[b];const c = [<d/>, ...[e = f]];", 2),
+            ("a = {};b({}, {c}, {d,});({e: f}).g;", 3),
+            ("a = {b: 1, 'c': d, 3: e, 4n: f, [g + h]: i, j, ...k, };", 1),
+            (
+                "a = {if: b, this: {}, __proto__, '__proto__'\n: d ? e : f}.g",
+                1,
+            ),
+            ("const a = {get: 1, set, async, static: {of, [{}]: 2}};", 1),
+            (
+                "a = {__proto__, ['__proto__']: b, __proto__: c, \"a\": d}",
+                1,
+            ),
+            (
+                "if (a) throw {b: c};for ({a}.b;;) c[{d}];-{}.e;[{}, ...{}];",
+                4,
+            ),
         ] {
             assert!(rt; read(rt.alloc(), text) == Ok(*want), "at {text}");
         }
@@ -230,7 +307,6 @@ mod tests {
             ("const a = b, c + d;", 13),
             ("a ? b, c : d;", 4),
             ("import(a, b);", 7),
-            ("'use strict';", 0),
             ("1 .a;", 2),
             ("new;", 0),
             ("const a;", 6),
@@ -326,6 +402,41 @@ mod tests {
             ("switch (a) case b: c;", 9),
             ("switch (a) {case b: c;", 21),
             ("case a: b;", 0),
+            ("try {}", 5),
+            ("try a; catch {}", 0),
+            ("try {} catch (eval) {}", 14),
+            ("try {} catch ({a}) {}", 13),
+            ("try {} finally {} catch {}", 18),
+            ("try {} catch {} catch {}", 16),
+            ("try {} catch {} finally {}", 16),
+            ("catch {}", 0),
+            ("a = {b;", 5),
+            ("a = {,};", 4),
+            ("a = {b,,};", 6),
+            ("a = {b c};", 5),
+            ("a = {if};", 5),
+            ("a = {this, b};", 5),
+            ("a = {1};", 5),
+            ("a = {'b'};", 5),
+            ("a = {[b]};", 7),
+            ("a = {[b, c]: d};", 6),
+            ("a = {b: };", 6),
+            ("a = {b: c, d: e, f};a = {b: c, d: e f};", 34),
+            ("a = {b: c; d};", 8),
+            ("a = {...};", 5),
+            ("a = {b() {}};", 5),
+            ("a = {get b() {}};", 5),
+            ("a = {set b(c) {}};", 5),
+            ("a = {async b() {}};", 5),
+            ("a = {*b() {}};", 4),
+            ("a = {b = 1};", 5),
+            ("a = {b += 1};", 5),
+            ("a = {b.c};", 5),
+            ("a = {eval: b} = c;", 14),
+            ("({a: b})++;", 8),
+            ("a = {__proto__: b, '__proto__': c};", 33),
+            ("a = {__proto__: b, c, __proto__: d};", 34),
+            ("{a: b};", 1),
         ] {
             let want = Err(ParseError::Syntax(BytePos(*place)));
             assert!(rt; read(rt.alloc(), text) == want, "at {text}");

@@ -1,12 +1,11 @@
 //! Statements.
 
 ghost use Rattle.std.specs.Prelude.{◌≡◌, ◌<◌, ◌≤◌, [], ◌∷◌, ◌&&◌, ◌||◌, IfOk, OnOk, IsTrue, IsFalse, map};
-ghost use Rattle.jsx_tree.specs.Kinds.{Block, Var, Empty, ExprStmt, If, Do, While, For, Switch, Continue, Break, Throw, Debugger, statement, list, none, part};
+ghost use Rattle.jsx_tree.specs.Kinds.{Block, Var, Empty, ExprStmt, If, Do, While, For, Switch, Continue, Break, Throw, Debugger, statement, list, none, part, Try};
 ghost use Rattle.jsx_tree.specs.Nonterminals as grammar;
-ghost use Rattle.jsx_tree.specs.Grammar.{Lines, NoTrailing, Part, key};
+ghost use Rattle.jsx_tree.specs.Grammar.{Lines, NoTrailing, Part, key, pun};
 ghost use Rattle.jsx_tree.specs.StaticRules.{all_of, at_most, has_init, is_default};
-ghost use Rattle.jsx_token.specs.Stage.{is_string};
-ghost use Rattle.jsx_tree.specs.View.{forest, inside, optional_of, view_control, view_expr, view_pat, view_stmt, word_of};
+ghost use Rattle.jsx_tree.specs.View.{forest, inside, optional_of, view_control, view_pat, view_stmt, word_of};
 ghost use Rattle.jsx_tree.specs.Spans.{no_tales, tale};
 ghost use Rattle.jsx_tree.specs.Told.{tales, told_control, told_list, told_optional, told_pat, told_stmt};
 ghost use Rattle.jsx_tree.specs.Walk.{one, tail};
@@ -16,9 +15,10 @@ ghost use Rattle.jsx_token.specs.Marks.{row_so_far};
 ghost use Rattle.jsx_expression.specs.SoFar.{so_far};
 ghost use Rattle.jsx_token.specs.Here.{place_of, left};
 ghost use Rattle.jsx_token.specs.Growths.{opening_sign};
-ghost use Rattle.jsx_syntax.specs.Statements.{Closes, alternative_row, alternative_symbols, block_symbols, has_value};
-ghost use Rattle.jsx_token.specs.Headings.{heading_kind, heading_sign};
+ghost use Rattle.jsx_syntax.specs.Statements.{Closes, alternative_row, alternative_symbols, block_symbols, has_value, OnlyNode};
+ghost use Rattle.jsx_token.specs.Headings.{heading_kind, heading_sign, NoHeading};
 ghost use Rattle.jsx_syntax.specs.Heads.{Declares, NotDeclared};
+ghost use Rattle.jsx_syntax.specs.Tries.{IsCatch, catch_row};
 ghost use Rattle.jsx_syntax.specs.Cases.{IsBody, IsCase, IsDefault, NoCase, NoCases, body_row, cases_row, cases_symbols, default_row};
 ghost use Rattle.jsx_expression.specs.Answers.{Refused};
 ghost use Rattle.jsx_token.specs.Semicolons.{in_list};
@@ -33,7 +33,7 @@ use jsx_expression::{
 };
 use jsx_make::make;
 use jsx_token::{Ending, Fixed, Heading, Lexer, Word};
-use jsx_tree::{Control, DeclareWord, Expr, LiteralKind, Pat, Stmt};
+use jsx_tree::{Control, DeclareWord, Pat, Stmt};
 
 /// A variable, with an initializer or without: `a = b`.
 fn declarator<'s>(context: Context, lexer: &mut Lexer<'s>) -> Result<Box<Pat<'s>>, ParseError>
@@ -108,17 +108,12 @@ fn declaration<'s>(
     Ok(make::variables(context.alloc, span_to(lo, lexer), word, all)?)
 }
 
-fn is_string(expr: &Expr) -> bool
-    ensures { result ≡ is_string (view_expr expr.now) }
-{
-    matches!(expr, Expr::Literal(_, LiteralKind::Str, _))
-}
-
-/// An expression statement: `a(b);`. A string alone isn't one.
+/// An expression statement: `a(b);` (ECMA-262 section 14.5).
 fn expression_statement<'s>(
     context: Context,
     lexer: &mut Lexer<'s>,
 ) -> Result<Box<Stmt<'s>>, ParseError>
+    requires { NoHeading (place_of lexer.old) }
     ensures read { IfOk result (λ s. BuiltNode so_far (around_of context.entry.around) (row_so_far (statement ExprStmt)) (statement ExprStmt) (view_stmt s.value) (place_of lexer.old) (place_of lexer.new)) }
     ensures span { IfOk result (λ s. Spans (stmt_at s.value) (next_of lexer.old) (end_of lexer.new)) }
     ensures placed { IfOk result (λ s. IsPlaced (told_stmt s.value) (view_stmt s.value) lexer.old lexer.new) }
@@ -126,9 +121,6 @@ fn expression_statement<'s>(
     ensures refused { Refused result (NoNode so_far (around_of context.entry.around) (row_so_far (statement ExprStmt)) (statement ExprStmt) (place_of lexer.old)) }
 {
     let expr = sequence(context, lexer)?;
-    if is_string(&expr) {
-        return Err(give_up(lexer));
-    }
     semicolon(context, lexer)?;
     let span = span_to(start_of(&expr), lexer);
     Ok(make::expression_statement(context.alloc, span, expr)?)
@@ -459,14 +451,84 @@ fn switch_statement<'s>(
     Ok(make::switch_statement(context.alloc, span, value, all)?)
 }
 
+/// A block where nothing else may stand: `{ a; }`.
+#[cycle(statement)]
+fn block_only<'s>(context: Context, lexer: &mut Lexer<'s>) -> Result<Box<Stmt<'s>>, ParseError>
+    ensures read { IfOk result (λ s. Only so_far (around_of context.entry.around) (Part grammar.BlockOnly) (place_of lexer.old) (one (view_stmt s.value)) (place_of lexer.new)) }
+    ensures placed { IfOk result (λ s. IsPlaced (told_stmt s.value) (view_stmt s.value) lexer.old lexer.new) }
+    ensures shorter { OnOk result (left lexer.new < left lexer.old) }
+    ensures refused { Refused result (Barred so_far (around_of context.entry.around) (Part grammar.BlockOnly) (place_of lexer.old)) }
+{
+    expect(context, lexer, Fixed::OpenBrace)?;
+    Ok(block(context, lexer)?)
+}
+
+/// What is caught, behind the `(` of its name: `(a) { b; }`. So far only names are bound.
+#[cycle(statement)]
+fn catch_name<'s>(context: Context, lexer: &mut Lexer<'s>) -> Result<Box<Control<'s>>, ParseError>
+    ensures read { IfOk result (λ s. IsCatch (around_of context.entry.around) (place_of lexer.old) (view_control s.value) (place_of lexer.new)) }
+    ensures placed { IfOk result (λ s. IsPlacedBehind (pun "(") lexer.old (told_control s.value) (view_control s.value) lexer.new) }
+    ensures shorter { OnOk result (left lexer.new < left lexer.old) }
+    ensures refused { Refused result (NoRow so_far (around_of context.entry.around) catch_row (place_of lexer.old)) }
+{
+    let lo = lexer.last_place();
+    let name = binding_identifier(context, lexer)?;
+    expect(context, lexer, Fixed::Close)?;
+    let body = block_only(context, lexer)?;
+    let span = span_to(lo, lexer);
+    Ok(make::catch_clause(context.alloc, span, Some(name), body)?)
+}
+
+/// What is caught, behind `catch`: `(a) { b; }`, or `{ b; }`.
+#[cycle(statement)]
+fn catch_clause<'s>(context: Context, lexer: &mut Lexer<'s>) -> Result<Box<Control<'s>>, ParseError>
+    ensures read { IfOk result (λ s. Only so_far (around_of context.entry.around) (Part grammar.CatchClause) (place_of lexer.old) (one (view_control s.value)) (place_of lexer.new)) }
+    ensures placed { IfOk result (λ s. IsPlaced (told_control s.value) (view_control s.value) lexer.old lexer.new) }
+    ensures shorter { OnOk result (left lexer.new < left lexer.old) }
+    ensures refused { Refused result (Barred so_far (around_of context.entry.around) (Part grammar.CatchClause) (place_of lexer.old)) }
+{
+    if lexer.take(Fixed::Open) {
+        return Ok(catch_name(context, lexer)?);
+    }
+    expect(context, lexer, Fixed::OpenBrace)?;
+    let lo = lexer.last_place();
+    let body = block(context, lexer)?;
+    let span = span_to(lo, lexer);
+    Ok(make::catch_clause(context.alloc, span, None, body)?)
+}
+
+/// A `try` statement behind its word: `try { a; } catch (b) { c; }`, or `try { a; } finally { b; }` (ECMA-262 section 14.15). So
+/// far it hasn't both.
+#[cycle(statement)]
+fn try_statement<'s>(context: Context, lexer: &mut Lexer<'s>) -> Result<Box<Stmt<'s>>, ParseError>
+    ensures read { IfOk result (λ s. OnlyNode (around_of context.entry.around) (tail (row_so_far (statement Try))) (statement Try) (view_stmt s.value) (place_of lexer.old) (place_of lexer.new)) }
+    ensures span { IfOk result (λ s. Spans (stmt_at s.value) (begin_of lexer.old) (end_of lexer.new)) }
+    ensures placed { IfOk result (λ s. IsPlacedBehind (opening_sign (statement Try)) lexer.old (told_stmt s.value) (view_stmt s.value) lexer.new) }
+    ensures within { OnOk result (left lexer.new ≤ left lexer.old) }
+    ensures refused { Refused result (NoNode so_far (around_of context.entry.around) (tail (row_so_far (statement Try))) (statement Try) (place_of lexer.old)) }
+{
+    let lo = lexer.last_place();
+    let body = block_only(context, lexer)?;
+    if lexer.take(Fixed::Word(Word::Catch)) {
+        let handler = catch_clause(context, lexer)?;
+        let span = span_to(lo, lexer);
+        return Ok(make::try_statement(context.alloc, span, body, Some(handler), None)?);
+    }
+    expect(context, lexer, Fixed::Word(Word::Finally))?;
+    let finalizer = block_only(context, lexer)?;
+    let span = span_to(lo, lexer);
+    Ok(make::try_statement(context.alloc, span, body, None, Some(finalizer))?)
+}
+
 /// A statement behind its first token.
 #[cycle(statement)]
+#[tactic(auto, using(crate::proofs::Statements::of_built))]
 fn headed<'s>(
     context: Context,
     lexer: &mut Lexer<'s>,
     heading: Heading,
 ) -> Result<Box<Stmt<'s>>, ParseError>
-    ensures read { IfOk result (λ s. BuiltNode so_far (around_of context.entry.around) (tail (row_so_far (heading_kind heading))) (heading_kind heading) (view_stmt s.value) (place_of lexer.old) (place_of lexer.new)) }
+    ensures read { IfOk result (λ s. OnlyNode (around_of context.entry.around) (tail (row_so_far (heading_kind heading))) (heading_kind heading) (view_stmt s.value) (place_of lexer.old) (place_of lexer.new)) }
     ensures span { IfOk result (λ s. Spans (stmt_at s.value) (begin_of lexer.old) (end_of lexer.new)) }
     ensures placed { IfOk result (λ s. IsPlacedBehind (heading_sign heading) lexer.old (told_stmt s.value) (view_stmt s.value) lexer.new) }
     ensures within { OnOk result (left lexer.new ≤ left lexer.old) }
@@ -484,6 +546,7 @@ fn headed<'s>(
         Heading::Continue => Ok(continue_statement(context, lexer)?),
         Heading::Break => Ok(break_statement(context, lexer)?),
         Heading::Throw => Ok(throw_statement(context, lexer)?),
+        Heading::Try => Ok(try_statement(context, lexer)?),
         Heading::Debugger => Ok(debugger_statement(context, lexer)?),
     }
 }

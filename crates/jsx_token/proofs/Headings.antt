@@ -8,7 +8,7 @@ use Rattle.jsx_token.specs.declared.heading.Heading.{Heading}
 use Rattle.jsx_token.specs.declared.heading.Heading.TheVariants as heading
 
 abbrev pub headings : List Heading
-headings = heading.Empty ∷ heading.Block ∷ heading.Var declare_word.Var ∷ heading.Var declare_word.Let ∷ heading.Var declare_word.Const ∷ heading.If ∷ heading.Do ∷ heading.While ∷ heading.For ∷ heading.Switch ∷ heading.Continue ∷ heading.Break ∷ heading.Throw ∷ heading.Debugger ∷ []
+headings = heading.Empty ∷ heading.Block ∷ heading.Var declare_word.Var ∷ heading.Var declare_word.Let ∷ heading.Var declare_word.Const ∷ heading.If ∷ heading.Do ∷ heading.While ∷ heading.For ∷ heading.Switch ∷ heading.Continue ∷ heading.Break ∷ heading.Throw ∷ heading.Try ∷ heading.Debugger ∷ []
 
 -- the place of each in the list
 abbrev pub number : Heading → ℕ
@@ -25,7 +25,8 @@ number heading.Switch = 9
 number heading.Continue = 10
 number heading.Break = 11
 number heading.Throw = 12
-number heading.Debugger = 13
+number heading.Try = 13
+number heading.Debugger = 14
 
 abbrev pub nth : ℕ → List Heading → Option Heading
 nth n [] = None
@@ -46,6 +47,7 @@ there heading.Switch = refl
 there heading.Continue = refl
 there heading.Break = refl
 there heading.Throw = refl
+there heading.Try = refl
 there heading.Debugger = refl
 
 abbrev pub every_heading : (Heading → Bool) → List Heading → Bool

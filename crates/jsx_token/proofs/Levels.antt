@@ -4,7 +4,7 @@ use Rattle.jsx_tree.specs.Grammar.{Fixed, right_of}
 use Rattle.jsx_tree.specs.Walk.{Piece, piece, tail}
 use Rattle.std.specs.Prelude.{Option, Some, None, ◌&&◌}
 use Rattle.jsx_base.specs.Token.{Lexeme, NumericLiteral, BigIntLiteral, StringLiteral, RegExpLiteral}
-use Rattle.jsx_tree.specs.Kinds.{Assigns, Assign, OpAssign, Delete, Unary, Binary, Cond, Kind, expression, PrefixUpdate, Call, Member, Index, PostfixUpdate, Increment, Decrement}
+use Rattle.jsx_tree.specs.Kinds.{Assigns, Assign, OpAssign, Delete, Unary, Binary, Cond, Kind, expression, PrefixUpdate, Call, Member, Index, Object, PostfixUpdate, Increment, Decrement}
 use Rattle.jsx_tree.specs.Nonterminals.{Nonterminal, Expr, NullishLeft, MemberObject, DotObject, SimpleTarget, Pat, TagName, homes, in_homes, literal_homes}
 use Rattle.jsx_token.specs.Stage.{has_kind}
 use Rattle.jsx_tree.specs.Stops.{level_asked}
@@ -41,6 +41,7 @@ signed ps = false
 -- with a static rule of its own
 abbrev pub is_ruled : Kind → Bool
 is_ruled (expression (Unary Delete)) = true
+is_ruled (expression Object) = true
 is_ruled k = false
 
 abbrev pub grows_on : Kind → Bool

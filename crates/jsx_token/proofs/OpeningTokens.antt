@@ -47,6 +47,7 @@ opening_fits token.Tilde t r g s e = by token.Tilde (spelling token.Tilde) r (op
 opening_fits token.Not t r g s e = by token.Not (spelling token.Not) r (opening.Unary unary.Not) g t e (s refl) (record { sign = refl; taken = refl })
 opening_fits token.LeftParen t r g s e = by token.LeftParen (spelling token.LeftParen) r opening.Paren g t e (s refl) (record { sign = refl; taken = refl })
 opening_fits token.LeftBracket t r g s e = by token.LeftBracket (spelling token.LeftBracket) r opening.Array g t e (s refl) (record { sign = refl; taken = refl })
+opening_fits token.LeftBrace t r g s e = by token.LeftBrace (spelling token.LeftBrace) r opening.Object g t e (s refl) (record { sign = refl; taken = refl })
 opening_fits token.PlusPlus t r g s e = by token.PlusPlus (spelling token.PlusPlus) r (opening.Update update.Increment) g t e (s refl) (record { sign = refl; taken = refl })
 opening_fits token.MinusMinus t r g s e = by token.MinusMinus (spelling token.MinusMinus) r (opening.Update update.Decrement) g t e (s refl) (record { sign = refl; taken = refl })
 opening_fits token.IdentifierName t r g s e = by_word (same t (codes "void")) (same t (codes "typeof")) (same t (codes "import")) (same t (codes "delete")) g t r refl refl refl refl e
@@ -88,7 +89,7 @@ no_mark token.Star r p e = refl
 no_mark token.Slash r p e = refl
 no_mark token.Percent r p e = refl
 no_mark token.StarStar r p e = refl
-no_mark token.LeftBrace r p e = refl
+no_mark token.LeftBrace r p e = some_none e
 no_mark token.RightBrace r p e = refl
 no_mark token.RightParen r p e = refl
 no_mark token.RightBracket r p e = refl
@@ -142,14 +143,15 @@ opening_none k t r s e = elim (is_punctuator k) as (λ b. is_punctuator k ≡ b 
     [ true ↦ λ p. subst (λ u. is_mark (lexeme k u r) opening_signs ≡ false) (sym (s p)) (no_mark k r p (ap (opening_by k) (sym (s p)) ∙ e)) | false ↦ λ p. plain_mark k t r p e ] refl
 
 -- the arm of the code that takes what is left
-pub opening_left : (k : TokenKind) (t : Text) → (k ≡ token.Plus → ⊥) → (k ≡ token.Minus → ⊥) → (k ≡ token.Tilde → ⊥) → (k ≡ token.Not → ⊥) → (k ≡ token.PlusPlus → ⊥) → (k ≡ token.MinusMinus → ⊥) → (k ≡ token.LeftParen → ⊥) → (k ≡ token.LeftBracket → ⊥) → (k ≡ token.IdentifierName → ⊥) → opening_by k t ≡ None
-opening_left token.Plus t n0 n1 n2 n3 n4 n5 n6 n7 n8 = absurd (n0 refl)
-opening_left token.Minus t n0 n1 n2 n3 n4 n5 n6 n7 n8 = absurd (n1 refl)
-opening_left token.Tilde t n0 n1 n2 n3 n4 n5 n6 n7 n8 = absurd (n2 refl)
-opening_left token.Not t n0 n1 n2 n3 n4 n5 n6 n7 n8 = absurd (n3 refl)
-opening_left token.PlusPlus t n0 n1 n2 n3 n4 n5 n6 n7 n8 = absurd (n4 refl)
-opening_left token.MinusMinus t n0 n1 n2 n3 n4 n5 n6 n7 n8 = absurd (n5 refl)
-opening_left token.LeftParen t n0 n1 n2 n3 n4 n5 n6 n7 n8 = absurd (n6 refl)
-opening_left token.LeftBracket t n0 n1 n2 n3 n4 n5 n6 n7 n8 = absurd (n7 refl)
-opening_left token.IdentifierName t n0 n1 n2 n3 n4 n5 n6 n7 n8 = absurd (n8 refl)
-opening_left _ t n0 n1 n2 n3 n4 n5 n6 n7 n8 = refl
+pub opening_left : (k : TokenKind) (t : Text) → (k ≡ token.Plus → ⊥) → (k ≡ token.Minus → ⊥) → (k ≡ token.Tilde → ⊥) → (k ≡ token.Not → ⊥) → (k ≡ token.PlusPlus → ⊥) → (k ≡ token.MinusMinus → ⊥) → (k ≡ token.LeftParen → ⊥) → (k ≡ token.LeftBracket → ⊥) → (k ≡ token.LeftBrace → ⊥) → (k ≡ token.IdentifierName → ⊥) → opening_by k t ≡ None
+opening_left token.Plus t n0 n1 n2 n3 n4 n5 n6 n7 n8 n9 = absurd (n0 refl)
+opening_left token.Minus t n0 n1 n2 n3 n4 n5 n6 n7 n8 n9 = absurd (n1 refl)
+opening_left token.Tilde t n0 n1 n2 n3 n4 n5 n6 n7 n8 n9 = absurd (n2 refl)
+opening_left token.Not t n0 n1 n2 n3 n4 n5 n6 n7 n8 n9 = absurd (n3 refl)
+opening_left token.PlusPlus t n0 n1 n2 n3 n4 n5 n6 n7 n8 n9 = absurd (n4 refl)
+opening_left token.MinusMinus t n0 n1 n2 n3 n4 n5 n6 n7 n8 n9 = absurd (n5 refl)
+opening_left token.LeftParen t n0 n1 n2 n3 n4 n5 n6 n7 n8 n9 = absurd (n6 refl)
+opening_left token.LeftBracket t n0 n1 n2 n3 n4 n5 n6 n7 n8 n9 = absurd (n7 refl)
+opening_left token.LeftBrace t n0 n1 n2 n3 n4 n5 n6 n7 n8 n9 = absurd (n8 refl)
+opening_left token.IdentifierName t n0 n1 n2 n3 n4 n5 n6 n7 n8 n9 = absurd (n9 refl)
+opening_left _ t n0 n1 n2 n3 n4 n5 n6 n7 n8 n9 = refl

@@ -42,6 +42,7 @@ signs heading.Switch = refl
 signs heading.Continue = refl
 signs heading.Break = refl
 signs heading.Throw = refl
+signs heading.Try = refl
 signs heading.Debugger = refl
 
 pub none_heads : {h : Here} → NoNext Operator h → NoHeading (place_of h)
@@ -69,7 +70,7 @@ and_no false = refl
 pub words_chars : (bs : List ℕ) → IsUtf8 bs → first_bytes words bs ≡ first_word words (chars bs)
 words_chars bs u = λ i.
     cond (is_reserved word.Var bs u i) (Some (heading.Var declare_word.Var)) (cond (is_reserved word.Let bs u i) (Some (heading.Var declare_word.Let)) (cond (is_reserved word.Const bs u i) (Some (heading.Var declare_word.Const)) (cond (is_reserved word.If bs u i) (Some heading.If)
-    (cond (is_reserved word.Do bs u i) (Some heading.Do) (cond (is_reserved word.While bs u i) (Some heading.While) (cond (is_reserved word.For bs u i) (Some heading.For) (cond (is_reserved word.Switch bs u i) (Some heading.Switch) (cond (is_reserved word.Continue bs u i) (Some heading.Continue) (cond (is_reserved word.Break bs u i) (Some heading.Break) (cond (is_reserved word.Throw bs u i) (Some heading.Throw) (cond (is_reserved word.Debugger bs u i) (Some heading.Debugger) None)))))))))))
+    (cond (is_reserved word.Do bs u i) (Some heading.Do) (cond (is_reserved word.While bs u i) (Some heading.While) (cond (is_reserved word.For bs u i) (Some heading.For) (cond (is_reserved word.Switch bs u i) (Some heading.Switch) (cond (is_reserved word.Continue bs u i) (Some heading.Continue) (cond (is_reserved word.Break bs u i) (Some heading.Break) (cond (is_reserved word.Throw bs u i) (Some heading.Throw) (cond (is_reserved word.Try bs u i) (Some heading.Try) (cond (is_reserved word.Debugger bs u i) (Some heading.Debugger) None))))))))))))
 
 abbrev worded : Heading → Bool
 worded h = is_kind IdentifierName (fixed_kind (fixed_of h))
@@ -117,7 +118,8 @@ found_word t k None e = record { on = on }
     on heading.Continue = named_not t 8 heading.Continue a refl
     on heading.Break = named_not t 9 heading.Break a refl
     on heading.Throw = named_not t 10 heading.Throw a refl
-    on heading.Debugger = named_not t 11 heading.Debugger a refl
+    on heading.Try = named_not t 11 heading.Try a refl
+    on heading.Debugger = named_not t 12 heading.Debugger a refl
 
 pub found_empty : (t : Token) → t.kind ≡ token.Semicolon → (is_punctuator t.kind ≡ true → chars t.raw.now ≡ spelling t.kind) → is_heading t heading.Empty ≡ true
 found_empty t k s = sym (mark_is true t token.Semicolon fixed.Semicolon ((λ _. k), (λ _. refl)) (record { mark = refl; text = refl; kind = refl }) s)
@@ -149,4 +151,5 @@ no_heading t a b n s = record { on = on }
     on heading.Continue = other heading.Continue refl
     on heading.Break = other heading.Break refl
     on heading.Throw = other heading.Throw refl
+    on heading.Try = other heading.Try refl
     on heading.Debugger = other heading.Debugger refl

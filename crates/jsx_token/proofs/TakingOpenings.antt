@@ -17,7 +17,7 @@ use Rattle.jsx_token.specs.declared.opening.Opening.TheVariants as opening
 use Rattle.jsx_tree.specs.ViewOperators.{unary_of, step_of}
 use Rattle.jsx_tree.specs.declared.operator.UnaryOp.{UnaryOp}
 use Rattle.jsx_tree.specs.declared.operator.UnaryOp.TheVariants as unary
-use Rattle.jsx_tree.specs.Kinds.{Unary, ImportCall, Array, Parenthesized, expression, Kind, PrefixUpdate}
+use Rattle.jsx_tree.specs.Kinds.{Unary, ImportCall, Array, Object, Parenthesized, expression, Kind, PrefixUpdate}
 use Rattle.jsx_token.specs.Growths.{opening_kind, opening_sign, opening_signs, is_code, NoOpening, has_sign}
 use Rattle.jsx_tree.specs.declared.operator.UpdateOp.TheVariants as update
 use Rattle.jsx_token.specs.GrowthTokens.{opening_by}
@@ -65,6 +65,7 @@ pub opening_listed : (g : Opening) → has_kind (opening_kind g) ≡ true → Li
 opening_listed opening.ImportCall h = listed (expression ImportCall) refl refl refl
 opening_listed opening.Paren h = listed (expression Parenthesized) refl refl refl
 opening_listed opening.Array h = listed (expression Array) refl refl refl
+opening_listed opening.Object h = listed (expression Object) refl refl refl
 opening_listed (opening.Unary o) h = unary_listed o h
 opening_listed (opening.Update update.Increment) h = listed (expression (PrefixUpdate (step_of update.Increment))) refl refl refl
 opening_listed (opening.Update update.Decrement) h = listed (expression (PrefixUpdate (step_of update.Decrement))) refl refl refl
@@ -82,6 +83,7 @@ pub opening_opens : (g : Opening) → grows_on (opening_kind g) ≡ false
 opening_opens opening.ImportCall = refl
 opening_opens opening.Paren = refl
 opening_opens opening.Array = refl
+opening_opens opening.Object = refl
 opening_opens (opening.Unary o) = unary_opens o
 opening_opens (opening.Update o) = refl
 
@@ -89,6 +91,7 @@ sign_code : (g : Opening) → is_code (opening_sign (opening_kind g)) ≡ true
 sign_code opening.ImportCall = refl
 sign_code opening.Paren = refl
 sign_code opening.Array = refl
+sign_code opening.Object = refl
 sign_code (opening.Unary unary.Delete) = refl
 sign_code (opening.Unary unary.Void) = refl
 sign_code (opening.Unary unary.TypeOf) = refl

@@ -1,6 +1,6 @@
 -- Words among names.
 use Rattle.std.proofs.Common.{◌≡◌, ℕ, List, [], ◌∷◌, true, codes, refl, sym, ap, ◌∙◌}
-use Rattle.std.specs.Prelude.{nat_eq}
+use Rattle.std.specs.Prelude.{nat_eq, ◌||◌}
 use Rattle.std.specs.Str.{chars, bytes_eq, IsUtf8, is_utf8}
 use lib.Utf8.{encodes, encode}
 use Rattle.std.specs.Bool.{Decides}
@@ -8,11 +8,14 @@ use Rattle.std.proofs.lemmas.Bool.Decides.{same_from_decides}
 use Rattle.std.proofs.lemmas.Slice.Eq.{bytes_eq-Decides}
 use Rattle.std.proofs.lemmas.Bool.{false≢true, and_parts, eqb-true}
 use Rattle.std.proofs.lemmas.Str.{encodes-chars, IsUtf8-from_is_utf8}
-use Rattle.jsx_base.specs.Token.{Text, same}
+use Rattle.jsx_base.specs.Token.{Text, IdentifierName, StringLiteral, same}
+use Rattle.jsx_tree.specs.Kinds.{leaf}
+use Rattle.jsx_tree.specs.StaticRules.{is_key}
 use Rattle.jsx_token.specs.declared.word.Word.{Word}
 use Rattle.jsx_token.specs.declared.word.Word.TheVariants as word
 use Rattle.jsx_token.specs.WordTexts.{word_text}
 use Rattle.jsx_tree.proofs.Tokens.{same_self}
+use Rattle.jsx_token.proofs.Spellings.{by_both}
 
 pub same_is : (s t : Text) → same s t ≡ true → s ≡ t
 same_is [] [] h = refl
@@ -106,22 +109,50 @@ is_right_brace = is_word (codes "}") word_right_brace
 pub is_arrow : (raw : List ℕ) → IsUtf8 raw → bytes_eq raw (codes "=>") ≡ same (chars raw) (codes "=>")
 is_arrow = is_word (codes "=>") word_arrow
 
+-- the key that sets a prototype
+same_flip : (s t : Text) → same s t ≡ same t s
+same_flip s t = by_both (same s t) (same t s) (λ h. ap (λ u. same u s) (sym (same_is s t h)) ∙ same_self s) (λ h. ap (λ u. same u t) (sym (same_is t s h)) ∙ same_self t)
+
+word_proto : Spelled (codes "__proto__")
+unfolding chars is_utf8 encode
+word_proto = record { same = refl; text = IsUtf8-from_is_utf8 (codes "__proto__") refl }
+
+word_double : Spelled (codes "\"__proto__\"")
+unfolding chars is_utf8 encode
+word_double = record { same = refl; text = IsUtf8-from_is_utf8 (codes "\"__proto__\"") refl }
+
+word_single : Spelled (codes "'__proto__'")
+unfolding chars is_utf8 encode
+word_single = record { same = refl; text = IsUtf8-from_is_utf8 (codes "'__proto__'") refl }
+
+pub is_proto : (raw : List ℕ) → IsUtf8 raw → bytes_eq raw (codes "__proto__") ≡ is_key (codes "__proto__") (leaf IdentifierName (chars raw))
+is_proto raw u = is_word (codes "__proto__") word_proto raw u ∙ same_flip (chars raw) (codes "__proto__")
+
+pub is_proto_string : (raw : List ℕ) → IsUtf8 raw → (bytes_eq raw (codes "\"__proto__\"") || bytes_eq raw (codes "'__proto__'")) ≡ is_key (codes "__proto__") (leaf StringLiteral (chars raw))
+is_proto_string raw u =
+    let a : bytes_eq raw (codes "\"__proto__\"") ≡ same (codes "\"__proto__\"") (chars raw) = is_word (codes "\"__proto__\"") word_double raw u ∙ same_flip (chars raw) (codes "\"__proto__\"") in
+    let b : bytes_eq raw (codes "'__proto__'") ≡ same (codes "'__proto__'") (chars raw) = is_word (codes "'__proto__'") word_single raw u ∙ same_flip (chars raw) (codes "'__proto__'") in
+    (λ i. a i || b i)
+
 -- each word of the grammar
 reserved : (w : Word) → Spelled (word_text w)
 unfolding chars is_utf8 encode
 reserved word.Break = record { same = refl; text = IsUtf8-from_is_utf8 (codes "break") refl }
 reserved word.Case = record { same = refl; text = IsUtf8-from_is_utf8 (codes "case") refl }
+reserved word.Catch = record { same = refl; text = IsUtf8-from_is_utf8 (codes "catch") refl }
 reserved word.Const = record { same = refl; text = IsUtf8-from_is_utf8 (codes "const") refl }
 reserved word.Continue = record { same = refl; text = IsUtf8-from_is_utf8 (codes "continue") refl }
 reserved word.Debugger = record { same = refl; text = IsUtf8-from_is_utf8 (codes "debugger") refl }
 reserved word.Default = record { same = refl; text = IsUtf8-from_is_utf8 (codes "default") refl }
 reserved word.Do = record { same = refl; text = IsUtf8-from_is_utf8 (codes "do") refl }
 reserved word.Else = record { same = refl; text = IsUtf8-from_is_utf8 (codes "else") refl }
+reserved word.Finally = record { same = refl; text = IsUtf8-from_is_utf8 (codes "finally") refl }
 reserved word.For = record { same = refl; text = IsUtf8-from_is_utf8 (codes "for") refl }
 reserved word.If = record { same = refl; text = IsUtf8-from_is_utf8 (codes "if") refl }
 reserved word.Let = record { same = refl; text = IsUtf8-from_is_utf8 (codes "let") refl }
 reserved word.Switch = record { same = refl; text = IsUtf8-from_is_utf8 (codes "switch") refl }
 reserved word.Throw = record { same = refl; text = IsUtf8-from_is_utf8 (codes "throw") refl }
+reserved word.Try = record { same = refl; text = IsUtf8-from_is_utf8 (codes "try") refl }
 reserved word.Var = record { same = refl; text = IsUtf8-from_is_utf8 (codes "var") refl }
 reserved word.While = record { same = refl; text = IsUtf8-from_is_utf8 (codes "while") refl }
 

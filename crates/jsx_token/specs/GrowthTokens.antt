@@ -97,5 +97,6 @@ opening_by token.PlusPlus t = Some (opening.Update update.Increment)
 opening_by token.MinusMinus t = Some (opening.Update update.Decrement)
 opening_by token.LeftParen t = Some opening.Paren
 opening_by token.LeftBracket t = Some opening.Array
+opening_by token.LeftBrace t = Some opening.Object
 opening_by token.IdentifierName t = opening_word t
 opening_by _ t = None

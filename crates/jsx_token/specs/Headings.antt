@@ -3,7 +3,7 @@ use Rattle.std.specs.Prelude.{◌≡◌, ℕ, List, [], ◌∷◌, Bool, true, f
 use Rattle.std.specs.Str.{bytes_eq}
 use Rattle.jsx_base.specs.Token.{Text, same}
 use Rattle.jsx_tree.specs.Signs.{Sign}
-use Rattle.jsx_tree.specs.Kinds.{Block, Var, Empty, If, Do, While, For, Switch, Continue, Break, Throw, Debugger, Kind, statement}
+use Rattle.jsx_tree.specs.Kinds.{Block, Var, Empty, If, Do, While, For, Switch, Continue, Break, Throw, Debugger, Kind, statement, Try}
 use Rattle.jsx_tree.specs.View.{word_of}
 use Rattle.jsx_tree.specs.Reading.{Place, Lost, forth}
 use Rattle.jsx_tree.specs.declared.text.DeclareWord as code
@@ -31,6 +31,7 @@ heading_kind heading.Switch = statement Switch
 heading_kind heading.Continue = statement Continue
 heading_kind heading.Break = statement Break
 heading_kind heading.Throw = statement Throw
+heading_kind heading.Try = statement Try
 heading_kind heading.Debugger = statement Debugger
 
 -- the sign with which its row begins
@@ -60,6 +61,7 @@ fixed_of heading.Switch = fixed.Word word.Switch
 fixed_of heading.Continue = fixed.Word word.Continue
 fixed_of heading.Break = fixed.Word word.Break
 fixed_of heading.Throw = fixed.Word word.Throw
+fixed_of heading.Try = fixed.Word word.Try
 fixed_of heading.Debugger = fixed.Word word.Debugger
 
 abbrev pub is_heading : Token → Heading → Bool
@@ -70,7 +72,7 @@ pub record NoneIsIt (t : Token) : Type 0 where
 
 -- those that are words, and the first of some that a text is, and that bytes are
 abbrev pub words : List Heading
-words = heading.Var declare_word.Var ∷ heading.Var declare_word.Let ∷ heading.Var declare_word.Const ∷ heading.If ∷ heading.Do ∷ heading.While ∷ heading.For ∷ heading.Switch ∷ heading.Continue ∷ heading.Break ∷ heading.Throw ∷ heading.Debugger ∷ []
+words = heading.Var declare_word.Var ∷ heading.Var declare_word.Let ∷ heading.Var declare_word.Const ∷ heading.If ∷ heading.Do ∷ heading.While ∷ heading.For ∷ heading.Switch ∷ heading.Continue ∷ heading.Break ∷ heading.Throw ∷ heading.Try ∷ heading.Debugger ∷ []
 
 abbrev pub first_word : List Heading → Text → Option Heading
 first_word [] t = None

@@ -16,6 +16,7 @@ fixed_mode fixed.Equals = Operator
 fixed_mode fixed.Semicolon = Operator
 fixed_mode fixed.Open = Operator
 fixed_mode fixed.Close = Operator
+fixed_mode fixed.OpenBracket = Operator
 fixed_mode fixed.CloseBracket = Operator
 fixed_mode fixed.OpenBrace = Operator
 fixed_mode fixed.CloseBrace = Operator
@@ -37,6 +38,7 @@ fixed_text fixed.Equals = codes "="
 fixed_text fixed.Semicolon = codes ";"
 fixed_text fixed.Open = codes "("
 fixed_text fixed.Close = codes ")"
+fixed_text fixed.OpenBracket = codes "["
 fixed_text fixed.CloseBracket = codes "]"
 fixed_text fixed.OpenBrace = codes "{"
 fixed_text fixed.CloseBrace = codes "}"

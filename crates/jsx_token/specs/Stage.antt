@@ -3,13 +3,15 @@ use Rattle.std.specs.Prelude.{List, [], ◌∷◌, codes, Bool, true, false, IsT
 use Rattle.std.specs.Char.{is_ascii_alphabetic}
 use Rattle.jsx_base.specs.Token.{Text, TokenKind, IdentifierName, NumericLiteral, BigIntLiteral, StringLiteral, RegExpLiteral, JsxName, Elision, same, first_is}
 use Rattle.jsx_tree.specs.declared.text.Goal.TheVariants as goals
-use Rattle.jsx_tree.specs.Kinds.{Module, Block, Var, Declarator, Empty, ExprStmt, If, Do, While, Continue, Break, Throw, Debugger, Assign, OpAssign, Void, TypeOf, Positive, Negative, Complement, Not, Unary, Binary, Cond, Call, Member, Index, ImportCall, Parenthesized, Element, Kind, program, statement, expression, jsx, Tree, leaf, node, list, Forest, none, part, Delete, PrefixUpdate, PostfixUpdate, Seq, For, ForDeclaration, Switch, Case, Default, Array, Spread}
-use Rattle.jsx_tree.specs.Nonterminals.{Nonterminal, Expr, MemberObject, NullishLeft, Name, Pat, SimpleTarget, Argument, TagName, WholeProgram, DotObject, assigns, is_value_word, has_dash, ForInit, ArrayItem}
+use Rattle.jsx_tree.specs.Kinds.{Module, Directive, Block, Var, Declarator, Empty, ExprStmt, If, Do, While, Continue, Break, Throw, Debugger, Assign, OpAssign, Void, TypeOf, Positive, Negative, Complement, Not, Unary, Binary, Cond, Call, Member, Index, ImportCall, Parenthesized, Element, Kind, program, statement, expression, jsx, Tree, leaf, node, list, Forest, none, part, Delete, PrefixUpdate, PostfixUpdate, Seq, For, ForDeclaration, Switch, Case, Default, Array, Spread, Try, Catch, Object, Property, Shorthand, ComputedKey, function}
+use Rattle.jsx_tree.specs.Nonterminals.{Nonterminal, Expr, MemberObject, NullishLeft, Name, StringOnly, Pat, SimpleTarget, Argument, TagName, WholeProgram, DotObject, assigns, is_value_word, has_dash, ForInit, ArrayItem, Ident, Key}
+use Rattle.jsx_tree.specs.StaticRules.{is_here}
 use Rattle.jsx_tree.specs.Form.{Position, position, positions}
 use Rattle.jsx_tree.specs.Program.{Reads}
 
 abbrev pub has_kind : Kind → Bool
 has_kind (program Module) = true
+has_kind (program Directive) = true
 has_kind (statement Block) = true
 has_kind (statement (Var v)) = true
 has_kind (statement Declarator) = true
@@ -26,6 +28,8 @@ has_kind (statement Default) = true
 has_kind (statement Continue) = true
 has_kind (statement Break) = true
 has_kind (statement Throw) = true
+has_kind (statement Try) = true
+has_kind (statement Catch) = true
 has_kind (statement Debugger) = true
 has_kind (expression Seq) = true
 has_kind (expression (Binary o)) = true
@@ -42,7 +46,11 @@ has_kind (expression (Unary Not)) = true
 has_kind (expression (PrefixUpdate o)) = true
 has_kind (expression (PostfixUpdate o)) = true
 has_kind (expression ImportCall) = true
+has_kind (function ComputedKey) = true
 has_kind (expression Array) = true
+has_kind (expression Object) = true
+has_kind (expression Property) = true
+has_kind (expression Shorthand) = true
 has_kind (expression Spread) = true
 has_kind (expression Parenthesized) = true
 has_kind (expression Call) = true
@@ -64,11 +72,22 @@ value_leaf n StringLiteral t = true
 value_leaf n RegExpLiteral t = true
 value_leaf n k t = false
 
+-- a key that is one token
+abbrev pub key_leaf : TokenKind → Bool
+key_leaf IdentifierName = true
+key_leaf NumericLiteral = true
+key_leaf BigIntLiteral = true
+key_leaf StringLiteral = true
+key_leaf k = false
+
 -- which leaves may stand at a place; no number stands before a `.`
 abbrev pub leaf_at : Nonterminal → TokenKind → Text → Bool
 leaf_at (Pat r) IdentifierName t = true
 leaf_at SimpleTarget IdentifierName t = true
+leaf_at Ident IdentifierName t = true
 leaf_at Name IdentifierName t = true
+leaf_at StringOnly StringLiteral t = true
+leaf_at Key k t = key_leaf k
 leaf_at TagName JsxName t = is_plain_tag t
 leaf_at (Expr n) k t = value_leaf true k t
 leaf_at NullishLeft k t = value_leaf true k t
@@ -80,13 +99,16 @@ leaf_at ArrayItem Elision t = true
 leaf_at ArrayItem k t = value_leaf true k t
 leaf_at c k t = false
 
--- no statement is a string alone
-abbrev pub is_string : Tree → Bool
-is_string (leaf StringLiteral t) = true
-is_string t = false
+-- no jump has a label
+abbrev pub is_unlabelled : Forest → Bool
+is_unlabelled (part (list none) cs) = true
+is_unlabelled cs = false
 
+-- and a `try` has what is caught or what is done last, not both
 abbrev pub limits : Kind → Forest → Bool
-limits (statement ExprStmt) (part e cs) = not (is_string e)
+limits (statement Continue) cs = is_unlabelled cs
+limits (statement Break) cs = is_unlabelled cs
+limits (statement Try) (part b (part c (part f none))) = not (is_here c && is_here f)
 limits k cs = true
 
 abbrev mutual

@@ -33,6 +33,8 @@ pub enum Heading {
     Break,
     /// `throw a;`
     Throw,
+    /// `try {} catch (a) {} finally {}`
+    Try,
     /// `debugger;`
     Debugger,
 }
@@ -56,6 +58,7 @@ impl Heading {
             Heading::Continue => false,
             Heading::Break => false,
             Heading::Throw => false,
+            Heading::Try => false,
             Heading::Debugger => false,
         }
     }
@@ -84,6 +87,7 @@ fn reserved(raw: &str) -> Option<Heading>
         "continue" => Some(Heading::Continue),
         "break" => Some(Heading::Break),
         "throw" => Some(Heading::Throw),
+        "try" => Some(Heading::Try),
         "debugger" => Some(Heading::Debugger),
         _ => None,
     }

@@ -3,9 +3,10 @@
 ghost use Rattle.std.specs.Prelude.{◌≡◌, ◌∷◌, [], codes, false, filter, map, nat_eq, not, IsTrue, IfSome, IfNone};
 ghost use Rattle.std.specs.Str.{chars};
 ghost use Rattle.std.specs.Char.{is_ascii_alphabetic};
-ghost use Rattle.jsx_base.specs.Token.{IdentifierName, first_is, same, among};
+ghost use Rattle.jsx_base.specs.Token.{IdentifierName, StringLiteral, first_is, same, among};
 ghost use Rattle.jsx_tree.specs.Nonterminals as grammar;
 ghost use Rattle.jsx_tree.specs.Kinds.{leaf};
+ghost use Rattle.jsx_tree.specs.StaticRules.{is_key};
 ghost use Rattle.jsx_tree.specs.View.{view_word};
 ghost use Rattle.jsx_token.specs.Stage as stage;
 
@@ -134,4 +135,18 @@ pub fn value_word(name: &str) -> Option<Word>
         return Some(Word::False);
     }
     None
+}
+
+/// Whether a key that is a name sets the prototype: `__proto__` (ECMA-262 section 13.2.5.1).
+pub fn is_proto(name: &str) -> bool
+    ensures { result ≡ is_key (codes "__proto__") (leaf IdentifierName (chars name.now)) }
+{
+    name == "__proto__"
+}
+
+/// Whether a key that is a string, with its quotes, does.
+pub fn is_proto_string(raw: &str) -> bool
+    ensures { result ≡ is_key (codes "__proto__") (leaf StringLiteral (chars raw.now)) }
+{
+    raw == "\"__proto__\"" || raw == "'__proto__'"
 }

@@ -51,6 +51,8 @@ pub enum Fixed {
     Semicolon,
     Open,
     Close,
+    /// `[`
+    OpenBracket,
     /// `]`
     CloseBracket,
     /// `{`
@@ -106,6 +108,7 @@ impl Fixed {
             Fixed::Semicolon => TokenKind::Semicolon,
             Fixed::Open => TokenKind::LeftParen,
             Fixed::Close => TokenKind::RightParen,
+            Fixed::OpenBracket => TokenKind::LeftBracket,
             Fixed::CloseBracket => TokenKind::RightBracket,
             Fixed::OpenBrace => TokenKind::LeftBrace,
             Fixed::CloseBrace => TokenKind::RightBrace,
@@ -290,7 +293,7 @@ impl<'s> Lexer<'s> {
     }
 
     /// Whether the next token is this one.
-    fn is_before(&mut self, fixed: Fixed) -> bool
+    pub fn is_before(&mut self, fixed: Fixed) -> bool
         ensures ahead { result ≡ is_found (forth (sign_of fixed) (place_of self.old)) }
         ensures stays { self.new ≡ self.old }
     {

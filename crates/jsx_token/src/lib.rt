@@ -13,7 +13,7 @@ mod semicolon;
 mod word;
 
 pub use heading::Heading;
-pub use identifiers::{is_bound, is_plain_tag, is_reserved, value_word};
+pub use identifiers::{is_bound, is_plain_tag, is_proto, is_proto_string, is_reserved, value_word};
 pub use lexer::{Ending, Fixed, Leaf, Lexer};
 pub use opening::Opening;
 pub use word::Word;

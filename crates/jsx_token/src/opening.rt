@@ -1,5 +1,5 @@
-//! What an expression begins with that is neither a name, a literal nor an element (ECMA-262 sections 13.2.4, 13.2.9,
-//! 13.3.10, 13.4 and 13.5).
+//! What an expression begins with that is neither a name, a literal nor an element (ECMA-262 sections 13.2.4, 13.2.5,
+//! 13.2.9, 13.3.10, 13.4 and 13.5).
 
 ghost use Rattle.std.specs.Prelude.{◌≡◌};
 ghost use Rattle.std.specs.Str.{chars};
@@ -18,6 +18,8 @@ pub enum Opening {
     Paren,
     /// `[a, b]`
     Array,
+    /// `{a: b, c}`
+    Object,
     /// `-a`
     Unary(UnaryOp),
     /// `++a`
@@ -56,6 +58,7 @@ pub fn opening_of(token: &Token) -> Option<Opening>
         TokenKind::MinusMinus => Some(Opening::Update(UpdateOp::Decrement)),
         TokenKind::LeftParen => Some(Opening::Paren),
         TokenKind::LeftBracket => Some(Opening::Array),
+        TokenKind::LeftBrace => Some(Opening::Object),
         TokenKind::IdentifierName => word(token.raw),
         _ => None,
     }

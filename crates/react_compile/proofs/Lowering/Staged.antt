@@ -1,9 +1,9 @@
 -- The trees that the compiler takes so far are ones that it lowers, and none of their targets is in parentheses.
-use Rattle.std.proofs.Common.{◌≡◌, List, [], ◌∷◌, Bool, true, false, cond, sym, refl, ap, ◌∙◌}
+use Rattle.std.proofs.Common.{◌≡◌, List, [], ◌∷◌, Bool, true, false, cond, sym, refl, ◌∙◌}
 use Rattle.std.proofs.lemmas.Bool.{and_parts, and_from, false≢true}
 use Rattle.std.specs.Prelude.{◌&&◌}
 use Rattle.jsx_base.specs.Token.{Text, TokenKind, JsxName}
-use Rattle.jsx_tree.specs.Kinds.{BinaryOp, Nullish, Kind, program, statement, function, expression, jsx, Module, Block, Var, VarWord, LetWord, ConstWord, Declarator, Empty, ExprStmt, If, Do, While, Continue, Break, Throw, Debugger, Seq, Assign, OpAssign, Binary, Unary, Cond, ImportCall, Call, Member, Index, Parenthesized, ParenTarget, Element, Tree, leaf, node, list, Forest, none, part, PrefixUpdate, PostfixUpdate, For, ForDeclaration, Switch, Case, Default, Array, Spread}
+use Rattle.jsx_tree.specs.Kinds.{BinaryOp, Nullish, Kind, program, statement, function, expression, jsx, Module, Directive, Block, Var, VarWord, LetWord, ConstWord, Declarator, Empty, ExprStmt, If, Do, While, Continue, Break, Throw, Debugger, Seq, Assign, OpAssign, Binary, Unary, Cond, ImportCall, Call, Member, Index, Parenthesized, ParenTarget, Element, Tree, leaf, node, list, Forest, none, part, PrefixUpdate, PostfixUpdate, For, ForDeclaration, Switch, Case, Default, Array, Spread, Try, Catch, Object, Property, Shorthand, ComputedKey}
 use Rattle.jsx_tree.specs.Nonterminals.{Nonterminal, TagName, Attributes, WholeProgram, assigns, expr, in_homes, homes}
 use Rattle.jsx_tree.specs.Form.{Position, position, positions, shaped, last_only, admits, fits_below, fit_slots, fit_each, is}
 use Rattle.jsx_tree.specs.Sound.{each_node, each_nodes}
@@ -26,6 +26,7 @@ assign_no_tag false = (refl, refl)
 
 no_tag : (k : Kind) → has_kind k ≡ true → NoTag k
 no_tag (program Module) h = record { name = refl; attribute = refl }
+no_tag (program Directive) h = record { name = refl; attribute = refl }
 no_tag (statement Block) h = record { name = refl; attribute = refl }
 no_tag (statement (Var VarWord)) h = record { name = refl; attribute = refl }
 no_tag (statement (Var LetWord)) h = record { name = refl; attribute = refl }
@@ -44,6 +45,8 @@ no_tag (statement (ForDeclaration ConstWord)) h = record { name = refl; attribut
 no_tag (statement Continue) h = record { name = refl; attribute = refl }
 no_tag (statement Break) h = record { name = refl; attribute = refl }
 no_tag (statement Throw) h = record { name = refl; attribute = refl }
+no_tag (statement Try) h = record { name = refl; attribute = refl }
+no_tag (statement Catch) h = record { name = refl; attribute = refl }
 no_tag (statement Debugger) h = record { name = refl; attribute = refl }
 no_tag (statement Declarator) h = record { name = refl; attribute = refl }
 no_tag (statement ExprStmt) h = record { name = refl; attribute = refl }
@@ -58,6 +61,10 @@ no_tag (expression (PostfixUpdate o)) h = record { name = refl; attribute = refl
 no_tag (expression ImportCall) h = record { name = refl; attribute = refl }
 no_tag (expression Parenthesized) h = record { name = refl; attribute = refl }
 no_tag (expression Array) h = record { name = refl; attribute = refl }
+no_tag (expression Object) h = record { name = refl; attribute = refl }
+no_tag (expression Property) h = record { name = refl; attribute = refl }
+no_tag (expression Shorthand) h = record { name = refl; attribute = refl }
+no_tag (function ComputedKey) h = record { name = refl; attribute = refl }
 no_tag (expression Spread) h = record { name = refl; attribute = refl }
 no_tag (expression Call) h = record { name = refl; attribute = refl }
 no_tag (expression Member) h = record { name = refl; attribute = refl }

@@ -123,6 +123,12 @@ fn code_of_sources(rt: HostRuntime) -> Result<(), Fail> {
         ("a=b=c in d instanceof e;", "a = b = c in d instanceof e;\n"),
         ("x = a ?? (b || c)", "x = a ?? (b || c);\n"),
         ("(\"use x\"); y", "(\"use x\");\ny;\n"),
+        (
+            "'use client'\n\"use strict\";<a/>",
+            "'use client';\n\"use strict\";\n/*#__PURE__*/ React.createElement(\"a\", null);\n",
+        ),
+        ("'a'\n(b);'c';{'d'}", "'a'(b);\n'c';\n{\n    'd';\n}\n"),
+        (";'a';b;'c'", "('a');\nb;\n'c';\n"),
         ("a\n(b)\nc // d\n/* e\n*/ f", "a(b);\nc;\nf;\n"),
         (
             "(a+b)*c;((d));f((e),(<a/>),(g()));",
@@ -135,6 +141,10 @@ fn code_of_sources(rt: HostRuntime) -> Result<(), Fail> {
         (
             "switch(a){case 1:f(<b/>);break\ndefault:}",
             "switch (a) {\n    case 1:\n        f(/*#__PURE__*/ React.createElement(\"b\", null));\n        break;\n    default:\n}\n",
+        ),
+        (
+            "try{f(<a/>)}catch(e){}try{}catch{}try{}finally{g()}",
+            "try {\n    f(/*#__PURE__*/ React.createElement(\"a\", null));\n} catch (e) {}\ntry {} catch {}\ntry {} finally {\n    g();\n}\n",
         ),
         (
             "x=(-a)**b;(a??b)||c;(a=b).c;(1).d;('e').f;",
@@ -155,6 +165,18 @@ fn code_of_sources(rt: HostRuntime) -> Result<(), Fail> {
         (
             "x=[<a/>,...[(<b/>)]]",
             "x = [/*#__PURE__*/ React.createElement(\"a\", null), ...[/*#__PURE__*/ React.createElement(\"b\", null)]];\n",
+        ),
+        (
+            "x={a:1,'b':c,3:d,4n:e,[f+(g)]:(h,i),j,...k,};y={}",
+            "x = { a: 1, 'b': c, 3: d, 4n: e, [f + g]: (h, i), j, ...k };\ny = {};\n",
+        ),
+        (
+            "({}).a;({b:c});f({__proto__:{d},__proto__,if:e})",
+            "({}.a);\n({ b: c });\nf({ __proto__: { d }, __proto__, if: e });\n",
+        ),
+        (
+            "x={a:<b/>,...{c:[(<D/>)]}}",
+            "x = { a: /*#__PURE__*/ React.createElement(\"b\", null), ...{ c: [/*#__PURE__*/ React.createElement(D, null)] } };\n",
         ),
     ] {
         assert_runs(&rt, &plain(source.as_bytes()), (Status::Done, code, ""))?;
@@ -185,7 +207,6 @@ fn sources_that_do_not_read(rt: HostRuntime) -> Result<(), Fail> {
         b"const x = <a/>; \"",
         b"const x = <a/>; \0",
         b"constx a = <a/>;",
-        b"\"use strict\";",
         b"a b;",
         b"a++ ++;",
         b"++a();",
@@ -204,6 +225,10 @@ fn sources_that_do_not_read(rt: HostRuntime) -> Result<(), Fail> {
         b"1 = a;",
         b"eval = a;",
         b"a, b,;",
+        b"x = {a b};",
+        b"x = {__proto__: a, __proto__: b};",
+        b"x = {a() {}};",
+        b"x = {a = 1};",
         b"delete a;",
         b"delete (a);",
         b"const a;",

@@ -1,13 +1,16 @@
-use Rattle.std.proofs.Common.{◌≡◌, ◌++◌, true, false, arith, map, refl, sym, ◌∙◌, ap, subst, [], ◌∷◌, nat_le}
+use Rattle.std.proofs.Common.{◌≡◌, ◌++◌, true, false, not, arith, map, refl, sym, ◌∙◌, ap, subst, [], ◌∷◌, nat_le}
 use Rattle.std.specs.Prelude.{codes}
-use Rattle.jsx_base.specs.Token.{Operator, Punctuator}
+use Rattle.std.specs.Str.{chars}
+use Rattle.jsx_base.specs.Token.{Operator, Punctuator, IdentifierName}
 use Rattle.jsx_tree.specs.Kinds.{Assigns, Assign, expression, node, none, part, Tree}
 use Rattle.jsx_tree.specs.Nonterminals.{Expr}
-use Rattle.jsx_tree.specs.Grammar.{Commas, Elisions, Part}
+use Rattle.jsx_tree.specs.Signs.{Tok}
+use Rattle.jsx_tree.specs.Grammar.{Commas, Elisions, Part, pun}
 use Rattle.jsx_tree.specs.View.{forest, inside, view_expr}
-use Rattle.jsx_tree.specs.Told.{tales, told_expr, told_node}
-use Rattle.jsx_tree.specs.Reading.{Place}
-use Rattle.jsx_tree.specs.StaticRules.{Surroundings}
+use Rattle.jsx_make.specs.Members.{view_prop}
+use Rattle.jsx_tree.specs.Told.{tales, told_expr, told_node, told_prop}
+use Rattle.jsx_tree.specs.Reading.{Place, forth}
+use Rattle.jsx_tree.specs.StaticRules.{Surroundings, at_most, is_proto}
 use Rattle.jsx_tree.specs.Walk.{one, tail}
 use Rattle.jsx_tree.specs.Answers.{Only, NoRow, NoNode, BuiltNode}
 use Rattle.jsx_expression.specs.SoFar.{so_far}
@@ -42,11 +45,16 @@ use Rattle.jsx_token.proofs.Ahead.{an_arrow, no_arrow}
 use Rattle.jsx_expression.proofs.Arguments.{paren_placed, argument_placed, spread_argument}
 use Rattle.jsx_expression.proofs.Elements.{arguments, items, expression_item, no_expression_item, spread_item, no_spread_item, argument_only, argument_as, argument_barred}
 use Rattle.jsx_expression.proofs.Holes.{before, hole_more, filled_more, shut, none_here, shut_behind, unshut, trails}
-use Rattle.jsx_expression.proofs.Homes.{never_list}
+use Rattle.jsx_expression.proofs.Homes.{IsName, never_list}
+use Rattle.jsx_tree.proofs.Rows.Stopping.{is_not}
+use Rattle.jsx_expression.specs.Members.{OnlyMember, NoMember, is_word}
+use Rattle.jsx_expression.proofs.Keys.{computed_only, computed_barred, key_as, literal_key}
+use Rattle.jsx_expression.proofs.Members as members
+use Rattle.jsx_expression.proofs.Protos.{object_node, two_protos, not_false}
 use Rattle.jsx_expression.proofs.Trees.{pushed, pushed_as}
 use Rattle.jsx_expression.proofs.Sequences.{Listing, whole_only, whole_barred, listing_one, listing_more, sequence_only, sequence_barred}
-use Rattle.jsx_expression.proofs.Placing.{PlacedFront, plain_commas, plain_elisions, plain_two, hole_item, laid_more, laid_last, takes_from, row_end, row_sign, row_list, list_none, front_none, front_more, front_last, list_to, map_pushed, placed_as, placed_from, placed_to}
-use Rattle.jsx_expression.proofs.PlacedExpressions.{led_more, sequence_row, no_trailing, takes_trailing, call_row, index_row, conditional_row, binary_row, assign_row, op_assign_row, unary_row, update_row, import_row, array_row, spread_row}
+use Rattle.jsx_expression.proofs.Placing.{PlacedFront, plain_commas, plain_elisions, plain_two, hole_item, laid_more, laid_last, takes_from, row_end, row_quiet, row_sign, row_list, list_none, front_none, front_more, front_last, list_to, map_pushed, placed_as, placed_from, placed_to}
+use Rattle.jsx_expression.proofs.PlacedExpressions.{led_more, sequence_row, no_trailing, takes_trailing, call_row, index_row, conditional_row, binary_row, assign_row, op_assign_row, unary_row, update_row, import_row, array_row, spread_row, name_placed, object_row, computed_row, property_row, shorthand_row}
 use Rattle.jsx_expression.proofs.expression.+expression.Goals as goal
 
 pub arguments-arguments-init : goal.arguments-arguments-init
@@ -491,6 +499,214 @@ spread-returns-in_err-inner-clause-refused t c = passed _ c.in_err-inner.ensures
 pub spread-returns-clause-placed : goal.spread-returns-clause-placed
 spread-returns-clause-placed t c = record {
   on = λ w sign begins. placed_as c.in_ok-spread.ensures.told c.in_ok-spread.ensures.view (spread_row sign c.in_ok-inner.ensures.placed (spans_from c.span_to.ensures refl (c.last_place-lo.ensures ∙ begins) refl));
+}
+
+-- ---- objects
+
+pub spread_member-returns-in_err-inner-clause-refused : goal.spread_member-returns-in_err-inner-clause-refused
+spread_member-returns-in_err-inner-clause-refused t c = passed _ c.in_err-inner.ensures.refused c.from_residual.ensures.1 (λ b. bar b)
+
+pub spread_member-returns-clause-read : goal.spread_member-returns-clause-read
+spread_member-returns-clause-read t c = built_1 refl c.in_ok-inner.ensures.read c.in_ok-spread_member.ensures.view
+
+pub spread_member-returns-clause-placed : goal.spread_member-returns-clause-placed
+spread_member-returns-clause-placed t c = record {
+  on = λ w sign begins. placed_as c.in_ok-spread_member.ensures.told c.in_ok-spread_member.ensures.view (spread_row sign c.in_ok-inner.ensures.placed (spans_from c.span_to.ensures refl (c.last_place-lo.ensures ∙ begins) refl));
+}
+
+pub computed_key-returns-in_err-inner-clause-refused : goal.computed_key-returns-in_err-inner-clause-refused
+computed_key-returns-in_err-inner-clause-refused t c = passed _ c.in_err-inner.ensures.refused c.from_residual.ensures.1 (λ b. bar b)
+
+pub computed_key-returns-in_err-expect-clause-refused : goal.computed_key-returns-in_err-expect-clause-refused
+computed_key-returns-in_err-expect-clause-refused t c = passed _ c.in_err-expect.ensures.refused c.from_residual-in_err-expect.ensures.1 (λ b. on c.in_ok-inner.ensures.read (bar b))
+
+pub computed_key-returns-clause-read : goal.computed_key-returns-clause-read
+computed_key-returns-clause-read t c = built_2 refl c.in_ok-inner.ensures.read c.in_ok-expect.ensures.read c.computed_key.ensures.view
+
+pub computed_key-returns-clause-placed : goal.computed_key-returns-clause-placed
+computed_key-returns-clause-placed t c = record {
+  on = λ w sign begins. placed_as c.computed_key.ensures.told c.computed_key.ensures.view (computed_row sign c.in_ok-inner.ensures.placed c.in_ok-expect.ensures.takes (spans_from c.span_to.ensures refl (c.last_place-lo.ensures ∙ begins) refl));
+}
+
+pub property-returns-in_err-expect-clause-refused : goal.property-returns-in_err-expect-clause-refused
+property-returns-in_err-expect-clause-refused t c = passed _ c.in_err-expect.ensures.refused c.from_residual.ensures.1 (λ b. bar b)
+
+pub property-returns-in_err-value-clause-refused : goal.property-returns-in_err-value-clause-refused
+property-returns-in_err-value-clause-refused t c = passed _ c.in_err-value.ensures.refused c.from_residual-in_err-value.ensures.1 (λ b. on c.in_ok-expect.ensures.read (bar b))
+
+pub property-returns-clause-read : goal.property-returns-clause-read
+property-returns-clause-read t c = built_2 refl c.in_ok-expect.ensures.read c.in_ok-value.ensures.read c.in_ok-property.ensures.view
+
+pub property-returns-clause-placed : goal.property-returns-clause-placed
+property-returns-clause-placed t c = record {
+  on = λ w begins key. placed_as c.in_ok-property.ensures.told c.in_ok-property.ensures.view (property_row key c.in_ok-expect.ensures.takes c.in_ok-value.ensures.placed (spans_from c.span_to.ensures refl begins refl));
+}
+
+pub object_member-returns-in_err-spread_member-clause-refused : goal.object_member-returns-in_err-spread_member-clause-refused
+object_member-returns-in_err-spread_member-clause-refused t c = passed _ c.in_err-spread_member.ensures.refused c.from_residual.ensures.1 (λ b. members.no_spread (record { is = c.take.ensures.taken c.if-take.true; found = refl }) b)
+
+pub object_member-returns-then-take-clause-read : goal.object_member-returns-then-take-clause-read
+object_member-returns-then-take-clause-read t c = members.spread_read (record { is = c.take.ensures.taken c.if-take.true; found = refl }) c.in_ok-spread_member.ensures.read
+
+pub object_member-returns-then-take-clause-placed : goal.object_member-returns-then-take-clause-placed
+object_member-returns-then-take-clause-placed t c = c.in_ok-spread_member.ensures.placed.on _ (c.take.ensures.takes c.if-take.true) (c.take.ensures.begins c.if-take.true)
+
+-- a key in brackets
+pub object_member-returns-in_err-key-clause-refused : goal.object_member-returns-in_err-key-clause-refused
+object_member-returns-in_err-key-clause-refused t c =
+    let same = c.take.ensures.stays c.if-take.false in
+    passed _ c.in_err-key.ensures.refused c.from_residual-in_err-key.ensures.1
+    (λ n. subst (NoMember (around_of c.args.context.around)) (ap place_of same) (members.no_key (record { is = ap (λ h. forth (pun "...") (place_of h)) same ∙ c.take.ensures.missing c.if-take.false }) (computed_barred (record { is = c.take-2.ensures.taken c.if-take-2.true; found = refl }) n)))
+
+pub object_member-returns-in_err-property-clause-refused : goal.object_member-returns-in_err-property-clause-refused
+object_member-returns-in_err-property-clause-refused t c =
+    let key = computed_only (record { is = c.take-2.ensures.taken c.if-take-2.true; found = refl }) c.in_ok-key.ensures.read in
+    passed _ c.in_err-property.ensures.refused c.from_residual-in_err-property.ensures.1
+    (λ n. subst (NoMember (around_of c.args.context.around)) (ap place_of (c.take.ensures.stays c.if-take.false)) (members.no_wordless key (ap is_word c.in_ok-key.ensures.read.is) n))
+
+pub object_member-returns-then-take-2-clause-read : goal.object_member-returns-then-take-2-clause-read
+object_member-returns-then-take-2-clause-read t c =
+    let key = computed_only (record { is = c.take-2.ensures.taken c.if-take-2.true; found = refl }) c.in_ok-key.ensures.read in
+    subst (λ p. OnlyMember (around_of c.args.context.around) p (view_prop c.in_ok-property.field-0.value) (place_of c.property.new.lexer)) (ap place_of (c.take.ensures.stays c.if-take.false)) (members.property_member key c.in_ok-property.ensures.read)
+
+pub object_member-returns-then-take-2-clause-placed : goal.object_member-returns-then-take-2-clause-placed
+object_member-returns-then-take-2-clause-placed t c = placed_from (c.take.ensures.stays c.if-take.false)
+    (c.in_ok-property.ensures.placed.on _ (c.last_place-lo.ensures ∙ c.take-2.ensures.begins c.if-take-2.true)
+    (c.in_ok-key.ensures.placed.on _ (c.take-2.ensures.takes c.if-take-2.true) (c.take-2.ensures.begins c.if-take-2.true)))
+
+-- a name
+pub object_member-returns-in_err-property-2-clause-refused : goal.object_member-returns-in_err-property-2-clause-refused
+object_member-returns-in_err-property-2-clause-refused t c =
+    let same = c.take-2.ensures.stays c.if-take-2.false ∙ c.take.ensures.stays c.if-take.false in
+    let taken = ap place_of c.is_paired.ensures.stays ∙ c.in-Some.ensures.taken in
+    let key = key_as c.name_key.ensures.view (literal_key IsName (chars c.in-Some.raw.now) refl c.in-Some.ensures.whole taken refl) in
+    passed _ c.in_err-property-2.ensures.refused c.from_residual-in_err-property-2.ensures.1
+    (λ n. subst (NoMember (around_of c.args.context.around)) (ap place_of same)
+    (members.no_property key (members.paired_word (chars c.in-Some.raw.now) c.name_key.ensures.view (ap place_of c.is_paired.ensures.stays) (sym c.is_paired.ensures.paired ∙ c.if-is_paired.true)) n))
+
+pub object_member-returns-then-is_paired-clause-read : goal.object_member-returns-then-is_paired-clause-read
+object_member-returns-then-is_paired-clause-read t c =
+    let same = c.take-2.ensures.stays c.if-take-2.false ∙ c.take.ensures.stays c.if-take.false in
+    let taken = ap place_of c.is_paired.ensures.stays ∙ c.in-Some.ensures.taken in
+    let key = key_as c.name_key.ensures.view (literal_key IsName (chars c.in-Some.raw.now) refl c.in-Some.ensures.whole taken refl) in
+    subst (λ p. OnlyMember (around_of c.args.context.around) p (view_prop c.in_ok-property-2.field-0.value) (place_of c.property-then-is_paired.new.lexer)) (ap place_of same) (members.property_member key c.in_ok-property-2.ensures.read)
+
+pub object_member-returns-then-is_paired-clause-placed : goal.object_member-returns-then-is_paired-clause-placed
+object_member-returns-then-is_paired-clause-placed t c =
+    let same = c.take-2.ensures.stays c.if-take-2.false ∙ c.take.ensures.stays c.if-take.false in
+    let begins = c.last_place-lo-in-Some.ensures ∙ c.in-Some.ensures.begins in
+    placed_from same (c.in_ok-property-2.ensures.placed.on _ begins (placed_as c.name_key.ensures.told c.name_key.ensures.view (placed_to c.is_paired.ensures.stays (name_placed c.in-Some.ensures.takes begins))))
+
+pub object_member-returns-in-Some-clause-read : goal.object_member-returns-in-Some-clause-read
+object_member-returns-in-Some-clause-read t c =
+    let same = c.take-2.ensures.stays c.if-take-2.false ∙ c.take.ensures.stays c.if-take.false in
+    let taken = ap place_of c.is_paired.ensures.stays ∙ c.in-Some.ensures.taken in
+    let alone = members.unpaired (chars c.in-Some.raw.now) (ap place_of c.is_paired.ensures.stays) (sym c.is_paired.ensures.paired ∙ c.if-is_paired.false) in
+    subst (λ p. OnlyMember (around_of c.args.context.around) p (view_prop c.in_ok-shorthand.field-0.value) (place_of c.is_paired.new.lexer)) (ap place_of same) (members.short_member alone.0 c.in-Some.ensures.whole taken refl alone.1 c.in_ok-shorthand.ensures.view)
+
+pub object_member-returns-in-Some-clause-placed : goal.object_member-returns-in-Some-clause-placed
+object_member-returns-in-Some-clause-placed t c =
+    let same = c.take-2.ensures.stays c.if-take-2.false ∙ c.take.ensures.stays c.if-take.false in
+    let begins = c.last_place-lo-in-Some.ensures ∙ c.in-Some.ensures.begins in
+    placed_from same (placed_to c.is_paired.ensures.stays (placed_as c.in_ok-shorthand.ensures.told c.in_ok-shorthand.ensures.view (shorthand_row c.in-Some.ensures.takes begins (spans_from c.span_to.ensures refl begins (ap end_of c.is_paired.ensures.stays)))))
+
+-- a string or a number
+pub object_member-literal_key-requires : goal.object_member-literal_key-requires
+object_member-literal_key-requires t c =
+    let same = c.in_default.ensures.stays in
+    record { name = λ t. ap (λ h. forth (Tok Operator IdentifierName t) (place_of h)) same ∙ c.in_default.ensures.missing t; bracket = ap (λ h. forth (pun "[") (place_of h)) (same ∙ c.take-2.ensures.stays c.if-take-2.false) ∙ c.take-2.ensures.missing c.if-take-2.false }
+
+pub object_member-returns-in_err-key-2-clause-refused : goal.object_member-returns-in_err-key-2-clause-refused
+object_member-returns-in_err-key-2-clause-refused t c =
+    let same = c.in_default.ensures.stays ∙ (c.take-2.ensures.stays c.if-take-2.false ∙ c.take.ensures.stays c.if-take.false) in
+    passed _ c.in_err-key-2.ensures.refused c.from_residual-in_err-key-2.ensures.1
+    (λ b. subst (NoMember (around_of c.args.context.around)) (ap place_of same) (members.no_key (record { is = ap (λ h. forth (pun "...") (place_of h)) same ∙ c.take.ensures.missing c.if-take.false }) b))
+
+pub object_member-returns-in_err-property-3-clause-refused : goal.object_member-returns-in_err-property-3-clause-refused
+object_member-returns-in_err-property-3-clause-refused t c =
+    let same = c.in_default.ensures.stays ∙ (c.take-2.ensures.stays c.if-take-2.false ∙ c.take.ensures.stays c.if-take.false) in
+    passed _ c.in_err-property-3.ensures.refused c.from_residual-in_err-property-3.ensures.1
+    (λ n. subst (NoMember (around_of c.args.context.around)) (ap place_of same) (members.no_wordless c.in_ok-key-2.ensures.read c.in_ok-key-2.ensures.literal n))
+
+pub object_member-returns-clause-read : goal.object_member-returns-clause-read
+object_member-returns-clause-read t c =
+    let same = c.in_default.ensures.stays ∙ (c.take-2.ensures.stays c.if-take-2.false ∙ c.take.ensures.stays c.if-take.false) in
+    subst (λ p. OnlyMember (around_of c.args.context.around) p (view_prop c.in_ok-property-3.field-0.value) (place_of c.property-2.new.lexer)) (ap place_of same) (members.property_member c.in_ok-key-2.ensures.read c.in_ok-property-3.ensures.read)
+
+pub object_member-returns-clause-placed : goal.object_member-returns-clause-placed
+object_member-returns-clause-placed t c =
+    let same = c.in_default.ensures.stays ∙ (c.take-2.ensures.stays c.if-take-2.false ∙ c.take.ensures.stays c.if-take.false) in
+    placed_from same (c.in_ok-property-3.ensures.placed.on _ (c.last_place.ensures ∙ c.in_ok-key-2.ensures.begins) c.in_ok-key-2.ensures.placed)
+
+pub object_members-members-init : goal.object_members-members-init
+object_members-members-init t c = record {
+  so_far = begun _ (ap (λ xs. forest (map (inside view_prop) xs)) c.new-all.ensures.items);
+  placed = subst (λ xs. PlacedFront false Commas (map (inside told_prop) xs) (map (inside view_prop) xs) c.args.lexer.now c.args.lexer.now) (sym c.new-all.ensures.items) front_none;
+  closed = subst (λ xs. IsPlacedListAs false Commas (tales (map (inside told_prop) xs)) (forest (map (inside view_prop) xs)) c.args.lexer.now c.args.lexer.now) (sym c.new-all.ensures.items) list_none;
+  within = omega arith;
+}
+
+pub object_members-returns-in_err-member-clause-refused : goal.object_members-returns-in_err-member-clause-refused
+object_members-returns-in_err-member-clause-refused t c = passed _ c.in_err-member.ensures.refused c.from_residual.ensures.1
+    (λ b. members.none_more _ c.members.invariant.so_far (record { same = sym (ap place_of (c.take.ensures.stays c.members-test.true)); stuck = record { is = c.take.ensures.missing c.members-test.true } }) b)
+
+pub object_members-returns-in_err-expect-clause-refused : goal.object_members-returns-in_err-expect-clause-refused
+object_members-returns-in_err-expect-clause-refused t c = passed _ c.in_err-expect.ensures.refused c.from_residual-in_err-expect.ensures.1
+    (λ b. members.unshut _ c.members.invariant.so_far (record { same = sym (ap place_of (c.take.ensures.stays c.members-test.true)); stuck = record { is = c.take.ensures.missing c.members-test.true } }) c.in_ok-member.ensures.read
+    (record { same = sym (ap place_of (c.take-in-members.ensures.stays c.if-not-take.true)); stuck = record { is = c.take-in-members.ensures.missing c.if-not-take.true } }) b)
+
+pub object_members-returns-then-not-take-clause-read : goal.object_members-returns-then-not-take-clause-read
+object_members-returns-then-not-take-clause-read t c = members.shut_behind _ _ c.members.invariant.so_far (record { same = sym (ap place_of (c.take.ensures.stays c.members-test.true)); stuck = record { is = c.take.ensures.missing c.members-test.true } }) c.in_ok-member.ensures.read
+    (record { same = sym (ap place_of (c.take-in-members.ensures.stays c.if-not-take.true)); stuck = record { is = c.take-in-members.ensures.missing c.if-not-take.true } }) c.in_ok-expect.ensures.read (pushed (inside view_prop) _ _ _ c.in_ok-push.ensures.items)
+
+pub object_members-members-preserved : goal.object_members-members-preserved
+object_members-members-preserved t c =
+    let same : left c.take.new.self ≡ left c.members.lexer = ap left (c.take.ensures.stays c.members-test.true) in
+    let member = placed_from (c.take.ensures.stays c.members-test.true) c.in_ok-member.ensures.placed in
+    let comma = c.take-in-members.ensures.takes c.if-not-take.false in
+    let told_all = map_pushed (inside told_prop) c.members.all.items _ c.in_ok-member.member _ c.in_ok-push.ensures.items refl in
+    let view_all = map_pushed (inside view_prop) c.members.all.items _ c.in_ok-member.member _ c.in_ok-push.ensures.items refl in
+    record {
+      so_far = members.member_more _ _ c.members.invariant.so_far (record { same = sym (ap place_of (c.take.ensures.stays c.members-test.true)); stuck = record { is = c.take.ensures.missing c.members-test.true } }) c.in_ok-member.ensures.read
+          (record { is = c.take-in-members.ensures.taken c.if-not-take.false; found = refl }) (pushed (inside view_prop) _ _ _ c.in_ok-push.ensures.items);
+      within = omega (arith, same, c.take-in-members.ensures.shorter c.if-not-take.false, c.in_ok-member.ensures.shorter, c.members.invariant.within);
+      placed = front_more plain_commas c.members.invariant.placed member comma.same comma.leads told_all view_all;
+      closed = front_last plain_commas c.members.invariant.placed member comma.same (takes_trailing comma) told_all view_all;
+    }
+
+pub object_members-returns-clause-read : goal.object_members-returns-clause-read
+object_members-returns-clause-read t c = members.shut _ c.members.invariant.so_far (record { is = c.take.ensures.taken c.members-test.false; found = refl })
+
+pub object_members-returns-then-not-take-clause-placed : goal.object_members-returns-then-not-take-clause-placed
+object_members-returns-then-not-take-clause-placed t c =
+    let member = placed_from (c.take.ensures.stays c.members-test.true) c.in_ok-member.ensures.placed in
+    row_list (list_to (c.take-in-members.ensures.stays c.if-not-take.true) (front_last plain_commas c.members.invariant.placed member refl (no_trailing _ (c.take-in-members.ensures.missing c.if-not-take.true))
+    (map_pushed (inside told_prop) c.members.all.items _ c.in_ok-member.member _ c.in_ok-push.ensures.items refl) (map_pushed (inside view_prop) c.members.all.items _ c.in_ok-member.member _ c.in_ok-push.ensures.items refl)))
+    (row_quiet (λ q. refl) (row_sign c.in_ok-expect.ensures.takes row_end))
+
+pub object_members-returns-clause-placed : goal.object_members-returns-clause-placed
+object_members-returns-clause-placed t c = row_list c.members.invariant.closed (row_quiet (λ q. refl) (row_sign (c.take.ensures.takes c.members-test.false) row_end))
+
+pub object_members-returns-clause-ended : goal.object_members-returns-clause-ended
+object_members-returns-clause-ended t c = settled_token Operator Punctuator (codes "}") (place_of c.members.lexer) refl (sym (c.take.ensures.taken c.members-test.false)) refl
+
+pub object_members-returns-then-not-take-clause-ended : goal.object_members-returns-then-not-take-clause-ended
+object_members-returns-then-not-take-clause-ended t c = sign_ended c.in_ok-expect.ensures.read.past
+
+pub object-returns-in_err-all-clause-refused : goal.object-returns-in_err-all-clause-refused
+object-returns-in_err-all-clause-refused t c = passed _ c.in_err-all.ensures.refused c.from_residual.ensures.1 (λ n. no_node n)
+
+pub object-returns-then-has_two_protos-clause-refused : goal.object-returns-then-has_two_protos-clause-refused
+object-returns-then-has_two_protos-clause-refused t c = record {
+  bars = λ _ _. two_protos c.in_ok-all.ensures.read (is_not _ (ap (λ xs. not (at_most 1 is_proto (forest (map (inside view_prop) xs)))) (sym c.deref.ensures.value) ∙ (sym c.has_two_protos.ensures ∙ c.if-has_two_protos.true)));
+}
+
+pub object-returns-clause-read : goal.object-returns-clause-read
+object-returns-clause-read t c = object_node c.in_ok-all.ensures.read (not_false _ (ap (λ xs. not (at_most 1 is_proto (forest (map (inside view_prop) xs)))) (sym c.deref.ensures.value) ∙ (sym c.has_two_protos.ensures ∙ c.if-has_two_protos.false))) c.in_ok-object.ensures.view
+
+pub object-returns-clause-placed : goal.object-returns-clause-placed
+object-returns-clause-placed t c = record {
+  on = λ w sign begins. placed_as c.in_ok-object.ensures.told c.in_ok-object.ensures.view (object_row sign c.in_ok-all.ensures.placed (spans_from c.span_to.ensures refl (c.last_place-lo.ensures ∙ begins) refl));
 }
 
 pub open-returns-in_ok-array-in-Array-clause-read : goal.open-returns-in_ok-array-in-Array-clause-read

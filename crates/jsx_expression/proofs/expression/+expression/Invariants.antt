@@ -1,8 +1,9 @@
 use Rattle.std.proofs.Common.{◌≡◌, ◌+◌, ◌*◌, ◌<◌, ◌≤◌, map, true, false}
-use Rattle.jsx_tree.specs.Kinds.{Array, Call, expression}
+use Rattle.jsx_tree.specs.Kinds.{Array, Call, Object, expression}
 use Rattle.jsx_tree.specs.Grammar.{Commas, Elisions, TwoOrMore}
-use Rattle.jsx_tree.specs.Told.{tales, told_expr}
+use Rattle.jsx_tree.specs.Told.{tales, told_expr, told_prop}
 use Rattle.jsx_tree.specs.View.{forest, inside, view_expr}
+use Rattle.jsx_make.specs.Members.{view_prop}
 use Rattle.jsx_tree.specs.Walk.{tail}
 use Rattle.jsx_token.specs.Marks.{row_so_far}
 use Rattle.jsx_expression.specs.SoFar.{so_far}
@@ -76,6 +77,35 @@ decreases-array_items-items l = left l.lexer
 
 abbrev pub decreases-array : goal.decreases-array
 decreases-array l = 6 * left l.lexer.now + 4
+
+abbrev pub decreases-spread_member : goal.decreases-spread_member
+decreases-spread_member l = 6 * left l.lexer.now + 2
+
+abbrev pub decreases-computed_key : goal.decreases-computed_key
+decreases-computed_key l = 6 * left l.lexer.now + 2
+
+abbrev pub decreases-property : goal.decreases-property
+decreases-property l = 6 * left l.lexer.now + 2
+
+abbrev pub decreases-object_member : goal.decreases-object_member
+decreases-object_member l = 6 * left l.lexer.now + 2
+
+abbrev pub decreases-object_members : goal.decreases-object_members
+decreases-object_members l = 6 * left l.lexer.now + 3
+
+abbrev pub invariant-object_members-members : goal.invariant-object_members-members
+invariant-object_members-members l = record {
+  so_far : Turn so_far (around_of l.context.around) (tail (row_so_far (expression Object))) (tail (row_so_far (expression Object))) (place_of l.fn.lexer) (place_of l.lexer) (prepend (forest (map (inside view_prop) l.all.items)));
+  placed : PlacedFront false Commas (map (inside told_prop) l.all.items) (map (inside view_prop) l.all.items) l.fn.lexer l.lexer;
+  closed : IsPlacedListAs false Commas (tales (map (inside told_prop) l.all.items)) (forest (map (inside view_prop) l.all.items)) l.fn.lexer l.lexer;
+  within : left l.lexer ≤ left l.fn.lexer;
+}
+
+abbrev pub decreases-object_members-members : goal.decreases-object_members-members
+decreases-object_members-members l = left l.lexer
+
+abbrev pub decreases-object : goal.decreases-object
+decreases-object l = 6 * left l.lexer.now + 4
 
 abbrev pub decreases-argument : goal.decreases-argument
 decreases-argument l = 6 * left l.lexer.now + 2

@@ -1,8 +1,7 @@
-use Rattle.std.proofs.Common.{ap, map, sym, ◌∙◌}
+use Rattle.std.proofs.Common.{ap, sym, ◌∙◌}
 use Rattle.std.specs.Str.{chars}
 use Rattle.std.specs.Prelude.{Err}
 use Rattle.jsx_tree.specs.Reading.{At}
-use Rattle.jsx_tree.specs.View.{directive}
 use Rattle.jsx_syntax.proofs.Texts.{whole, unread}
 use Rattle.jsx_base.proofs.FirstLine.{size-chars}
 use Rattle.jsx_tree.proofs.Rows.Lines.{found_end}
@@ -11,7 +10,7 @@ use Rattle.jsx_syntax.proofs.PlacedNodes.{module_placed}
 use Rattle.jsx_syntax.proofs.module.parse.Goals as goal
 
 pub returns-in-Ok-clause-read : goal.returns-in-Ok-clause-read
-returns-in-Ok-clause-read c = whole c.of_module-around.ensures (λ i. At (c.new-lexer.ensures.last i) (c.new-lexer.ensures.ending i) (c.new-lexer.ensures.rest i)) c.in-Ok.ensures.read (ap (map directive) c.new.ensures.items)
+returns-in-Ok-clause-read c = whole c.of_module-around.ensures (λ i. At (c.new-lexer.ensures.last i) (c.new-lexer.ensures.ending i) (c.new-lexer.ensures.rest i)) c.in-Ok.ensures.read
 
 pub returns-in-Err-Syntax-clause-refused : goal.returns-in-Err-Syntax-clause-refused
 returns-in-Err-Syntax-clause-refused c = record {
@@ -21,5 +20,5 @@ returns-in-Err-Syntax-clause-refused c = record {
 
 pub returns-in-Ok-clause-placed : goal.returns-in-Ok-clause-placed
 returns-in-Ok-clause-placed c =
-    module_placed (chars c.args.text.now) c.new.ensures.items (λ i. At (c.new-lexer.ensures.last i) (c.new-lexer.ensures.ending i) (c.new-lexer.ensures.rest i)) (c.new-lexer.ensures.end ∙ sym (size-chars c.args.text.now c.utf8.text)) c.in-Ok.ensures.placed
+    module_placed (chars c.args.text.now) (λ i. At (c.new-lexer.ensures.last i) (c.new-lexer.ensures.ending i) (c.new-lexer.ensures.rest i)) (c.new-lexer.ensures.end ∙ sym (size-chars c.args.text.now c.utf8.text)) c.in-Ok.ensures.placed
     (found_end _ (and_right _ _ (returns-in-Ok-clause-read c).reads.read))

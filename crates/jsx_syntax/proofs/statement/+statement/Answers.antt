@@ -1,7 +1,7 @@
 use Rattle.std.proofs.Common.{◌≡◌, true, false, cond, [], arith, map, refl, sym, ◌∙◌, ap, subst}
 use Rattle.std.specs.Prelude.{◌&&◌, ◌||◌}
 use Rattle.jsx_tree.specs.Walk.{one}
-use Rattle.jsx_tree.specs.Grammar.{Lines, Fixed, Part, key}
+use Rattle.jsx_tree.specs.Grammar.{Lines, Fixed, Part, key, pun}
 use Rattle.jsx_tree.specs.Nonterminals.{Stmt}
 use Rattle.jsx_tree.specs.StaticRules.{is_default}
 use Rattle.jsx_tree.specs.Kinds.{ExprStmt, statement, list, none, part}
@@ -16,6 +16,7 @@ use Rattle.jsx_tree.proofs.Rows.Steps.{bar, on, only_sign}
 use Rattle.jsx_expression.specs.Around.{around_of}
 use Rattle.jsx_syntax.specs.Cases.{IsBody}
 use Rattle.jsx_syntax.specs.Statements.{alternative_row, alternative_symbols}
+use Rattle.jsx_token.specs.Headings.{NoHeading}
 use Rattle.jsx_token.specs.Here.{place_of, left}
 use Rattle.jsx_token.specs.Marks.{row_so_far}
 use Rattle.jsx_expression.specs.SoFar.{so_far}
@@ -24,13 +25,14 @@ use Rattle.jsx_syntax.proofs.Blocks.{block_built, line_barred, line_ended, line_
 use Rattle.jsx_syntax.proofs.Controls.{barred_in, do_built, no_while_body, only_in, while_built}
 use Rattle.jsx_syntax.proofs.Cases.{ahead_more, ahead_none, body_barred, body_ended, body_more, case_at, case_is, case_word, cases_barred, cases_ended, cases_more, default_is, defaults, defaults_next, few_defaults, more_defaults, no_case, no_clause, no_default, no_switch_brace, no_switch_cases, second_default, switch_built}
 use Rattle.jsx_syntax.proofs.Heads.{for_built, no_for_body, no_for_initial, no_for_test, no_for_update}
+use Rattle.jsx_syntax.proofs.Tries.{block_barred, block_only, caught_bare, caught_named, no_body, no_caught, no_caught_bare, no_try_caught, no_try_done, no_try_word, taken_on, try_caught, try_done}
 use Rattle.jsx_syntax.proofs.Elses.{if_built, no_else, none_else, some_else}
 use Rattle.jsx_syntax.proofs.Statements.{headed_barred, headed_only, homeless_barred, lexical_home, nested_home, plain_barred, plain_only, stmt_home, stmts, subs}
 use Rattle.jsx_expression.proofs.Steps.{passed}
 use Rattle.jsx_expression.proofs.Trees.{pushed}
-use Rattle.jsx_expression.proofs.Placing.{PlacedFront, plain_lines, front_last, front_more, front_none, list_none, map_pushed, placed_as, placed_from, row_end, row_list, row_quiet, row_sign, takes_ends, list_to}
+use Rattle.jsx_expression.proofs.Placing.{PlacedFront, plain_lines, front_last, front_more, front_none, list_none, map_pushed, placed_as, placed_from, placed_to, row_end, row_list, row_quiet, row_sign, takes_ends, list_to}
 use Rattle.jsx_expression.proofs.Places.{spans_from}
-use Rattle.jsx_syntax.proofs.PlacedNodes.{block_placed, case_placed, default_placed, do_placed, else_placed, for_placed, if_placed, no_else_placed, switch_placed, while_placed}
+use Rattle.jsx_syntax.proofs.PlacedNodes.{bare_placed, block_placed, case_placed, caught_placed, default_placed, try_caught_placed, try_done_placed, do_placed, else_placed, for_placed, if_placed, no_else_placed, switch_placed, while_placed}
 use Rattle.jsx_syntax.proofs.statement.+statement.Goals as goal
 
 pub statements-statements-init : goal.statements-statements-init
@@ -349,6 +351,9 @@ switch_statement-returns-clause-placed t c = record {
       (switch_placed sign c.in_ok-expect.ensures.takes c.in_ok-value.ensures.placed c.in_ok-expect-2.ensures.takes c.in_ok-expect-3.ensures.takes c.in_ok-all.ensures.placed (spans_from c.span_to-span.ensures refl (c.last_place-lo.ensures ∙ begins) refl));
 }
 
+pub nested-expression_statement-requires : goal.nested-expression_statement-requires
+nested-expression_statement-requires t c = subst (λ h. NoHeading (place_of h)) (sym c.in_default.ensures.stays) c.in_default.ensures.missing
+
 pub nested-returns-in_default-clause-read : goal.nested-returns-in_default-clause-read
 nested-returns-in_default-clause-read t c = plain_only subs c.in_default.ensures.missing
     (subst (λ p. BuiltNode so_far (around_of c.args.context.around) (row_so_far (statement ExprStmt)) (statement ExprStmt) (view_stmt c.in_ok-expression_statement.field-0.value) p (place_of c.expression_statement.new.lexer)) (ap place_of c.in_default.ensures.stays) c.in_ok-expression_statement.ensures.read)
@@ -366,6 +371,9 @@ nested-returns-in_err-headed-clause-refused t c = passed _ c.in_err-headed.ensur
 pub nested-returns-then-is_lexical-clause-refused : goal.nested-returns-then-is_lexical-clause-refused
 nested-returns-then-is_lexical-clause-refused t c = record { bars = λ _ _. homeless_barred subs c.in-Some.heading (lexical_home c.in-Some.heading (sym c.is_lexical.ensures ∙ c.if-is_lexical.true)) (record { is = c.in-Some.ensures.taken; found = refl }) }
 
+pub statement-expression_statement-requires : goal.statement-expression_statement-requires
+statement-expression_statement-requires t c = subst (λ h. NoHeading (place_of h)) (sym c.in_default.ensures.stays) c.in_default.ensures.missing
+
 pub statement-returns-in_default-clause-read : goal.statement-returns-in_default-clause-read
 statement-returns-in_default-clause-read t c = plain_only stmts c.in_default.ensures.missing
     (subst (λ p. BuiltNode so_far (around_of c.args.context.around) (row_so_far (statement ExprStmt)) (statement ExprStmt) (view_stmt c.in_ok-expression_statement.field-0.value) p (place_of c.expression_statement.new.lexer)) (ap place_of c.in_default.ensures.stays) c.in_ok-expression_statement.ensures.read)
@@ -379,3 +387,86 @@ statement-returns-clause-read t c = headed_only stmts c.in-Some.heading (stmt_ho
 
 pub statement-returns-in_err-headed-clause-refused : goal.statement-returns-in_err-headed-clause-refused
 statement-returns-in_err-headed-clause-refused t c = passed _ c.in_err-headed.ensures.refused c.from_residual-in_err-headed.ensures.1 (λ n. headed_barred stmts c.in-Some.heading (record { is = c.in-Some.ensures.taken; found = refl }) n)
+
+pub block_only-returns-in_err-expect-clause-refused : goal.block_only-returns-in_err-expect-clause-refused
+block_only-returns-in_err-expect-clause-refused t c = passed _ c.in_err-expect.ensures.refused c.from_residual.ensures.1 (λ b. no_body b)
+
+pub block_only-returns-in_err-block-clause-refused : goal.block_only-returns-in_err-block-clause-refused
+block_only-returns-in_err-block-clause-refused t c = passed _ c.in_err-block.ensures.refused c.from_residual-in_err-block.ensures.1 (λ n. block_barred (taken_on refl c.in_ok-expect.ensures.takes) n)
+
+pub block_only-returns-clause-read : goal.block_only-returns-clause-read
+block_only-returns-clause-read t c = block_only (taken_on refl c.in_ok-expect.ensures.takes) c.in_ok-block.ensures.read
+
+pub block_only-returns-clause-placed : goal.block_only-returns-clause-placed
+block_only-returns-clause-placed t c = c.in_ok-block.ensures.placed.on c.args.lexer.now c.in_ok-expect.ensures.takes c.in_ok-expect.ensures.begins
+
+pub catch_name-returns-in_err-name-clause-refused : goal.catch_name-returns-in_err-name-clause-refused
+catch_name-returns-in_err-name-clause-refused t c = passed _ c.in_err-name.ensures.refused c.from_residual.ensures.1 (λ b. bar b)
+
+pub catch_name-returns-in_err-expect-clause-refused : goal.catch_name-returns-in_err-expect-clause-refused
+catch_name-returns-in_err-expect-clause-refused t c = passed _ c.in_err-expect.ensures.refused c.from_residual-in_err-expect.ensures.1 (λ b. on c.in_ok-name.ensures.read (bar b))
+
+pub catch_name-returns-in_err-body-clause-refused : goal.catch_name-returns-in_err-body-clause-refused
+catch_name-returns-in_err-body-clause-refused t c = passed _ c.in_err-body.ensures.refused c.from_residual-in_err-body.ensures.1 (λ b. on c.in_ok-name.ensures.read (on c.in_ok-expect.ensures.read (bar b)))
+
+pub catch_name-returns-clause-read : goal.catch_name-returns-clause-read
+catch_name-returns-clause-read t c = record { name = _; body = _; bracket = _; brace = _; is = c.in_ok-catch_clause.ensures.view; named = c.in_ok-name.ensures.read; closed = c.in_ok-expect.ensures.read; block = c.in_ok-body.ensures.read }
+
+pub catch_name-returns-clause-placed : goal.catch_name-returns-clause-placed
+catch_name-returns-clause-placed t c = record {
+  on = λ w sign begins. placed_as c.in_ok-catch_clause.ensures.told c.in_ok-catch_clause.ensures.view (caught_placed sign c.in_ok-name.ensures.placed c.in_ok-expect.ensures.takes c.in_ok-body.ensures.placed (spans_from c.span_to-span.ensures refl (c.last_place-lo.ensures ∙ begins) refl));
+}
+
+pub catch_clause-returns-in_err-catch_name-clause-refused : goal.catch_clause-returns-in_err-catch_name-clause-refused
+catch_clause-returns-in_err-catch_name-clause-refused t c = passed _ c.in_err-catch_name.ensures.refused c.from_residual.ensures.1 (λ n. no_caught (record { is = c.take.ensures.taken c.if-take.true; found = refl }) n)
+
+pub catch_clause-returns-then-take-clause-read : goal.catch_clause-returns-then-take-clause-read
+catch_clause-returns-then-take-clause-read t c = caught_named (record { is = c.take.ensures.taken c.if-take.true; found = refl }) c.in_ok-catch_name.ensures.read
+
+pub catch_clause-returns-then-take-clause-placed : goal.catch_clause-returns-then-take-clause-placed
+catch_clause-returns-then-take-clause-placed t c = c.in_ok-catch_name.ensures.placed.on c.args.lexer.now (c.take.ensures.takes c.if-take.true) (c.take.ensures.begins c.if-take.true)
+
+pub catch_clause-returns-in_err-expect-clause-refused : goal.catch_clause-returns-in_err-expect-clause-refused
+catch_clause-returns-in_err-expect-clause-refused t c = passed _ c.in_err-expect.ensures.refused c.from_residual-in_err-expect.ensures.1
+    (λ b. no_caught_bare (c.take.ensures.missing c.if-take.false) (no_body (subst (λ h. Barred so_far (around_of c.args.context.around) (Fixed (pun "{")) (place_of h)) (c.take.ensures.stays c.if-take.false) b)))
+
+pub catch_clause-returns-in_err-body-clause-refused : goal.catch_clause-returns-in_err-body-clause-refused
+catch_clause-returns-in_err-body-clause-refused t c = passed _ c.in_err-body.ensures.refused c.from_residual-in_err-body.ensures.1
+    (λ n. no_caught_bare (c.take.ensures.missing c.if-take.false) (block_barred (taken_on (c.take.ensures.stays c.if-take.false) c.in_ok-expect.ensures.takes) n))
+
+pub catch_clause-returns-clause-read : goal.catch_clause-returns-clause-read
+catch_clause-returns-clause-read t c = caught_bare (c.take.ensures.missing c.if-take.false) (block_only (taken_on (c.take.ensures.stays c.if-take.false) c.in_ok-expect.ensures.takes) c.in_ok-body.ensures.read) c.in_ok-catch_clause.ensures.view
+
+pub catch_clause-returns-clause-placed : goal.catch_clause-returns-clause-placed
+catch_clause-returns-clause-placed t c =
+    placed_from (c.take.ensures.stays c.if-take.false)
+    (placed_as c.in_ok-catch_clause.ensures.told c.in_ok-catch_clause.ensures.view (bare_placed (c.in_ok-body.ensures.placed.on _ c.in_ok-expect.ensures.takes c.in_ok-expect.ensures.begins) (spans_from c.span_to-span.ensures refl (c.last_place-lo.ensures ∙ c.in_ok-expect.ensures.begins) refl)))
+
+pub try_statement-returns-in_err-body-clause-refused : goal.try_statement-returns-in_err-body-clause-refused
+try_statement-returns-in_err-body-clause-refused t c = passed _ c.in_err-body.ensures.refused c.from_residual.ensures.1 (λ b. no_node (bar b))
+
+pub try_statement-returns-in_err-handler-clause-refused : goal.try_statement-returns-in_err-handler-clause-refused
+try_statement-returns-in_err-handler-clause-refused t c = passed _ c.in_err-handler.ensures.refused c.from_residual-in_err-handler.ensures.1 (λ b. no_try_caught c.in_ok-body.ensures.read (record { is = c.take.ensures.taken c.if-take.true; found = refl }) b)
+
+pub try_statement-returns-then-take-clause-read : goal.try_statement-returns-then-take-clause-read
+try_statement-returns-then-take-clause-read t c = try_caught c.in_ok-body.ensures.read (record { is = c.take.ensures.taken c.if-take.true; found = refl }) c.in_ok-handler.ensures.read c.in_ok-try_statement.ensures.view
+
+pub try_statement-returns-then-take-clause-placed : goal.try_statement-returns-then-take-clause-placed
+try_statement-returns-then-take-clause-placed t c = record {
+  on = λ w sign begins. placed_as c.in_ok-try_statement.ensures.told c.in_ok-try_statement.ensures.view (try_caught_placed sign c.in_ok-body.ensures.placed (c.take.ensures.takes c.if-take.true) c.in_ok-handler.ensures.placed (spans_from c.span_to-span.ensures refl (c.last_place-lo.ensures ∙ begins) refl));
+}
+
+pub try_statement-returns-in_err-expect-clause-refused : goal.try_statement-returns-in_err-expect-clause-refused
+try_statement-returns-in_err-expect-clause-refused t c = passed _ c.in_err-expect.ensures.refused c.from_residual-in_err-expect.ensures.1
+    (λ b. no_try_word c.in_ok-body.ensures.read (c.take.ensures.missing c.if-take.false) (subst (λ h. Barred so_far (around_of c.args.context.around) (Fixed (key "finally")) (place_of h)) (c.take.ensures.stays c.if-take.false) b))
+
+pub try_statement-returns-in_err-finalizer-clause-refused : goal.try_statement-returns-in_err-finalizer-clause-refused
+try_statement-returns-in_err-finalizer-clause-refused t c = passed _ c.in_err-finalizer.ensures.refused c.from_residual-in_err-finalizer.ensures.1 (λ b. no_try_done c.in_ok-body.ensures.read (taken_on (c.take.ensures.stays c.if-take.false) c.in_ok-expect.ensures.takes) b)
+
+pub try_statement-returns-clause-read : goal.try_statement-returns-clause-read
+try_statement-returns-clause-read t c = try_done c.in_ok-body.ensures.read (taken_on (c.take.ensures.stays c.if-take.false) c.in_ok-expect.ensures.takes) c.in_ok-finalizer.ensures.read c.in_ok-try_statement-2.ensures.view
+
+pub try_statement-returns-clause-placed : goal.try_statement-returns-clause-placed
+try_statement-returns-clause-placed t c = record {
+  on = λ w sign begins. placed_as c.in_ok-try_statement-2.ensures.told c.in_ok-try_statement-2.ensures.view (try_done_placed sign (placed_to (c.take.ensures.stays c.if-take.false) c.in_ok-body.ensures.placed) c.in_ok-expect.ensures.takes c.in_ok-finalizer.ensures.placed (spans_from c.span_to-span-2.ensures refl (c.last_place-lo.ensures ∙ begins) refl));
+}

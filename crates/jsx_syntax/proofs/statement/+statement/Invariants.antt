@@ -55,6 +55,18 @@ decreases-cases l = 6 * left l.lexer.now + 4
 abbrev pub decreases-switch_statement : goal.decreases-switch_statement
 decreases-switch_statement l = 6 * left l.lexer.now + 3
 
+abbrev pub decreases-block_only : goal.decreases-block_only
+decreases-block_only l = 6 * left l.lexer.now + 2
+
+abbrev pub decreases-catch_name : goal.decreases-catch_name
+decreases-catch_name l = 6 * left l.lexer.now + 3
+
+abbrev pub decreases-catch_clause : goal.decreases-catch_clause
+decreases-catch_clause l = 6 * left l.lexer.now + 3
+
+abbrev pub decreases-try_statement : goal.decreases-try_statement
+decreases-try_statement l = 6 * left l.lexer.now + 3
+
 abbrev pub decreases-headed : goal.decreases-headed
 decreases-headed l = 6 * left l.lexer.now + 4
 

@@ -1,7 +1,6 @@
 use Rattle.std.proofs.Common.{refl, ◌∙◌, ap}
-use Rattle.jsx_tree.proofs.Rows.Placing.{no_node}
 use Rattle.jsx_token.specs.Here.{place_of}
-use Rattle.jsx_syntax.proofs.Controls.{break_built, no_break, unended}
+use Rattle.jsx_syntax.proofs.Controls.{break_built, no_break, unended_break}
 use Rattle.jsx_expression.proofs.Steps.{passed}
 use Rattle.jsx_expression.proofs.Placing.{placed_as, takes_ends}
 use Rattle.jsx_expression.proofs.Places.{spans_from}
@@ -12,7 +11,7 @@ pub returns-then-not-context-clause-refused : goal.returns-then-not-context-clau
 returns-then-not-context-clause-refused c = record { bars = λ _ _. no_break c.if-not-context.true }
 
 pub returns-in_err-semicolon-clause-refused : goal.returns-in_err-semicolon-clause-refused
-returns-in_err-semicolon-clause-refused c = passed _ c.in_err-semicolon.ensures.refused c.from_residual.ensures.1 (λ b. no_node (unended (record { is = ap place_of c.ends.ensures; found = refl }) b))
+returns-in_err-semicolon-clause-refused c = passed _ c.in_err-semicolon.ensures.refused c.from_residual.ensures.1 (λ b. unended_break (record { is = ap place_of c.ends.ensures; found = refl }) b)
 
 pub returns-clause-read : goal.returns-clause-read
 returns-clause-read c = break_built c.if-not-context.false (record { is = ap place_of c.ends.ensures; found = refl }) c.in_ok-semicolon.ensures.read refl c.in_ok-break_statement.ensures.view

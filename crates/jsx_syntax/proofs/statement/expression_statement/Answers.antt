@@ -1,11 +1,10 @@
-use Rattle.std.proofs.Common.{refl, sym, ◌∙◌, ap, subst}
-use Rattle.jsx_token.specs.Stage.{is_string}
-use Rattle.jsx_tree.specs.View.{view_expr}
+use Rattle.std.proofs.Common.{refl, sym, subst}
+use Rattle.jsx_token.specs.declared.heading.Heading.TheVariants as heading
 use Rattle.jsx_make.specs.NodeSpans.{expr_at}
 use Rattle.jsx_expression.specs.Spans.{Spans}
 use Rattle.jsx_token.specs.Places.{end_of, next_of}
 use Rattle.jsx_tree.proofs.Rows.Placing.{no_node}
-use Rattle.jsx_syntax.proofs.Items.{statement_built, no_value_statement, string_statement, unfinished}
+use Rattle.jsx_syntax.proofs.Items.{statement_built, no_value_statement, unfinished}
 use Rattle.jsx_expression.proofs.Steps.{passed}
 use Rattle.jsx_expression.proofs.Places.{spans_from}
 use Rattle.jsx_expression.proofs.Placing.{placed_as}
@@ -15,16 +14,13 @@ use Rattle.jsx_syntax.proofs.statement.expression_statement.Goals as goal
 pub returns-in_err-expr-clause-refused : goal.returns-in_err-expr-clause-refused
 returns-in_err-expr-clause-refused c = passed _ c.in_err-expr.ensures.refused c.from_residual.ensures.1 (λ b. no_node (no_value_statement b))
 
-pub returns-then-is_string-clause-refused : goal.returns-then-is_string-clause-refused
-returns-then-is_string-clause-refused c = record { bars = λ _ _. string_statement c.in_ok-expr.ensures.read (ap (λ e. is_string (view_expr e)) (sym c.deref.ensures) ∙ (sym c.is_string.ensures ∙ c.if-is_string.true)) }
-
 pub returns-in_err-semicolon-clause-refused : goal.returns-in_err-semicolon-clause-refused
-returns-in_err-semicolon-clause-refused c = passed _ c.in_err-semicolon.ensures.refused c.from_residual-in_err-semicolon.ensures.1 (λ b. no_node (unfinished c.in_ok-expr.ensures.read b))
+returns-in_err-semicolon-clause-refused c = passed _ c.in_err-semicolon.ensures.refused c.from_residual-in_err-semicolon.ensures.1 (λ b. no_node (unfinished (record { is = c.requires.on heading.Block }) c.in_ok-expr.ensures.read b))
 
 pub returns-clause-read : goal.returns-clause-read
-returns-clause-read c = statement_built c.in_ok-expr.ensures.read (ap (λ e. is_string (view_expr e)) (sym c.deref.ensures) ∙ (sym c.is_string.ensures ∙ c.if-is_string.false)) c.in_ok-semicolon.ensures.read c.in_ok-expression_statement.ensures.view
+returns-clause-read c = statement_built (record { is = c.requires.on heading.Block }) c.in_ok-expr.ensures.read c.in_ok-semicolon.ensures.read c.in_ok-expression_statement.ensures.view
 
 pub returns-clause-placed : goal.returns-clause-placed
 returns-clause-placed c =
     placed_as c.in_ok-expression_statement.ensures.told c.in_ok-expression_statement.ensures.view
-    (evaluation_placed c.in_ok-expr.ensures.placed c.in_ok-semicolon.ensures.takes (spans_from c.span_to-span.ensures refl (c.start_of.ensures.on _ _ (subst (λ e. Spans (expr_at e) (next_of c.args.lexer.now) (end_of c.sequence.new.lexer)) (sym c.deref-2.ensures) c.in_ok-expr.ensures.span)) refl))
+    (evaluation_placed c.in_ok-expr.ensures.placed c.in_ok-semicolon.ensures.takes (spans_from c.span_to-span.ensures refl (c.start_of.ensures.on _ _ (subst (λ e. Spans (expr_at e) (next_of c.args.lexer.now) (end_of c.sequence.new.lexer)) (sym c.deref.ensures) c.in_ok-expr.ensures.span)) refl))

@@ -1,0 +1,23 @@
+use Rattle.std.proofs.Common.{◌≡◌, map, false}
+use Rattle.jsx_tree.specs.Nonterminals.{Item}
+use Rattle.jsx_tree.specs.StaticRules.{first_of_list, is_string_stmt}
+use Rattle.jsx_tree.specs.View.{forest}
+use Rattle.jsx_tree.specs.ViewProgram.{view_item}
+use Rattle.jsx_tree.specs.Told.{told_item}
+use Rattle.jsx_expression.specs.SoFar.{so_far}
+use Rattle.jsx_expression.specs.Around.{around_of}
+use Rattle.jsx_token.specs.Here.{place_of, left}
+use Rattle.jsx_tree.proofs.Rows.Lines.{Onto}
+use Rattle.jsx_syntax.proofs.Modules.{run}
+use Rattle.jsx_syntax.proofs.PlacedNodes.{PlacedModule}
+use Rattle.jsx_syntax.proofs.module.module.Given as goal
+
+abbrev pub invariant-statements : goal.invariant-statements
+invariant-statements l = record {
+  so_far : Onto so_far (around_of l.context.around) Item (place_of l.fn.lexer) (place_of l.lexer) (run l.directives.items (forest (map view_item l.body.items)));
+  first : first_of_list is_string_stmt (forest (map view_item l.body.items)) ≡ false;
+  placed : PlacedModule l.directives.items (map told_item l.body.items) (map view_item l.body.items) l.fn.lexer l.lexer;
+}
+
+abbrev pub decreases-statements : goal.decreases-statements
+decreases-statements l = left l.lexer

@@ -1,0 +1,25 @@
+-- What is caught by a `try`.
+use Rattle.std.specs.Prelude.{◌≡◌, List, [], ◌∷◌}
+use Rattle.jsx_tree.specs.Nonterminals as grammar
+use Rattle.jsx_tree.specs.Kinds.{Binds, Catch, statement, Tree, node, list, none, part}
+use Rattle.jsx_tree.specs.Grammar.{Part, p}
+use Rattle.jsx_tree.specs.Grammar as symbol
+use Rattle.jsx_tree.specs.Reading.{Place}
+use Rattle.jsx_tree.specs.StaticRules.{Surroundings}
+use Rattle.jsx_tree.specs.Answers.{Only}
+use Rattle.jsx_expression.specs.SoFar.{so_far}
+use Rattle.jsx_tree.specs.Walk.{Piece, nothing, one, pieces}
+
+-- behind the `(` of its name
+abbrev pub catch_row : List Piece
+catch_row = pieces [] (Part (grammar.Pat Binds) ∷ p ")" ∷ Part grammar.BlockOnly ∷ [])
+
+pub record IsCatch (v : Surroundings) (x : Place) (t : Tree) (y : Place) : Type 0 where
+  pub name : Tree
+  pub body : Tree
+  pub bracket : Place
+  pub brace : Place
+  pub is : t ≡ node (statement Catch) (part (list (part name none)) (part body none))
+  pub named : Only so_far v (Part (grammar.Pat Binds)) x (one name) bracket
+  pub closed : Only so_far v (symbol.Fixed (symbol.pun ")")) bracket nothing brace
+  pub block : Only so_far v (Part grammar.BlockOnly) brace (one body) y
