@@ -1,28 +1,23 @@
 -- What an `if` has behind its first statement, and which `if` an `else` belongs to: the nearest.
-use Rattle.std.proofs.Common.{◌≡◌, nat_eq, Bool, true, false, not, cond, List, [], ◌∷◌, refl, sym, ◌∙◌, ap, subst, Option, Some, None, Box, Global}
+use Rattle.std.proofs.Common.{◌≡◌, Bool, true, false, not, List, [], ◌∷◌, refl, sym, ◌∙◌, ap, subst, Option, Some, None, Box, Global}
 use Rattle.std.specs.Prelude.{IsTrue, codes, ◌&&◌, ◌||◌}
-use Rattle.std.proofs.lemmas.Bool.{eqb-true, eq-eqb}
-use Rattle.jsx_base.specs.Token.{Text, Operator, IdentifierName, InName, Dead, accepts, ended, is_dead, is_kind, is_part, is_token, last_state, among, at_front, breaks, skip, token, same, first_is}
-use Rattle.jsx_base.proofs.Fronts.{other_ahead}
-use Rattle.jsx_tree.specs.Signs.{AfterExpr, Unless}
+use Rattle.jsx_base.specs.Token.{IdentifierName, token}
+use Rattle.jsx_tree.specs.Signs.{Unless}
 use Rattle.jsx_tree.specs.Kinds.{If, Try, Kind, statement, Tree, leaf, node, list, Forest, none, part}
 use Rattle.jsx_tree.specs.Nonterminals.{Nonterminal, Expr, SubStmt}
 use Rattle.jsx_tree.specs.Grammar.{Context, Fixed, Part, Optional, Many, Within, key, pun, production}
-use Rattle.jsx_tree.specs.Reading.{Place, Lost, At, forth, go_if}
+use Rattle.jsx_tree.specs.Reading.{Place, Lost, forth}
 use Rattle.jsx_tree.specs.StaticRules.{Surroundings, is_if, last_open, open_if, trails}
 use Rattle.jsx_tree.specs.View.{optional_of, view_stmt}
 use Rattle.jsx_tree.specs.declared.tree.Stmt.{Stmt}
-use Rattle.jsx_tree.specs.Walk.{is_found, one, nothing, Piece, piece, tail, sign, tree, absent, present, Walk, done, next, steady}
-use Rattle.jsx_tree.specs.Language.{Whole}
+use Rattle.jsx_tree.specs.Walk.{is_found, one, nothing, Piece, piece, tail, sign, tree, absent, present, Walk, done, next}
 use Rattle.jsx_tree.specs.Answers.{Moves, Only, Barred, OnlyRow, NoRow, BuiltNode}
-use Rattle.jsx_tree.proofs.Tokens.{and_left, and_right, and_both, same_is, same_self}
-use Rattle.jsx_tree.proofs.Apart.{by_not, clash}
+use Rattle.jsx_tree.proofs.Tokens.{and_left, and_right}
 use Rattle.jsx_tree.proofs.Rows.Bridge.{found_at}
 use Rattle.jsx_tree.proofs.Rows.Stopping.{is_not, or_cases, stays}
-use Rattle.jsx_tree.proofs.Rows.Laws.{end_found, lost_barred}
-use Rattle.jsx_tree.proofs.Rows.Optionals.{turn_absent, turn_present}
-use Rattle.jsx_tree.proofs.Rows.Steps.{end, then'}
-use Rattle.jsx_tree.proofs.Rows.Turns.{turn_only, whole_of}
+use Rattle.jsx_tree.proofs.Rows.Laws.{end_found}
+use Rattle.jsx_tree.proofs.Rows.Steps.{bar, end, then'}
+use Rattle.jsx_tree.proofs.Rows.Turns.{whole_of}
 use Rattle.jsx_expression.specs.SoFar.{Staged, so_far}
 use Rattle.jsx_token.specs.Marks.{row_so_far}
 use Rattle.jsx_syntax.specs.Statements.{Closes, alternative_row}
@@ -31,91 +26,20 @@ use Rattle.jsx_token.specs.declared.heading.Heading.{Heading}
 use Rattle.jsx_token.proofs.Headings.{of_heading}
 use Rattle.jsx_expression.proofs.OfSoFar.{of_so_far}
 use Rattle.jsx_expression.proofs.Homes.{no_list, taken_by, home_of}
+use Rattle.jsx_syntax.proofs.PartWords.{absent_word, barred_word, of_else, present_word}
 use Rattle.jsx_syntax.proofs.Tries.{try_closed}
 use Rattle.jsx_syntax.proofs.Statements.{Spot, subs, spot_kind, unless_lost}
-
--- ---- a token that is spelled `else` is that word
-
-letters : (text : Text) → is_kind (accepts (last_state InName text)) IdentifierName ≡ true
-letters [] = refl
-letters (c ∷ text) = by (is_part c) (letters text)
-  where
-    by : (b : Bool) → is_kind (accepts (last_state InName text)) IdentifierName ≡ true → is_kind (accepts (cond (is_dead (cond b InName Dead)) InName (last_state (cond b InName Dead) text))) IdentifierName ≡ true
-    by true h = h
-    by false h = refl
-
-ended_name : (k : _) (raw rest : Text) → is_kind k IdentifierName ≡ true → is_kind (ended k raw rest).kind IdentifierName ≡ true
-ended_name IdentifierName raw rest h = refl
-ended_name _ raw rest h = cc
-
-word_front : (f : Bool) (s : Text) → is_kind (at_front Operator f (101 ∷ s)).kind IdentifierName ≡ true
-word_front true s = ended_name (accepts (last_state InName s)) _ _ (letters s)
-word_front false s = ended_name (accepts (last_state InName s)) _ _ (letters s)
-
-raw_first : (t : Text) (f : Bool) (s : Text) → (at_front Operator f s).raw ≡ 101 ∷ t → first_is (nat_eq 101) s ≡ true
-raw_first t f s e = by (first_is (nat_eq 101) s) refl
-  where
-    by : (b : Bool) → first_is (nat_eq 101) s ≡ b → first_is (nat_eq 101) s ≡ true
-    by true h = h
-    by false h =
-        let x = at_front Operator f s in
-        absurd (clash (is_token x x.kind (101 ∷ t)) (and_both _ _ (eq-eqb _ _ refl) (subst (λ r. same r (101 ∷ t) ≡ true) (sym e) (same_self (101 ∷ t)))) ((other_ahead x.kind 101 t Operator s h).not_it f))
-
-front_word : (f : Bool) (s : Text) → first_is (nat_eq 101) s ≡ true → is_kind (at_front Operator f s).kind IdentifierName ≡ true
-front_word f [] h = cc
-front_word f (c ∷ s) h = subst (λ d. is_kind (at_front Operator f (d ∷ s)).kind IdentifierName ≡ true) (eqb-true 101 c h) (word_front f s)
-
-either_flag : (f g : Bool) (s : Text) → at_front Operator f (101 ∷ s) ≡ at_front Operator g (101 ∷ s)
-either_flag true true s = refl
-either_flag true false s = refl
-either_flag false true s = refl
-either_flag false false s = refl
-
-same_front : (f g : Bool) (s : Text) → first_is (nat_eq 101) s ≡ true → at_front Operator f s ≡ at_front Operator g s
-same_front f g [] h = cc
-same_front f g (c ∷ s) h = subst (λ d. at_front Operator f (d ∷ s) ≡ at_front Operator g (d ∷ s)) (eqb-true 101 c h) (either_flag f g s)
-
-else_there : (q text : Text) → same (token Operator false text).raw (codes "else") ≡ true → is_token (token Operator (same q []) text) IdentifierName (codes "else") ≡ true
-else_there q text h =
-    let first = raw_first (codes "lse") (breaks text) (skip text) (same_is (token Operator false text).raw (codes "else") h) in
-    ap (λ x. is_token x IdentifierName (codes "else")) (same_front (same q [] || breaks text) (breaks text) (skip text) first) ∙ and_both _ _ (front_word (breaks text) (skip text) first) h
-
-or_false : (a : Bool) → (a || false) ≡ true → a ≡ true
-or_false true e = refl
-or_false false e = e
-
-unless_else : (x : Place) → forth (key "else") x ≡ Lost → IsTrue (is_found x) → forth (Unless (codes "else" ∷ [])) x ≡ x
-unless_else Lost n f = cc
-unless_else (At q e text) n f = ap (λ b. go_if (not b) (At q e text)) (by_not _ bad)
-  where
-    bad : among (token Operator false text).raw (codes "else" ∷ []) ≡ true → ⊥
-    bad h =
-        let there = else_there q text (or_false _ h) in
-        let gone : At (codes "else") AfterExpr (token Operator (same q []) text).rest ≡ Lost = ap (λ b. go_if b (At (codes "else") AfterExpr (token Operator (same q []) text).rest)) (sym there) ∙ n in cc
 
 -- ---- behind the first statement
 
 pub no_else : {v : Surroundings} {x : Place} → forth (key "else") x ≡ Lost → IsTrue (is_found x) → OnlyRow so_far v alternative_row x (part (list none) none) x
-no_else {x = x} n f = turn_only (turn_absent (unless_else x n f) f (lost_barred of_so_far n)) (end f)
-
-lost_end : {v : Surroundings} {x : Place} → x ≡ Lost → NoRow so_far v [] x
-lost_end {v} {x} e = record { no = at }
-  where
-    at : (ts : Forest) (y : Place) → Walk (Whole so_far) (steady v) [] x ts y → ⊥
-    at ts y (done f) = let bad : IsTrue (is_found Lost) = subst (λ p. IsTrue (is_found p)) e f in cc
-
-guarded_else : {x y : Place} → Moves (key "else") x y → forth (Unless (codes "else" ∷ [])) x ≡ Lost
-guarded_else {x} m = unless_lost (codes "else" ∷ []) IdentifierName 101 (codes "lse") x refl refl (found_at (sym m.is) m.found)
+no_else n f = then' (absent_word of_else n f) (end f)
 
 pub some_else : {v : Surroundings} {x y z : Place} {t : Tree} → Moves (key "else") x y → Only so_far v (Part SubStmt) y (one t) z → OnlyRow so_far v alternative_row x (part (list (part t none)) none) z
-some_else m o = let f = end_found of_so_far (whole_of o.past).reads in turn_only (turn_present (sym m.is) o refl f (lost_end (guarded_else m))) (end f)
+some_else m o = then' (present_word of_else m o) (end (end_found of_so_far (whole_of o.past).reads))
 
 pub none_else : {v : Surroundings} {x y : Place} → Moves (key "else") x y → Barred so_far v (Part SubStmt) y → NoRow so_far v alternative_row x
-none_else {v} {x} {y} m b = record { no = at }
-  where
-    at : (ts : Forest) (z : Place) → Walk (Whole so_far) (steady v) alternative_row x ts z → ⊥
-    at ts z (next (absent e f) w) = let bad : IsTrue (is_found Lost) = subst (λ p. IsTrue (is_found p)) (sym e ∙ guarded_else m) f in cc
-    at ts z (next (present {t = t} d q e f) w) = (subst (λ p. Barred so_far v (Part SubStmt) p) (m.is ∙ d) b).no (one t) _ (tree q)
+none_else m b = bar (barred_word of_else m b)
 
 -- ---- a statement before an `else` ends with no `if` that it could belong to
 

@@ -1,5 +1,6 @@
 pub mod Items
 pub mod Statements
+pub mod PartWords
 pub mod Tries
 pub mod Elses
 pub mod Blocks

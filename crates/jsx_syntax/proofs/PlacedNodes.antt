@@ -4,9 +4,10 @@ use Rattle.jsx_base.specs.Token.{Text, Operator, IdentifierName, StringLiteral, 
 use Rattle.jsx_base.specs.Lines.{size}
 use Rattle.jsx_base.specs.declared.place.Span.{Span}
 use Rattle.jsx_tree.specs.declared.text.Text.{Text as TreeText}
-use Rattle.jsx_tree.specs.Signs.{SameLine, AfterExpr, AfterBinding, AfterWord, AfterDo, Tok, Semicolon, Unless, Ends}
+use Rattle.jsx_tree.specs.Signs.{Sign, Space, SameLine, AfterExpr, AfterBinding, AfterWord, AfterDo, Tok, Semicolon, Unless, Ends}
 use Rattle.jsx_tree.specs.Kinds.{DeclareWord, Module, Block, Var, Declarator, Empty, ExprStmt, If, Do, While, Continue, Break, Throw, Debugger, program, statement, Tree, leaf, node, list, Forest, none, part, For, ForDeclaration, Switch, Case, Default, Try, Catch}
-use Rattle.jsx_tree.specs.Grammar.{NoTrailing, TopLines, production, Lines, heads, key, vars, pun}
+use Rattle.jsx_tree.specs.Nonterminals.{Nonterminal}
+use Rattle.jsx_tree.specs.Grammar.{Optional, NoTrailing, TopLines, production, Lines, heads, key, vars, pun}
 use Rattle.jsx_tree.specs.Spelling.{leaf_signs, saids, spelled}
 use Rattle.jsx_tree.specs.Reading.{At, forth, go_if, scan}
 use Rattle.jsx_tree.specs.Spans.{Comes, spans, Told, tells, Tales, no_tales, tale, IsTold, AreTold, from_first, rest_at, starts, places, placed_in}
@@ -23,7 +24,8 @@ use Rattle.jsx_syntax.specs.Heads.{clause_symbols, declare_sign, initial_symbols
 use Rattle.jsx_token.specs.declared.word.Word.TheVariants as word
 use Rattle.jsx_syntax.specs.Modules.{module_symbols}
 use Rattle.jsx_syntax.specs.Statements.{alternative_symbols, block_symbols}
-use Rattle.jsx_expression.specs.Spans.{Spans, IsPlaced, IsPlacedFront, IsPlacedRow, IsPlacedList}
+use Rattle.jsx_syntax.specs.Tries.{catch_symbols, finally_symbols}
+use Rattle.jsx_expression.specs.Spans.{Spans, IsPlaced, IsPlacedAs, IsPlacedFront, is_argument, IsPlacedRow, IsPlacedList}
 use Rattle.jsx_token.specs.Places.{next_of, end_of, Takes}
 use Rattle.jsx_token.specs.Growths.{opening_sign}
 use Rattle.jsx_expression.proofs.Placing.{IsItem, PlacedFront, row_end, row_sign, row_quiet, row_unless, row_within, row_part, row_list, row_present, row_absent, row_guarded, row_unguarded, list_none, front_last, front_more, front_none, laid_last, laid_more, map_pushed, plain_top_lines, node_is, led, row_around}
@@ -107,13 +109,15 @@ pub switch_placed : {at : Option Span} {d : Told} {t : Tree} {ds : Tales} {ts : 
 switch_placed sign bracket value close brace r s =
     node_is (λ c e ps. refl) (λ ms text. refl) s (row_quiet (λ q. refl) (row_sign sign (row_quiet (λ q. refl) (row_sign bracket (row_part value (row_sign close (row_quiet (λ q. refl) (row_within (row_sign brace (row_quiet (λ q. refl) r))))))))))
 
-pub try_caught_placed : {at : Option Span} {d e : Told} {t u : Tree} {w x y z q : Here} → Takes (opening_sign (statement Try)) w x → IsPlaced d t x y → Takes (sign_of (fixed.Word word.Catch)) y z → IsPlaced e u z q → Spans at (next_of w) (end_of q)
-    → IsPlaced (told_node at (d ∷ told_list (e ∷ []) ∷ told_list [] ∷ [])) (node (statement Try) (part t (part (list (part u none)) (part (list none) none)))) w q
-try_caught_placed sign body word handler s = node_is (λ c e ps. refl) (λ ms text. refl) s (row_quiet (λ q. refl) (row_sign sign (row_quiet (λ q. refl) (row_part body (row_present word.same word.leads handler (row_absent row_end))))))
+pub led_placed : {w : Sign} {c : Nonterminal} {u : Text} {d : Told} {t : Tree} {x y z : Here} → Takes w x y → IsPlacedAs (is_argument c) d t y z → IsPlacedFront (Optional (Space ∷ w ∷ Space ∷ []) c [] (u ∷ []) ∷ []) (tells [] (tale d no_tales)) (list (part t none)) x z
+led_placed sign l = record { on = λ ps ds ts z r. row_guarded (row_present sign.same sign.leads l r) }
 
-pub try_done_placed : {at : Option Span} {d e : Told} {t u : Tree} {w x y z q : Here} → Takes (opening_sign (statement Try)) w x → IsPlaced d t x y → Takes (sign_of (fixed.Word word.Finally)) y z → IsPlaced e u z q → Spans at (next_of w) (end_of q)
-    → IsPlaced (told_node at (d ∷ told_list [] ∷ told_list (e ∷ []) ∷ [])) (node (statement Try) (part t (part (list none) (part (list (part u none)) none)))) w q
-try_done_placed sign body word finalizer s = node_is (λ c e ps. refl) (λ ms text. refl) s (row_quiet (λ q. refl) (row_sign sign (row_quiet (λ q. refl) (row_part body (row_absent (row_present word.same word.leads finalizer row_end))))))
+pub unled_placed : {w : Sign} {c : Nonterminal} {u : Text} {x : Here} → IsPlacedFront (Optional (Space ∷ w ∷ Space ∷ []) c [] (u ∷ []) ∷ []) (tells [] no_tales) (list none) x x
+unled_placed = record { on = λ ps ds ts z r. row_unguarded r }
+
+pub try_placed : {at : Option Span} {d h f : Told} {t u v : Tree} {w x y z q : Here} → Takes (opening_sign (statement Try)) w x → IsPlaced d t x y → IsPlacedFront catch_symbols h u y z → IsPlacedFront finally_symbols f v z q → Spans at (next_of w) (end_of q)
+    → IsPlaced (told_node at (d ∷ h ∷ f ∷ [])) (node (statement Try) (part t (part u (part v none)))) w q
+try_placed sign body handler finalizer s = node_is (λ c e ps. refl) (λ ms text. refl) s (row_quiet (λ q. refl) (row_sign sign (row_quiet (λ q. refl) (row_part body (handler.on _ _ _ _ (finalizer.on _ _ _ _ row_end))))))
 
 pub caught_placed : {at : Option Span} {d e : Told} {t u : Tree} {w x y z q : Here} → Takes (pun "(") w x → IsPlaced d t x y → Takes (sign_of fixed.Close) y z → IsPlaced e u z q → Spans at (next_of w) (end_of q)
     → IsPlaced (told_node at (told_list (d ∷ []) ∷ e ∷ [])) (node (statement Catch) (part (list (part t none)) (part u none))) w q

@@ -1,15 +1,18 @@
--- A `try` behind its word: its block, and either what is caught or what is done last.
-use Rattle.std.proofs.Common.{◌≡◌, List, true, false, [], ◌∷◌, refl, sym, ◌∙◌, ap, subst}
+-- A `try` behind its word: its block, what is caught and what is done last.
+use Rattle.std.proofs.Common.{◌≡◌, List, true, false, [], ◌∷◌, refl, sym, ◌∙◌, ap, subst, Option, Some, None, Box, Global}
 use Rattle.std.proofs.lemmas.Bool.{false≢true}
-use Rattle.std.specs.Prelude.{Bool, IsTrue, codes}
-use Rattle.jsx_base.specs.Token.{IdentifierName, Punctuator}
+use Rattle.std.specs.Prelude.{Bool, IsTrue, codes, ◌||◌}
+use Rattle.jsx_base.specs.Token.{Punctuator}
 use Rattle.jsx_tree.specs.Signs.{Unless}
 use Rattle.jsx_tree.specs.Kinds.{Binds, Block, Try, Catch, Kind, statement, Tree, leaf, node, list, Forest, none, part}
-use Rattle.jsx_tree.specs.Nonterminals.{BlockOnly, CatchClause, Pat}
-use Rattle.jsx_tree.specs.Grammar.{Context, Fixed, Part, key, pun}
+use Rattle.jsx_tree.specs.Nonterminals.{Nonterminal, BlockOnly, CatchClause, Pat}
+use Rattle.jsx_tree.specs.Grammar.{Context, Fixed, Optional, Part, pun}
 use Rattle.jsx_tree.specs.Form.{admits}
 use Rattle.jsx_tree.specs.Reading.{Place, Lost, At, forth, scan}
-use Rattle.jsx_tree.specs.StaticRules.{Surroundings, open_if}
+use Rattle.jsx_tree.specs.StaticRules.{Surroundings, is_here, open_if}
+use Rattle.jsx_tree.specs.View.{optional_of, view_control, view_stmt}
+use Rattle.jsx_tree.specs.declared.tree.Control.{Control}
+use Rattle.jsx_tree.specs.declared.tree.Stmt.{Stmt}
 use Rattle.jsx_tree.specs.Walk.{Given, is_found, nothing, one, Past, sign, tree, absent, present, tail, Walk, done, next, steady}
 use Rattle.jsx_tree.specs.Language.{Whole}
 use Rattle.jsx_tree.specs.Answers.{Moves, Only, Barred, OnlyRow, NoRow, NoNode, BuiltNode}
@@ -23,7 +26,7 @@ use Rattle.jsx_tree.proofs.Rows.Laws.{end_found, lost_barred, start_found}
 use Rattle.jsx_tree.proofs.Rows.Optionals.{turn_absent, turn_present}
 use Rattle.jsx_tree.proofs.Rows.Placing.{Chosen, only_node, barred_node, no_node}
 use Rattle.jsx_tree.proofs.Rows.Steps.{bar, end, then'}
-use Rattle.jsx_tree.proofs.Rows.Turns.{item_of, turn_only, whole_of}
+use Rattle.jsx_tree.proofs.Rows.Turns.{turn_only, whole_of}
 use Rattle.jsx_token.specs.Here.{Here, place_of}
 use Rattle.jsx_token.specs.Marks.{ends_so_far, row_so_far}
 use Rattle.jsx_token.specs.Places.{Takes}
@@ -31,8 +34,7 @@ use Rattle.jsx_expression.specs.SoFar.{Staged, so_far}
 use Rattle.jsx_expression.proofs.Homes.{Taken, no_list, taken_by, home_of}
 use Rattle.jsx_expression.proofs.OfSoFar.{of_so_far}
 use Rattle.jsx_expression.proofs.Values.{led_sign}
-use Rattle.jsx_syntax.specs.Statements.{OnlyNode}
-use Rattle.jsx_syntax.specs.Tries.{IsCatch, catch_row}
+use Rattle.jsx_syntax.specs.Tries.{IsCatch, catch_row, catch_symbol, finally_symbol}
 use Rattle.jsx_expression.proofs.Standing.{standing}
 use Rattle.jsx_syntax.proofs.Items.{unless_none}
 use Rattle.jsx_syntax.proofs.Statements.{signed_none, signed_row}
@@ -88,6 +90,10 @@ no_body_there {v} {x} f = record { no = at }
     at g y (tree {t = t} w) = never_both Punctuator Punctuator (codes "(") (codes "{") x refl f (body_sign t w.reads)
 
 -- ---- what is caught
+
+part_found : {v : Surroundings} {s : _} {c : Nonterminal} {r : _} {x y : Place} {g : Given} → Past (Whole so_far) v (Optional s c [] r) x g y → IsTrue (is_found y)
+part_found (absent e f) = f
+part_found (present p q e f) = f
 
 abbrev is_catch : Kind → Bool
 is_catch (statement Catch) = true
@@ -152,110 +158,33 @@ no_caught_bare {v} {x} n b = barred_node of_so_far caught_chosen refl refl (reco
     at ts y (next (absent e f) (next {y = z} (tree {t = t} q) w)) h = b.no (one t) z (tree (subst (λ p. Whole so_far v false BlockOnly p t z) (found_before x e f) q))
     at ts y (next (present {z = z} {t = t} p q e f) w) h = (lost_barred of_so_far (sym p ∙ n)).no (one t) z (tree q)
 
--- ---- what stands behind the block
-
-no_catch_finally : (x : Place) → IsTrue (is_found (forth (key "catch") x)) → IsTrue (is_found (forth (key "finally") x)) → ⊥
-no_catch_finally x f g = never_both IdentifierName IdentifierName (codes "catch") (codes "finally") x refl f g
-
--- the word of a part that is there
-present_word : (s : _) (x : Place) {y z : Place} {v : Surroundings} {c : _} {t : Tree} → forth s x ≡ y → Whole so_far v false c y t z → IsTrue (is_found (forth s x))
-present_word s x e q = found_at e (start_found of_so_far q.reads)
-
-abbrev Behind : Surroundings → Place → Forest → Place → Type 0
-Behind v x ts z = Walk (Whole so_far) (steady v) (tail (tail (row_so_far (statement Try)))) x ts z
-
--- the parts behind the block that keep the rules
-record Ends (v : Surroundings) (x : Place) (b : Tree) (ts : Forest) (z : Place) : Type 0 where
-  on : (us : Forest) (w : Place) → Behind v x us w → so_far.keeps (statement Try) v (part b us) ≡ true → (ts ≡ us) × (z ≡ w)
-
-caught_alone : {v : Surroundings} {x x1 z : Place} {b t : Tree} → Moves (key "catch") x x1 → Only so_far v (Part CatchClause) x1 (one t) z → Ends v x b (part (list (part t none)) (part (list none) none)) z
-caught_alone {v} {x} {x1} {z} {b} {t} m o = record { on = at }
-  where
-    at : (us : Forest) (w : Place) → Behind v x us w → so_far.keeps (statement Try) v (part b us) ≡ true → (part (list (part t none)) (part (list none) none) ≡ us) × (z ≡ w)
-    at us w (next (absent e f) (next (absent e' f') (done g))) h = absurd (false≢true h)
-    at us w (next (absent e f) (next (present {t = u} p q e' f') (done g))) h =
-        absurd (no_catch_finally x (found_at (sym m.is) m.found) (present_word (key "finally") x (ap (forth (key "finally")) (sym (found_before x e f)) ∙ p) q))
-    at us w (next (present {z = z'} {t = u} p q e f) (next {x = y} (absent e' f') (done g))) h =
-        let same' = o.alone (one u) z' (tree (subst (λ a. Whole so_far v false CatchClause a u z') (sym p ∙ sym m.is) q)) in
-        ((λ i. part (list (part (item_of (same'.0 i)) none)) (part (list none) none)), same'.1 ∙ (e ∙ sym (found_before y e' f')))
-    at us w (next (present p q e f) (next (present p' q' e' f') (done g))) h = absurd (false≢true h)
-
-done_alone : {v : Surroundings} {x x1 z : Place} {b t : Tree} → Moves (key "finally") x x1 → Only so_far v (Part BlockOnly) x1 (one t) z → Ends v x b (part (list none) (part (list (part t none)) none)) z
-done_alone {v} {x} {x1} {z} {b} {t} m o = record { on = at }
-  where
-    at : (us : Forest) (w : Place) → Behind v x us w → so_far.keeps (statement Try) v (part b us) ≡ true → (part (list none) (part (list (part t none)) none) ≡ us) × (z ≡ w)
-    at us w (next (absent e f) (next (absent e' f') (done g))) h = absurd (false≢true h)
-    at us w (next (absent e f) (next (present {y = y2} {z = z'} {t = u} p q e' f') (done g))) h =
-        let from : forth (key "finally") x ≡ y2 = ap (forth (key "finally")) (sym (found_before x e f)) ∙ p in
-        let same' = o.alone (one u) z' (tree (subst (λ a. Whole so_far v false BlockOnly a u z') (sym from ∙ sym m.is) q)) in
-        ((λ i. part (list none) (part (list (part (item_of (same'.0 i)) none)) none)), same'.1 ∙ e')
-    at us w (next (present {t = u} p q e f) (next (absent e' f') (done g))) h = absurd (no_catch_finally x (present_word (key "catch") x p q) (found_at (sym m.is) m.found))
-    at us w (next (present p q e f) (next (present p' q' e' f') (done g))) h = absurd (false≢true h)
-
 -- ---- a `try` behind its word
 
-try_only : {v : Surroundings} {x x1 z : Place} {b t : Tree} {ts : Forest} → Only so_far v (Part BlockOnly) x (one b) x1 → Behind v x1 ts z → Ends v x1 b ts z → so_far.keeps (statement Try) v (part b ts) ≡ true → t ≡ node (statement Try) (part b ts) → OnlyNode v (tail (row_so_far (statement Try))) (statement Try) t x z
-try_only {v} {x} {x1} {z} {b} {t} {ts} o w a k is = record { parts = part b ts; is = is; walk = next o.past w; keeps = k; alone = at }
+try_keeps : (v : Surroundings) (b : Tree) (h : Option (Box Control Global)) (f : Option (Box Stmt Global)) → (is_here (optional_of view_control h) || is_here (optional_of view_stmt f)) ≡ true → so_far.keeps (statement Try) v (part b (part (optional_of view_control h) (part (optional_of view_stmt f) none))) ≡ true
+try_keeps v b None None e = absurd (false≢true e)
+try_keeps v b (Some h) None e = refl
+try_keeps v b None (Some f) e = refl
+try_keeps v b (Some h) (Some f) e = refl
+
+pub try_built : {v : Surroundings} {x x1 x2 z : Place} {b t : Tree} (h : Option (Box Control Global)) (f : Option (Box Stmt Global)) → Only so_far v (Part BlockOnly) x (one b) x1 → Only so_far v catch_symbol x1 (one (optional_of view_control h)) x2 → Only so_far v finally_symbol x2 (one (optional_of view_stmt f)) z
+    → (is_here (optional_of view_control h) || is_here (optional_of view_stmt f)) ≡ true → t ≡ node (statement Try) (part b (part (optional_of view_control h) (part (optional_of view_stmt f) none))) → BuiltNode so_far v (tail (row_so_far (statement Try))) (statement Try) t x z
+try_built {v} {b = b} h f o c d e is = record { parts = _; is = is; row = then' o (then' c (then' d (end (part_found d.past)))); keeps = try_keeps v b h f e }
+
+-- with neither part
+pub no_try : {v : Surroundings} {x x1 x2 z : Place} {b : Tree} (h : Option (Box Control Global)) (f : Option (Box Stmt Global)) → Only so_far v (Part BlockOnly) x (one b) x1 → Only so_far v catch_symbol x1 (one (optional_of view_control h)) x2 → Only so_far v finally_symbol x2 (one (optional_of view_stmt f)) z
+    → (is_here (optional_of view_control h) || is_here (optional_of view_stmt f)) ≡ false → NoNode so_far v (tail (row_so_far (statement Try))) (statement Try) x
+no_try {v} {x} {z = z} {b} h f o c d e = record { no = at }
   where
-    at : (us : Forest) (w : Place) → Walk (Whole so_far) (steady v) (tail (row_so_far (statement Try))) x us w → so_far.keeps (statement Try) v us ≡ true → (part b ts ≡ us) × (z ≡ w)
-    at us w (next {y = y} {ts = vs} (tree {t = u} q) r) h =
-        let same' = o.alone (one u) y (tree q) in
-        let is' : u ≡ b = ap item_of (sym same'.0) in
-        let rest = a.on vs w (subst (λ p. Behind v p vs w) (sym same'.1) r) (subst (λ e. so_far.keeps (statement Try) v (part e vs) ≡ true) is' h) in
-        ((λ i. part (sym is' i) (rest.0 i)), rest.1)
+    bad : (h : Option (Box Control Global)) (f : Option (Box Stmt Global)) → (is_here (optional_of view_control h) || is_here (optional_of view_stmt f)) ≡ false → so_far.keeps (statement Try) v (part b (part (optional_of view_control h) (part (optional_of view_stmt f) none))) ≡ true → ⊥
+    bad None None e k = false≢true k
+    bad (Some h) f e k = false≢true (sym e)
+    bad None (Some f) e k = false≢true (sym e)
 
-pub try_caught : {v : Surroundings} {x x1 x2 z : Place} {b c t : Tree} → Only so_far v (Part BlockOnly) x (one b) x1 → Moves (key "catch") x1 x2 → Only so_far v (Part CatchClause) x2 (one c) z → t ≡ node (statement Try) (part b (part (list (part c none)) (part (list none) none))) → OnlyNode v (tail (row_so_far (statement Try))) (statement Try) t x z
-try_caught {z = z} o m c is =
-    let w = whole_of c.past in
-    let f = end_found of_so_far w.reads in
-    try_only o (next (present (sym m.is) w refl f) (next (absent (unless_none z f) f) (done f))) (caught_alone m c) refl is
+    row : OnlyRow so_far v (tail (row_so_far (statement Try))) x (part b (part (optional_of view_control h) (part (optional_of view_stmt f) none))) z
+    row = then' o (then' c (then' d (end (part_found d.past))))
 
-pub try_done : {v : Surroundings} {x x1 x2 z : Place} {b c t : Tree} → Only so_far v (Part BlockOnly) x (one b) x1 → Moves (key "finally") x1 x2 → Only so_far v (Part BlockOnly) x2 (one c) z → t ≡ node (statement Try) (part b (part (list none) (part (list (part c none)) none))) → OnlyNode v (tail (row_so_far (statement Try))) (statement Try) t x z
-try_done {x1 = x1} o m c is =
-    let w = whole_of c.past in
-    let f = end_found of_so_far w.reads in
-    let g = end_found of_so_far (whole_of o.past).reads in
-    try_only o (next (absent (unless_none x1 g) g) (next (present (sym m.is) w refl f) (done f))) (done_alone m c) refl is
-
--- where none stands
-record NoEnds (v : Surroundings) (x : Place) (b : Tree) : Type 0 where
-  no : (us : Forest) (w : Place) → Behind v x us w → so_far.keeps (statement Try) v (part b us) ≡ true → ⊥
-
-no_try : {v : Surroundings} {x x1 : Place} {b : Tree} → Only so_far v (Part BlockOnly) x (one b) x1 → NoEnds v x1 b → NoNode so_far v (tail (row_so_far (statement Try))) (statement Try) x
-no_try {v} {x} {b = b} o n = record { no = at }
-  where
     at : (us : Forest) (w : Place) → Walk (Whole so_far) (steady v) (tail (row_so_far (statement Try))) x us w → so_far.keeps (statement Try) v us ≡ true → ⊥
-    at us w (next {y = y} {ts = vs} (tree {t = u} q) r) h =
-        let same' = o.alone (one u) y (tree q) in
-        n.no vs w (subst (λ p. Behind v p vs w) (sym same'.1) r) (subst (λ e. so_far.keeps (statement Try) v (part e vs) ≡ true) (ap item_of (sym same'.0)) h)
-
-pub no_try_caught : {v : Surroundings} {x x1 x2 : Place} {b : Tree} → Only so_far v (Part BlockOnly) x (one b) x1 → Moves (key "catch") x1 x2 → Barred so_far v (Part CatchClause) x2 → NoNode so_far v (tail (row_so_far (statement Try))) (statement Try) x
-no_try_caught {v} {x1 = x1} {b = b} o m n = no_try o (record { no = at })
-  where
-    at : (us : Forest) (w : Place) → Behind v x1 us w → so_far.keeps (statement Try) v (part b us) ≡ true → ⊥
-    at us w (next (absent e f) (next (absent e' f') (done g))) h = absurd (false≢true h)
-    at us w (next (absent e f) (next (present {t = u} p q e' f') (done g))) h =
-        no_catch_finally x1 (found_at (sym m.is) m.found) (present_word (key "finally") x1 (ap (forth (key "finally")) (sym (found_before x1 e f)) ∙ p) q)
-    at us w (next (present {z = z} {t = u} p q e f) r) h = n.no (one u) z (tree (subst (λ a. Whole so_far v false CatchClause a u z) (sym p ∙ sym m.is) q))
-
-pub no_try_done : {v : Surroundings} {x x1 x2 : Place} {b : Tree} → Only so_far v (Part BlockOnly) x (one b) x1 → Moves (key "finally") x1 x2 → Barred so_far v (Part BlockOnly) x2 → NoNode so_far v (tail (row_so_far (statement Try))) (statement Try) x
-no_try_done {v} {x1 = x1} {b = b} o m n = no_try o (record { no = at })
-  where
-    at : (us : Forest) (w : Place) → Behind v x1 us w → so_far.keeps (statement Try) v (part b us) ≡ true → ⊥
-    at us w (next (absent e f) (next (absent e' f') (done g))) h = absurd (false≢true h)
-    at us w (next (absent e f) (next (present {z = z} {t = u} p q e' f') (done g))) h =
-        n.no (one u) z (tree (subst (λ a. Whole so_far v false BlockOnly a u z) (sym (ap (forth (key "finally")) (sym (found_before x1 e f)) ∙ p) ∙ sym m.is) q))
-    at us w (next (present {t = u} p q e f) r) h = no_catch_finally x1 (present_word (key "catch") x1 p q) (found_at (sym m.is) m.found)
-
--- neither word
-pub no_try_word : {v : Surroundings} {x x1 : Place} {b : Tree} → Only so_far v (Part BlockOnly) x (one b) x1 → forth (key "catch") x1 ≡ Lost → Barred so_far v (Fixed (key "finally")) x1 → NoNode so_far v (tail (row_so_far (statement Try))) (statement Try) x
-no_try_word {v} {x1 = x1} {b = b} o c n = no_try o (record { no = at })
-  where
-    at : (us : Forest) (w : Place) → Behind v x1 us w → so_far.keeps (statement Try) v (part b us) ≡ true → ⊥
-    at us w (next (absent e f) (next (absent e' f') (done g))) h = absurd (false≢true h)
-    at us w (next (absent e f) (next (present {y = y} p q e' f') (done g))) h =
-        n.no nothing y (sign (ap (forth (key "finally")) (sym (found_before x1 e f)) ∙ p) (start_found of_so_far q.reads))
-    at us w (next (present {z = z} {t = u} p q e f) r) h = (lost_barred of_so_far (sym p ∙ c)).no (one u) z (tree q)
+    at us w r k = bad h f e (subst (λ ts. so_far.keeps (statement Try) v ts ≡ true) (sym (row.alone us w r).0) k)
 
 -- a `try` ends with a block, so with no `if` that an `else` could belong to
 pub try_closed : {V : List Context → Surroundings} {x y : Place} {us : Forest} → Walk Staged V (row_so_far (statement Try)) x us y → open_if (node (statement Try) us) ≡ false

@@ -199,7 +199,11 @@ mod tests {
             ),
             ("try {} catch {}try {a} finally {b}try {} catch (c) {d;}", 3),
             (
-                "if (a) try {} catch (b) {}\nelse while (c) try {break} finally {}",
+                "try {} catch (a) {} finally {}try {}\ncatch {}\nfinally {a}",
+                2,
+            ),
+            (
+                "if (a) try {} catch (b) {} finally {}\nelse while (c) try {break} finally {}",
                 1,
             ),
             (
@@ -408,7 +412,8 @@ mod tests {
             ("try {} catch ({a}) {}", 13),
             ("try {} finally {} catch {}", 18),
             ("try {} catch {} catch {}", 16),
-            ("try {} catch {} finally {}", 16),
+            ("try {} catch {} finally {} finally {}", 27),
+            ("try {} catch {} finally;", 16),
             ("catch {}", 0),
             ("a = {b;", 5),
             ("a = {,};", 4),

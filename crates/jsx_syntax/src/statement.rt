@@ -4,7 +4,7 @@ ghost use Rattle.std.specs.Prelude.{◌≡◌, ◌<◌, ◌≤◌, [], ◌∷◌
 ghost use Rattle.jsx_tree.specs.Kinds.{Block, Var, Empty, ExprStmt, If, Do, While, For, Switch, Continue, Break, Throw, Debugger, statement, list, none, part, Try};
 ghost use Rattle.jsx_tree.specs.Nonterminals as grammar;
 ghost use Rattle.jsx_tree.specs.Grammar.{Lines, NoTrailing, Part, key, pun};
-ghost use Rattle.jsx_tree.specs.StaticRules.{all_of, at_most, has_init, is_default};
+ghost use Rattle.jsx_tree.specs.StaticRules.{all_of, at_most, has_init, is_default, is_here};
 ghost use Rattle.jsx_tree.specs.View.{forest, inside, optional_of, view_control, view_pat, view_stmt, word_of};
 ghost use Rattle.jsx_tree.specs.Spans.{no_tales, tale};
 ghost use Rattle.jsx_tree.specs.Told.{tales, told_control, told_list, told_optional, told_pat, told_stmt};
@@ -18,12 +18,12 @@ ghost use Rattle.jsx_token.specs.Growths.{opening_sign};
 ghost use Rattle.jsx_syntax.specs.Statements.{Closes, alternative_row, alternative_symbols, block_symbols, has_value, OnlyNode};
 ghost use Rattle.jsx_token.specs.Headings.{heading_kind, heading_sign, NoHeading};
 ghost use Rattle.jsx_syntax.specs.Heads.{Declares, NotDeclared};
-ghost use Rattle.jsx_syntax.specs.Tries.{IsCatch, catch_row};
+ghost use Rattle.jsx_syntax.specs.Tries.{IsCatch, catch_row, catch_symbol, catch_symbols, finally_symbol, finally_symbols};
 ghost use Rattle.jsx_syntax.specs.Cases.{IsBody, IsCase, IsDefault, NoCase, NoCases, body_row, cases_row, cases_symbols, default_row};
 ghost use Rattle.jsx_expression.specs.Answers.{Refused};
 ghost use Rattle.jsx_token.specs.Semicolons.{in_list};
 ghost use Rattle.jsx_make.specs.NodeSpans.{pat_at, stmt_at};
-ghost use Rattle.jsx_expression.specs.Spans.{IsPlaced, IsPlacedBehind, IsPlacedList, IsPlacedRow, Spans};
+ghost use Rattle.jsx_expression.specs.Spans.{IsPlaced, IsPlacedBehind, IsPlacedFront, IsPlacedList, IsPlacedRow, Spans};
 ghost use Rattle.jsx_token.specs.Places.{begin_of, end_of, next_of};
 
 use crate::for_head::{clause, initial};
@@ -497,11 +497,54 @@ fn catch_clause<'s>(context: Context, lexer: &mut Lexer<'s>) -> Result<Box<Contr
     Ok(make::catch_clause(context.alloc, span, None, body)?)
 }
 
-/// A `try` statement behind its word: `try { a; } catch (b) { c; }`, or `try { a; } finally { b; }` (ECMA-262 section 14.15). So
-/// far it hasn't both.
+/// What a `try` catches: `catch (a) { b; }`, or nothing.
+#[cycle(statement)]
+fn catch_part<'s>(
+    context: Context,
+    lexer: &mut Lexer<'s>,
+) -> Result<Option<Box<Control<'s>>>, ParseError>
+    ensures read { IfOk result (λ o. Only so_far (around_of context.entry.around) catch_symbol (place_of lexer.old) (one (optional_of view_control o)) (place_of lexer.new)) }
+    ensures placed { IfOk result (λ o. IsPlacedFront catch_symbols (told_optional told_control o) (optional_of view_control o) lexer.old lexer.new) }
+    ensures within { OnOk result (left lexer.new ≤ left lexer.old) }
+    ensures refused { Refused result (Barred so_far (around_of context.entry.around) catch_symbol (place_of lexer.old)) }
+{
+    if !lexer.take(Fixed::Word(Word::Catch)) {
+        return Ok(None);
+    }
+    let handler = catch_clause(context, lexer)?;
+    Ok(Some(handler))
+}
+
+/// What a `try` does last: `finally { a; }`, or nothing.
+#[cycle(statement)]
+fn finally_part<'s>(
+    context: Context,
+    lexer: &mut Lexer<'s>,
+) -> Result<Option<Box<Stmt<'s>>>, ParseError>
+    ensures read { IfOk result (λ o. Only so_far (around_of context.entry.around) finally_symbol (place_of lexer.old) (one (optional_of view_stmt o)) (place_of lexer.new)) }
+    ensures placed { IfOk result (λ o. IsPlacedFront finally_symbols (told_optional told_stmt o) (optional_of view_stmt o) lexer.old lexer.new) }
+    ensures within { OnOk result (left lexer.new ≤ left lexer.old) }
+    ensures refused { Refused result (Barred so_far (around_of context.entry.around) finally_symbol (place_of lexer.old)) }
+{
+    if !lexer.take(Fixed::Word(Word::Finally)) {
+        return Ok(None);
+    }
+    let block = block_only(context, lexer)?;
+    Ok(Some(block))
+}
+
+/// Whether a `try` has one of its parts, which its rule asks.
+fn has_part(handler: &Option<Box<Control>>, finalizer: &Option<Box<Stmt>>) -> bool
+    ensures { result ≡ (is_here (optional_of view_control handler.now) || is_here (optional_of view_stmt finalizer.now)) }
+{
+    handler.is_some() || finalizer.is_some()
+}
+
+/// A `try` statement behind its word: `try { a; } catch (b) { c; } finally { d; }`, with one of the two parts or both (ECMA-262
+/// section 14.15).
 #[cycle(statement)]
 fn try_statement<'s>(context: Context, lexer: &mut Lexer<'s>) -> Result<Box<Stmt<'s>>, ParseError>
-    ensures read { IfOk result (λ s. OnlyNode (around_of context.entry.around) (tail (row_so_far (statement Try))) (statement Try) (view_stmt s.value) (place_of lexer.old) (place_of lexer.new)) }
+    ensures read { IfOk result (λ s. BuiltNode so_far (around_of context.entry.around) (tail (row_so_far (statement Try))) (statement Try) (view_stmt s.value) (place_of lexer.old) (place_of lexer.new)) }
     ensures span { IfOk result (λ s. Spans (stmt_at s.value) (begin_of lexer.old) (end_of lexer.new)) }
     ensures placed { IfOk result (λ s. IsPlacedBehind (opening_sign (statement Try)) lexer.old (told_stmt s.value) (view_stmt s.value) lexer.new) }
     ensures within { OnOk result (left lexer.new ≤ left lexer.old) }
@@ -509,15 +552,13 @@ fn try_statement<'s>(context: Context, lexer: &mut Lexer<'s>) -> Result<Box<Stmt
 {
     let lo = lexer.last_place();
     let body = block_only(context, lexer)?;
-    if lexer.take(Fixed::Word(Word::Catch)) {
-        let handler = catch_clause(context, lexer)?;
-        let span = span_to(lo, lexer);
-        return Ok(make::try_statement(context.alloc, span, body, Some(handler), None)?);
+    let handler = catch_part(context, lexer)?;
+    let finalizer = finally_part(context, lexer)?;
+    if !has_part(&handler, &finalizer) {
+        return Err(give_up(lexer));
     }
-    expect(context, lexer, Fixed::Word(Word::Finally))?;
-    let finalizer = block_only(context, lexer)?;
     let span = span_to(lo, lexer);
-    Ok(make::try_statement(context.alloc, span, body, None, Some(finalizer))?)
+    Ok(make::try_statement(context.alloc, span, body, handler, finalizer)?)
 }
 
 /// A statement behind its first token.

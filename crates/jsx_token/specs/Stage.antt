@@ -5,7 +5,6 @@ use Rattle.jsx_base.specs.Token.{Text, TokenKind, IdentifierName, NumericLiteral
 use Rattle.jsx_tree.specs.declared.text.Goal.TheVariants as goals
 use Rattle.jsx_tree.specs.Kinds.{Module, Directive, Block, Var, Declarator, Empty, ExprStmt, If, Do, While, Continue, Break, Throw, Debugger, Assign, OpAssign, Void, TypeOf, Positive, Negative, Complement, Not, Unary, Binary, Cond, Call, Member, Index, ImportCall, Parenthesized, Element, Kind, program, statement, expression, jsx, Tree, leaf, node, list, Forest, none, part, Delete, PrefixUpdate, PostfixUpdate, Seq, For, ForDeclaration, Switch, Case, Default, Array, Spread, Try, Catch, Object, Property, Shorthand, ComputedKey, function}
 use Rattle.jsx_tree.specs.Nonterminals.{Nonterminal, Expr, MemberObject, NullishLeft, Name, StringOnly, Pat, SimpleTarget, Argument, TagName, WholeProgram, DotObject, assigns, is_value_word, has_dash, ForInit, ArrayItem, Ident, Key}
-use Rattle.jsx_tree.specs.StaticRules.{is_here}
 use Rattle.jsx_tree.specs.Form.{Position, position, positions}
 use Rattle.jsx_tree.specs.Program.{Reads}
 
@@ -104,11 +103,9 @@ abbrev pub is_unlabelled : Forest → Bool
 is_unlabelled (part (list none) cs) = true
 is_unlabelled cs = false
 
--- and a `try` has what is caught or what is done last, not both
 abbrev pub limits : Kind → Forest → Bool
 limits (statement Continue) cs = is_unlabelled cs
 limits (statement Break) cs = is_unlabelled cs
-limits (statement Try) (part b (part c (part f none))) = not (is_here c && is_here f)
 limits k cs = true
 
 abbrev mutual

@@ -1,8 +1,8 @@
 -- What each sound tree begins with.
 use Rattle.std.proofs.Common.{◌≡◌, List, [], ◌∷◌, ◌++◌, Bool, true, false, not, ◌||◌, ◌&&◌, codes, refl, sym, ap, ◌∙◌, subst, ⊎_elim, ◌⊎◌, inl, inr}
-use Rattle.std.specs.Prelude.{nat_eq, nat_le}
-use Rattle.std.proofs.lemmas.Bool.{false≢true, and_parts, eqb-true, false_from_ne_true, not-true, not_from_false, and_right}
-use Rattle.jsx_base.specs.Token.{Text, Mode, Operand, Operator, TokenKind, IdentifierName, Punctuator, NumericLiteral, BigIntLiteral, StringLiteral, RegExpLiteral, NoSubstitution, TemplateHead, TemplateMiddle, TemplateTail, JsxName, JsxString, JsxText, Elision, NoToken, same, is_one_of, is_code, is_digit, is_start, first_is}
+use Rattle.std.specs.Prelude.{ℕ, nat_eq, nat_le}
+use Rattle.std.proofs.lemmas.Bool.{false≢true, and_parts, and_from, or_parts, or_cases, eqb-true, false_from_ne_true, not-true, not_from_false, and_right}
+use Rattle.jsx_base.specs.Token.{Text, Mode, Operand, Operator, TokenKind, IdentifierName, Punctuator, NumericLiteral, BigIntLiteral, StringLiteral, RegExpLiteral, NoSubstitution, TemplateHead, TemplateMiddle, TemplateTail, JsxName, JsxString, JsxText, Elision, NoToken, among, same, is_one_of, is_code, is_digit, is_start, first_is}
 use Rattle.jsx_tree.specs.Signs.{Sign, Tok, Semicolon, TrailingComma, Unless, SameLine, Ends, Space, Pad, Line, Indent, Outdent, Unindent, Apart, Begin, Count, One, End}
 use Rattle.jsx_tree.specs.Kinds.{Binds, Assigns, Kind, program, Module, Script, FunctionBody, Tree, leaf, node, list, Forest, none, part}
 use Rattle.jsx_tree.specs.Nonterminals.{Nonterminal, Expr, MemberObject, DotObject, SimpleTarget, Ident, BindingIdent, StringOnly, Pat, NullishLeft, NewCallee, TemplateOf, TemplatePart, ChainLink, Name, ArrayItem, Slot, Body, Stmt, Item, DirectiveOnly, CaseClause, BlockOnly, in_homes, homes, literal_homes, leaf_in, is_value_word}
@@ -13,7 +13,7 @@ use Rattle.jsx_tree.specs.Fits.{is_solid, is_plain}
 use Rattle.jsx_tree.specs.Grammar.{Fixed, Part, Optional, Many, Within, Lines, TwoOrMore, Production, production}
 use Rattle.jsx_base.proofs.Longest.{same_is}
 use Rattle.jsx_tree.proofs.ReadBack.Joins.{Token, Ahead, at_once, sign_ahead, ahead}
-use Rattle.jsx_tree.proofs.ReadBack.RowChecks.{is_starter, is_tagged, is_linked, is_name_place, is_quoted, elseless, frontal, is_later, is_body, holes, sound, sounds, sound_each, is_formed, rowed, Asks, asks_none, token_opens, part_opens, signs_open, row_opens, is_loose, is_keyed, is_body_kind}
+use Rattle.jsx_tree.proofs.ReadBack.RowChecks.{is_starter, is_tagged, is_linked, is_name_place, is_quoted, elseless, frontal, is_later, is_body, holes, sound, sounds, sound_each, is_formed, rowed, Asks, asks_none, token_opens, part_opens, signs_open, row_opens, is_loose, is_keyed, is_body_kind, part_words}
 use Rattle.jsx_tree.proofs.ReadBack.Leaves.{slash_first, no_sign, name_starts, piece_starts, start_no_digit}
 use Rattle.jsx_tree.proofs.ReadBack.NextTokens.{ahead_append, Opens}
 use Rattle.jsx_tree.proofs.ReadBack.NextInRow.{Front, LineFront, Fronts, TreeFront, FrontOf, FrontsOf, front_at}
@@ -66,26 +66,53 @@ quoted_leaf (TemplatePart NoSubstitution) _ x i h l = absurd (false≢true h)
 quoted_leaf (TemplatePart TemplateHead) _ x i h l = absurd (false≢true h)
 quoted_leaf _ s x i h l = absurd (false≢true i)
 
--- `else` stands at no such place
-else_word : (c : Nonterminal) → elseless c ≡ true → leaf_in c IdentifierName (codes "else") ≡ false
-else_word (Expr n) h = and_right (nat_le n 18) (is_value_word (codes "else")) refl
-else_word MemberObject h = refl
-else_word DotObject h = refl
-else_word SimpleTarget h = refl
-else_word Ident h = refl
-else_word BindingIdent h = refl
-else_word StringOnly h = refl
-else_word (Pat r) h = refl
-else_word NullishLeft h = refl
-else_word NewCallee h = refl
-else_word (TemplatePart NoSubstitution) h = refl
-else_word (TemplatePart TemplateHead) h = refl
-else_word Stmt h = refl
-else_word Item h = refl
-else_word DirectiveOnly h = refl
-else_word CaseClause h = refl
-else_word BlockOnly h = refl
-else_word _ h = absurd (false≢true h)
+-- none of the words stands at a place
+abbrev wordless : Nonterminal → List Text → Bool
+wordless c [] = true
+wordless c (t ∷ ts) = not (leaf_in c IdentifierName t) && wordless c ts
+
+no_words : (c : Nonterminal) → elseless c ≡ true → wordless c part_words ≡ true
+no_words (Expr n) h = and_from _ _ (no_value n (codes "else") refl) (and_from _ _ (no_value n (codes "catch") refl) (and_from _ true (no_value n (codes "finally") refl) refl))
+  where
+    no_value : (n : ℕ) (t : Text) → is_value_word t ≡ false → not (nat_le n 18 && is_value_word t) ≡ true
+    no_value n t h = not_from_false _ (and_right (nat_le n 18) (is_value_word t) h)
+no_words MemberObject h = refl
+no_words DotObject h = refl
+no_words SimpleTarget h = refl
+no_words Ident h = refl
+no_words BindingIdent h = refl
+no_words StringOnly h = refl
+no_words (Pat r) h = refl
+no_words NullishLeft h = refl
+no_words NewCallee h = refl
+no_words (TemplatePart NoSubstitution) h = refl
+no_words (TemplatePart TemplateHead) h = refl
+no_words Stmt h = refl
+no_words Item h = refl
+no_words DirectiveOnly h = refl
+no_words CaseClause h = refl
+no_words BlockOnly h = refl
+no_words _ h = absurd (false≢true h)
+
+word_of : (c : Nonterminal) (ts : List Text) (w : Text) → wordless c ts ≡ true → among w ts ≡ true → leaf_in c IdentifierName w ≡ false
+word_of c [] w n h = absurd (false≢true h)
+word_of c (t ∷ ts) w n h =
+    let a = and_parts (not (leaf_in c IdentifierName t)) (wordless c ts) n in
+    ⊎_elim (λ (e : same w t ≡ true). subst (λ y. leaf_in c IdentifierName y ≡ false) (sym (same_is w t e)) (not-true _ a.0)) (λ (e : among w ts ≡ true). word_of c ts w a.1 e) (or_cases (same w t) (among w ts) h)
+
+part_word : (c : Nonterminal) → elseless c ≡ true → (w : Text) → among w part_words ≡ true → leaf_in c IdentifierName w ≡ true → ⊥
+part_word c e w z h = clash _ h (word_of c part_words w (no_words c e) z)
+
+-- a word is no leaf of another kind
+abbrev any_leaf : TokenKind → List Text → Bool
+any_leaf s [] = false
+any_leaf s (t ∷ ts) = is_leaf s t || any_leaf s ts
+
+no_leaf : (s : TokenKind) (w : Text) (ts : List Text) → any_leaf s ts ≡ false → among w ts ≡ true → is_leaf s w ≡ true → ⊥
+no_leaf s w [] n h i = false≢true h
+no_leaf s w (t ∷ ts) n h i =
+    let a = or_parts (is_leaf s t) (any_leaf s ts) n in
+    ⊎_elim (λ (e : same w t ≡ true). clash (is_leaf s t) (subst (λ y. is_leaf s y ≡ true) (same_is w t e) i) a.0) (λ (e : among w ts ≡ true). no_leaf s w ts a.1 e i) (or_cases (same w t) (among w ts) h)
 
 -- what `frontal` says
 record Frontal (c : Nonterminal) : Type 0 where
@@ -129,15 +156,18 @@ hole_tail (Slot Binds) x i h = false≢true h
 hole_tail (Slot Assigns) x i h = false≢true h
 hole_tail _ x i h = false≢true i
 
+abbrev NoWord : TokenKind → Nonterminal → Type 0
+NoWord s c = elseless c ≡ true → (w : Text) → among w part_words ≡ true → leaf_in c s w ≡ true → is_leaf s w ≡ true → ⊥
+
 -- a leaf of code
 leaf_opens : (c : Nonterminal) (s : TokenKind) (m : Mode) (x : Text) → is_code m ≡ true → SoundLeaf c s x → is_one_of (first_char x) (codes "=>") ≡ false → ((s ≡ NoSubstitution) ⊎ (s ≡ TemplateHead) → nat_eq (first_char x) 96 ≡ true)
-    → (s ≡ IdentifierName → (is_digit (first_char x) ≡ false) × (nat_eq (first_char x) 46 ≡ false)) → (elseless c ≡ true → leaf_in c s (codes "else") ≡ true → is_leaf s (codes "else") ≡ true → ⊥) → Opens c m x
+    → (s ≡ IdentifierName → (is_digit (first_char x) ≡ false) × (nat_eq (first_char x) 46 ≡ false)) → NoWord s c → Opens c m x
 leaf_opens c s m x k l n q w e = record {
   code = k;
   starter = not_from_false _ n;
   back = λ i. absurd (no_tagged c s x i l.home l.solid);
   link = λ i. absurd (no_linked c s x i l.home l.solid);
-  lined = λ i. false_from_ne_true (same x (codes "else")) (λ z. let y = same_is x (codes "else") z in e i (subst (λ t. leaf_in c s t ≡ true) y l.home) (subst (λ t. is_leaf s t ≡ true) y l.whole));
+  lined = λ i. false_from_ne_true (among x part_words) (λ z. e i x z l.home l.whole);
   named = λ i. w (named_leaf c s x i l.home l.solid);
   quoted = λ i. q (quoted_leaf c s x i l.home l.solid);
 }
@@ -162,31 +192,28 @@ slash_sign : (x : Text) → first_is (λ c. nat_eq c 47) x ≡ true → is_one_o
 slash_sign [] h = absurd (false≢true h)
 slash_sign (c ∷ x) h = subst (λ y. is_one_of y (codes "=>") ≡ false) (sym (eqb-true c 47 h)) refl
 
-abbrev NoWord : TokenKind → Nonterminal → Type 0
-NoWord s c = elseless c ≡ true → leaf_in c s (codes "else") ≡ true → is_leaf s (codes "else") ≡ true → ⊥
-
 leaf_fronts : (s : TokenKind) (x : Text) (c : Nonterminal) → SoundLeaf c s x → Fronts c (leaf s x)
 leaf_fronts IdentifierName x c l =
     plain_fronts c IdentifierName x l (λ e. cc) (λ e. cc)
-    (leaf_front c IdentifierName Operator x (λ w. refl) (leaf_opens c IdentifierName Operator x refl l (no_sign IdentifierName x (λ e. cc) (λ e. cc) l.whole) (λ q. absurd (⊎_elim (λ (e : IdentifierName ≡ NoSubstitution). cc) (λ (e : IdentifierName ≡ TemplateHead). cc) q)) (λ _. word_first x (name_starts x l.whole)) (λ e h i. clash _ h (else_word c e))))
+    (leaf_front c IdentifierName Operator x (λ w. refl) (leaf_opens c IdentifierName Operator x refl l (no_sign IdentifierName x (λ e. cc) (λ e. cc) l.whole) (λ q. absurd (⊎_elim (λ (e : IdentifierName ≡ NoSubstitution). cc) (λ (e : IdentifierName ≡ TemplateHead). cc) q)) (λ _. word_first x (name_starts x l.whole)) (λ e w z h i. part_word c e w z h)))
 leaf_fronts NumericLiteral x c l =
     plain_fronts c NumericLiteral x l (λ e. cc) (λ e. cc)
-    (leaf_front c NumericLiteral Operator x (λ w. refl) (leaf_opens c NumericLiteral Operator x refl l (no_sign NumericLiteral x (λ e. cc) (λ e. cc) l.whole) (λ q. absurd (⊎_elim (λ (e : NumericLiteral ≡ NoSubstitution). cc) (λ (e : NumericLiteral ≡ TemplateHead). cc) q)) (λ e. cc) (λ e h i. false≢true i)))
+    (leaf_front c NumericLiteral Operator x (λ w. refl) (leaf_opens c NumericLiteral Operator x refl l (no_sign NumericLiteral x (λ e. cc) (λ e. cc) l.whole) (λ q. absurd (⊎_elim (λ (e : NumericLiteral ≡ NoSubstitution). cc) (λ (e : NumericLiteral ≡ TemplateHead). cc) q)) (λ e. cc) (λ e w z h i. no_leaf NumericLiteral w part_words refl z i)))
 leaf_fronts BigIntLiteral x c l =
     plain_fronts c BigIntLiteral x l (λ e. cc) (λ e. cc)
-    (leaf_front c BigIntLiteral Operator x (λ w. refl) (leaf_opens c BigIntLiteral Operator x refl l (no_sign BigIntLiteral x (λ e. cc) (λ e. cc) l.whole) (λ q. absurd (⊎_elim (λ (e : BigIntLiteral ≡ NoSubstitution). cc) (λ (e : BigIntLiteral ≡ TemplateHead). cc) q)) (λ e. cc) (λ e h i. false≢true i)))
+    (leaf_front c BigIntLiteral Operator x (λ w. refl) (leaf_opens c BigIntLiteral Operator x refl l (no_sign BigIntLiteral x (λ e. cc) (λ e. cc) l.whole) (λ q. absurd (⊎_elim (λ (e : BigIntLiteral ≡ NoSubstitution). cc) (λ (e : BigIntLiteral ≡ TemplateHead). cc) q)) (λ e. cc) (λ e w z h i. no_leaf BigIntLiteral w part_words refl z i)))
 leaf_fronts StringLiteral x c l =
     plain_fronts c StringLiteral x l (λ e. cc) (λ e. cc)
-    (leaf_front c StringLiteral Operator x (λ w. refl) (leaf_opens c StringLiteral Operator x refl l (no_sign StringLiteral x (λ e. cc) (λ e. cc) l.whole) (λ q. absurd (⊎_elim (λ (e : StringLiteral ≡ NoSubstitution). cc) (λ (e : StringLiteral ≡ TemplateHead). cc) q)) (λ e. cc) (λ e h i. false≢true i)))
+    (leaf_front c StringLiteral Operator x (λ w. refl) (leaf_opens c StringLiteral Operator x refl l (no_sign StringLiteral x (λ e. cc) (λ e. cc) l.whole) (λ q. absurd (⊎_elim (λ (e : StringLiteral ≡ NoSubstitution). cc) (λ (e : StringLiteral ≡ TemplateHead). cc) q)) (λ e. cc) (λ e w z h i. no_leaf StringLiteral w part_words refl z i)))
 leaf_fronts RegExpLiteral x c l =
     plain_fronts c RegExpLiteral x l (λ e. cc) (λ e. cc)
-    (leaf_front c RegExpLiteral Operand x (λ w. refl) (leaf_opens c RegExpLiteral Operand x refl l (slash_sign x (slash_first x l.whole)) (λ q. absurd (⊎_elim (λ (e : RegExpLiteral ≡ NoSubstitution). cc) (λ (e : RegExpLiteral ≡ TemplateHead). cc) q)) (λ e. cc) (λ e h i. false≢true i)))
+    (leaf_front c RegExpLiteral Operand x (λ w. refl) (leaf_opens c RegExpLiteral Operand x refl l (slash_sign x (slash_first x l.whole)) (λ q. absurd (⊎_elim (λ (e : RegExpLiteral ≡ NoSubstitution). cc) (λ (e : RegExpLiteral ≡ TemplateHead). cc) q)) (λ e. cc) (λ e w z h i. no_leaf RegExpLiteral w part_words refl z i)))
 leaf_fronts NoSubstitution x c l =
     plain_fronts c NoSubstitution x l (λ e. cc) (λ e. cc)
-    (leaf_front c NoSubstitution Operator x (λ w. refl) (leaf_opens c NoSubstitution Operator x refl l (no_sign NoSubstitution x (λ e. cc) (λ e. cc) l.whole) (λ _. piece_starts NoSubstitution x (λ e. cc) (λ e. cc) refl refl refl refl refl refl l.whole) (λ e. cc) (λ e h i. false≢true i)))
+    (leaf_front c NoSubstitution Operator x (λ w. refl) (leaf_opens c NoSubstitution Operator x refl l (no_sign NoSubstitution x (λ e. cc) (λ e. cc) l.whole) (λ _. piece_starts NoSubstitution x (λ e. cc) (λ e. cc) refl refl refl refl refl refl l.whole) (λ e. cc) (λ e w z h i. no_leaf NoSubstitution w part_words refl z i)))
 leaf_fronts TemplateHead x c l =
     plain_fronts c TemplateHead x l (λ e. cc) (λ e. cc)
-    (leaf_front c TemplateHead Operator x (λ w. refl) (leaf_opens c TemplateHead Operator x refl l (no_sign TemplateHead x (λ e. cc) (λ e. cc) l.whole) (λ _. piece_starts TemplateHead x (λ e. cc) (λ e. cc) refl refl refl refl refl refl l.whole) (λ e. cc) (λ e h i. false≢true i)))
+    (leaf_front c TemplateHead Operator x (λ w. refl) (leaf_opens c TemplateHead Operator x refl l (no_sign TemplateHead x (λ e. cc) (λ e. cc) l.whole) (λ _. piece_starts TemplateHead x (λ e. cc) (λ e. cc) refl refl refl refl refl refl l.whole) (λ e. cc) (λ e w z h i. no_leaf TemplateHead w part_words refl z i)))
 leaf_fronts TemplateMiddle x c l = record {
   front = λ f. clash _ l.home (no_middle_home c f);
   later = λ _. record { kind = TemplateMiddle; text = x; view = λ w. refl };
@@ -222,7 +249,7 @@ record RowFront (f : Asks) (view_of : Ahead → Ahead) : Type 0 where
   pub starter : is_starter (first_char text) ≡ true
   pub tagged : f.tagged ≡ true → nat_eq (first_char text) 96 ≡ true
   pub linked : f.linked ≡ true → is_one_of (first_char text) (codes "?.[(") ≡ true
-  pub lined : f.lined ≡ true → same text (codes "else") ≡ false
+  pub lined : f.lined ≡ true → among text part_words ≡ false
 
 imp : (a b : Bool) → (not a || b) ≡ true → a ≡ true → b ≡ true
 imp true b h e = h
@@ -232,7 +259,7 @@ token_front : (f : Asks) (m : Mode) (s : TokenKind) (t : Text) (k : List Sign) �
 token_front f m s t k h =
     let x1 = not f.tagged || nat_eq (first_char t) 96 in
     let x2 = not f.linked || is_one_of (first_char t) (codes "?.[(") in
-    let x3 = not f.lined || not (same t (codes "else")) in
+    let x3 = not f.lined || not (among t part_words) in
     let a = and_parts (is_code m && is_starter (first_char t)) (x1 && (x2 && x3)) h in
     let b = and_parts (is_code m) (is_starter (first_char t)) a.0 in
     let c = and_parts x1 (x2 && x3) a.1 in

@@ -1,8 +1,8 @@
 -- What a row lets come next does come next in the signs of its parts.
 use Rattle.std.proofs.Common.{◌≡◌, ℕ, List, [], ◌∷◌, ◌++◌, Bool, true, false, cond, not, ◌||◌, ◌&&◌, codes, refl, sym, ap, ◌∙◌, subst, ⊎_elim, ◌⊎◌}
 use Rattle.std.specs.Prelude.{nat_eq}
-use Rattle.std.proofs.lemmas.Bool.{false≢true, and_parts, and_from, or_cases, eqb-true, not-true, not_from_false, or_left, or_right, or_from, and_left}
-use Rattle.jsx_base.specs.Token.{Text, Mode, Piece, TokenKind, Punctuator, same, is_one_of, is_digit}
+use Rattle.std.proofs.lemmas.Bool.{false≢true, and_parts, and_from, or_parts, or_cases, eqb-true, not-true, not_from_false, or_left, or_right, or_from, and_left}
+use Rattle.jsx_base.specs.Token.{Text, Mode, Piece, TokenKind, Punctuator, among, same, is_one_of, is_digit}
 use Rattle.jsx_tree.specs.Signs.{Sign, Tok, Semicolon, TrailingComma, Unless, SameLine, Ends, Space, Pad, Line, Indent, Outdent, Unindent, Apart, Begin, Count, One, End}
 use Rattle.jsx_tree.specs.Kinds.{Tree, leaf, node, list, Forest, none, part}
 use Rattle.jsx_tree.specs.Nonterminals.{Nonterminal, Stmt, Item, DirectiveOnly, CaseClause}
@@ -12,8 +12,8 @@ use Rattle.jsx_tree.specs.Spelling.{said, saids, each_said, joined, walk, gather
 use Rattle.jsx_tree.specs.Form.{Single, enough, last_only}
 use Rattle.jsx_base.proofs.Longest.{same_is}
 use Rattle.jsx_tree.proofs.ReadBack.Joins.{Nothing, Token, Ahead, at_once, sign_ahead, ahead, goes_on, is_pointed, follows, skips_next, open_gap, joint, is_none_of, at_end}
-use Rattle.jsx_tree.proofs.ReadBack.RowChecks.{calm_chars, calm, is_tagged, is_linked, Need, Even, Calm, After, NoneOf, Sure, holds, Outs, idle, outside_ok, no_starter, is_punct, flat, seen, seen_piece, seen_part, seen_many, sees, is_name_place, is_line, elseless, with_token, before_signs, comma, is_some_shape, is_code_shape, is_holey, frontal, is_body, is_later, holes, is_formed, sound, sound_each, rowed}
-use Rattle.jsx_tree.proofs.ReadBack.NextTokens.{ahead_append, char_of, even_gap, Outside, outside_holds, idle_ahead, with_next, next_apart, with_token_ahead, Opens, code_skips, none_code, no_arrow, punct_joint, is_kind_punct, pointed_joint}
+use Rattle.jsx_tree.proofs.ReadBack.RowChecks.{calm_chars, calm, is_tagged, is_linked, Need, Even, Calm, After, NoneOf, Sure, holds, Outs, idle, outside_ok, no_starter, is_punct, flat, seen, seen_piece, seen_part, seen_many, sees, is_name_place, is_line, elseless, with_token, before_signs, comma, is_some_shape, is_code_shape, is_holey, frontal, is_body, is_later, holes, is_formed, sound, sound_each, rowed, try_words, part_words, all_in}
+use Rattle.jsx_tree.proofs.ReadBack.NextTokens.{ahead_append, char_of, even_gap, Outside, outside_holds, idle_ahead, with_next, next_apart, with_token_ahead, Opens, code_skips, none_code, no_arrow, punct_joint, is_kind_punct, pointed_joint, among_fewer, slash_fewer}
 
 -- ---- one token at the front
 
@@ -64,7 +64,7 @@ seen_calm b e d c m s x o h =
         calm_by b e d c m s x fl o (or_right d.sure (is_one_of (first_char x) (calm_chars b)) (link_calm b (first_char x) r.1 (o.link r.0))) (λ _. no_else_by x (link_no_else (first_char x) (o.link r.0)))
     go false false f g fl k =
         let r = and_parts d.sure (e || is_line c) k in
-        calm_by b e d c m s x fl o (or_left d.sure (is_one_of (first_char x) (calm_chars b)) r.0) (λ n. o.lined (line_elseless c (by_else e n r.1)))
+        calm_by b e d c m s x fl o (or_left d.sure (is_one_of (first_char x) (calm_chars b)) r.0) (λ n. (or_parts (same x (codes "else")) (among x try_words) (o.lined (line_elseless c (by_else e n r.1)))).0)
       where
         by_else : (e : Bool) → e ≡ false → (e || is_line c) ≡ true → is_line c ≡ true
         by_else true n k = absurd (false≢true (sym n))
@@ -91,7 +91,7 @@ seen_holds : (n : Need) (d : Ahead) (c : Nonterminal) (m : Mode) (s : TokenKind)
 seen_holds Even d c m s x o h = and_from (skips_next (Token m s x)) (flat d) (code_skips m s x o.code) h
 seen_holds (Calm b e) d c m s x o h = seen_calm b e d c m s x o h
 seen_holds (After k t) d c m s x o h = seen_after k t d c m s x o h
-seen_holds (NoneOf ts) d c m s x o h = absurd (false≢true h)
+seen_holds (NoneOf ts) d c m s x o h = let a = and_parts (elseless c) (all_in ts part_words) h in none_code m s x ts o.code (among_fewer x ts part_words (o.lined a.0) a.1) (slash_fewer ts part_words refl a.1)
 seen_holds Sure d c m s x o h = h
 
 piece_holds : (n : Need) (d : Ahead) (s : TokenKind) (x : Text) → seen_piece n d ≡ true → holds n (with_next (Token Piece s x) d) ≡ true

@@ -1,14 +1,14 @@
 -- What may come next behind a tree, a list or a row: the words in which rows are walked.
-use Rattle.std.proofs.Common.{◌≡◌, ℕ, List, [], ◌∷◌, ◌++◌, Bool, true, false, not, ◌||◌, ◌&&◌, codes, refl, sym, ap, ◌∙◌, subst}
+use Rattle.std.proofs.Common.{◌≡◌, ℕ, List, [], ◌∷◌, ◌++◌, Bool, true, false, not, ◌||◌, ◌&&◌, codes, refl, sym, ap, ◌∙◌, subst, ⊎_elim}
 use Rattle.std.specs.Prelude.{nat_eq}
-use Rattle.std.proofs.lemmas.Bool.{false≢true, and_parts, and_from, or_parts, eqb-true, false_from_ne_true, not-true, not_from_false, or_left, or_right, or_from, and_left, and_right}
+use Rattle.std.proofs.lemmas.Bool.{false≢true, and_parts, and_from, or_parts, or_cases, eqb-true, false_from_ne_true, not-true, not_from_false, or_left, or_right, or_from, and_left, and_right}
 use Rattle.jsx_base.specs.Token.{Text, Mode, Operand, Operator, Piece, Tag, Children, TokenKind, Punctuator, among, same, is_one_of, is_digit, is_code}
 use Rattle.jsx_tree.specs.Signs.{Sign, Tok, Semicolon, TrailingComma, Unless, SameLine, Ends, Space, Pad, Line, Indent, Outdent, Unindent, Apart, Begin, Count, One, End}
 use Rattle.jsx_tree.specs.Nonterminals.{Nonterminal}
 use Rattle.jsx_tree.specs.Layout.{last, first_char}
 use Rattle.jsx_base.proofs.Longest.{same_is}
 use Rattle.jsx_tree.proofs.ReadBack.Joins.{Next, Nothing, Semi, Token, Ahead, at_once, sign_ahead, ahead, goes_on, is_pointed, follows, skips_next, open_gap, next_ok, joint, no_slash, is_none_of, at_end, good, sign_good}
-use Rattle.jsx_tree.proofs.ReadBack.RowChecks.{calm_chars, calm_next, even, calm, is_tagged, is_linked, Need, Even, Calm, After, NoneOf, Sure, holds, Outs, idle, chars_are, is_one_text, outside_ok, is_starter, no_starter, is_punct, is_name_place, elseless, is_quoted, with_token}
+use Rattle.jsx_tree.proofs.ReadBack.RowChecks.{calm_chars, calm_next, even, calm, is_tagged, is_linked, Need, Even, Calm, After, NoneOf, Sure, holds, Outs, idle, chars_are, is_one_text, outside_ok, is_starter, no_starter, is_punct, is_name_place, elseless, is_quoted, with_token, try_words, part_words, all_in}
 use Rattle.jsx_tree.proofs.ReadBack.Basics.{clash}
 
 -- ---- lists of signs put together
@@ -35,6 +35,39 @@ char_of p (d ∷ ds) c h e =
     go true f g a r = subst (λ x. p x ≡ true) (sym (eqb-true c d f)) a
     go false f g a r = r g
 
+-- a guard asks of fewer texts than another
+pub among_fewer : (x : Text) (ts us : List Text) → among x us ≡ false → all_in ts us ≡ true → among x ts ≡ false
+among_fewer x [] us n h = refl
+among_fewer x (t ∷ ts) us n h =
+    let a = and_parts (among t us) (all_in ts us) h in
+    or_from (same x t) (among x ts) (false_from_ne_true (same x t) (λ e. clash (among x us) (subst (λ y. among y us ≡ true) (sym (same_is x t e)) a.0) n)) (among_fewer x ts us n a.1)
+
+slash_tail : (u : Text) (us : List Text) → no_slash (u ∷ us) ≡ true → no_slash us ≡ true
+slash_tail [] us h = absurd (false≢true h)
+slash_tail (c ∷ u) us h = (and_parts (not (nat_eq c 47)) (no_slash us) h).1
+
+slash_first : (u : Text) (us ts : List Text) → no_slash (u ∷ us) ≡ true → no_slash ts ≡ true → no_slash (u ∷ ts) ≡ true
+slash_first [] us ts h g = absurd (false≢true h)
+slash_first (c ∷ u) us ts h g = and_from (not (nat_eq c 47)) (no_slash ts) ((and_parts (not (nat_eq c 47)) (no_slash us) h).0) g
+
+slash_more : (t : Text) (us ts : List Text) → no_slash us ≡ true → among t us ≡ true → no_slash ts ≡ true → no_slash (t ∷ ts) ≡ true
+slash_more t [] ts h e g = absurd (false≢true e)
+slash_more t (u ∷ us) ts h e g =
+    ⊎_elim (λ (s : same t u ≡ true). subst (λ y. no_slash (y ∷ ts) ≡ true) (sym (same_is t u s)) (slash_first u us ts h g)) (λ (r : among t us ≡ true). slash_more t us ts (slash_tail u us h) r g) (or_cases (same t u) (among t us) e)
+
+pub slash_fewer : (ts us : List Text) → no_slash us ≡ true → all_in ts us ≡ true → no_slash ts ≡ true
+slash_fewer [] us n h = refl
+slash_fewer (t ∷ ts) us n h = let a = and_parts (among t us) (all_in ts us) h in slash_more t us ts n a.0 (slash_fewer ts us n a.1)
+
+pub none_fewer : (n : Next) (ts us : List Text) → all_in ts us ≡ true → is_none_of n us ≡ true → is_none_of n ts ≡ true
+none_fewer Nothing ts us h e = slash_fewer ts us e h
+none_fewer Semi ts us h e = not_from_false _ (among_fewer (codes ";") ts us (not-true _ e) h)
+none_fewer (Token Operator s t) ts us h e = not_from_false _ (among_fewer t ts us (not-true _ e) h)
+none_fewer (Token Operand s t) ts us h e = slash_fewer ts us e h
+none_fewer (Token Piece s t) ts us h e = absurd (false≢true e)
+none_fewer (Token Tag s t) ts us h e = absurd (false≢true e)
+none_fewer (Token Children s t) ts us h e = absurd (false≢true e)
+
 one_text : (ts : List Text) (t : Text) → is_one_text ts t ≡ true → ts ≡ t ∷ []
 one_text [] t h = absurd (false≢true h)
 one_text (u ∷ []) t h = ap (λ x. x ∷ []) (same_is u t h)
@@ -50,6 +83,7 @@ even_gap v h =
 pub record Outside (o : Outs) (v : Ahead) : Type 0 where
   pub calm_out : o.known ≡ true → calm o.dot o.els v ≡ true
   pub comma_out : o.no_comma ≡ true → is_none_of v.next (codes "," ∷ []) ≡ true
+  pub part_out : o.no_part ≡ true → is_none_of v.next try_words ≡ true
   pub even_out : even v ≡ true
   pub end_out : o.nothing ≡ true → v ≡ at_end
 
@@ -136,13 +170,14 @@ outside_holds o (NoneOf ts) v w h = go (o.known && is_one_text ts (codes "=>")) 
     by : (u : Text) → is_one_text ts u ≡ true → is_none_of v.next (u ∷ []) ≡ true → is_none_of v.next ts ≡ true
     by u e x = subst (λ y. is_none_of v.next y ≡ true) (sym (one_text ts u e)) x
 
-    go : (a b : Bool) → (o.known && is_one_text ts (codes "=>")) ≡ a → (o.known && (not o.els && is_one_text ts (codes "else"))) ≡ b → (a || (b || (o.no_comma && is_one_text ts (codes ",")))) ≡ true → is_none_of v.next ts ≡ true
+    go : (a b : Bool) → (o.known && is_one_text ts (codes "=>")) ≡ a → (o.known && (not o.els && is_one_text ts (codes "else"))) ≡ b → (a || (b || ((o.no_comma && is_one_text ts (codes ",")) || (o.no_part && all_in ts try_words)))) ≡ true → is_none_of v.next ts ≡ true
     go true b e f h = let p = and_parts o.known (is_one_text ts (codes "=>")) e in by (codes "=>") p.1 (calm_arrow o.dot o.els v (w.calm_out p.0))
     go false true e f h =
         let p = and_parts o.known (not o.els && is_one_text ts (codes "else")) f in
         let q = and_parts (not o.els) (is_one_text ts (codes "else")) p.1 in
         by (codes "else") q.1 (calm_else o.dot o.els v (not-true _ q.0) (w.calm_out p.0))
-    go false false e f h = let p = and_parts o.no_comma (is_one_text ts (codes ",")) h in by (codes ",") p.1 (w.comma_out p.0)
+    go false false e f h = ⊎_elim (λ (i : (o.no_comma && is_one_text ts (codes ",")) ≡ true). let p = and_parts o.no_comma (is_one_text ts (codes ",")) i in by (codes ",") p.1 (w.comma_out p.0))
+        (λ (i : (o.no_part && all_in ts try_words) ≡ true). let p = and_parts o.no_part (all_in ts try_words) i in none_fewer v.next ts try_words p.1 (w.part_out p.0)) (or_cases (o.no_comma && is_one_text ts (codes ",")) (o.no_part && all_in ts try_words) h)
 
 -- ---- signs of layout
 
@@ -218,7 +253,7 @@ pub record Opens (c : Nonterminal) (m : Mode) (x : Text) : Type 0 where
   pub starter : is_starter (first_char x) ≡ true
   pub back : is_tagged c ≡ true → nat_eq (first_char x) 96 ≡ true
   pub link : is_linked c ≡ true → is_one_of (first_char x) (codes "?.[(") ≡ true
-  pub lined : elseless c ≡ true → same x (codes "else") ≡ false
+  pub lined : elseless c ≡ true → among x part_words ≡ false
   pub quoted : is_quoted c ≡ true → nat_eq (first_char x) 96 ≡ true
   pub named : is_name_place c ≡ true → (is_digit (first_char x) ≡ false) × (nat_eq (first_char x) 46 ≡ false)
 

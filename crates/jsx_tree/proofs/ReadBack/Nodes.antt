@@ -1,18 +1,20 @@
 -- Each node whose parts are good is good.
 use Rattle.std.proofs.Common.{◌≡◌, ℕ, suc, arith, List, [], ◌∷◌, ◌++◌, Bool, true, false, cond, not, ◌||◌, ◌&&◌, codes, refl, sym, ap, ◌∙◌, subst, ⊎_elim, inl}
-use Rattle.std.proofs.lemmas.Bool.{false≢true, and_parts, and_from, not-true, or_left, or_right, or_from, and_left, and_right}
+use Rattle.std.specs.Prelude.{nat_eq, nat_le}
+use Rattle.std.proofs.lemmas.Bool.{false≢true, and_parts, and_from, not-true, or_left, or_right, or_from, or_cases, and_left, and_right, eqb-true}
 use Rattle.jsx_base.specs.Token.{Text, Operator, Punctuator, NoSubstitution, TemplateHead, TemplateMiddle, TemplateTail, among}
 use Rattle.jsx_tree.specs.Signs.{Sign, Tok, Semicolon, TrailingComma, Unless, SameLine, Ends, Space, Pad, Line, Indent, Outdent, Unindent, Apart, Begin, Count, One, End}
 use Rattle.jsx_tree.specs.Kinds.{Binds, NameLink, IndexLink, CallLink, Kind, program, statement, expression, Module, Script, If, While, For, ForIn, ForOf, Label, Catch, Chain, Tree, leaf, node, list, Forest, none, part}
-use Rattle.jsx_tree.specs.Nonterminals.{Nonterminal, Expr, ForInit, Pat, DotObject, ChainLink, TemplateOf, TemplatePart, TemplateSpans, Name, ClassMember, SubStmt, BlockOnly, CatchClause, MemberObject, in_homes, homes}
+use Rattle.jsx_tree.specs.Nonterminals.{Nonterminal, Expr, ForInit, ForHead, ForOfHead, NullishLeft, NullishOnly, NewCallee, number, floor, takes, in_list, Pat, DotObject, ChainLink, TemplateOf, TemplatePart, TemplateSpans, Name, ClassMember, SubStmt, BlockOnly, CatchClause, MemberObject, in_homes, homes}
 use Rattle.jsx_tree.specs.Grammar.{Fixed, Part, Optional, Many, Within, InLoop, Production, production, fixed, p, sp, OneOrMore}
+use Rattle.jsx_tree.specs.Grows.{any_of}
 use Rattle.jsx_tree.specs.Layout.{first_token}
 use Rattle.jsx_tree.specs.Spelling.{said, each_said, joined, gathered, spelled}
 use Rattle.jsx_tree.specs.Form.{Single, Maybe, Several, Position, position, positions, admits}
 use Rattle.jsx_tree.specs.StaticRules.{open_if, trails, is_if, last_open, is_optional}
 use Rattle.jsx_tree.specs.Fits.{is_plain}
 use Rattle.jsx_tree.proofs.ReadBack.Joins.{Token, at_once, Ahead, ahead, at_end, good}
-use Rattle.jsx_tree.proofs.ReadBack.RowChecks.{calm, Even, Calm, holds, Outs, is_inner, is_member, is_opened, elsed, dots, is_formed, sound, sounds, rowed, may_else, row_ok, elses, calm_row, is_none, outs, its_row, link_ok, is_span, is_dotted, is_elsed, is_program, imply, is_if_kind, is_tail, is_catch, is_sub, is_punct, if_row}
+use Rattle.jsx_tree.proofs.ReadBack.RowChecks.{calm, Even, Calm, holds, Outs, is_inner, is_member, is_opened, elsed, dots, is_formed, sound, sounds, rowed, may_else, row_ok, elses, calm_row, outs, its_row, link_ok, is_span, is_dotted, is_elsed, is_program, imply, is_if_kind, is_tail, is_catch, is_sub, is_punct, if_row, is_due, whole_numbers, is_whole, all_whole}
 use Rattle.jsx_tree.proofs.ReadBack.NextTokens.{good_append, calm_weaker, Outside}
 use Rattle.jsx_tree.proofs.ReadBack.NextInRow.{FrontsOf}
 use Rattle.jsx_tree.proofs.ReadBack.Rows.{Before, TreeGood, GoodsOf, home_of, no_rest, good_at, append_signs, row_good}
@@ -217,12 +219,12 @@ elses_calm o (Optional x c y s ∷ ps) none g r h = refl
 elses_calm o (Optional x c y s ∷ ps) (part (leaf k u) ts) g r h = refl
 elses_calm o (Optional x c y s ∷ ps) (part (node k cs) ts) g r h = refl
 elses_calm o (Optional x c y s ∷ ps) (part (list none) ts) g r h =
-    let a = and_parts (not (may_else o (fixed y ++ ps) && is_sub c) && (is_none s || not o.els)) (calm_row o ps) h in
-    let b = and_parts (not (may_else o (fixed y ++ ps) && is_sub c)) (is_none s || not o.els) a.0 in
-    and_from (is_none s || not o.els) (elses o ps ts) b.1 (elses_calm o ps ts [] r a.1)
+    let a = and_parts (not (may_else o (fixed y ++ ps) && is_sub c) && not (is_due o s)) (calm_row o ps) h in
+    let b = and_parts (not (may_else o (fixed y ++ ps) && is_sub c)) (not (is_due o s)) a.0 in
+    and_from (not (is_due o s)) (elses o ps ts) b.1 (elses_calm o ps ts [] r a.1)
 elses_calm o (Optional x c y s ∷ ps) (part (list (part t none)) ts) g r h =
-    let a = and_parts (not (may_else o (fixed y ++ ps) && is_sub c) && (is_none s || not o.els)) (calm_row o ps) h in
-    let b = and_parts (not (may_else o (fixed y ++ ps) && is_sub c)) (is_none s || not o.els) a.0 in
+    let a = and_parts (not (may_else o (fixed y ++ ps) && is_sub c) && not (is_due o s)) (calm_row o ps) h in
+    let b = and_parts (not (may_else o (fixed y ++ ps) && is_sub c)) (not (is_due o s)) a.0 in
     let p = and_parts (is_formed Single t && (sound c [] t && true)) (rowed [] ps ts) r in
     let q = and_parts (is_formed Single t) (sound c [] t && true) p.0 in
     and_from (not (may_else o (fixed y ++ ps) && elsed c) || not (open_if t)) (elses o ps ts) (place_closed c [] t (may_else o (fixed y ++ ps)) q.0 ((and_parts (sound c [] t) true q.1).0) b.0) (elses_calm o ps ts [] p.1 a.1)
@@ -281,10 +283,25 @@ tail_elses _ cs h i s n = absurd (false≢true h)
 abbrev behind_else : Nonterminal → Bool → Bool
 behind_else c e = cond (is_opened c) false (is_member c || e)
 
+whole_list : (c : Nonterminal) (ds : List Nonterminal) → all_whole ds ≡ true → in_list c ds ≡ true → is_whole c ≡ true
+whole_list c [] a h = absurd (false≢true h)
+whole_list c (d ∷ ds) a h =
+    let w = and_parts (is_whole d) (all_whole ds) a in
+    ⊎_elim (λ (e : takes c d ≡ true). subst (λ n. any_of n whole_numbers ≡ true) (sym (eqb-true (number c) (number d) ((and_parts (nat_eq (number c) (number d)) (nat_le (floor c) (floor d)) e).0))) w.0) (λ (e : in_list c ds ≡ true). whole_list c ds w.1 e) (or_cases (takes c d) (in_list c ds) h)
+
+whole_home : (c : Nonterminal) (ds : List Nonterminal) → all_whole ds ≡ true → in_homes c ds ≡ true → is_whole c ≡ true
+whole_home NullishLeft ds a h = ⊎_elim (λ (e : in_list (Expr 6) ds ≡ true). absurd (false≢true (whole_list (Expr 6) ds a e))) (λ (e : in_list NullishOnly ds ≡ true). absurd (false≢true (whole_list NullishOnly ds a e))) (or_cases (in_list (Expr 6) ds) (in_list NullishOnly ds) h)
+whole_home NewCallee ds a h = absurd (false≢true (whole_list (Expr 17) ds a h))
+whole_home DotObject ds a h = absurd (false≢true (whole_list MemberObject ds a h))
+whole_home ForOfHead ds a h = absurd (false≢true (whole_list ForHead ds a h))
+whole_home (Expr n) ds a h = whole_list (Expr n) ds a h
+whole_home c ds a h = whole_list c ds a h
+
 outside_of : (c : Nonterminal) (k : Kind) (cs : Forest) (e : Bool) (v : Ahead) → Facts k → in_homes c (homes k) ≡ true → Before c e (node k cs) v → Outside (outs k (behind_else c e)) v
 outside_of c k cs e v f h b = record {
   calm_out = λ n. go (is_opened c) refl n;
   comma_out = b.comma;
+  part_out = λ q. b.part (whole_home c (homes k) q h);
   even_out = need_even c e v b.needs;
   end_out = λ q. ⊎_elim (λ (i : is_inner c ≡ true). absurd (not_program c k h i q)) (λ (i : v ≡ at_end). i) b.ends;
 }
@@ -465,6 +482,7 @@ chain_good (part o (part (list (part l ls)) none)) fs gs c g e v h b =
       no_open = λ z. absurd (false≢true z);
       els = λ z. absurd (false≢true z);
       comma = λ z. clash _ z (no_rest MemberObject [] o q.0 refl);
+      part = λ z. absurd (false≢true z);
       ends = inl refl;
     })) r
 chain_good (part o (part (leaf k x) none)) fs gs c g e v h b =

@@ -45,10 +45,10 @@ mutual
 -- ---- programs
 
 at_end_outside : (k : Kind) → Outside (outs k false) at_end
-at_end_outside k = record { calm_out = λ _. refl; comma_out = λ _. refl; even_out = refl; end_out = λ _. refl }
+at_end_outside k = record { calm_out = λ _. refl; comma_out = λ _. refl; part_out = λ _. refl; even_out = refl; end_out = λ _. refl }
 
 program_good : (k : Kind) (cs : Forest) → sound WholeProgram [] (node k cs) ≡ true → good (spelled (node k cs)) at_end ≡ true
-program_good k cs h = all_good (node k cs) WholeProgram [] false at_end h (record { needs = refl; no_open = λ e. absurd (false≢true e); els = λ e. absurd (false≢true e); comma = λ _. refl; ends = inr refl })
+program_good k cs h = all_good (node k cs) WholeProgram [] false at_end h (record { needs = refl; no_open = λ e. absurd (false≢true e); els = λ e. absurd (false≢true e); comma = λ _. refl; part = λ _. refl; ends = inr refl })
 
 program_gap : (k : Kind) (cs : Forest) → is_program k ≡ true → sound WholeProgram [] (node k cs) ≡ true → open_gap [] (ahead (spelled (node k cs)) at_end) ≡ true
 program_gap (program Module) cs p h =

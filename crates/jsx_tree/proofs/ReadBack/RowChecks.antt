@@ -3,7 +3,8 @@ use Rattle.std.specs.Prelude.{ℕ, List, [], ◌∷◌, ◌++◌, codes, Bool, t
 use Rattle.jsx_base.specs.Token.{Text, Mode, Operator, TokenKind, Punctuator, NoSubstitution, TemplateHead, among, same, is_one_of, is_code, Elision, TemplateMiddle, TemplateTail}
 use Rattle.jsx_tree.specs.Signs.{Sign, Tok, Semicolon, TrailingComma, Unless, SameLine, Ends, Space, Line, Indent, Unindent, Begin, Count, One, End}
 use Rattle.jsx_tree.specs.Kinds.{Specifier, SpecifierAs, Method, PropertyPat, Property, NameLink, While, For, ForIn, ForOf, Label, Catch, Module, Script, FunctionBody, Field, RestPat, RestProperty, Binds, Assigns, Kind, program, statement, function, expression, If, Chain, TemplateSpan, Tree, leaf, node, list, Forest, none, part}
-use Rattle.jsx_tree.specs.Nonterminals.{Nonterminal, MemberObject, SimpleTarget, Ident, BindingIdent, StringOnly, Pat, NullishLeft, NewCallee, in_homes, leaf_in, homes, literal_homes, Expr, DotObject, ChainLink, TemplateOf, TemplatePart, TemplateSpans, Name, ArrayItem, Slot, Body, ClassMember, SubStmt, BlockOnly, CatchClause, Stmt, Item, DirectiveOnly, CaseClause}
+use Rattle.jsx_tree.specs.Nonterminals.{Nonterminal, MemberObject, SimpleTarget, Ident, BindingIdent, StringOnly, Pat, NullishLeft, NewCallee, number, in_homes, leaf_in, homes, literal_homes, Expr, DotObject, ChainLink, TemplateOf, TemplatePart, TemplateSpans, Name, ArrayItem, Slot, Body, ClassMember, SubStmt, BlockOnly, CatchClause, Stmt, Item, DirectiveOnly, CaseClause, Declaration}
+use Rattle.jsx_tree.specs.Grows.{any_of}
 use Rattle.jsx_tree.specs.Grammar.{ListShape, Commas, Elisions, NoTrailing, TwoOrMore, Lines, TopLines, OneOrMore, Spaced, JsxChildren, Fixed, Part, Optional, Many, Within, Production, production, fixed, pun, key}
 use Rattle.jsx_tree.specs.Spelling.{spelled, between}
 use Rattle.jsx_tree.specs.Layout.{first_char, first_token, last}
@@ -54,14 +55,29 @@ holds (After s t) v = open_gap [] v && joint s t v
 holds (NoneOf ts) v = is_none_of v.next ts
 holds Sure v = v.sure
 
--- what is known of what comes behind a node: whether it is calm at all, whether a `.` and an `else` may come, whether no comma does
+-- what is known of what comes behind a node: whether it is calm at all, whether a `.` and an `else` may come, whether no comma does, and no word of a `try`
 pub record Outs : Type 0 where
   pub known : Bool
   pub dot : Bool
   pub els : Bool
   pub no_comma : Bool
+  pub no_part : Bool
   -- whether nothing at all comes
   pub nothing : Bool
+
+-- ---- words
+
+-- with which a `try` goes on
+abbrev pub try_words : List Text
+try_words = codes "catch" ∷ codes "finally" ∷ []
+
+-- with which a statement goes on, and none begins
+abbrev pub part_words : List Text
+part_words = codes "else" ∷ try_words
+
+abbrev pub all_in : List Text → List Text → Bool
+all_in [] us = true
+all_in (t ∷ ts) us = among t us && all_in ts us
 
 -- ---- nonterminals
 
@@ -128,6 +144,38 @@ is_line DirectiveOnly = true
 is_line CaseClause = true
 is_line c = false
 
+-- whose trees don't begin with a word with which a statement goes on
+abbrev pub elseless : Nonterminal → Bool
+elseless (Expr n) = true
+elseless MemberObject = true
+elseless DotObject = true
+elseless SimpleTarget = true
+elseless Ident = true
+elseless BindingIdent = true
+elseless StringOnly = true
+elseless (Pat r) = true
+elseless NullishLeft = true
+elseless NewCallee = true
+elseless (TemplatePart NoSubstitution) = true
+elseless (TemplatePart TemplateHead) = true
+elseless Stmt = true
+elseless Item = true
+elseless DirectiveOnly = true
+elseless CaseClause = true
+elseless BlockOnly = true
+elseless c = false
+
+-- a statement, or what may end with one: no word of a `try` comes behind it
+abbrev pub whole_numbers : List ℕ
+whole_numbers = number Stmt ∷ number SubStmt ∷ number Item ∷ number Body ∷ number CaseClause ∷ number Declaration ∷ []
+
+abbrev pub is_whole : Nonterminal → Bool
+is_whole c = any_of (number c) whole_numbers
+
+abbrev pub all_whole : List Nonterminal → Bool
+all_whole [] = true
+all_whole (c ∷ cs) = is_whole c && all_whole cs
+
 -- ---- what a row lets come next
 
 abbrev pub idle : List Sign → Bool
@@ -158,7 +206,7 @@ outside_ok o Even = true
 outside_ok o Sure = false
 outside_ok o (Calm c f) = o.known && ((not o.dot || c) && (not o.els || f))
 outside_ok o (After s t) = o.known && chars_are (follows s t) (calm_chars o.dot)
-outside_ok o (NoneOf ts) = (o.known && is_one_text ts (codes "=>")) || ((o.known && (not o.els && is_one_text ts (codes "else"))) || (o.no_comma && is_one_text ts (codes ",")))
+outside_ok o (NoneOf ts) = (o.known && is_one_text ts (codes "=>")) || ((o.known && (not o.els && is_one_text ts (codes "else"))) || ((o.no_comma && is_one_text ts (codes ",")) || (o.no_part && all_in ts try_words)))
 
 -- the characters that no tree begins with
 abbrev pub is_starter : ℕ → Bool
@@ -182,7 +230,7 @@ seen Even d c = flat d
 seen Sure d c = d.sure
 seen (Calm b e) d c = flat d && (is_tagged c || ((is_linked c && b) || (d.sure && (e || is_line c))))
 seen (After s t) d c = flat d && (d.sure || (is_punct s && ((not (is_pointed t) && no_starter d.apart t (goes_on t)) || (is_name_place c && is_pointed t))))
-seen (NoneOf ts) d c = false
+seen (NoneOf ts) d c = elseless c && all_in ts part_words
 
 -- a later piece of a template
 abbrev pub seen_piece : Need → Ahead → Bool
@@ -251,7 +299,7 @@ abbrev pub need_of : Nonterminal → Bool → Need
 need_of c e = cond (is_opened c) Even (Calm (dots c) (is_member c || e))
 
 abbrev pub part_ok : Outs → Nonterminal → Production → Bool
-part_ok o c ps = sees o (need_of c (may_else o ps)) [] ps && (not (may_else o ps) || (elsed c || (is_member c || is_opened c)))
+part_ok o c ps = (sees o (need_of c (may_else o ps)) [] ps && (not (may_else o ps) || (elsed c || (is_member c || is_opened c)))) && (not (is_whole c) || sees o (NoneOf try_words) [] ps)
 
 abbrev pub guards : Production → Bool
 guards (Part c ∷ ps) = frontal c
@@ -273,9 +321,13 @@ abbrev pub signs_ok : Outs → List Sign → Production → Bool
 signs_ok o [] ps = true
 signs_ok o (m ∷ ms) ps = (is_no_guard m && sign_ok o m (fixed ms ++ ps)) && signs_ok o ms ps
 
+-- whether the word that a guard asks for may come behind the row: an `else`
+abbrev pub is_due : Outs → List Text → Bool
+is_due o r = is_one_text r (codes "else") && o.els
+
 abbrev pub absent_ok : Outs → List Text → Production → Bool
 absent_ok o [] ps = true
-absent_ok o (r ∷ rs) ps = o.els || sees o (NoneOf (r ∷ rs)) [] ps
+absent_ok o (r ∷ rs) ps = is_due o (r ∷ rs) || sees o (NoneOf (r ∷ rs)) [] ps
 
 abbrev pub behind_signs : ListShape → List Sign
 behind_signs Commas = TrailingComma ∷ []
@@ -316,7 +368,7 @@ is_span (expression (TemplateSpan b)) = true
 is_span k = false
 
 abbrev pub outs : Kind → Bool → Outs
-outs k e = record { known = not (is_span k); dot = is_dotted k; els = e; no_comma = last_kind k; nothing = is_program k }
+outs k e = record { known = not (is_span k); dot = is_dotted k; els = e; no_comma = last_kind k; no_part = all_whole (homes k); nothing = is_program k }
 
 -- a chain's object may be a number, whose first link is `?.`
 abbrev pub its_row : Kind → Production
@@ -385,7 +437,7 @@ elses o (Fixed m ∷ ps) cs = elses o ps cs
 elses o (Within a ∷ ps) cs = elses o ps cs
 elses o (Part c ∷ ps) none = true
 elses o (Part c ∷ ps) (part t ts) = (not (may_else o ps && elsed c) || not (open_if t)) && elses o ps ts
-elses o (Optional a c b r ∷ ps) (part (list none) ts) = (is_none r || not o.els) && elses o ps ts
+elses o (Optional a c b r ∷ ps) (part (list none) ts) = not (is_due o r) && elses o ps ts
 elses o (Optional a c b r ∷ ps) (part (list (part t us)) ts) = (not (may_else o (fixed b ++ ps) && elsed c) || not (open_if t)) && elses o ps ts
 elses o (Optional a c b r ∷ ps) cs = true
 elses o (Many s c ∷ ps) none = true
@@ -421,7 +473,7 @@ calm_row o [] = true
 calm_row o (Fixed m ∷ ps) = calm_row o ps
 calm_row o (Within a ∷ ps) = calm_row o ps
 calm_row o (Part c ∷ ps) = not (may_else o ps && is_sub c) && calm_row o ps
-calm_row o (Optional a c b r ∷ ps) = (not (may_else o (fixed b ++ ps) && is_sub c) && (is_none r || not o.els)) && calm_row o ps
+calm_row o (Optional a c b r ∷ ps) = (not (may_else o (fixed b ++ ps) && is_sub c) && not (is_due o r)) && calm_row o ps
 calm_row o (Many s c ∷ ps) = calm_row o ps
 
 abbrev pub imply : Bool → Bool → Bool
@@ -446,28 +498,7 @@ is_quoted (TemplatePart NoSubstitution) = true
 is_quoted (TemplatePart TemplateHead) = true
 is_quoted c = false
 
--- whose trees don't begin with the word `else`
-abbrev pub elseless : Nonterminal → Bool
-elseless (Expr n) = true
-elseless MemberObject = true
-elseless DotObject = true
-elseless SimpleTarget = true
-elseless Ident = true
-elseless BindingIdent = true
-elseless StringOnly = true
-elseless (Pat r) = true
-elseless NullishLeft = true
-elseless NewCallee = true
-elseless (TemplatePart NoSubstitution) = true
-elseless (TemplatePart TemplateHead) = true
-elseless Stmt = true
-elseless Item = true
-elseless DirectiveOnly = true
-elseless CaseClause = true
-elseless BlockOnly = true
-elseless c = false
-
--- which of a place's facts are asked: of a tagged template, of a chain's link, of what isn't `else`
+-- which of a place's facts are asked: of a tagged template, of a chain's link, of what isn't `else`, `catch` or `finally`
 pub record Asks : Type 0 where
   pub tagged : Bool
   pub linked : Bool
@@ -475,7 +506,7 @@ pub record Asks : Type 0 where
 
 abbrev pub token_opens : Asks → Mode → Text → Bool
 token_opens f m t =
-    (is_code m && is_starter (first_char t)) && ((not f.tagged || nat_eq (first_char t) 96) && ((not f.linked || is_one_of (first_char t) (codes "?.[(")) && (not f.lined || not (same t (codes "else")))))
+    (is_code m && is_starter (first_char t)) && ((not f.tagged || nat_eq (first_char t) 96) && ((not f.linked || is_one_of (first_char t) (codes "?.[(")) && (not f.lined || not (among t part_words))))
 
 abbrev pub part_opens : Asks → Nonterminal → Bool
 part_opens f c = frontal c && ((not f.tagged || is_quoted c) && ((not f.linked || is_linked c) && (not f.lined || elseless c)))

@@ -11,7 +11,7 @@ use Rattle.jsx_tree.specs.Spelling.{said, saids, each_said, joined, walk, gather
 use Rattle.jsx_tree.specs.Form.{Single, enough, last_only, is_last, last_kind, admits, admits_node, spine_calls}
 use Rattle.jsx_tree.specs.StaticRules.{open_if}
 use Rattle.jsx_tree.proofs.ReadBack.Joins.{open_gap, joint, Ahead, ahead, stands, skips_next, no_slash, is_none_of, at_end, good, sign_good}
-use Rattle.jsx_tree.proofs.ReadBack.RowChecks.{Need, Even, After, NoneOf, Sure, holds, Outs, is_holey, is_code_shape, before_signs, behind_signs, frontal, rests, is_inner, is_member, is_opened, elsed, is_punct, is_formed, sound, sound_each, rowed, sees, may_else, need_of, part_ok, guards, is_no_guard, sign_ok, signs_ok, absent_ok, many_ok, row_ok, elses}
+use Rattle.jsx_tree.proofs.ReadBack.RowChecks.{Need, Even, After, NoneOf, Sure, holds, Outs, is_holey, is_code_shape, before_signs, behind_signs, frontal, rests, is_inner, is_member, is_opened, elsed, is_punct, is_formed, sound, sound_each, rowed, sees, may_else, need_of, part_ok, guards, is_no_guard, sign_ok, signs_ok, absent_ok, many_ok, row_ok, elses, is_due, is_whole, try_words}
 use Rattle.jsx_tree.proofs.ReadBack.Signs.{is_some, text_of, first_next}
 use Rattle.jsx_tree.proofs.ReadBack.NextTokens.{ahead_append, good_append, even_gap, Outside, none_code}
 use Rattle.jsx_tree.proofs.ReadBack.NextInRow.{Front, Fronts, FrontOf, FrontsOf, front_at, Shows, see, see_fixed, see_part, see_many}
@@ -25,6 +25,7 @@ pub record Before (c : Nonterminal) (e : Bool) (t : Tree) (v : Ahead) : Type 0 w
   pub no_open : e ≡ true → elsed c ≡ true → open_if t ≡ false
   pub els : e ≡ true → (elsed c || (is_member c || is_opened c)) ≡ true
   pub comma : is_last t ≡ true → is_none_of v.next (codes "," ∷ []) ≡ true
+  pub part : is_whole c ≡ true → is_none_of v.next try_words ≡ true
   pub ends : (is_inner c ≡ true) ⊎ (v ≡ at_end)
 
 abbrev pub TreeGood : Tree → Type 0
@@ -111,9 +112,10 @@ signs_hold o v (m ∷ ms) ps k f h q =
 -- a part before what its row lets come next
 part_good : (o : Outs) (v : Ahead) (c : Nonterminal) (g : List Text) (t : Tree) (ps : Production) (k : List Sign) → is_formed Single t ≡ true → GoodOf t → sound c g t ≡ true → ((n : Need) → Shows n o v ps k) → part_ok o c ps ≡ true → is_inner c ≡ true → (may_else o ps ≡ true → elsed c ≡ true → open_if t ≡ false) → (is_last t ≡ true → is_none_of (ahead k v).next (codes "," ∷ []) ≡ true) → good k v ≡ true → good (joined (said t) ++ k) v ≡ true
 part_good o v c g t ps k i q s f h n e l r =
-    let a = and_parts (sees o (need_of c (may_else o ps)) [] ps) (not (may_else o ps) || (elsed c || (is_member c || is_opened c))) h in
+    let z = and_parts (sees o (need_of c (may_else o ps)) [] ps && (not (may_else o ps) || (elsed c || (is_member c || is_opened c)))) (not (is_whole c) || sees o (NoneOf try_words) [] ps) h in
+    let a = and_parts (sees o (need_of c (may_else o ps)) [] ps) (not (may_else o ps) || (elsed c || (is_member c || is_opened c))) z.0 in
     good_append (joined (said t)) k v
-    (good_at c g (may_else o ps) t (ahead k v) i q s (record { needs = f (need_of c (may_else o ps)) [] refl a.0; no_open = e; els = λ x. imp_to (may_else o ps) (elsed c || (is_member c || is_opened c)) a.1 x; comma = l; ends = inl n })) r
+    (good_at c g (may_else o ps) t (ahead k v) i q s (record { needs = f (need_of c (may_else o ps)) [] refl a.0; no_open = e; els = λ x. imp_to (may_else o ps) (elsed c || (is_member c || is_opened c)) a.1 x; comma = l; part = λ x. f (NoneOf try_words) [] refl (imp_to (is_whole c) (sees o (NoneOf try_words) [] ps) z.1 x); ends = inl n })) r
   where
     imp_to : (a b : Bool) → (not a || b) ≡ true → a ≡ true → b ≡ true
     imp_to true b h e = h
@@ -325,8 +327,8 @@ present o v x y c r ps t k i s fr gd f e h q =
     ap (λ z. good z v) (append_signs x (u ++ y) k ∙ ap (λ z. x ++ z) (append_signs u y k))
     ∙ signs_hold o v x (Part c ∷ (fixed y ++ ps)) (u ++ (y ++ k)) (λ n. see_part n o v (fixed y ++ ps) (y ++ k) c t (shows n) (front_at c [] t i fr s)) b.0 w
 
-absent_guard : (o : Outs) (v : Ahead) (r : Text) (rs : List Text) (ps : Production) (k : List Sign) → ((n : Need) → Shows n o v ps k) → (o.els || sees o (NoneOf (r ∷ rs)) [] ps) ≡ true → not o.els ≡ true → is_none_of (ahead k v).next (r ∷ rs) ≡ true
-absent_guard o v r rs ps k f h n = go o.els n h
+absent_guard : (o : Outs) (v : Ahead) (r : Text) (rs : List Text) (ps : Production) (k : List Sign) → ((n : Need) → Shows n o v ps k) → (is_due o (r ∷ rs) || sees o (NoneOf (r ∷ rs)) [] ps) ≡ true → not (is_due o (r ∷ rs)) ≡ true → is_none_of (ahead k v).next (r ∷ rs) ≡ true
+absent_guard o v r rs ps k f h n = go (is_due o (r ∷ rs)) n h
   where
     go : (b : Bool) → not b ≡ true → (b || sees o (NoneOf (r ∷ rs)) [] ps) ≡ true → is_none_of (ahead k v).next (r ∷ rs) ≡ true
     go true n h = absurd (false≢true n)
@@ -372,7 +374,7 @@ row_good o v w (Optional x c y [] ∷ ps) (part (list none) ts) g s f q e h = ro
 row_good o v w (Optional x c y (r ∷ rs) ∷ ps) (part (list none) ts) g s f q e h =
     let a = and_parts (signs_ok o y ps && absent_ok o (r ∷ rs) ps) (row_ok o ps) ((and_parts _ ((signs_ok o y ps && absent_ok o (r ∷ rs) ps) && row_ok o ps) h).1) in
     let b = and_parts (signs_ok o y ps) (absent_ok o (r ∷ rs) ps) a.0 in
-    let d = and_parts (not o.els) (elses o ps ts) e in
+    let d = and_parts (not (is_due o (r ∷ rs))) (elses o ps ts) e in
     and_from (is_none_of (ahead (walk ps (saids ts)) v).next (r ∷ rs)) (good (walk ps (saids ts)) v) (absent_guard o v r rs ps (walk ps (saids ts)) (λ n pre p. see n o v w ps pre ts [] p s f.1) b.1 d.0) (row_good o v w ps ts [] s f.1 q.1 d.1 a.1)
 row_good o v w (Optional x c y [] ∷ ps) (part (list (part t none)) ts) g s f q e h =
     let a = and_parts (is_formed Single t && (sound c [] t && true)) (rowed [] ps ts) s in

@@ -143,8 +143,8 @@ fn code_of_sources(rt: HostRuntime) -> Result<(), Fail> {
             "switch (a) {\n    case 1:\n        f(/*#__PURE__*/ React.createElement(\"b\", null));\n        break;\n    default:\n}\n",
         ),
         (
-            "try{f(<a/>)}catch(e){}try{}catch{}try{}finally{g()}",
-            "try {\n    f(/*#__PURE__*/ React.createElement(\"a\", null));\n} catch (e) {}\ntry {} catch {}\ntry {} finally {\n    g();\n}\n",
+            "try{f(<a/>)}catch(e){}try{}catch{}try{}finally{g()}try{}catch(h){}finally{}",
+            "try {\n    f(/*#__PURE__*/ React.createElement(\"a\", null));\n} catch (e) {}\ntry {} catch {}\ntry {} finally {\n    g();\n}\ntry {} catch (h) {} finally {}\n",
         ),
         (
             "x=(-a)**b;(a??b)||c;(a=b).c;(1).d;('e').f;",

@@ -1,4 +1,4 @@
-use Rattle.std.proofs.Common.{◌≡◌, true, false, cond, [], arith, map, refl, sym, ◌∙◌, ap, subst}
+use Rattle.std.proofs.Common.{◌≡◌, true, false, cond, [], ◌∷◌, arith, map, refl, sym, ◌∙◌, ap, subst}
 use Rattle.std.specs.Prelude.{◌&&◌, ◌||◌}
 use Rattle.jsx_tree.specs.Walk.{one}
 use Rattle.jsx_tree.specs.Grammar.{Lines, Fixed, Part, key, pun}
@@ -15,24 +15,26 @@ use Rattle.jsx_tree.proofs.Rows.Placing.{no_node}
 use Rattle.jsx_tree.proofs.Rows.Steps.{bar, on, only_sign}
 use Rattle.jsx_expression.specs.Around.{around_of}
 use Rattle.jsx_syntax.specs.Cases.{IsBody}
+use Rattle.jsx_syntax.specs.Tries.{catch_symbol, catch_symbols, finally_symbol, finally_symbols}
 use Rattle.jsx_syntax.specs.Statements.{alternative_row, alternative_symbols}
 use Rattle.jsx_token.specs.Headings.{NoHeading}
 use Rattle.jsx_token.specs.Here.{place_of, left}
 use Rattle.jsx_token.specs.Marks.{row_so_far}
 use Rattle.jsx_expression.specs.SoFar.{so_far}
-use Rattle.jsx_expression.specs.Spans.{IsPlacedList, IsPlacedRow}
+use Rattle.jsx_expression.specs.Spans.{IsPlacedFront, IsPlacedList, IsPlacedRow}
 use Rattle.jsx_syntax.proofs.Blocks.{block_built, line_barred, line_ended, line_more}
 use Rattle.jsx_syntax.proofs.Controls.{barred_in, do_built, no_while_body, only_in, while_built}
 use Rattle.jsx_syntax.proofs.Cases.{ahead_more, ahead_none, body_barred, body_ended, body_more, case_at, case_is, case_word, cases_barred, cases_ended, cases_more, default_is, defaults, defaults_next, few_defaults, more_defaults, no_case, no_clause, no_default, no_switch_brace, no_switch_cases, second_default, switch_built}
 use Rattle.jsx_syntax.proofs.Heads.{for_built, no_for_body, no_for_initial, no_for_test, no_for_update}
-use Rattle.jsx_syntax.proofs.Tries.{block_barred, block_only, caught_bare, caught_named, no_body, no_caught, no_caught_bare, no_try_caught, no_try_done, no_try_word, taken_on, try_caught, try_done}
+use Rattle.jsx_syntax.proofs.Tries.{block_barred, block_only, caught_bare, caught_named, no_body, no_caught, no_caught_bare, no_try, taken_on, try_built}
+use Rattle.jsx_syntax.proofs.PartWords.{absent_word, barred_word, of_catch, of_finally, present_word}
 use Rattle.jsx_syntax.proofs.Elses.{if_built, no_else, none_else, some_else}
 use Rattle.jsx_syntax.proofs.Statements.{headed_barred, headed_only, homeless_barred, lexical_home, nested_home, plain_barred, plain_only, stmt_home, stmts, subs}
 use Rattle.jsx_expression.proofs.Steps.{passed}
 use Rattle.jsx_expression.proofs.Trees.{pushed}
 use Rattle.jsx_expression.proofs.Placing.{PlacedFront, plain_lines, front_last, front_more, front_none, list_none, map_pushed, placed_as, placed_from, placed_to, row_end, row_list, row_quiet, row_sign, takes_ends, list_to}
 use Rattle.jsx_expression.proofs.Places.{spans_from}
-use Rattle.jsx_syntax.proofs.PlacedNodes.{bare_placed, block_placed, case_placed, caught_placed, default_placed, try_caught_placed, try_done_placed, do_placed, else_placed, for_placed, if_placed, no_else_placed, switch_placed, while_placed}
+use Rattle.jsx_syntax.proofs.PlacedNodes.{bare_placed, block_placed, case_placed, caught_placed, default_placed, do_placed, else_placed, for_placed, if_placed, led_placed, no_else_placed, switch_placed, try_placed, unled_placed, while_placed}
 use Rattle.jsx_syntax.proofs.statement.+statement.Goals as goal
 
 pub statements-statements-init : goal.statements-statements-init
@@ -442,31 +444,52 @@ catch_clause-returns-clause-placed t c =
     placed_from (c.take.ensures.stays c.if-take.false)
     (placed_as c.in_ok-catch_clause.ensures.told c.in_ok-catch_clause.ensures.view (bare_placed (c.in_ok-body.ensures.placed.on _ c.in_ok-expect.ensures.takes c.in_ok-expect.ensures.begins) (spans_from c.span_to-span.ensures refl (c.last_place-lo.ensures ∙ c.in_ok-expect.ensures.begins) refl)))
 
+pub catch_part-returns-then-not-take-clause-read : goal.catch_part-returns-then-not-take-clause-read
+catch_part-returns-then-not-take-clause-read t c = subst (λ h. Only so_far (around_of c.args.context.around) catch_symbol (place_of c.args.lexer.now) (one (list none)) (place_of h)) (sym (c.take.ensures.stays c.if-not-take.true)) (absent_word of_catch (c.take.ensures.missing c.if-not-take.true) refl)
+
+pub catch_part-returns-then-not-take-clause-placed : goal.catch_part-returns-then-not-take-clause-placed
+catch_part-returns-then-not-take-clause-placed t c = subst (λ h. IsPlacedFront catch_symbols (told_list []) (list none) c.args.lexer.now h) (sym (c.take.ensures.stays c.if-not-take.true)) unled_placed
+
+pub catch_part-returns-in_err-handler-clause-refused : goal.catch_part-returns-in_err-handler-clause-refused
+catch_part-returns-in_err-handler-clause-refused t c = passed _ c.in_err-handler.ensures.refused c.from_residual.ensures.1 (λ b. barred_word of_catch (record { is = c.take.ensures.taken c.if-not-take.false; found = refl }) b)
+
+pub catch_part-returns-clause-read : goal.catch_part-returns-clause-read
+catch_part-returns-clause-read t c = present_word of_catch (record { is = c.take.ensures.taken c.if-not-take.false; found = refl }) c.in_ok-handler.ensures.read
+
+pub catch_part-returns-clause-placed : goal.catch_part-returns-clause-placed
+catch_part-returns-clause-placed t c = led_placed (c.take.ensures.takes c.if-not-take.false) c.in_ok-handler.ensures.placed
+
+pub finally_part-returns-then-not-take-clause-read : goal.finally_part-returns-then-not-take-clause-read
+finally_part-returns-then-not-take-clause-read t c = subst (λ h. Only so_far (around_of c.args.context.around) finally_symbol (place_of c.args.lexer.now) (one (list none)) (place_of h)) (sym (c.take.ensures.stays c.if-not-take.true)) (absent_word of_finally (c.take.ensures.missing c.if-not-take.true) refl)
+
+pub finally_part-returns-then-not-take-clause-placed : goal.finally_part-returns-then-not-take-clause-placed
+finally_part-returns-then-not-take-clause-placed t c = subst (λ h. IsPlacedFront finally_symbols (told_list []) (list none) c.args.lexer.now h) (sym (c.take.ensures.stays c.if-not-take.true)) unled_placed
+
+pub finally_part-returns-in_err-block-clause-refused : goal.finally_part-returns-in_err-block-clause-refused
+finally_part-returns-in_err-block-clause-refused t c = passed _ c.in_err-block.ensures.refused c.from_residual.ensures.1 (λ b. barred_word of_finally (record { is = c.take.ensures.taken c.if-not-take.false; found = refl }) b)
+
+pub finally_part-returns-clause-read : goal.finally_part-returns-clause-read
+finally_part-returns-clause-read t c = present_word of_finally (record { is = c.take.ensures.taken c.if-not-take.false; found = refl }) c.in_ok-block.ensures.read
+
+pub finally_part-returns-clause-placed : goal.finally_part-returns-clause-placed
+finally_part-returns-clause-placed t c = led_placed (c.take.ensures.takes c.if-not-take.false) c.in_ok-block.ensures.placed
+
 pub try_statement-returns-in_err-body-clause-refused : goal.try_statement-returns-in_err-body-clause-refused
 try_statement-returns-in_err-body-clause-refused t c = passed _ c.in_err-body.ensures.refused c.from_residual.ensures.1 (λ b. no_node (bar b))
 
 pub try_statement-returns-in_err-handler-clause-refused : goal.try_statement-returns-in_err-handler-clause-refused
-try_statement-returns-in_err-handler-clause-refused t c = passed _ c.in_err-handler.ensures.refused c.from_residual-in_err-handler.ensures.1 (λ b. no_try_caught c.in_ok-body.ensures.read (record { is = c.take.ensures.taken c.if-take.true; found = refl }) b)
-
-pub try_statement-returns-then-take-clause-read : goal.try_statement-returns-then-take-clause-read
-try_statement-returns-then-take-clause-read t c = try_caught c.in_ok-body.ensures.read (record { is = c.take.ensures.taken c.if-take.true; found = refl }) c.in_ok-handler.ensures.read c.in_ok-try_statement.ensures.view
-
-pub try_statement-returns-then-take-clause-placed : goal.try_statement-returns-then-take-clause-placed
-try_statement-returns-then-take-clause-placed t c = record {
-  on = λ w sign begins. placed_as c.in_ok-try_statement.ensures.told c.in_ok-try_statement.ensures.view (try_caught_placed sign c.in_ok-body.ensures.placed (c.take.ensures.takes c.if-take.true) c.in_ok-handler.ensures.placed (spans_from c.span_to-span.ensures refl (c.last_place-lo.ensures ∙ begins) refl));
-}
-
-pub try_statement-returns-in_err-expect-clause-refused : goal.try_statement-returns-in_err-expect-clause-refused
-try_statement-returns-in_err-expect-clause-refused t c = passed _ c.in_err-expect.ensures.refused c.from_residual-in_err-expect.ensures.1
-    (λ b. no_try_word c.in_ok-body.ensures.read (c.take.ensures.missing c.if-take.false) (subst (λ h. Barred so_far (around_of c.args.context.around) (Fixed (key "finally")) (place_of h)) (c.take.ensures.stays c.if-take.false) b))
+try_statement-returns-in_err-handler-clause-refused t c = passed _ c.in_err-handler.ensures.refused c.from_residual-in_err-handler.ensures.1 (λ b. no_node (on c.in_ok-body.ensures.read (bar b)))
 
 pub try_statement-returns-in_err-finalizer-clause-refused : goal.try_statement-returns-in_err-finalizer-clause-refused
-try_statement-returns-in_err-finalizer-clause-refused t c = passed _ c.in_err-finalizer.ensures.refused c.from_residual-in_err-finalizer.ensures.1 (λ b. no_try_done c.in_ok-body.ensures.read (taken_on (c.take.ensures.stays c.if-take.false) c.in_ok-expect.ensures.takes) b)
+try_statement-returns-in_err-finalizer-clause-refused t c = passed _ c.in_err-finalizer.ensures.refused c.from_residual-in_err-finalizer.ensures.1 (λ b. no_node (on c.in_ok-body.ensures.read (on c.in_ok-handler.ensures.read (bar b))))
+
+pub try_statement-returns-then-not-has_part-clause-refused : goal.try_statement-returns-then-not-has_part-clause-refused
+try_statement-returns-then-not-has_part-clause-refused t c = record { bars = λ at e. no_try c.in_ok-handler.handler c.in_ok-finalizer.finalizer c.in_ok-body.ensures.read c.in_ok-handler.ensures.read c.in_ok-finalizer.ensures.read (sym c.has_part.ensures ∙ c.if-not-has_part.true) }
 
 pub try_statement-returns-clause-read : goal.try_statement-returns-clause-read
-try_statement-returns-clause-read t c = try_done c.in_ok-body.ensures.read (taken_on (c.take.ensures.stays c.if-take.false) c.in_ok-expect.ensures.takes) c.in_ok-finalizer.ensures.read c.in_ok-try_statement-2.ensures.view
+try_statement-returns-clause-read t c = try_built c.in_ok-handler.handler c.in_ok-finalizer.finalizer c.in_ok-body.ensures.read c.in_ok-handler.ensures.read c.in_ok-finalizer.ensures.read (sym c.has_part.ensures ∙ c.if-not-has_part.false) c.in_ok-try_statement.ensures.view
 
 pub try_statement-returns-clause-placed : goal.try_statement-returns-clause-placed
 try_statement-returns-clause-placed t c = record {
-  on = λ w sign begins. placed_as c.in_ok-try_statement-2.ensures.told c.in_ok-try_statement-2.ensures.view (try_done_placed sign (placed_to (c.take.ensures.stays c.if-take.false) c.in_ok-body.ensures.placed) c.in_ok-expect.ensures.takes c.in_ok-finalizer.ensures.placed (spans_from c.span_to-span-2.ensures refl (c.last_place-lo.ensures ∙ begins) refl));
+  on = λ w sign begins. placed_as c.in_ok-try_statement.ensures.told c.in_ok-try_statement.ensures.view (try_placed sign c.in_ok-body.ensures.placed c.in_ok-handler.ensures.placed c.in_ok-finalizer.ensures.placed (spans_from c.span_to-span.ensures refl (c.last_place-lo.ensures ∙ begins) refl));
 }

@@ -64,6 +64,12 @@ decreases-catch_name l = 6 * left l.lexer.now + 3
 abbrev pub decreases-catch_clause : goal.decreases-catch_clause
 decreases-catch_clause l = 6 * left l.lexer.now + 3
 
+abbrev pub decreases-catch_part : goal.decreases-catch_part
+decreases-catch_part l = 6 * left l.lexer.now + 2
+
+abbrev pub decreases-finally_part : goal.decreases-finally_part
+decreases-finally_part l = 6 * left l.lexer.now + 2
+
 abbrev pub decreases-try_statement : goal.decreases-try_statement
 decreases-try_statement l = 6 * left l.lexer.now + 3
 
