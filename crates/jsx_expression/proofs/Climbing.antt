@@ -4,19 +4,19 @@ use Rattle.std.specs.Prelude.{IsTrue, Some, ◌&&◌}
 use Rattle.std.proofs.lemmas.Bool.{leb-true, le-leb}
 use Rattle.jsx_base.specs.Token.{Lexeme, Text, Operator, IdentifierName, NumericLiteral, BigIntLiteral, StringLiteral, TokenKind, breaks, token, same, RegExpLiteral}
 use Rattle.jsx_tree.specs.Signs.{Ending, AfterExpr, SameLine}
-use Rattle.jsx_tree.specs.Kinds.{Module, Var, ConstWord, Declarator, ExprStmt, Assigns, Assign, OpAssign, Delete, Void, TypeOf, Positive, Negative, Complement, Not, Unary, Binary, Cond, Call, Member, Index, ImportCall, Parenthesized, Element, Kind, program, statement, expression, jsx, Tree, leaf, node, Forest, part, PrefixUpdate, PostfixUpdate, Seq, Spread, Array, ComputedKey, function}
+use Rattle.jsx_tree.specs.Kinds.{Module, Var, ConstWord, Declarator, ExprStmt, Assigns, Assign, OpAssign, Delete, Void, TypeOf, Positive, Negative, Complement, Not, Unary, Binary, Cond, Call, Member, Index, New, NewWithoutArguments, ImportCall, Parenthesized, Element, Kind, program, statement, expression, jsx, Tree, leaf, node, Forest, part, PrefixUpdate, PostfixUpdate, Seq, Spread, Array, ComputedKey, function}
 use Rattle.jsx_tree.specs.Nonterminals.{Nonterminal, Expr, NullishLeft, MemberObject, DotObject, SimpleTarget, Pat, is_bound, homes, in_homes, leaf_in, is_value_word}
-use Rattle.jsx_tree.specs.Grammar.{Context, Fixed, Part, pun}
-use Rattle.jsx_tree.specs.Form.{admits, fits_below, is_leaf}
+use Rattle.jsx_tree.specs.Grammar.{Context, Fixed, Part, production, pun}
+use Rattle.jsx_tree.specs.Form.{admits, fits_below, is_leaf, leads}
 use Rattle.jsx_tree.specs.Reading.{Place, Lost, At, forth, go_if}
 use Rattle.jsx_tree.specs.StaticRules.{Surroundings, rule, stands, has_plain_params}
-use Rattle.jsx_token.specs.Stage.{has_kind, limits, leaf_at, value_leaf}
+use Rattle.jsx_token.specs.Stage.{has_kind, leaf_at, value_leaf}
 use Rattle.jsx_tree.specs.Walk.{is_found, one, Relation, IsRead, Piece, piece, tail, sign, tree, Walk, next, around, steady}
 use Rattle.jsx_tree.specs.Language.{Whole}
 use Rattle.jsx_tree.specs.Answers.{Moves, Only, Barred, NoRow, NoNode, Built, BuiltNode}
 use Rattle.jsx_tree.specs.Grows.{starts, is_operand, Onward, stay, step, Steps, Decides, Joins, Stays}
 use Rattle.jsx_expression.specs.SoFar.{Staged, is_number, so_far}
-use Rattle.jsx_token.specs.Marks.{goes_at, marks, is_sign, is_mark, ends_so_far, row_so_far, goers}
+use Rattle.jsx_token.specs.Marks.{goes_at, goes_on_so_far, marks, is_sign, is_mark, ends_so_far, row_so_far, goers}
 use Rattle.jsx_tree.proofs.Tokens.{and_left, and_right, and_both}
 use Rattle.jsx_tree.proofs.Apart.{clash}
 use Rattle.jsx_tree.proofs.Rows.Bridge.{found_at, found_first}
@@ -30,14 +30,15 @@ use Rattle.jsx_tree.proofs.Rows.Spines.{grows}
 use Rattle.jsx_tree.proofs.Rows.Growing.{grown_only, step_barred, left_barred, step_follows}
 use Rattle.jsx_tree.proofs.Rows.Steps.{on, then', only_sign}
 use Rattle.jsx_expression.proofs.OfSoFar.{of_so_far}
-use Rattle.jsx_token.specs.Growths.{OnLine, begins_line, lead, mark, on_line, past_line, same_sign, is_level, level_of_kind, fits_by, takes_target, settled}
+use Rattle.jsx_token.specs.Growths.{Rung, asked, is_rung, least, reaches, seat, OnLine, begins_line, lead, mark, on_line, past_line, same_sign, level_of_kind, fits_by, takes_target, settled}
 use Rattle.jsx_expression.specs.Climbing.{behind, level, fits, is_target_kind, is_target, Climbs}
-use Rattle.jsx_token.proofs.Listed.{Listed, listed, code, every_two, of_two, one_place, of_level, implies, implied, agree, agreed, is_apart}
+use Rattle.jsx_token.proofs.Listed.{Listed, listed, code, every_two, of_two, one_place, implies, implied, agree, agreed, is_apart}
 use Rattle.jsx_token.proofs.Marks.{mark_by, seen_sign, one_sign}
 use Rattle.jsx_expression.proofs.Homes.{Literal, IsName, IsNumber, IsLong, IsString, IsPattern, token_kind, Value, literal, made, value}
 use Rattle.jsx_token.proofs.Lives.{is_single}
-use Rattle.jsx_token.proofs.Levels.{signed, Fitting, Formed, Leaves, assigned, at_level, edge, fitting_in, formed, grows_on, is_left, is_ruled, is_side, mark_among, mark_is_code, side, side_of, takes_number}
-use Rattle.jsx_expression.proofs.Values.{lead_row, led_sign, literal_level, node_to, leaf_to, level_single, or_right}
+use Rattle.jsx_token.proofs.Levels.{signed, Fitting, Formed, Leaves, assigned, at_level, edge, fitting_in, formed, grows_on, is_left, is_ruled, is_side, mark_among, mark_is_code, seat_asks, side, side_of, takes_number}
+use Rattle.jsx_expression.proofs.Rungs.{clear, clear_left, clear_node, leads_as, leaf_seat, least_home, least_top, level_reaches, literal_seat, reaches_level, rung_single, seat_admits, staged_clear}
+use Rattle.jsx_expression.proofs.Values.{lead_row, led_sign, node_to, leaf_to, or_right}
 
 -- of two: what may stand at the left of the first; and that the mark of the first, behind the second, ends the second's last part
 abbrev sinks : Kind → Kind → Bool
@@ -69,7 +70,7 @@ sunk l k m n g h =
 
 -- ---- rows
 
-begins_grows : (ps : List Piece) {c : Nonterminal} → starts ps ≡ Some c → grows ps ≡ true
+pub begins_grows : (ps : List Piece) {c : Nonterminal} → starts ps ≡ Some c → grows ps ≡ true
 begins_grows (piece [] (Part d) ∷ ps) e = refl
 begins_grows _ e = cc
 
@@ -85,7 +86,7 @@ led_row _ g = cc
 line_place : (x : Place) → IsTrue (is_found (forth SameLine x)) → forth SameLine x ≡ x
 line_place x f = stays_on SameLine x refl f
 
-mark_found : {R : Relation} {V : List Context → Surroundings} (ps : List Piece) {a y : Place} {ts : Forest} → signed (past_line ps) ≡ true → Walk R V ps a ts y → IsTrue (is_found (forth (lead (past_line ps)) a))
+pub mark_found : {R : Relation} {V : List Context → Surroundings} (ps : List Piece) {a y : Place} {ts : Forest} → signed (past_line ps) ≡ true → Walk R V ps a ts y → IsTrue (is_found (forth (lead (past_line ps)) a))
 mark_found (piece [] (Fixed SameLine) ∷ ps) {a} h (next (sign e f) w) = subst (λ p. IsTrue (is_found (forth (lead ps) p))) (sym e ∙ line_place a (found_at e f)) (led_sign ps h w)
 mark_found ps h w = led_sign ps h w
 
@@ -100,8 +101,11 @@ not_apart (expression Seq) b = cc
 not_apart (expression Spread) b = cc
 not_apart _ b = refl
 
-listed_node : {v : Surroundings} {c d : Nonterminal} {k : Kind} {x y : Place} {ts : Forest} → is_operand c ≡ true → starts (row_so_far k) ≡ Some d → Staged v false c x (node k ts) y → Listed k
+pub listed_node : {v : Surroundings} {c d : Nonterminal} {k : Kind} {x y : Place} {ts : Forest} → is_operand c ≡ true → starts (row_so_far k) ≡ Some d → Staged v false c x (node k ts) y → Listed k
 listed_node {c = c} {k = k} {ts = ts} o b r = listed k (and_left (has_kind k) _ r.staged) (homes_operand c (homes k) o (kind_home c k ts (and_left (admits c (node k ts)) (fits_below c (node k ts)) r.reads.is))) (not_apart k b)
+
+begins_leads : (k : Kind) {c : Nonterminal} → Listed k → starts (row_so_far k) ≡ Some c → leads (production k) ≡ true
+begins_leads k m b = sym (leads_as k m) ∙ begins_grows (row_so_far k) b
 
 pub node_home : {v : Surroundings} {c : Nonterminal} {k : Kind} {x y : Place} {ts : Forest} → Staged v false c x (node k ts) y → in_homes c (homes k) ≡ true
 node_home {c = c} {k = k} {ts = ts} r = kind_home c k ts (and_left (admits c (node k ts)) (fits_below c (node k ts)) r.reads.is)
@@ -138,51 +142,54 @@ single_side k f = at (side k) f.sided
 pub below_level : (n m k : ℕ) → nat_le n m ≡ true → nat_le m k ≡ true → nat_le n k ≡ true
 below_level n m k a b = le-leb n k (omega (arith, leb-true n m a, leb-true m k b))
 
-value_low : {v : Surroundings} {n : ℕ} {d : Nonterminal} {x y : Place} {t : Tree} → is_level n ≡ true → Value t → nat_le n (level t) ≡ true → Staged v false d x t y → Staged v false (Expr n) x t y
-value_low {n = n} h (literal l {t} w) e r = leaf_to (Expr n) l (literal_level n l t h w) w r
-value_low {n = n} h (made {k} {ts} m) e r = node_to (Expr n) ((at_level h k m).home ∙ e) r
+pub value_low : {v : Surroundings} (r : Rung) {d : Nonterminal} {x y : Place} {t : Tree} → is_rung r ≡ true → Value t → nat_le (least r) (level t) ≡ true → clear r t ≡ true → Staged v false d x t y → Staged v false (seat r) x t y
+value_low r h (literal l {t} w) e c q = leaf_to (seat r) l (literal_seat r l t h w) (leaf_seat r (token_kind l) t w) q
+value_low r h (made {k} {ts} m) e c q = node_to (seat r) (seat_admits r k ts ((at_level {r = r} h k m).home ∙ e) c) q
 
-value_level : (n : ℕ) {t : Tree} → is_level n ≡ true → Value t → ((k : Kind) (ts : Forest) → t ≡ node k ts → Listed k → nat_le n (level_of_kind k) ≡ true) → nat_le n (level t) ≡ true
-value_level n h (literal l w) f = of_level (λ m. nat_le m 17) refl h
-value_level n h (made {k} {ts} m) f = f k ts refl m
+value_level : (r : Rung) {t : Tree} → is_rung r ≡ true → Value t → ((k : Kind) (ts : Forest) → t ≡ node k ts → Listed k → nat_le (least r) (level_of_kind k) ≡ true) → nat_le (least r) (level t) ≡ true
+value_level r h (literal l w) f = least_top r h
+value_level r h (made {k} {ts} m) f = f k ts refl m
 
-left_low : {v : Surroundings} {n : ℕ} {l : Kind} {c : Nonterminal} {x y : Place} {t : Tree} → is_level n ≡ true → Listed l → starts (row_so_far l) ≡ Some c → nat_le n (level_of_kind l) ≡ true → Staged v false c x t y → Staged v false (Expr n) x t y
-left_low {v} {n} {l} {c} {x} {y} {t} h m b e r =
+left_low : {v : Surroundings} (r : Rung) {l : Kind} {c : Nonterminal} {x y : Place} {t : Tree} → is_rung r ≡ true → Listed l → starts (row_so_far l) ≡ Some c → nat_le (least r) (level_of_kind l) ≡ true → clear r t ≡ true → Staged v false c x t y → Staged v false (seat r) x t y
+left_low {v} r {l} {c} {x} {y} {t} h m b e i p =
     let g = begins_grows (row_so_far l) b in
     let f = formed l m g in
-    let q : Staged v false (side l) x t y = subst (λ d. Staged v false d x t y) (sym (side_is l b)) r in
+    let q : Staged v false (side l) x t y = subst (λ d. Staged v false d x t y) (sym (side_is l b)) p in
     let w = value t (single_side l f) q in
-    value_low h w (value_level n h w (λ k ts is j. below_level n (level_of_kind l) (level_of_kind k) e (sunk l k m j g (node_home (subst (λ u. Staged v false (side l) x u y) is q))).below)) r
+    value_low r h w (value_level r h w (λ k ts is j. below_level (least r) (level_of_kind l) (level_of_kind k) e (sunk l k m j g (node_home (subst (λ u. Staged v false (side l) x u y) is q))).below)) i p
 
-pub node_level : {v : Surroundings} {n : ℕ} {k : Kind} {x y : Place} {ts : Forest} → is_level n ≡ true → Listed k → Staged v false (Expr n) x (node k ts) y → nat_le n (level_of_kind k) ≡ true
-node_level h m r = sym (at_level h _ m).home ∙ node_home r
+node_level : {v : Surroundings} (r : Rung) {k : Kind} {x y : Place} {ts : Forest} → is_rung r ≡ true → Listed k → Staged v false (seat r) x (node k ts) y → nat_le (least r) (level_of_kind k) ≡ true
+node_level r {k} h m q = sym (at_level {r = r} h k m).home ∙ node_home q
 
-pub low : {v : Surroundings} {n : ℕ} {x y z : Place} {t u : Tree} → is_level n ≡ true → Onward so_far v x t y u z → Staged v false (Expr n) x u z → Staged v false (Expr n) x t y
-low h stay r = r
-low h (step k c d b i w o q on) r =
-    let up = low h on r in
-    let m = listed_node o b q in
-    left_low h m b (node_level h m up) i
+pub node_reaches : {v : Surroundings} (r : Rung) {k : Kind} {x y : Place} {ts : Forest} → is_rung r ≡ true → Listed k → Staged v false (seat r) x (node k ts) y → reaches r k ≡ true
+node_reaches r {k} {ts = ts} h m q = level_reaches r k ts (node_level r h m q) (staged_clear r (node k ts) q)
 
-step_low : {v : Surroundings} {n : ℕ} {x a y : Place} {t : Tree} {l : Kind} {ts : Forest} → is_level n ≡ true → Steps so_far v (Expr n) x t a l ts y → nat_le n (level_of_kind l) ≡ true
-step_low h p = node_level h (step_listed p) (low h p.onward p.whole.reads)
+pub low : {v : Surroundings} (r : Rung) {x y z : Place} {t u : Tree} → is_rung r ≡ true → Onward so_far v x t y u z → Staged v false (seat r) x u z → Staged v false (seat r) x t y
+low r h stay q = q
+low r {t = t} h (step k c d {ts = ts} b i w o p on) q =
+    let up = low r h on q in
+    let m = listed_node o b p in
+    left_low r h m b (node_level r h m up) (clear_left r k t ts (begins_leads k m b) (staged_clear r (node k (part t ts)) up)) i
+
+step_low : {v : Surroundings} (r : Rung) {x a y : Place} {t : Tree} {l : Kind} {ts : Forest} → is_rung r ≡ true → Steps so_far v (seat r) x t a l ts y → reaches r l ≡ true
+step_low r h p = node_reaches r h (step_listed p) (low r h p.onward p.whole.reads)
 
 -- ---- what a step's row ends with has come to its end
 
-pub edge_on : {v : Surroundings} {n : ℕ} {x y z : Place} {u : Tree} {us : Forest} (k : Kind) (m : Tree) → is_level n ≡ true → Listed k → m ≡ node k us → Onward so_far v x m y u z → Whole so_far v false (Expr n) x u z → ends_so_far (edge k) y ≡ true
-edge_on {v} {n} {x} {y} k m h j e stay w = of_so_far.covered (Expr n) (edge k) y ((at_level h k j).covered (node_level h j (subst (λ p. Staged v false (Expr n) x p y) e w.reads))) w.ends_there
-edge_on {v} {n} {x} {y} k m h j e (step l c d b i r o q on) w =
+pub edge_on : {v : Surroundings} (r : Rung) {x y z : Place} {u : Tree} {us : Forest} (k : Kind) (m : Tree) → is_rung r ≡ true → Listed k → m ≡ node k us → Onward so_far v x m y u z → Whole so_far v false (seat r) x u z → ends_so_far (edge k) y ≡ true
+edge_on {v} r {x} {y} k m h j e stay w = of_so_far.covered (seat r) (edge k) y ((at_level {r = r} h k j).covered (node_reaches r h j (subst (λ p. Staged v false (seat r) x p y) e w.reads))) w.ends_there
+edge_on {v} s {x} {y} k m h j e (step l c d b i r o q on) w =
     let n' = listed_node o b q in
     let g = begins_grows (row_so_far l) b in
     let f = formed l n' g in
     let home : in_homes (side l) (homes k) ≡ true = node_home (subst (λ p. Staged v false (side l) x p y) e (subst (λ s. Staged v false s x m y) (sym (side_is l b)) i)) in
     of_so_far.ends_there (edge k) y (sign_stops (edge k) (mark l) y (sunk l k n' j g home).heard (mark_found (tail (row_so_far l)) f.led r))
 
-step_ends : {v : Surroundings} {n : ℕ} {x a y : Place} {t : Tree} {k : Kind} {ts : Forest} → is_level n ≡ true → Steps so_far v (Expr n) x t a k ts y → Walk (Whole so_far) (steady v) (tail (row_so_far k)) a ts y
-step_ends {v} {t = t} {k} {ts} h p =
+step_ends : {v : Surroundings} (r : Rung) {x a y : Place} {t : Tree} {k : Kind} {ts : Forest} → is_rung r ≡ true → Steps so_far v (seat r) x t a k ts y → Walk (Whole so_far) (steady v) (tail (row_so_far k)) a ts y
+step_ends {v} r {t = t} {k} {ts} h p =
     let m = step_listed p in
     let f = formed k m (step_grows p) in
-    moved (λ a i. free_around a (part t ts) v i) f.freed (whole_walk of_so_far (edge k) (tail (row_so_far k)) f.closed (edge_on k (node k (part t ts)) h m refl p.onward p.whole) p.walk)
+    moved (λ a i. free_around a (part t ts) v i) f.freed (whole_walk of_so_far (edge k) (tail (row_so_far k)) f.closed (edge_on r k (node k (part t ts)) h m refl p.onward p.whole) p.walk)
 
 -- ---- the token that comes next
 
@@ -211,34 +218,35 @@ no_break k q e text o = by_line (on_line k) refl
         kept true f = let bad : false ≡ true = ap is_found f in cc
         kept false f = refl
 
-mark_goes : (n : ℕ) (k : Kind) (a : Place) → is_level n ≡ true → Listed k → grows_on k ≡ true → settled a ≡ true → OnLine k a → IsTrue (is_found (forth (mark k) a)) → ends_so_far (Expr n) a ≡ not (nat_le n (level_of_kind k))
-mark_goes n k Lost h m g s o f = cc
-mark_goes n k (At q AfterExpr text) h m g s o f =
+pub mark_goes : (r : Rung) (k : Kind) (a : Place) → is_rung r ≡ true → Listed k → grows_on k ≡ true → settled a ≡ true → OnLine k a → IsTrue (is_found (forth (mark k) a)) → ends_so_far (seat r) a ≡ not (reaches r k)
+mark_goes r k Lost h m g s o f = cc
+mark_goes r k (At q AfterExpr text) h m g s o f =
     let i = seen_sign (mark k) q AfterExpr text (mark_is_code k m g) f in
-    let raw = mark_among n k h m g (breaks text) (token Operator (same q []) text) i ∙ ((λ j. nat_le n (level_of_kind k) && not (no_break k q AfterExpr text o j)) ∙ and_true (nat_le n (level_of_kind k))) in
+    let raw = mark_among r k h m g (breaks text) (token Operator (same q []) text) i ∙ ((λ j. reaches r k && not (no_break k q AfterExpr text o j)) ∙ and_true (reaches r k)) in
     let there : is_mark (token Operator (same q []) text) goers ≡ true = or_right (is_sign (token Operator (same q []) text) (pun ",")) _ (mark_is_one k m g (token Operator (same q []) text) i) in
-    ap (λ b. not (goes_at n (breaks text) (token Operator b text).raw && is_mark (token Operator b text) goers)) (sym (is_not (same q []) s)) ∙ ((λ j. not (raw j && there j)) ∙ ap not (and_true _))
-mark_goes n k (At q _ text) h m g s o f = cc
+    ap (λ l. not (goes_on_so_far l AfterExpr (breaks text) (token Operator false text))) (seat_asks r)
+    ∙ (ap (λ b. not (goes_at (asked r) (breaks text) (token Operator b text).raw && is_mark (token Operator b text) goers)) (sym (is_not (same q []) s)) ∙ ((λ j. not (raw j && there j)) ∙ ap not (and_true _)))
+mark_goes r k (At q _ text) h m g s o f = cc
 
 -- ---- what the parser's loop says
 
--- no mark comes next that goes on at the level
-pub stays : {v : Surroundings} {n : ℕ} {x a : Place} {t : Tree} → is_level n ≡ true → settled a ≡ true → ends_so_far (Expr n) a ≡ true → Stays so_far v (Expr n) x t a
-stays {n = n} {a = a} h s e = record {
+-- no mark comes next that goes on there
+pub stays : {v : Surroundings} (r : Rung) {x a : Place} {t : Tree} → is_rung r ≡ true → settled a ≡ true → ends_so_far (seat r) a ≡ true → Stays so_far v (seat r) x t a
+stays r {a = a} h s e = record {
   none_on = λ l ts y p.
-      let b : ends_so_far (Expr n) a ≡ not (nat_le n (level_of_kind l)) = mark_goes n l a h (step_listed p) (step_grows p) s (step_line p) (step_sign p) in
-      clash (nat_le n (level_of_kind l)) (step_low h p) (is_not _ (sym b ∙ e));
+      let b : ends_so_far (seat r) a ≡ not (reaches r l) = mark_goes r l a h (step_listed p) (step_grows p) s (step_line p) (step_sign p) in
+      clash (reaches r l) (step_low r h p) (is_not _ (sym b ∙ e));
 }
 
-pub climb_only : {v : Surroundings} {n : ℕ} {x a : Place} {t : Tree} → is_level n ≡ true → Climbs v n x t a → ends_so_far (Expr n) a ≡ true → Only so_far v (Part (Expr n)) x (one t) a
-climb_only h c e = grown_only c.follows (stays h c.ended e) c.reads e
+pub climb_only : {v : Surroundings} (r : Rung) {x a : Place} {t : Tree} → is_rung r ≡ true → Climbs v r x t a → ends_so_far (seat r) a ≡ true → Only so_far v (Part (seat r)) x (one t) a
+climb_only r h c e = grown_only c.follows (stays r h c.ended e) c.reads e
 
--- a mark that comes next and goes on at the level decides
-decides : {v : Surroundings} {n : ℕ} {x a : Place} {t : Tree} {k : Kind} → is_level n ≡ true → settled a ≡ true → Listed k → grows_on k ≡ true → nat_le n (level_of_kind k) ≡ true → OnLine k a → IsTrue (is_found (forth (mark k) a)) → Decides so_far v (Expr n) x t a k
-decides {n = n} {a = a} {k = k} h s m g e o f = record {
-  goes = λ i. clash (ends_so_far (Expr n) a) i (mark_goes n k a h m g s o f ∙ ap not e);
+-- a mark that comes next and goes on there decides
+decides : {v : Surroundings} (r : Rung) {x a : Place} {t : Tree} {k : Kind} → is_rung r ≡ true → settled a ≡ true → Listed k → grows_on k ≡ true → reaches r k ≡ true → OnLine k a → IsTrue (is_found (forth (mark k) a)) → Decides so_far v (seat r) x t a k
+decides r {a = a} {k = k} h s m g e o f = record {
+  goes = λ i. clash (ends_so_far (seat r) a) i (mark_goes r k a h m g s o f ∙ ap not e);
   kind = λ l ts y p. step_kind m g f p;
-  ends = λ ts y p. step_ends h p;
+  ends = λ ts y p. step_ends r h p;
 }
 
 -- what fits stands at the left of the kind; what doesn't, doesn't
@@ -349,7 +357,7 @@ value_unfit k m g (made {k = l} {ts} j) f r =
     clash _ (agreed (cond (takes_target k) (is_target_kind l) (fits_by k (level_of_kind l) false)) (in_homes (side k) (homes l)) (implied (grows_on k) _ (of_two fitting all_fitting k l m j) g) ∙ node_home r) f
 
 -- the rules of a kind of expression ask nothing of its parts, but for these
-pub plain_kind : (k : Kind) (ts : Forest) (v : Surroundings) → is_ruled k ≡ false → has_kind k ≡ true → any_operand (homes k) ≡ true → has_plain_params ts ≡ true → (limits k ts && (rule k ts && stands k ts v)) ≡ true
+pub plain_kind : (k : Kind) (ts : Forest) (v : Surroundings) → is_ruled k ≡ false → has_kind k ≡ true → any_operand (homes k) ≡ true → has_plain_params ts ≡ true → (rule k ts && stands k ts v) ≡ true
 plain_kind (expression Seq) ts v n h a p = and_both _ _ p refl
 plain_kind (expression (Binary o)) ts v n h a p = and_both _ _ p refl
 plain_kind (expression Assign) ts v n h a p = and_both _ _ p refl
@@ -368,6 +376,8 @@ plain_kind (expression Index) ts v n h a p = and_both _ _ p refl
 plain_kind (expression (PostfixUpdate o)) ts v n h a p = and_both _ _ p refl
 plain_kind (expression (PrefixUpdate o)) ts v n h a p = and_both _ _ p refl
 plain_kind (expression ImportCall) ts v n h a p = and_both _ _ p refl
+plain_kind (expression New) ts v n h a p = and_both _ _ p refl
+plain_kind (expression NewWithoutArguments) ts v n h a p = and_both _ _ p refl
 plain_kind (expression Parenthesized) ts v n h a p = and_both _ _ p refl
 plain_kind (expression Array) ts v n h a p = and_both _ _ p refl
 plain_kind (expression Spread) ts v n h a p = and_both _ _ p refl
@@ -388,17 +398,21 @@ grammar_row {v} {x} {y = y} {t} {ts} k fm g s w = plain (row_so_far k) fm.bare (
 keeps : {v : Surroundings} {x a y : Place} {t : Tree} {ts : Forest} (k : Kind) → Formed k → grows_on k ≡ true → Staged v false (side k) x t a → Walk (Whole so_far) (steady v) (tail (row_so_far k)) a ts y → so_far.keeps k v (part t ts) ≡ true
 keeps {v} {t = t} {ts} k fm g s w = and_both _ _ fm.taken (plain_kind k (part t ts) v fm.unruled fm.taken fm.stood (grammar_row k fm g s w))
 
-joins : (n : ℕ) {v : Surroundings} {x a : Place} {t : Tree} {k : Kind} → is_level n ≡ true → Listed k → grows_on k ≡ true → nat_le n (level_of_kind k) ≡ true → Staged v false (side k) x t a → Joins so_far v x t a k
-joins n {v} {x} {a} {t} {k} h m g e s =
+-- what goes on with a tree may stand where the tree does
+grown_admits : (r : Rung) (t : Tree) (k : Kind) → is_rung r ≡ true → Listed k → reaches r k ≡ true → clear r t ≡ true → (ts : Forest) → admits (seat r) (node k (part t ts)) ≡ true
+grown_admits r t k h m e i ts = seat_admits r k (part t ts) ((at_level {r = r} h k m).home ∙ reaches_level r k e) (clear_node r k t ts e i)
+
+joins : (r : Rung) {v : Surroundings} {x a : Place} {t : Tree} {k : Kind} → is_rung r ≡ true → Listed k → grows_on k ≡ true → reaches r k ≡ true → Staged v false (side k) x t a → Joins so_far v x t a k
+joins r {v} {x} {a} {t} {k} h m g e s =
     let fm = formed k m g in
     record {
       side = side k;
       begins = begins_side (row_so_far k) g;
       left = s;
       frees = λ ts y w. moved (λ b i. sym (free_around b (part t ts) v i)) fm.freed w;
-      home = Expr n;
+      home = Expr (least r);
       operand = refl;
-      at_home = λ ts. (at_level h k m).home ∙ e;
+      at_home = λ ts. least_home r k ((at_level {r = r} h k m).home ∙ reaches_level r k e);
       keeps = λ ts y w. keeps k fm g s w;
     }
 
@@ -430,20 +444,21 @@ marked_none {a = a} (piece [] (Fixed SameLine) ∷ ps) l o m n = on (only_sign (
 marked_none ps l o m n = signed_none ps l m n
 
 -- the step is read
-pub climb_on : {v : Surroundings} {n : ℕ} {x a b y : Place} {t w : Tree} (k : Kind) → is_level n ≡ true → Listed k → grows_on k ≡ true → Climbs v n x t a → OnLine k a → Moves (mark k) a b → nat_le n (level_of_kind k) ≡ true → fits k t ≡ true → Built so_far v (behind k) k (part t) w b y → settled y ≡ true → Climbs v n x w y
-climb_on {v} {n} {x} {a} {b} {y} {t} {w} k h m g c o f e i built s =
+pub climb_on : {v : Surroundings} (r : Rung) {x a b y : Place} {t w : Tree} (k : Kind) → is_rung r ≡ true → Listed k → grows_on k ≡ true → Climbs v r x t a → OnLine k a → Moves (mark k) a b → reaches r k ≡ true → fits k t ≡ true → Built so_far v (behind k) k (part t) w b y → settled y ≡ true → Climbs v r x w y
+climb_on {v} r {x} {a} {b} {y} {t} {w} k h m g c o f e i built s =
     let fm = formed k m g in
-    let left = value_side k m g (value t (level_single n h) c.reads) i c.reads in
+    let left = value_side k m g (value t (rung_single r h) c.reads) i c.reads in
     let all = marked_built (tail (row_so_far k)) fm.led o.stays f built in
+    let j = staged_clear r t c.reads in
     record {
-      follows = step_follows of_so_far c.follows (decides h c.ended m g e o (found_at (sym f.is) f.found)) (joins n h m g e left) all;
-      reads = subst (λ u. Staged v false (Expr n) x u y) (sym all.is) (of_so_far.to_node k ((at_level h k m).home ∙ e) (record { walk = whole_row k fm g left all.row.walk; keeps = keeps k fm g left all.row.walk }));
+      follows = step_follows of_so_far c.follows (decides r h c.ended m g e o (found_at (sym f.is) f.found)) (joins r h m g e left) all;
+      reads = subst (λ u. Staged v false (seat r) x u y) (sym all.is) (of_so_far.to_node k (grown_admits r t k h m e j all.parts) (record { walk = whole_row k fm g left all.row.walk; keeps = keeps k fm g left all.row.walk }));
       ended = s;
     }
 
 -- it can't be read, or the tree may not stand at its left
-pub climb_barred : {v : Surroundings} {n : ℕ} {x a b : Place} {t : Tree} (k : Kind) → is_level n ≡ true → Listed k → grows_on k ≡ true → Climbs v n x t a → OnLine k a → Moves (mark k) a b → nat_le n (level_of_kind k) ≡ true → NoRow so_far v (behind k) b → Barred so_far v (Part (Expr n)) x
-climb_barred k h m g c o f e n = step_barred c.follows (decides h c.ended m g e o (found_at (sym f.is) f.found)) (marked_none (tail (row_so_far k)) (formed k m g).led o.stays f n)
+pub climb_barred : {v : Surroundings} (r : Rung) {x a b : Place} {t : Tree} (k : Kind) → is_rung r ≡ true → Listed k → grows_on k ≡ true → Climbs v r x t a → OnLine k a → Moves (mark k) a b → reaches r k ≡ true → NoRow so_far v (behind k) b → Barred so_far v (Part (seat r)) x
+climb_barred r k h m g c o f e n = step_barred c.follows (decides r h c.ended m g e o (found_at (sym f.is) f.found)) (marked_none (tail (row_so_far k)) (formed k m g).led o.stays f n)
 
-pub climb_unfit : {v : Surroundings} {n : ℕ} {x a b : Place} {t : Tree} (k : Kind) → is_level n ≡ true → Listed k → grows_on k ≡ true → Climbs v n x t a → OnLine k a → Moves (mark k) a b → nat_le n (level_of_kind k) ≡ true → fits k t ≡ false → Barred so_far v (Part (Expr n)) x
-climb_unfit {t = t} k h m g c o f e i = left_barred c.follows (decides h c.ended m g e o (found_at (sym f.is) f.found)) (begins_side (row_so_far k) g) (λ r. value_unfit k m g (value t (single_side k (formed k m g)) r) i r)
+pub climb_unfit : {v : Surroundings} (r : Rung) {x a b : Place} {t : Tree} (k : Kind) → is_rung r ≡ true → Listed k → grows_on k ≡ true → Climbs v r x t a → OnLine k a → Moves (mark k) a b → reaches r k ≡ true → fits k t ≡ false → Barred so_far v (Part (seat r)) x
+climb_unfit r {t = t} k h m g c o f e i = left_barred c.follows (decides r h c.ended m g e o (found_at (sym f.is) f.found)) (begins_side (row_so_far k) g) (λ q. value_unfit k m g (value t (single_side k (formed k m g)) q) i q)

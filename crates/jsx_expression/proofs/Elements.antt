@@ -1,9 +1,9 @@
 -- What stands among arguments and in an array: an expression or a spread, told apart by its first token.
 use Rattle.std.proofs.Common.{◌≡◌, Bool, true, false, not, refl, sym, ◌∙◌, ap, subst}
-use Rattle.std.specs.Prelude.{IsTrue, ◌||◌}
+use Rattle.std.specs.Prelude.{IsTrue, ◌&&◌, ◌||◌}
 use Rattle.jsx_base.specs.Token.{Text, TokenKind, IdentifierName, NumericLiteral, BigIntLiteral, StringLiteral, RegExpLiteral, Elision}
 use Rattle.jsx_tree.specs.Signs.{Sign}
-use Rattle.jsx_tree.specs.Kinds.{Kind, Module, ExprStmt, Seq, Spread, program, statement, expression, Tree, leaf, node, list, Forest}
+use Rattle.jsx_tree.specs.Kinds.{Kind, Module, ExprStmt, Label, Seq, Spread, program, statement, expression, Tree, leaf, node, list, Forest}
 use Rattle.jsx_tree.specs.Nonterminals.{Nonterminal, Expr, Argument, ArrayItem, homes, in_homes}
 use Rattle.jsx_tree.specs.Grammar.{Part, pun}
 use Rattle.jsx_tree.specs.Form.{admits}
@@ -12,7 +12,7 @@ use Rattle.jsx_tree.specs.StaticRules.{Surroundings}
 use Rattle.jsx_tree.specs.Walk.{is_found, Given, one, Past, tree, Walk, done, next, steady, tail}
 use Rattle.jsx_tree.specs.Language.{Whole}
 use Rattle.jsx_tree.specs.Answers.{Moves, Stuck, Missed, Only, Barred, NoRow, Built}
-use Rattle.jsx_tree.proofs.Tokens.{and_both}
+use Rattle.jsx_tree.proofs.Tokens.{and_both, and_left, and_right}
 use Rattle.jsx_tree.proofs.Apart.{clash}
 use Rattle.jsx_tree.proofs.Rows.Bridge.{found_at}
 use Rattle.jsx_tree.proofs.Rows.Stopping.{is_not, or_cases}
@@ -26,14 +26,13 @@ use Rattle.jsx_expression.specs.Elements.{OnlyItem, NoItem, is_hole}
 use Rattle.jsx_token.specs.Stage.{leaf_at, value_leaf}
 use Rattle.jsx_token.specs.Marks.{ends_so_far, row_so_far}
 use Rattle.jsx_token.specs.Growths.{opening_sign, same_sign}
-use Rattle.jsx_token.specs.Headings.{heading_kind}
-use Rattle.jsx_token.proofs.Headings.{of_heading}
+use Rattle.jsx_token.proofs.Headings.{every_begun, of_begun}
 use Rattle.jsx_token.proofs.Levels.{grows_on}
 use Rattle.jsx_token.proofs.Listed.{kinds, every, of_each}
 use Rattle.jsx_token.proofs.Lives.{lives}
 use Rattle.jsx_expression.proofs.OfSoFar.{of_so_far}
 use Rattle.jsx_expression.proofs.Inners.{inner_kind, every_inner, of_inner}
-use Rattle.jsx_expression.proofs.Homes.{Literal, IsName, IsNumber, IsLong, IsString, IsPattern, token_kind, Taken, module', headed, inner, evaluation, sequence, operand, Value, literal, made, value_kind, value, taken_by, home_of, no_list}
+use Rattle.jsx_expression.proofs.Homes.{Literal, IsName, IsNumber, IsLong, IsString, IsPattern, token_kind, Taken, module', headed, inner, evaluation, labelled, sequence, operand, Value, literal, made, value_kind, value, taken_by, home_of, no_list}
 use Rattle.jsx_expression.proofs.Homes as home
 use Rattle.jsx_expression.proofs.Values.{is_opening, opener, one_opening, literal_opening, opener_of, opened_sign, led_sign, First, name, opened, begun, Seat, at_one, at_argument, move}
 use Rattle.jsx_expression.proofs.Climbing.{plain_kind, signed_built, signed_none}
@@ -61,9 +60,9 @@ pub record Slot (c : Nonterminal) : Type 0 where
   pub spreads : (ts : Forest) → admits c (node (expression Spread) ts) ≡ true
   pub leaves : (k : TokenKind) (t : Text) → leaf_at c k t ≡ true → AtItem (leaf k t)
   pub no_module : lives c (program Module) ≡ false
-  pub no_heading : (h : _) → lives c (heading_kind h) ≡ false
+  pub no_heading : every_begun (λ k. not (lives c k)) ≡ true
   pub no_inner : every_inner (λ i. not (lives c (inner_kind i))) ≡ true
-  pub no_evaluation : lives c (statement ExprStmt) ≡ false
+  pub no_evaluation : (not (lives c (statement ExprStmt)) && not (lives c (statement Label))) ≡ true
   pub no_sequence : lives c (expression Seq) ≡ false
 
 argument_ends : (y : Place) → ends_so_far Argument y ≡ ends_so_far (Expr 1) y
@@ -91,7 +90,7 @@ arguments = record {
   spreads = λ ts. refl;
   leaves = λ k t h. valued (value_kind k t h);
   no_module = refl;
-  no_heading = λ h. is_not _ (of_heading (λ j. not (lives Argument (heading_kind j))) refl h);
+  no_heading = refl;
   no_inner = refl;
   no_evaluation = refl;
   no_sequence = refl;
@@ -104,7 +103,7 @@ items = record {
   spreads = λ ts. refl;
   leaves = item_leaf;
   no_module = refl;
-  no_heading = λ h. is_not _ (of_heading (λ j. not (lives ArrayItem (heading_kind j))) refl h);
+  no_heading = refl;
   no_inner = refl;
   no_evaluation = refl;
   no_sequence = refl;
@@ -117,9 +116,10 @@ item_kind : {c : Nonterminal} {k : Kind} {ts : Forest} → Slot c → Taken k �
 item_kind s (operand l) h = valued (made l)
 item_kind s home.spread h = spread
 item_kind {c} {ts = ts} s module' h = elsewhere c (program Module) ts s.no_module h
-item_kind {c} {ts = ts} s (headed g) h = elsewhere c (heading_kind g) ts (s.no_heading g) h
+item_kind {c} {k} {ts} s (headed b) h = elsewhere c k ts (is_not _ (of_begun (λ j. not (lives c j)) s.no_heading b)) h
 item_kind {c} {ts = ts} s (inner i) h = elsewhere c (inner_kind i) ts (is_not _ (of_inner (λ j. not (lives c (inner_kind j))) s.no_inner i)) h
-item_kind {c} {ts = ts} s evaluation h = elsewhere c (statement ExprStmt) ts s.no_evaluation h
+item_kind {c} {ts = ts} s evaluation h = elsewhere c (statement ExprStmt) ts (is_not _ (and_left (not (lives c (statement ExprStmt))) _ s.no_evaluation)) h
+item_kind {c} {ts = ts} s labelled h = elsewhere c (statement Label) ts (is_not _ (and_right (not (lives c (statement ExprStmt))) _ s.no_evaluation)) h
 item_kind {c} {ts = ts} s sequence h = elsewhere c (expression Seq) ts s.no_sequence h
 
 at_slot : {v : Surroundings} {c : Nonterminal} {x y : Place} → Slot c → (t : Tree) → Staged v false c x t y → AtItem t

@@ -3,8 +3,8 @@ use Rattle.std.proofs.Common.{◌≡◌, true, false, not, refl, sym, ◌∙◌,
 use Rattle.std.specs.Prelude.{IsTrue, codes, [], ◌∷◌, ◌&&◌, ◌||◌}
 use Rattle.jsx_base.specs.Token.{Text, TokenKind, IdentifierName, NumericLiteral, BigIntLiteral, StringLiteral, JsxName, Elision, RegExpLiteral, among}
 use Rattle.jsx_tree.specs.Signs.{Tok}
-use Rattle.jsx_tree.specs.Kinds.{VarWord, LetWord, ConstWord, Block, Empty, If, Do, While, Continue, Break, Throw, Debugger, Module, Directive, Var, Declarator, ExprStmt, Binds, Assigns, Assign, OpAssign, Nullish, Or, And, BitOr, BitXor, BitAnd, ShiftLeft, ShiftRight, ShiftOut, Add, Subtract, Multiply, Divide, Remainder, Exponentiate, Void, TypeOf, Positive, Negative, Complement, Not, Unary, Binary, Cond, Call, Member, Index, ImportCall, Parenthesized, Element, Kind, program, statement, expression, jsx, Tree, leaf, node, list, Forest, Delete, PrefixUpdate, PostfixUpdate, Increment, Decrement, Seq, For, ForDeclaration, Switch, Case, Default, Array, Spread, Try, Catch, Object, Property, Shorthand, ComputedKey, function}
-use Rattle.jsx_tree.specs.Nonterminals.{Nonterminal, Expr, NullishLeft, MemberObject, DotObject, SimpleTarget, Argument, Ident, Name, StringOnly, Pat, TagName, Attributes, is_ident, is_bound, is_value_word, leaf_in, homes}
+use Rattle.jsx_tree.specs.Kinds.{VarWord, LetWord, ConstWord, Block, Empty, If, Do, While, Continue, Break, Label, Throw, Debugger, Module, Directive, Var, Declarator, ExprStmt, Binds, Assigns, Assign, OpAssign, Nullish, Or, And, BitOr, BitXor, BitAnd, ShiftLeft, ShiftRight, ShiftOut, Add, Subtract, Multiply, Divide, Remainder, Exponentiate, Void, TypeOf, Positive, Negative, Complement, Not, Unary, Binary, Cond, Call, Member, Index, ImportCall, Parenthesized, Element, Kind, program, statement, expression, jsx, Tree, leaf, node, list, Forest, Delete, PrefixUpdate, PostfixUpdate, Increment, Decrement, Seq, For, ForDeclaration, Switch, Case, Default, Array, Spread, Try, Catch, Object, Property, Shorthand, ComputedKey, function, New, NewWithoutArguments, NewTarget, ImportMeta, ForIn, ForOf, ForBinding}
+use Rattle.jsx_tree.specs.Nonterminals.{Nonterminal, Expr, NullishLeft, MemberObject, DotObject, SimpleTarget, Argument, Ident, Name, StringOnly, Pat, TagName, Attributes, is_ident, is_bound, is_value_word, leaf_in, homes, NewCallee}
 use Rattle.jsx_tree.specs.Grammar.{Part}
 use Rattle.jsx_tree.specs.Form.{admits, fits_below, is_leaf}
 use Rattle.jsx_tree.specs.Spelling.{mode_of, spelled}
@@ -27,18 +27,19 @@ use Rattle.jsx_expression.proofs.OfSoFar.{of_so_far}
 use Rattle.jsx_tree.specs.declared.text.DeclareWord.TheVariants as declare_word
 use Rattle.jsx_token.specs.declared.heading.Heading.{Heading}
 use Rattle.jsx_token.specs.declared.heading.Heading.TheVariants as heading
-use Rattle.jsx_token.specs.Headings.{heading_kind}
-use Rattle.jsx_token.proofs.Headings.{headings, every_heading, of_heading}
-use Rattle.jsx_expression.proofs.Inners.{Inner, directive, declarator, declaration, case', default', inner_kind, every_inner, of_inner, catch', property, shorthand, computed}
+use Rattle.jsx_token.specs.Headings.{Begins, own, over_keys, over_items}
+use Rattle.jsx_token.proofs.Headings.{every_begun, of_begun}
+use Rattle.jsx_expression.proofs.Inners.{Inner, directive, declarator, declaration, binding, case', default', inner_kind, every_inner, of_inner, catch', property, shorthand, computed}
 use Rattle.jsx_token.proofs.Listed.{Listed, listed, listed_binary, kinds, every, of_each}
 use Rattle.jsx_token.proofs.Lives.{is_single, lives}
 
 -- the kinds: those of expressions, and the others
 pub data Taken : Kind → Type 0 where
   module' : Taken (program Module)
-  headed : (h : Heading) → Taken (heading_kind h)
+  headed : {h : Heading} {k : Kind} → Begins h k → Taken k
   inner : (i : Inner) → Taken (inner_kind i)
   evaluation : Taken (statement ExprStmt)
+  labelled : Taken (statement Label)
   sequence : Taken (expression Seq)
   spread : Taken (expression Spread)
   operand : {k : Kind} → Listed k → Taken k
@@ -46,27 +47,31 @@ pub data Taken : Kind → Type 0 where
 pub taken : (k : Kind) → has_kind k ≡ true → Taken k
 taken (program Module) h = module'
 taken (program Directive) h = inner directive
-taken (statement (Var VarWord)) h = headed (heading.Var declare_word.Var)
-taken (statement (Var LetWord)) h = headed (heading.Var declare_word.Let)
-taken (statement (Var ConstWord)) h = headed (heading.Var declare_word.Const)
-taken (statement Block) h = headed heading.Block
-taken (statement Empty) h = headed heading.Empty
-taken (statement If) h = headed heading.If
-taken (statement Do) h = headed heading.Do
-taken (statement While) h = headed heading.While
-taken (statement For) h = headed heading.For
-taken (statement Switch) h = headed heading.Switch
-taken (statement Continue) h = headed heading.Continue
-taken (statement Break) h = headed heading.Break
-taken (statement Throw) h = headed heading.Throw
-taken (statement Try) h = headed heading.Try
-taken (statement Debugger) h = headed heading.Debugger
+taken (statement (Var VarWord)) h = headed (own (heading.Var declare_word.Var))
+taken (statement (Var LetWord)) h = headed (own (heading.Var declare_word.Let))
+taken (statement (Var ConstWord)) h = headed (own (heading.Var declare_word.Const))
+taken (statement Block) h = headed (own heading.Block)
+taken (statement Empty) h = headed (own heading.Empty)
+taken (statement If) h = headed (own heading.If)
+taken (statement Do) h = headed (own heading.Do)
+taken (statement While) h = headed (own heading.While)
+taken (statement For) h = headed (own heading.For)
+taken (statement ForIn) h = headed over_keys
+taken (statement ForOf) h = headed over_items
+taken (statement Switch) h = headed (own heading.Switch)
+taken (statement Continue) h = headed (own heading.Continue)
+taken (statement Break) h = headed (own heading.Break)
+taken (statement Throw) h = headed (own heading.Throw)
+taken (statement Try) h = headed (own heading.Try)
+taken (statement Debugger) h = headed (own heading.Debugger)
 taken (statement Declarator) h = inner declarator
 taken (statement (ForDeclaration w)) h = inner (declaration w)
+taken (statement (ForBinding w)) h = inner (binding w)
 taken (statement Case) h = inner case'
 taken (statement Default) h = inner default'
 taken (statement Catch) h = inner catch'
 taken (statement ExprStmt) h = evaluation
+taken (statement Label) h = labelled
 taken (expression Seq) h = sequence
 taken (expression Spread) h = spread
 taken (expression (Binary o)) h = operand (listed_binary o)
@@ -98,6 +103,10 @@ taken (expression (Unary Negative)) h = operand (listed (expression (Unary Negat
 taken (expression (Unary Complement)) h = operand (listed (expression (Unary Complement)) refl refl refl)
 taken (expression (Unary Not)) h = operand (listed (expression (Unary Not)) refl refl refl)
 taken (expression ImportCall) h = operand (listed (expression ImportCall) refl refl refl)
+taken (expression ImportMeta) h = operand (listed (expression ImportMeta) refl refl refl)
+taken (expression New) h = operand (listed (expression New) refl refl refl)
+taken (expression NewWithoutArguments) h = operand (listed (expression NewWithoutArguments) refl refl refl)
+taken (expression NewTarget) h = operand (listed (expression NewTarget) refl refl refl)
 taken (expression Parenthesized) h = operand (listed (expression Parenthesized) refl refl refl)
 taken (expression Array) h = operand (listed (expression Array) refl refl refl)
 taken (expression Object) h = operand (listed (expression Object) refl refl refl)
@@ -132,11 +141,12 @@ pub no_operand_at : (c : Nonterminal) {k : Kind} → every (λ j. not (lives c j
 no_operand_at c {k} e l h = clash _ h (is_not _ (of_each (λ j. not (lives c j)) e k l))
 
 -- where none of them is at home
-pub nowhere : (c : Nonterminal) {k : Kind} → lives c (program Module) ≡ false → every_heading (λ h. not (lives c (heading_kind h))) headings ≡ true → every_inner (λ i. not (lives c (inner_kind i))) ≡ true → lives c (statement ExprStmt) ≡ false → lives c (expression Seq) ≡ false → lives c (expression Spread) ≡ false → every (λ j. not (lives c j)) kinds ≡ true → Taken k → lives c k ≡ true → ⊥
+pub nowhere : (c : Nonterminal) {k : Kind} → lives c (program Module) ≡ false → every_begun (λ k. not (lives c k)) ≡ true → every_inner (λ i. not (lives c (inner_kind i))) ≡ true → (not (lives c (statement ExprStmt)) && not (lives c (statement Label))) ≡ true → lives c (expression Seq) ≡ false → lives c (expression Spread) ≡ false → every (λ j. not (lives c j)) kinds ≡ true → Taken k → lives c k ≡ true → ⊥
 nowhere c a1 a2 a3 a4 a5 a6 e module' h = clash _ h a1
-nowhere c a1 a2 a3 a4 a5 a6 e (headed g) h = clash _ h (is_not _ (of_heading (λ j. not (lives c (heading_kind j))) a2 g))
+nowhere c a1 a2 a3 a4 a5 a6 e (headed b) h = clash _ h (is_not _ (of_begun (λ j. not (lives c j)) a2 b))
 nowhere c a1 a2 a3 a4 a5 a6 e (inner i) h = clash _ h (is_not _ (of_inner (λ j. not (lives c (inner_kind j))) a3 i))
-nowhere c a1 a2 a3 a4 a5 a6 e evaluation h = clash _ h a4
+nowhere c a1 a2 a3 a4 a5 a6 e evaluation h = clash _ h (is_not _ (and_left (not (lives c (statement ExprStmt))) _ a4))
+nowhere c a1 a2 a3 a4 a5 a6 e labelled h = clash _ h (is_not _ (and_right (not (lives c (statement ExprStmt))) _ a4))
 nowhere c a1 a2 a3 a4 a5 a6 e sequence h = clash _ h a5
 nowhere c a1 a2 a3 a4 a5 a6 e spread h = clash _ h a6
 nowhere c a1 a2 a3 a4 a5 a6 e (operand l) h = no_operand_at c e l h
@@ -294,7 +304,7 @@ dot_leaf BigIntLiteral t h = refl
 dot_leaf NumericLiteral t h = cc
 dot_leaf _ t h = cc
 
-bound_word : (t : Text) → is_bound t ≡ true → is_value_word t ≡ true
+pub bound_word : (t : Text) → is_bound t ≡ true → is_value_word t ≡ true
 bound_word t h = ap (λ b. b || among t (codes "this" ∷ codes "null" ∷ codes "true" ∷ codes "false" ∷ [])) (and_left (is_ident t) _ h)
 
 operand_leaf : (d : Nonterminal) (k : TokenKind) (t : Text) → is_operand d ≡ true → leaf_in d k t ≡ true → leaf_at d k t ≡ true → value_leaf true k t ≡ true
@@ -302,6 +312,7 @@ operand_leaf (Expr n) k t o i h = h
 operand_leaf MemberObject k t o i h = h
 operand_leaf NullishLeft k t o i h = h
 operand_leaf Argument k t o i h = h
+operand_leaf NewCallee k t o i h = h
 operand_leaf DotObject k t o i h = dot_leaf k t h
 operand_leaf (Pat Assigns) IdentifierName t o i h = bound_word t i
 operand_leaf SimpleTarget IdentifierName t o i h = bound_word t i
@@ -318,9 +329,10 @@ no_operand d k ts o n h = clash _ (homes_operand d (homes k) o (kind_home d k ts
 pub operand_kind : (d : Nonterminal) {k : Kind} {ts : Forest} → is_single d ≡ true → Taken k → admits d (node k ts) ≡ true → Value (node k ts)
 operand_kind d o (operand l) h = made l
 operand_kind d o module' h = absurd (no_operand d _ _ (and_left (is_operand d) _ o) refl h)
-operand_kind d o (headed g) h = absurd (no_operand d _ _ (and_left (is_operand d) _ o) (is_not _ (of_heading (λ j. not (any_operand (homes (heading_kind j)))) refl g)) h)
+operand_kind d o (headed b) h = absurd (no_operand d _ _ (and_left (is_operand d) _ o) (is_not _ (of_begun (λ j. not (any_operand (homes j))) refl b)) h)
 operand_kind d o (inner i) h = absurd (no_operand d _ _ (and_left (is_operand d) _ o) (is_not _ (of_inner (λ j. not (any_operand (homes (inner_kind j)))) refl i)) h)
 operand_kind d o evaluation h = absurd (no_operand d _ _ (and_left (is_operand d) _ o) refl h)
+operand_kind d o labelled h = absurd (no_operand d _ _ (and_left (is_operand d) _ o) refl h)
 operand_kind d {ts = ts} o sequence h = absurd (clash _ (kind_home d (expression Seq) ts h) (is_not _ (and_left (not (lives d (expression Seq))) _ (and_right (is_operand d) _ o))))
 operand_kind d {ts = ts} o spread h = absurd (clash _ (kind_home d (expression Spread) ts h) (is_not _ (and_right (not (lives d (expression Seq))) _ (and_right (is_operand d) _ o))))
 
@@ -340,9 +352,10 @@ whole_kind (operand l) h = single (made l)
 whole_kind sequence h = several
 whole_kind {ts = ts} spread h = absurd (clash _ (kind_home (Expr 0) (expression Spread) ts h) refl)
 whole_kind {ts = ts} module' h = absurd (no_operand (Expr 0) (program Module) ts refl refl h)
-whole_kind {ts = ts} (headed g) h = absurd (no_operand (Expr 0) (heading_kind g) ts refl (is_not _ (of_heading (λ j. not (any_operand (homes (heading_kind j)))) refl g)) h)
+whole_kind {k} {ts} (headed b) h = absurd (no_operand (Expr 0) k ts refl (is_not _ (of_begun (λ j. not (any_operand (homes j))) refl b)) h)
 whole_kind {ts = ts} (inner i) h = absurd (no_operand (Expr 0) (inner_kind i) ts refl (is_not _ (of_inner (λ j. not (any_operand (homes (inner_kind j)))) refl i)) h)
 whole_kind {ts = ts} evaluation h = absurd (no_operand (Expr 0) (statement ExprStmt) ts refl refl h)
+whole_kind {ts = ts} labelled h = absurd (no_operand (Expr 0) (statement Label) ts refl refl h)
 
 pub at_whole : {v : Surroundings} {x y : Place} (t : Tree) → Staged v false (Expr 0) x t y → AtWhole t
 at_whole (leaf k t) r = single (value_kind k t r.staged)

@@ -1,13 +1,14 @@
 -- The kinds that stand within statements, before them or in objects alone, in one list: what a test finds of all of them holds of each.
 use Rattle.std.proofs.Common.{◌≡◌, Bool, true}
 use Rattle.std.specs.Prelude.{◌&&◌}
-use Rattle.jsx_tree.specs.Kinds.{DeclareWord, VarWord, LetWord, ConstWord, Directive, Declarator, ForDeclaration, Case, Default, Catch, ComputedKey, Property, Shorthand, Kind, program, statement, function, expression}
+use Rattle.jsx_tree.specs.Kinds.{DeclareWord, VarWord, LetWord, ConstWord, Directive, Declarator, ForDeclaration, ForBinding, Case, Default, Catch, ComputedKey, Property, Shorthand, Kind, program, statement, function, expression}
 use Rattle.jsx_tree.proofs.Tokens.{and_left, and_right}
 
 pub data Inner : Type 0 where
   directive : Inner
   declarator : Inner
   declaration : DeclareWord → Inner
+  binding : DeclareWord → Inner
   case' : Inner
   default' : Inner
   catch' : Inner
@@ -19,6 +20,7 @@ abbrev pub inner_kind : Inner → Kind
 inner_kind directive = program Directive
 inner_kind declarator = statement Declarator
 inner_kind (declaration w) = statement (ForDeclaration w)
+inner_kind (binding w) = statement (ForBinding w)
 inner_kind case' = statement Case
 inner_kind default' = statement Default
 inner_kind catch' = statement Catch
@@ -36,7 +38,7 @@ of_word p a ConstWord = and_right (p LetWord) _ (and_right (p VarWord) _ a)
 
 -- those of statements
 abbrev pub every_part : (Inner → Bool) → Bool
-every_part p = p declarator && (every_word (λ w. p (declaration w)) && (p case' && (p default' && p catch')))
+every_part p = p declarator && (every_word (λ w. p (declaration w)) && (every_word (λ w. p (binding w)) && (p case' && (p default' && p catch'))))
 
 -- those of an object
 abbrev pub every_member : (Inner → Bool) → Bool
@@ -48,6 +50,7 @@ every_inner p = p directive && (every_part p && every_member p)
 record Part (p : Inner → Bool) : Type 0 where
   declarator' : p declarator ≡ true
   word : every_word (λ w. p (declaration w)) ≡ true
+  bound : every_word (λ w. p (binding w)) ≡ true
   of_case : p case' ≡ true
   of_default : p default' ≡ true
   of_catch : p catch' ≡ true
@@ -55,9 +58,10 @@ record Part (p : Inner → Bool) : Type 0 where
 of_part : (p : Inner → Bool) → every_part p ≡ true → Part p
 of_part p a =
     let b = and_right (p declarator) _ a in
-    let c = and_right (every_word (λ w. p (declaration w))) _ b in
+    let e = and_right (every_word (λ w. p (declaration w))) _ b in
+    let c = and_right (every_word (λ w. p (binding w))) _ e in
     let d = and_right (p case') _ c in
-    record { declarator' = and_left (p declarator) _ a; word = and_left (every_word (λ w. p (declaration w))) _ b; of_case = and_left (p case') _ c; of_default = and_left (p default') _ d; of_catch = and_right (p default') _ d }
+    record { declarator' = and_left (p declarator) _ a; word = and_left (every_word (λ w. p (declaration w))) _ b; bound = and_left (every_word (λ w. p (binding w))) _ e; of_case = and_left (p case') _ c; of_default = and_left (p default') _ d; of_catch = and_right (p default') _ d }
 
 record Member (p : Inner → Bool) : Type 0 where
   of_property : p property ≡ true
@@ -78,6 +82,7 @@ of_inner p a i =
     by directive d q m = d
     by declarator d q m = q.declarator'
     by (declaration w) d q m = of_word (λ x. p (declaration x)) q.word w
+    by (binding w) d q m = of_word (λ x. p (binding x)) q.bound w
     by case' d q m = q.of_case
     by default' d q m = q.of_default
     by catch' d q m = q.of_catch

@@ -4,13 +4,16 @@ pub mod Inners
 pub mod Homes
 pub mod Standing
 pub mod Slashes
+pub mod Rungs
 pub mod Values
 pub mod Climbing
 pub mod Openings
+pub mod Shared
 pub mod Deleting
 pub mod Targets
 pub mod Operators
 pub mod Sequences
+pub mod Gatherings
 pub mod Elements
 pub mod Holes
 pub mod Keys
@@ -18,6 +21,7 @@ pub mod Members
 pub mod Protos
 pub mod Leveling
 pub mod Targeting
+pub mod Calling
 pub mod Naming
 pub mod Steps
 pub mod Trees

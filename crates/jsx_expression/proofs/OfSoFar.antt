@@ -9,7 +9,7 @@ use Rattle.jsx_tree.specs.Grammar.{ListShape, Fixed, Part, Optional, Many, Withi
 use Rattle.jsx_tree.specs.Form.{slots, inside, is_piece}
 use Rattle.jsx_tree.specs.Reading.{Place, Lost, At, is_backquote}
 use Rattle.jsx_tree.specs.StaticRules.{Surroundings, rule, stands}
-use Rattle.jsx_token.specs.Stage.{has_kind, limits, in_stage, in_stages, each_in_stage}
+use Rattle.jsx_token.specs.Stage.{has_kind, in_stage, in_stages, each_in_stage}
 use Rattle.jsx_tree.specs.Walk.{pieces, IsRead, Items, nil, last, more, sign, tree, absent, present, many, Walk, done, next}
 use Rattle.jsx_tree.specs.Stops.{going, goes, quotes, level_asked, stops}
 use Rattle.jsx_expression.specs.SoFar.{Staged, so_far}
@@ -149,17 +149,16 @@ of_so_far = record {
   to_node = λ k {v} {c} {x} {y} {ts} a p.
       let l = loose [] false [] (production k) p.walk in
       let h = and_right (has_kind k) _ p.keeps in
-      let j = and_right (limits k ts) _ h in
       record {
-        reads = node_read false k a refl (record { walk = l.reads; keeps = and_left (rule k ts) (stands k ts v) j; may_stand = and_right (rule k ts) (stands k ts v) j });
-        staged = and_both _ _ (and_left (has_kind k) _ p.keeps) (and_both _ _ (and_left (limits k ts) _ h) l.each);
+        reads = node_read false k a refl (record { walk = l.reads; keeps = and_left (rule k ts) (stands k ts v) h; may_stand = and_right (rule k ts) (stands k ts v) h });
+        staged = and_both _ _ (and_left (has_kind k) _ p.keeps) l.each;
       };
   from_node = λ k {v} {c} {x} {y} {ts} r.
       let n = node_walk false k refl r.reads in
       let h = and_right (has_kind k) _ r.staged in
       record {
-        walk = tight [] false [] (production k) n.walk (and_right (limits k ts) _ h);
-        keeps = and_both _ _ (and_left (has_kind k) _ r.staged) (and_both _ _ (and_left (limits k ts) _ h) (and_both _ _ n.keeps n.may_stand));
+        walk = tight [] false [] (production k) n.walk h;
+        keeps = and_both _ _ (and_left (has_kind k) _ r.staged) (and_both _ _ n.keeps n.may_stand);
       };
   ends_there = less_ends;
   covered = cover_ends;

@@ -1,36 +1,40 @@
 -- What an expression begins with that is neither a literal nor another expression: a node of a kind whose row begins with a sign. Each fact on the kinds is one test of all of them.
-use Rattle.std.proofs.Common.{◌≡◌, ℕ, nat_eq, nat_le, Bool, true, false, not, List, refl, sym, ◌∙◌, ap, subst}
+use Rattle.std.proofs.Common.{◌≡◌, nat_eq, Bool, true, false, not, List, [], ◌∷◌, refl, sym, ◌∙◌, ap, subst}
 use Rattle.std.specs.Prelude.{IsTrue, ◌&&◌, ◌||◌}
-use Rattle.jsx_base.specs.Token.{Text}
-use Rattle.jsx_tree.specs.Signs.{Sign}
-use Rattle.jsx_tree.specs.Kinds.{Element, Kind, jsx, Tree, node, Forest}
-use Rattle.jsx_tree.specs.Nonterminals.{Nonterminal, Expr, homes}
-use Rattle.jsx_tree.specs.Grammar.{Part}
-use Rattle.jsx_tree.specs.Reading.{Place, Lost, forth}
+use Rattle.std.proofs.lemmas.Bool.{eqb-true}
+use Rattle.jsx_base.specs.Token.{Text, Operator, Punctuator, kind_number, token, same}
+use Rattle.jsx_tree.specs.Signs.{AfterExpr, Sign, Tok}
+use Rattle.jsx_tree.specs.Kinds.{ImportCall, ImportMeta, New, NewWithoutArguments, NewTarget, Seq, Spread, Element, Kind, expression, jsx, Tree, node, Forest}
+use Rattle.jsx_tree.specs.Nonterminals.{Nonterminal, Expr, homes, in_homes}
+use Rattle.jsx_tree.specs.Grammar.{Fixed, Part}
+use Rattle.jsx_tree.specs.Reading.{Place, Lost, At, forth, go_if}
 use Rattle.jsx_tree.specs.StaticRules.{Surroundings}
-use Rattle.jsx_tree.specs.Walk.{is_found, Given, Past, Piece, tree, tail, Walk, steady}
+use Rattle.jsx_tree.specs.Walk.{is_found, Given, Past, Piece, piece, sign, tree, tail, Walk, next, steady}
 use Rattle.jsx_tree.specs.Language.{Whole}
 use Rattle.jsx_tree.specs.Answers.{Moves, Barred, NoRow, NoNode, Built, BuiltNode}
 use Rattle.jsx_tree.specs.Grows.{Onward}
 use Rattle.jsx_token.specs.Stage.{has_kind, value_leaf}
 use Rattle.jsx_expression.specs.SoFar.{Staged, so_far}
 use Rattle.jsx_token.specs.Marks.{row_so_far}
-use Rattle.jsx_tree.proofs.Tokens.{and_left, and_right, and_both}
+use Rattle.jsx_tree.proofs.Tokens.{and_left, and_right, and_both, same_is}
 use Rattle.jsx_tree.proofs.Apart.{clash}
 use Rattle.jsx_tree.proofs.Rows.Bridge.{found_at}
 use Rattle.jsx_tree.proofs.Rows.Stopping.{or_cases}
 use Rattle.jsx_tree.proofs.Rows.Guarded.{guarded, whole_walk, loosen, to_grammar}
 use Rattle.jsx_tree.proofs.Rows.Bodies.{bodiless, plain as plain_row}
-use Rattle.jsx_tree.proofs.Rows.Closers.{any_operand}
+use Rattle.jsx_tree.proofs.Rows.Closers.{any_operand, homes_operand}
+use Rattle.jsx_tree.proofs.Rows.Spines.{grows}
 use Rattle.jsx_tree.proofs.Rows.Placing.{free, free_around, moved}
 use Rattle.jsx_expression.proofs.OfSoFar.{of_so_far}
-use Rattle.jsx_token.specs.Growths.{is_level, level_of_kind, settled, opening_sign, opening_signs, same_sign, has_sign, is_code, NoOpening}
-use Rattle.jsx_expression.specs.Climbing.{Begins, NoneBegins, level}
-use Rattle.jsx_token.proofs.Listed.{Listed, listed, code, kinds, every, every_two, of_each, of_two, one_place, implies, implied}
+use Rattle.jsx_token.specs.Growths.{Rung, is_rung, reaches, seat, lead, settled, opening_sign, opening_signs, same_sign, has_sign, is_code, NoOpening}
+use Rattle.jsx_expression.specs.Climbing.{Begins, NoneBegins, rises}
+use Rattle.jsx_expression.specs.Openings.{opens_with, OnlyOpened, NoneOpened}
+use Rattle.jsx_token.proofs.Listed.{Listed, listed, code, is_apart, kinds, every, every_two, of_each, of_two, one_place, implies, implied}
 use Rattle.jsx_expression.proofs.Homes.{Literal, IsName, IsNumber, IsLong, IsString, token_kind, IsPattern}
-use Rattle.jsx_expression.proofs.Values.{First, name, opened, less_literal, led_sign, SameFirst, begun, onto, same_both, literal_sign, literal_opening, one_opening, opener_of, opened_sign, opened_led, level_single}
-use Rattle.jsx_token.proofs.Levels.{grows_on, edge, at_level, is_ruled}
-use Rattle.jsx_expression.proofs.Climbing.{edge_on, low, node_level, plain_kind, signed_node, signed_no_node}
+use Rattle.jsx_expression.proofs.Values.{First, name, opened, less_literal, led_sign, Opener, angle, plain, SameFirst, begun, onto, same_both, literal_sign, literal_opening, one_opening, opener_of, opened_sign, opened_led}
+use Rattle.jsx_expression.proofs.Rungs.{clear_first, leads_as, reaches_level, rises_node, rung_operand, rung_single, seat_admits}
+use Rattle.jsx_token.proofs.Levels.{grows_on, edge, at_level, is_ruled, signed}
+use Rattle.jsx_expression.proofs.Climbing.{edge_on, low, node_reaches, plain_kind, signed_node}
 
 -- ---- of each kind
 
@@ -44,9 +48,17 @@ all_opens_formed : every opens_formed kinds ≡ true
 unfolding opening_signs
 all_opens_formed = refl
 
--- two that begin with one sign are one
+-- two that begin with one sign are one, but for those that are told apart behind it
+abbrev pub is_shared : Kind → Bool
+is_shared (expression ImportCall) = true
+is_shared (expression ImportMeta) = true
+is_shared (expression New) = true
+is_shared (expression NewWithoutArguments) = true
+is_shared (expression NewTarget) = true
+is_shared k = false
+
 abbrev opens_apart : Kind → Kind → Bool
-opens_apart k l = implies (not (grows_on k) && not (grows_on l)) (implies (same_sign (opening_sign k) (opening_sign l)) (nat_eq (code k) (code l)))
+opens_apart k l = implies (not (grows_on k) && not (grows_on l)) (implies (same_sign (opening_sign k) (opening_sign l)) (nat_eq (code k) (code l) || is_shared l))
 
 all_opens_apart : every_two opens_apart ≡ true
 all_opens_apart = refl
@@ -76,33 +88,37 @@ opens k l g =
       begins = and_right (has_kind k && any_operand (homes k)) _ c;
     }
 
-one_kind : {v : Surroundings} {d : Nonterminal} {x p : Place} {j : Kind} {ts : Forest} (k : Kind) → Listed k → grows_on k ≡ false → Listed j → grows_on j ≡ false → Staged v false d x (node j ts) p → IsTrue (is_found (forth (opening_sign k) x)) → j ≡ k
-one_kind {x = x} {j = j} k l g m h r f =
-    one_place j k m l (implied (same_sign (opening_sign j) (opening_sign k)) _ (implied (not (grows_on j) && not (grows_on k)) _ (of_two opens_apart all_opens_apart j k m l) (and_both _ _ (ap not h) (ap not g))) (one_opening (opening_sign j) (opening_sign k) x (opener_of j m h) (opener_of k l g) (opened_sign j m h r) f))
+sole_kind : (j k : Kind) → Listed j → grows_on j ≡ false → Listed k → grows_on k ≡ false → is_shared k ≡ false → same_sign (opening_sign j) (opening_sign k) ≡ true → j ≡ k
+sole_kind j k m h l g n e =
+    one_place j k m l
+    (or_cases (nat_eq (code j) (code k)) (is_shared k) (implied (same_sign (opening_sign j) (opening_sign k)) _ (implied (not (grows_on j) && not (grows_on k)) _ (of_two opens_apart all_opens_apart j k m l) (and_both _ _ (ap not h) (ap not g))) e) (λ i. i) (λ i. absurd (clash _ i n)))
 
 -- ---- its row, read to the ends of its parts
 
-opened_whole : {v : Surroundings} {n : ℕ} {d : Nonterminal} {x y z : Place} {u : Tree} {ts : Forest} (k : Kind) → is_level n ≡ true → Listed k → grows_on k ≡ false → Staged v false d x (node k ts) y → Onward so_far v x (node k ts) y u z → Whole so_far v false (Expr n) x u z → Walk (Whole so_far) (steady v) (row_so_far k) x ts y
-opened_whole {v} {ts = ts} k i l g r o w =
+opened_whole : {v : Surroundings} (r : Rung) {d : Nonterminal} {x y z : Place} {u : Tree} {ts : Forest} (k : Kind) → is_rung r ≡ true → Listed k → grows_on k ≡ false → Staged v false d x (node k ts) y → Onward so_far v x (node k ts) y u z → Whole so_far v false (seat r) x u z → Walk (Whole so_far) (steady v) (row_so_far k) x ts y
+opened_whole {v} r {ts = ts} k i l g q o w =
     let f = opens k l g in
-    moved (λ a h. free_around a ts v h) f.freed (whole_walk of_so_far (edge k) (row_so_far k) f.closed (edge_on k (node k ts) i l refl o w) (of_so_far.from_node k r).walk)
+    moved (λ a h. free_around a ts v h) f.freed (whole_walk of_so_far (edge k) (row_so_far k) f.closed (edge_on r k (node k ts) i l refl o w) (of_so_far.from_node k q).walk)
 
--- the tree of such a kind that was read is what everything that is read from there begins with
-at_kind : {v : Surroundings} {n : ℕ} {d : Nonterminal} {x y p z : Place} {t u : Tree} {ts : Forest} (k : Kind) → is_level n ≡ true → Listed k → grows_on k ≡ false → Built so_far v (row_so_far k) k (λ ts. ts) t x y
-    → Staged v false d x (node k ts) p → Onward so_far v x (node k ts) p u z → Whole so_far v false (Expr n) x u z → SameFirst (node k ts) t p y
-at_kind {p = p} {ts = ts} k i l g b r o w = let s = b.row.alone ts p (opened_whole k i l g r o w) in record { tree = ap (node k) (sym s.0) ∙ sym b.is; place = sym s.1 }
+-- a node, and that no other begins from there with the sign that it begins with
+record OnlyFirst (v : Surroundings) (t : Tree) (x y : Place) : Type 0 where
+  kind : Kind
+  listed : Listed kind
+  still : grows_on kind ≡ false
+  built : BuiltNode so_far v (row_so_far kind) kind t x y
+  alone : (j : Kind) (ts : Forest) (z : Place) → Listed j → grows_on j ≡ false → same_sign (opening_sign j) (opening_sign kind) ≡ true → Walk (Whole so_far) (steady v) (row_so_far j) x ts z → so_far.keeps j v ts ≡ true → SameFirst (node j ts) t z y
 
-abbrev AtKind : Surroundings → ℕ → Nonterminal → Place → Place → Place → Place → Tree → Tree → Forest → Kind → Type 0
-AtKind v n d x y p z t u ts j = Staged v false d x (node j ts) p → Onward so_far v x (node j ts) p u z → Whole so_far v false (Expr n) x u z → SameFirst (node j ts) t p y
+-- so it is what everything that is read from there begins with
+to_opened : {v : Surroundings} (r : Rung) {x y p z : Place} {f t u : Tree} → is_rung r ≡ true → OnlyFirst v t x y → First v x f p → Onward so_far v x f p u z → Whole so_far v false (seat r) x u z → SameFirst f t p y
+to_opened r {x = x} i b (name m {t = s} h q e e') o w = absurd (literal_opening m s (opening_sign b.kind) x (opener_of b.kind b.listed b.still) h (found_at e e') (led_sign (row_so_far b.kind) (opened_led b.kind b.listed b.still) b.built.row.walk))
+to_opened r {x = x} {p = p} i b (opened d {k = j} {ts} m h q) o w =
+    let here = led_sign (row_so_far b.kind) (opened_led b.kind b.listed b.still) b.built.row.walk in
+    b.alone j ts p m h (one_opening (opening_sign j) (opening_sign b.kind) x (opener_of j m h) (opener_of b.kind b.listed b.still) (opened_sign j m h q) here) (opened_whole r j i m h q o w) (of_so_far.from_node j q).keeps
 
-to_opened : {v : Surroundings} {n : ℕ} {x y p z : Place} {f t u : Tree} (k : Kind) → is_level n ≡ true → Listed k → grows_on k ≡ false → Built so_far v (row_so_far k) k (λ ts. ts) t x y → First v x f p → Onward so_far v x f p u z → Whole so_far v false (Expr n) x u z → SameFirst f t p y
-to_opened {x = x} k i l g b (name m {t = s} h q e e') o w = absurd (literal_opening m s (opening_sign k) x (opener_of k l g) h (found_at e e') (led_sign (row_so_far k) (opened_led k l g) b.row.walk))
-to_opened {v} {n} {x} {y} {p} {z} {t = t} {u} k i l g b (opened d {k = j} {ts} m h r) o w =
-    let e = one_kind k l g m h r (led_sign (row_so_far k) (opened_led k l g) b.row.walk) in
-    subst (AtKind v n d x y p z t u ts) (sym e) (λ r o w. at_kind k i l g b r o w) r o w
-
-opened_staged : {v : Surroundings} {n : ℕ} {x y : Place} {ts : Forest} (k : Kind) → is_level n ≡ true → nat_le n (level_of_kind k) ≡ true → Listed k → grows_on k ≡ false → Walk (Whole so_far) (steady v) (row_so_far k) x ts y → so_far.keeps k v ts ≡ true → Staged v false (Expr n) x (node k ts) y
-opened_staged {v} {n} {ts = ts} k i e l g w keeps = of_so_far.to_node k ((at_level i k l).home ∙ e) (record { walk = loosen (moved (λ a h. sym (free_around a ts v h)) (opens k l g).freed w); keeps = keeps })
+opened_staged : {v : Surroundings} (r : Rung) {x y : Place} {ts : Forest} (k : Kind) → is_rung r ≡ true → reaches r k ≡ true → Listed k → grows_on k ≡ false → Walk (Whole so_far) (steady v) (row_so_far k) x ts y → so_far.keeps k v ts ≡ true → Staged v false (seat r) x (node k ts) y
+opened_staged {v} r {ts = ts} k i e l g w keeps =
+    of_so_far.to_node k (seat_admits r k ts ((at_level {r = r} i k l).home ∙ reaches_level r k e) (clear_first r k ts (sym (leads_as k l) ∙ g) e))
+    (record { walk = loosen (moved (λ a h. sym (free_around a ts v h)) (opens k l g).freed w); keeps = keeps })
 
 -- what stands behind its sign keeps its rules, where these ask nothing
 pub kept_behind : {v : Surroundings} {a y : Place} {t : Tree} (k : Kind) → Listed k → grows_on k ≡ false → is_ruled k ≡ false → Built so_far v (tail (row_so_far k)) k (λ ts. ts) t a y → BuiltNode so_far v (tail (row_so_far k)) k t a y
@@ -121,61 +137,174 @@ kept_whole {v} k l g n bare b =
     let f = opens k l g in
     record { parts = b.parts; is = b.is; row = b.row; keeps = and_both _ _ f.taken (plain_kind k b.parts v n f.taken f.stood (plain_row (row_so_far k) bare (to_grammar of_so_far b.row.walk))) }
 
-plain_built : {v : Surroundings} {ps : List Piece} {k : Kind} {t : Tree} {x y : Place} → BuiltNode so_far v ps k t x y → Built so_far v ps k (λ ts. ts) t x y
-plain_built b = record { parts = b.parts; is = b.is; row = b.row }
-
 -- above its level nothing is read that begins with it
-too_low : {v : Surroundings} {n : ℕ} {x y : Place} {t : Tree} (k : Kind) → is_level n ≡ true → Listed k → grows_on k ≡ false → Built so_far v (row_so_far k) k (λ ts. ts) t x y → nat_le n (level_of_kind k) ≡ false → Barred so_far v (Part (Expr n)) x
-too_low {v} {n} {x} {y} {t} k i l g b e = record { no = at }
+too_low : {v : Surroundings} (r : Rung) {x y : Place} {t : Tree} → is_rung r ≡ true → OnlyFirst v t x y → rises r t ≡ false → Barred so_far v (Part (seat r)) x
+too_low {v} r {x} {y} {t} i b e = record { no = at }
   where
-    at : (h : Given) (z : Place) → Past (Whole so_far) v (Part (Expr n)) x h z → ⊥
+    at : (h : Given) (z : Place) → Past (Whole so_far) v (Part (seat r)) x h z → ⊥
     at h z (tree {t = u} q) =
-        let m = begun (level_single n i) u q.reads in
-        let o : Onward so_far v x t y u z = onto (to_opened k i l g b m.first m.onward q) m.onward in
-        clash (nat_le n (level_of_kind k)) (node_level i l (subst (λ w. Staged v false (Expr n) x w y) b.is (low i o q.reads))) e
+        let m = begun (rung_single r i) u q.reads in
+        let o : Onward so_far v x t y u z = onto (to_opened r i b m.first m.onward q) m.onward in
+        clash (rises r t) (ap (rises r) b.built.is ∙ (rises_node r b.kind b.built.parts ∙ node_reaches r i b.listed (subst (λ w. Staged v false (seat r) x w y) b.built.is (low r i o q.reads)))) e
 
-pub opened_follows : {v : Surroundings} {x y : Place} {t : Tree} (k : Kind) → Listed k → grows_on k ≡ false → BuiltNode so_far v (row_so_far k) k t x y → settled y ≡ true → Begins v x t y
-opened_follows {v} {x} {y} {t} k l g b s = record {
-  on = λ n i e.
-      let r : Staged v false (Expr n) x t y = subst (λ u. Staged v false (Expr n) x u y) (sym b.is) (opened_staged k i (sym (ap (λ u. nat_le n (level u)) b.is) ∙ e) l g b.row.walk b.keeps) in
+only_follows : {v : Surroundings} {x y : Place} {t : Tree} → OnlyFirst v t x y → settled y ≡ true → Begins v x t y
+only_follows {v} {x} {y} {t} b s = record {
+  on = λ r i e.
+      let reads : Staged v false (seat r) x t y = subst (λ u. Staged v false (seat r) x u y) (sym b.built.is) (opened_staged r b.kind i (sym (rises_node r b.kind b.built.parts) ∙ (sym (ap (rises r) b.built.is) ∙ e)) b.listed b.still b.built.row.walk b.built.keeps) in
       record {
-        follows = record { home = Expr n; operand = refl; reads = r; all = λ u z q. let m = begun (level_single n i) u q.reads in onto (to_opened k i l g (plain_built b) m.first m.onward q) m.onward };
-        reads = r;
+        follows = record { home = seat r; operand = rung_operand r; reads = reads; all = λ u z q. let m = begun (rung_single r i) u q.reads in onto (to_opened r i b m.first m.onward q) m.onward };
+        reads = reads;
         ended = s;
       };
-  low = λ n i e. too_low k i l g (plain_built b) (sym (ap (λ u. nat_le n (level u)) b.is) ∙ e);
+  low = λ r i e. too_low r i b e;
 }
 
+-- ---- a kind that no other begins as
+
+same_node : {v : Surroundings} {ps : List Piece} {x y z : Place} {t : Tree} {ts : Forest} (k : Kind) → BuiltNode so_far v ps k t x y → Walk (Whole so_far) (steady v) ps x ts z → SameFirst (node k ts) t z y
+same_node {z = z} {ts = ts} k b w = let s = b.row.alone ts z w in record { tree = ap (node k) (sym s.0) ∙ sym b.is; place = sym s.1 }
+
+sole_first : {v : Surroundings} {x y : Place} {t : Tree} (k : Kind) → Listed k → grows_on k ≡ false → is_shared k ≡ false → BuiltNode so_far v (row_so_far k) k t x y → OnlyFirst v t x y
+sole_first {v} {x} {y} {t} k l g n b = record {
+  kind = k;
+  listed = l;
+  still = g;
+  built = b;
+  alone = λ j ts z m h e w _. subst (λ i. Walk (Whole so_far) (steady v) (row_so_far i) x ts z → SameFirst (node i ts) t z y) (sym (sole_kind j k m h l g n e)) (same_node k b) w;
+}
+
+pub opened_follows : {v : Surroundings} {x y : Place} {t : Tree} (k : Kind) → Listed k → grows_on k ≡ false → is_shared k ≡ false → BuiltNode so_far v (row_so_far k) k t x y → settled y ≡ true → Begins v x t y
+opened_follows k l g n b s = only_follows (sole_first k l g n b) s
+
+-- ---- what stands behind a sign, of all kinds that begin with it
+
+no_opens : (ps : List Piece) (s : Sign) → same_sign (lead ps) s ≡ true → grows ps ≡ false
+no_opens (piece [] (Fixed u) ∷ ps) s e = refl
+no_opens (piece [] (Part c) ∷ ps) s e = cc
+no_opens (piece (b ∷ a) (Fixed u) ∷ ps) s e = refl
+no_opens _ s e = cc
+
+opens_still : (s : Sign) (k : Kind) → opens_with s k ≡ true → grows_on k ≡ false
+opens_still s k e = no_opens (row_so_far k) s (and_right (in_homes (Expr 0) (homes k)) _ (and_right (has_kind k) _ e))
+
+not_apart : (s : Sign) (k : Kind) → opens_with s k ≡ true → is_apart k ≡ false
+not_apart s (expression Seq) e = cc
+not_apart s (expression Spread) e = cc
+not_apart s _ e = refl
+
+pub opens_listed : (s : Sign) (k : Kind) → opens_with s k ≡ true → Listed k
+opens_listed s k e = listed k (and_left (has_kind k) _ e) (homes_operand (Expr 0) (homes k) refl (and_left (in_homes (Expr 0) (homes k)) _ (and_right (has_kind k) _ e))) (not_apart s k e)
+
+with_sign : (k j : Kind) → Listed j → grows_on j ≡ false → same_sign (opening_sign j) (opening_sign k) ≡ true → opens_with (opening_sign k) j ≡ true
+with_sign k j m g e = and_both _ _ (opens j m g).taken (and_both _ _ (of_each (λ i. in_homes (Expr 0) (homes i)) refl j m) e)
+
+-- what is behind the sign of another is behind its own
+same_forth : (s u : Sign) (x : Place) → Opener s → Opener u → same_sign s u ≡ true → forth s x ≡ forth u x
+same_forth s u x angle angle e = refl
+same_forth s u x angle (plain {k} {d} {t} o) e = absurd (clash _ (ap (λ n. nat_eq n 60) (sym (eqb-true 60 d (and_left (nat_eq 60 d) _ (and_right (nat_eq (kind_number Punctuator) (kind_number k)) _ e))))) o.low)
+same_forth s u x (plain {k} {d} {t} o) angle e = absurd (clash _ (and_left (nat_eq d 60) _ (and_right (nat_eq (kind_number k) (kind_number Punctuator)) _ e)) o.low)
+same_forth s u x (plain {k} {d} {t} o) (plain {k = l} {d = c} {t = w} q) e = at x
+  where
+    kinds_same : kind_number k ≡ kind_number l
+    kinds_same = eqb-true (kind_number k) (kind_number l) (and_left (nat_eq (kind_number k) (kind_number l)) _ e)
+
+    texts_same : d ∷ t ≡ c ∷ w
+    texts_same = same_is (d ∷ t) (c ∷ w) (and_right (nat_eq (kind_number k) (kind_number l)) _ e)
+
+    at : (p : Place) → forth (Tok Operator k (d ∷ t)) p ≡ forth (Tok Operator l (c ∷ w)) p
+    at Lost = refl
+    at (At r g text) = let m = token Operator (same r []) text in (λ i. go_if (nat_eq (kind_number m.kind) (kinds_same i) && same m.raw (texts_same i)) (At (texts_same i) AfterExpr m.rest))
+
+peel : {v : Surroundings} (ps : List Piece) {x a z : Place} {ts : Forest} → signed ps ≡ true → forth (lead ps) x ≡ a → Walk (Whole so_far) (steady v) ps x ts z → Walk (Whole so_far) (steady v) (tail ps) a ts z
+peel {v} (piece [] (Fixed s) ∷ ps) {z = z} l e (next {ts = us} (sign d f) w) = subst (λ p. Walk (Whole so_far) (steady v) ps p us z) (sym d ∙ e) w
+peel _ l e w = cc
+
+behind_sign : {v : Surroundings} {x a z : Place} {ts : Forest} (j k : Kind) → Listed j → grows_on j ≡ false → Listed k → grows_on k ≡ false → Moves (opening_sign k) x a → same_sign (opening_sign j) (opening_sign k) ≡ true → Walk (Whole so_far) (steady v) (row_so_far j) x ts z → Walk (Whole so_far) (steady v) (tail (row_so_far j)) a ts z
+behind_sign {x = x} j k m h l g s e w = peel (row_so_far j) (opened_led j m h) (same_forth (opening_sign j) (opening_sign k) x (opener_of j m h) (opener_of k l g) e ∙ sym s.is) w
+
+opened_first : {v : Surroundings} {x a y : Place} {t : Tree} (k : Kind) → Listed k → grows_on k ≡ false → Moves (opening_sign k) x a → OnlyOpened v (opening_sign k) t a y → OnlyFirst v t x y
+opened_first {v} {x} {a} {y} {t} k l g s o = record {
+  kind = o.kind;
+  listed = m;
+  still = h;
+  built = signed_node (row_so_far o.kind) (opened_led o.kind m h) (record { is = s.is ∙ sym (same_forth (opening_sign o.kind) (opening_sign k) x (opener_of o.kind m h) (opener_of k l g) (and_right (in_homes (Expr 0) (homes o.kind)) _ (and_right (has_kind o.kind) _ o.begins))); found = s.found }) o.built;
+  alone = λ j ts z n i e w keeps.
+      let e' = one_opening (opening_sign j) (opening_sign k) x (opener_of j n i) (opener_of k l g) (led_sign (row_so_far j) (opened_led j n i) w) (found_at (sym s.is) s.found) in
+      let q = o.alone j ts z (with_sign k j n i e') (behind_sign j k n i l g s e' w) keeps in record { tree = q.0; place = q.1 };
+}
+  where
+    m : Listed o.kind
+    m = opens_listed (opening_sign k) o.kind o.begins
+
+    h : grows_on o.kind ≡ false
+    h = opens_still (opening_sign k) o.kind o.begins
+
 -- with the sign before it
-pub signed_follows : {v : Surroundings} {x a y : Place} {t : Tree} (k : Kind) → Listed k → grows_on k ≡ false → Moves (opening_sign k) x a → BuiltNode so_far v (tail (row_so_far k)) k t a y → settled y ≡ true → Begins v x t y
-signed_follows k l g m b s = opened_follows k l g (signed_node (row_so_far k) (opened_led k l g) m b) s
+pub signed_follows : {v : Surroundings} {x a y : Place} {t : Tree} (k : Kind) → Listed k → grows_on k ≡ false → Moves (opening_sign k) x a → OnlyOpened v (opening_sign k) t a y → settled y ≡ true → Begins v x t y
+signed_follows k l g m o s = only_follows (opened_first k l g m o) s
+
+-- a kind that no other begins as
+abbrev self_signed : Kind → Bool
+self_signed k = grows_on k || same_sign (opening_sign k) (opening_sign k)
+
+all_self_signed : every self_signed kinds ≡ true
+all_self_signed = refl
+
+own_sign : (k : Kind) → Listed k → grows_on k ≡ false → opens_with (opening_sign k) k ≡ true
+own_sign k l g = with_sign k k l g (or_cases (grows_on k) _ (of_each self_signed all_self_signed k l) (λ h. absurd (clash _ h g)) (λ e. e))
+
+sole_with : (k : Kind) → Listed k → grows_on k ≡ false → is_shared k ≡ false → (j : Kind) → opens_with (opening_sign k) j ≡ true → j ≡ k
+sole_with k l g n j o = sole_kind j k (opens_listed (opening_sign k) j o) (opens_still (opening_sign k) j o) l g n (and_right (in_homes (Expr 0) (homes j)) _ (and_right (has_kind j) _ o))
+
+pub sole_opened : {v : Surroundings} {a y : Place} {t : Tree} (k : Kind) → Listed k → grows_on k ≡ false → is_shared k ≡ false → BuiltNode so_far v (tail (row_so_far k)) k t a y → OnlyOpened v (opening_sign k) t a y
+sole_opened {v} {a} {y} {t} k l g n b = record {
+  kind = k;
+  begins = own_sign k l g;
+  built = b;
+  alone = λ j ts z o w _. subst (λ i. Walk (Whole so_far) (steady v) (tail (row_so_far i)) a ts z → (node i ts ≡ t) × (z ≡ y)) (sym (sole_with k l g n j o)) (λ q. let s = same_node k b q in (s.tree, s.place)) w;
+}
+
+pub sole_none : {v : Surroundings} {a : Place} (k : Kind) → Listed k → grows_on k ≡ false → is_shared k ≡ false → NoNode so_far v (tail (row_so_far k)) k a → NoneOpened v (opening_sign k) a
+sole_none {v} {a} k l g n b = record { no = λ j o. subst (λ i. NoNode so_far v (tail (row_so_far i)) i a) (sym (sole_with k l g n j o)) b }
+
+-- of kinds that begin with one sign one is read, and each other is not
+pub data Other (v : Surroundings) (a : Place) : Kind → Kind → Type 0 where
+  itself : {k : Kind} → Other v a k k
+  barred : {k j : Kind} → NoNode so_far v (tail (row_so_far j)) j a → Other v a k j
+
+pub opened_by : {v : Surroundings} {s : Sign} {a y : Place} {t : Tree} (k : Kind) → opens_with s k ≡ true → BuiltNode so_far v (tail (row_so_far k)) k t a y → ((j : Kind) → opens_with s j ≡ true → Other v a k j) → OnlyOpened v s t a y
+opened_by {v} {s} {a} {y} {t} k e b others = record { kind = k; begins = e; built = b; alone = λ j ts z o w keeps. by (others j o) w keeps }
+  where
+    by : {j : Kind} {ts : Forest} {z : Place} → Other v a k j → Walk (Whole so_far) (steady v) (tail (row_so_far j)) a ts z → so_far.keeps j v ts ≡ true → (node j ts ≡ t) × (z ≡ y)
+    by itself w keeps = let q = same_node k b w in (q.tree, q.place)
+    by {ts = ts} {z = z} (barred n) w keeps = absurd (n.no ts z w keeps)
 
 -- ---- where no expression stands
 
 -- what is read from there begins with neither a literal nor a node
 record NoFirst (v : Surroundings) (x : Place) : Type 0 where
   literal : (l : Literal) (t : Text) → value_leaf true (token_kind l) t ≡ true → IsTrue (is_found (forth (literal_sign l t) x)) → ⊥
-  node : {d : Nonterminal} {p : Place} {ts : Forest} {n : ℕ} {u : Tree} {z : Place} (k : Kind) → is_level n ≡ true → Listed k → grows_on k ≡ false → Staged v false d x (node k ts) p → Onward so_far v x (node k ts) p u z → Whole so_far v false (Expr n) x u z → ⊥
+  node : (r : Rung) {d : Nonterminal} {p : Place} {ts : Forest} {u : Tree} {z : Place} (k : Kind) → is_rung r ≡ true → Listed k → grows_on k ≡ false → Staged v false d x (node k ts) p → Onward so_far v x (node k ts) p u z → Whole so_far v false (seat r) x u z → ⊥
 
-none_first : {v : Surroundings} {n : ℕ} {x p z : Place} {f u : Tree} → NoFirst v x → is_level n ≡ true → First v x f p → Onward so_far v x f p u z → Whole so_far v false (Expr n) x u z → ⊥
-none_first b i (name l {t} h q e g) o w = b.literal l t h (found_at e g)
-none_first b i (opened d {k} l g r) o w = b.node k i l g r o w
+none_first : {v : Surroundings} (r : Rung) {x p z : Place} {f u : Tree} → NoFirst v x → is_rung r ≡ true → First v x f p → Onward so_far v x f p u z → Whole so_far v false (seat r) x u z → ⊥
+none_first r b i (name l {t} h q e g) o w = b.literal l t h (found_at e g)
+none_first r b i (opened d {k} l g q) o w = b.node r k i l g q o w
 
 none_begins : {v : Surroundings} {x : Place} → NoFirst v x → NoneBegins v x
-none_begins {v} {x} b = record { on = λ m i. record { no = at m i } }
+none_begins {v} {x} b = record { on = λ r i. record { no = at r i } }
   where
-    at : (m : ℕ) → is_level m ≡ true → (h : Given) (z : Place) → Past (Whole so_far) v (Part (Expr m)) x h z → ⊥
-    at m i h z (tree {t = u} q) = let f = begun (level_single m i) u q.reads in none_first b i f.first f.onward q
+    at : (r : Rung) → is_rung r ≡ true → (h : Given) (z : Place) → Past (Whole so_far) v (Part (seat r)) x h z → ⊥
+    at r i h z (tree {t = u} q) = let f = begun (rung_single r i) u q.reads in none_first r b i f.first f.onward q
 
 lost_there : (s : Sign) (x : Place) → forth s x ≡ Lost → IsTrue (is_found (forth s x)) → ⊥
 lost_there s x e f = let bad : IsTrue (is_found Lost) = subst (λ p. IsTrue (is_found p)) e f in cc
 
 -- none of the signs stands there, and no element does
-no_node : {v : Surroundings} {d : Nonterminal} {x p z : Place} {ts : Forest} {n : ℕ} {u : Tree} (k : Kind) → NoOpening x → NoRow so_far v (row_so_far (jsx Element)) x → is_level n ≡ true → Listed k → grows_on k ≡ false → Staged v false d x (node k ts) p → Onward so_far v x (node k ts) p u z → Whole so_far v false (Expr n) x u z → ⊥
-no_node {v} {d} {x} {p} {z} {ts} {n} {u} k unopened e i l g r o w = or_cases (nat_eq (code k) (code (jsx Element))) (is_code (opening_sign k) && has_sign (opening_sign k) opening_signs) (opens k l g).begins element (λ h. lost_there (opening_sign k) x (unopened.on (opening_sign k) (and_left (is_code (opening_sign k)) _ h) (and_right (is_code (opening_sign k)) _ h)) (opened_sign k l g r))
+no_node : {v : Surroundings} (r : Rung) {d : Nonterminal} {x p z : Place} {ts : Forest} {u : Tree} (k : Kind) → NoOpening x → NoRow so_far v (row_so_far (jsx Element)) x → is_rung r ≡ true → Listed k → grows_on k ≡ false → Staged v false d x (node k ts) p → Onward so_far v x (node k ts) p u z → Whole so_far v false (seat r) x u z → ⊥
+no_node {v} r {d} {x} {p} {z} {ts} {u} k unopened e i l g q o w = or_cases (nat_eq (code k) (code (jsx Element))) (is_code (opening_sign k) && has_sign (opening_sign k) opening_signs) (opens k l g).begins element (λ h. lost_there (opening_sign k) x (unopened.on (opening_sign k) (and_left (is_code (opening_sign k)) _ h) (and_right (is_code (opening_sign k)) _ h)) (opened_sign k l g q))
   where
     element : nat_eq (code k) (code (jsx Element)) ≡ true → ⊥
-    element h = subst (λ j. Staged v false d x (node j ts) p → Onward so_far v x (node j ts) p u z → ⊥) (sym (one_place k (jsx Element) l (listed (jsx Element) refl refl refl) h)) (λ r o. e.no ts p (opened_whole (jsx Element) i (listed (jsx Element) refl refl refl) refl r o w)) r o
+    element h = subst (λ j. Staged v false d x (node j ts) p → Onward so_far v x (node j ts) p u z → ⊥) (sym (one_place k (jsx Element) l (listed (jsx Element) refl refl refl) h)) (λ q o. e.no ts p (opened_whole r (jsx Element) i (listed (jsx Element) refl refl refl) refl q o w)) q o
 
 -- an element doesn't begin with one of the signs
 no_angle : {v : Surroundings} {x : Place} (l : Literal) (t : Text) → IsTrue (is_found (forth (literal_sign l t) x)) → NoRow so_far v (row_so_far (jsx Element)) x
@@ -187,13 +316,13 @@ unfit_literal {v} {x} {y} l t unopened e f n =
     let there = found_at (sym e) f in
     none_begins (record {
       literal = λ m s h g. let q = same_both m l s t x g there in clash _ (subst (λ k. value_leaf true (token_kind k) t ≡ true) q.kinds (subst (λ r. value_leaf true (token_kind m) r ≡ true) q.texts h)) n;
-      node = λ k i j g r o w. no_node k unopened (no_angle l t there) i j g r o w;
+      node = λ r k i j g q o w. no_node r k unopened (no_angle l t there) i j g q o w;
     })
 
 pub no_value : {v : Surroundings} {x : Place} → NoOpening x → ((t : Text) → forth (literal_sign IsName t) x ≡ Lost) → ((t : Text) → forth (literal_sign IsNumber t) x ≡ Lost) → ((t : Text) → forth (literal_sign IsLong t) x ≡ Lost) → ((t : Text) → forth (literal_sign IsString t) x ≡ Lost) → ((t : Text) → forth (literal_sign IsPattern t) x ≡ Lost) → NoRow so_far v (row_so_far (jsx Element)) x → NoneBegins v x
 no_value {v} {x} unopened a b d c p r = none_begins (record {
   literal = λ m s h g. lost_there (literal_sign m s) x (n m s) g;
-  node = λ k i j g q o w. no_node k unopened r i j g q o w;
+  node = λ s k i j g q o w. no_node s k unopened r i j g q o w;
 })
   where
     n : (l : Literal) (t : Text) → forth (literal_sign l t) x ≡ Lost
@@ -204,15 +333,12 @@ no_value {v} {x} unopened a b d c p r = none_begins (record {
     n IsPattern t = p t
 
 -- the sign stands there, and what is behind it can't be read
-pub unread_opening : {v : Surroundings} {x a : Place} (k : Kind) → Listed k → grows_on k ≡ false → Moves (opening_sign k) x a → NoNode so_far v (tail (row_so_far k)) k a → NoneBegins v x
+pub unread_opening : {v : Surroundings} {x a : Place} (k : Kind) → Listed k → grows_on k ≡ false → Moves (opening_sign k) x a → NoneOpened v (opening_sign k) a → NoneBegins v x
 unread_opening {v} {x} {a} k l g m n =
     let there = found_at (sym m.is) m.found in
-    let none_here = signed_no_node (row_so_far k) (opened_led k l g) m n in
     none_begins (record {
       literal = λ o t h f. literal_opening o t (opening_sign k) x (opener_of k l g) h f there;
-      node = λ j i h f r o w. at j i h f r o w there none_here;
+      node = λ r {ts = ts} j i h f q o w.
+          let e = one_opening (opening_sign j) (opening_sign k) x (opener_of j h f) (opener_of k l g) (opened_sign j h f q) there in
+          (n.no j (with_sign k j h f e)).no ts _ (behind_sign j k h f l g m e (opened_whole r j i h f q o w)) (of_so_far.from_node j q).keeps;
     })
-  where
-    at : {d : Nonterminal} {p z : Place} {ts : Forest} {n : ℕ} {u : Tree} (j : Kind) → is_level n ≡ true → Listed j → grows_on j ≡ false → Staged v false d x (node j ts) p → Onward so_far v x (node j ts) p u z → Whole so_far v false (Expr n) x u z → IsTrue (is_found (forth (opening_sign k) x)) → NoNode so_far v (row_so_far k) k x → ⊥
-    at {d} {p} {z} {ts} {n} {u} j i h f r o w there none_here =
-        subst (λ c. Staged v false d x (node c ts) p → Onward so_far v x (node c ts) p u z → ⊥) (sym (one_kind k l g h f r there)) (λ r o. none_here.no ts p (opened_whole k i l g r o w) (of_so_far.from_node k r).keeps) r o

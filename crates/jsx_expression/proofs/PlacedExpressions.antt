@@ -7,9 +7,9 @@ use Rattle.jsx_base.specs.declared.place.Span.{Span}
 use Rattle.jsx_tree.specs.declared.text.Text.{Text as TreeText}
 use Rattle.jsx_tree.specs.declared.tree.Jsx.{Jsx}
 use Rattle.jsx_tree.specs.Signs.{End, AfterExpr, Tok, TrailingComma, Sign}
-use Rattle.jsx_tree.specs.Kinds.{BinaryOp, Nullish, Exponentiate, UnaryOp, Delete, Void, TypeOf, Positive, Negative, Complement, Not, Assign, OpAssign, Unary, Binary, Cond, Call, Member, Index, ImportCall, Element, expression, jsx, Tree, leaf, node, list, Forest, none, part, UpdateOp, Increment, Decrement, PrefixUpdate, PostfixUpdate, Seq, Array, Object, Property, Shorthand, Spread, ComputedKey, function}
+use Rattle.jsx_tree.specs.Kinds.{BinaryOp, Nullish, Exponentiate, UnaryOp, Delete, Void, TypeOf, Positive, Negative, Complement, Not, Assign, OpAssign, Unary, Binary, Cond, Call, Member, Index, New, NewWithoutArguments, NewTarget, ImportCall, ImportMeta, Element, expression, jsx, Tree, leaf, node, list, Forest, none, part, UpdateOp, Increment, Decrement, PrefixUpdate, PostfixUpdate, Seq, Array, Object, Property, Shorthand, Spread, ComputedKey, function}
 use Rattle.jsx_tree.specs.Nonterminals as grammar
-use Rattle.jsx_tree.specs.Grammar.{Commas, TwoOrMore, Many, Part, p, pun, sp, count, left_of, right_of, Elisions}
+use Rattle.jsx_tree.specs.Grammar.{Commas, TwoOrMore, Many, Part, key, p, pun, sp, count, left_of, right_of, Elisions}
 use Rattle.jsx_tree.specs.Grows.{operator_sign}
 use Rattle.jsx_tree.specs.Spelling.{mode_of, between, gathered, each_said, spelled}
 use Rattle.jsx_tree.specs.Reading.{Place, Lost, At, forth, scan}
@@ -28,7 +28,7 @@ use Rattle.jsx_base.proofs.Fronts.{other_ahead}
 use Rattle.jsx_tree.proofs.Apart.{clash}
 use Rattle.jsx_tree.proofs.Signs.{comma_too}
 use Rattle.jsx_expression.proofs.Operators.{operator_is}
-use Rattle.jsx_expression.proofs.Placing.{row_end, row_sign, row_quiet, row_part, row_part_as, row_list, list_none, node_is, leaf_is, led, row_line}
+use Rattle.jsx_expression.proofs.Placing.{row_end, row_sign, row_quiet, row_part, row_part_as, row_list, list_none, node_is, leaf_is, led, row_line, row_unless}
 
 -- ---- a trailing comma
 
@@ -155,6 +155,19 @@ update_row Decrement sign r s = node_is (λ c e ps. refl) (λ ms text. refl) s (
 
 pub import_row : {at : Option Span} {e : Told} {u : Tree} {w x y z v : Here} → Takes (opening_sign (expression ImportCall)) w x → Takes (sign_of fixed.Open) x y → IsPlaced e u y z → Takes (sign_of fixed.Close) z v → Spans at (next_of w) (end_of v) → IsPlaced (told_node at (e ∷ [])) (node (expression ImportCall) (part u none)) w v
 import_row sign bracket r close s = node_is (λ c e ps. refl) (λ ms text. refl) s (row_quiet (λ q. refl) (row_sign sign (row_sign bracket (row_part r (row_sign close row_end)))))
+
+pub meta_row : {at : Option Span} {w x y z : Here} → Takes (opening_sign (expression ImportMeta)) w x → Takes (sign_of fixed.Dot) x y → Takes (key "meta") y z → Spans at (next_of w) (end_of z) → IsPlaced (told_node at []) (node (expression ImportMeta) none) w z
+meta_row sign dot word s = node_is (λ c e ps. refl) (λ ms text. refl) s (row_quiet (λ q. refl) (row_sign sign (row_sign dot (row_sign word row_end))))
+
+pub target_row : {at : Option Span} {w x y z : Here} → Takes (opening_sign (expression NewTarget)) w x → Takes (sign_of fixed.Dot) x y → Takes (key "target") y z → Spans at (next_of w) (end_of z) → IsPlaced (told_node at []) (node (expression NewTarget) none) w z
+target_row sign dot word s = node_is (λ c e ps. refl) (λ ms text. refl) s (row_quiet (λ q. refl) (row_sign sign (row_sign dot (row_sign word row_end))))
+
+pub new_row : {at : Option Span} {d : Told} {t : Tree} {es : Tales} {us : Forest} {w x y z v : Here} → Takes (opening_sign (expression New)) w x → IsPlaced d t x y → Takes (sign_of fixed.Open) y z → IsPlacedRow (Many Commas grammar.Argument ∷ p ")" ∷ []) (tale (tells [] es) no_tales) (part (list us) none) z v → Spans at (next_of w) (end_of v)
+    → IsPlaced (tells (spans at ∷ []) (tale d (tale (tells [] es) no_tales))) (node (expression New) (part t (part (list us) none))) w v
+new_row sign l bracket r s = node_is (λ c e ps. refl) (λ ms text. refl) s (row_quiet (λ q. refl) (row_sign sign (row_quiet (λ q. refl) (row_part l (row_sign bracket r)))))
+
+pub new_alone_row : {at : Option Span} {d : Told} {t : Tree} {w x y : Here} → Takes (opening_sign (expression NewWithoutArguments)) w x → IsPlaced d t x y → Spans at (next_of w) (end_of y) → IsPlaced (told_node at (d ∷ [])) (node (expression NewWithoutArguments) (part t none)) w y
+new_alone_row sign l s = node_is (λ c e ps. refl) (λ ms text. refl) s (row_quiet (λ q. refl) (row_sign sign (row_quiet (λ q. refl) (row_part l (row_unless row_end)))))
 
 pub array_row : {at : Option Span} {ds : Tales} {us : Forest} {w x y : Here} → Takes (opening_sign (expression Array)) w x → IsPlacedRow (Many Elisions grammar.ArrayItem ∷ p "]" ∷ []) (tale (tells [] ds) no_tales) (part (list us) none) x y → Spans at (next_of w) (end_of y)
     → IsPlaced (tells (spans at ∷ []) (tale (tells [] ds) no_tales)) (node (expression Array) (part (list us) none)) w y

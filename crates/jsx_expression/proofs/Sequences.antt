@@ -141,16 +141,16 @@ ends_one : (z : Place) → ends_so_far (Expr 0) z ≡ true → ends_so_far (Expr
 ends_one z e = of_so_far.covered (Expr 0) (Expr 1) z refl e
 
 -- the parts of one, each read to its end
-record Several (v : Surroundings) (x : Place) (vs : Forest) (z : Place) : Type 0 where
-  parts : Forest
-  is : vs ≡ part (list parts) none
-  two : enough TwoOrMore parts ≡ true
-  items : Items (Whole so_far) v NoTrailing (Expr 1) x parts z
+pub record Several (v : Surroundings) (x : Place) (vs : Forest) (z : Place) : Type 0 where
+  pub parts : Forest
+  pub is : vs ≡ part (list parts) none
+  pub two : enough TwoOrMore parts ≡ true
+  pub items : Items (Whole so_far) v NoTrailing (Expr 1) x parts z
 
 several_walk : {v : Surroundings} (us : Forest) {x z : Place} {vs : Forest} → Walk (Whole so_far) (around v us) (row_so_far (expression Seq)) x vs z → Several v x vs z
 several_walk us (next (many {ts = ts} e all) (done f)) = record { parts = ts; is = refl; two = e; items = some_of all }
 
-several_of : {v : Surroundings} {x z : Place} {vs : Forest} → Whole so_far v false (Expr 0) x (node (expression Seq) vs) z → Several v x vs z
+pub several_of : {v : Surroundings} {x z : Place} {vs : Forest} → Whole so_far v false (Expr 0) x (node (expression Seq) vs) z → Several v x vs z
 several_of {vs = vs} w = several_walk vs (whole_walk of_so_far (Expr 0) (row_so_far (expression Seq)) refl w.ends_there (of_so_far.from_node (expression Seq) w.reads).walk)
 
 -- the first of them

@@ -18,7 +18,9 @@ use Rattle.jsx_tree.proofs.Rows.Turns.{whole_of}
 use Rattle.jsx_expression.specs.Climbing.{is_target_kind, is_target}
 use Rattle.jsx_token.proofs.Listed.{kinds, every, of_each, implies, implied, agree, agreed}
 use Rattle.jsx_expression.proofs.Homes.{Literal, IsName, IsNumber, IsLong, IsString, IsPattern, token_kind, Value, literal, made, value}
-use Rattle.jsx_expression.proofs.Values.{literal_level, node_to, leaf_to}
+use Rattle.jsx_token.specs.Growths.{rung}
+use Rattle.jsx_expression.proofs.Rungs.{literal_seat}
+use Rattle.jsx_expression.proofs.Values.{node_to, leaf_to}
 use Rattle.jsx_expression.proofs.Climbing.{node_home}
 
 abbrev targeted : Kind → Bool
@@ -39,7 +41,7 @@ same_ends (At q e text) = refl
 
 -- a target is an expression of the level
 from_target : {v : Surroundings} {x y : Place} {t : Tree} → Value t → Staged v false SimpleTarget x t y → Staged v false (Expr 17) x t y
-from_target (literal l {t} w) r = leaf_to (Expr 17) l (literal_level 17 l t refl w) w r
+from_target (literal l {t} w) r = leaf_to (Expr 17) l (literal_seat (rung 17) l t refl w) w r
 from_target (made {k} {ts} m) r = node_to (Expr 17) (implied (in_homes SimpleTarget (homes k)) (in_homes (Expr 17) (homes k)) (of_each high all_high k m) (node_home r)) r
 
 literal_target : {v : Surroundings} {x y : Place} {t : Text} (l : Literal) → is_target (leaf (token_kind l) t) ≡ true → Staged v false (Expr 17) x (leaf (token_kind l) t) y → Staged v false SimpleTarget x (leaf (token_kind l) t) y

@@ -1,10 +1,10 @@
 -- Expressions of the language so far: what they begin with, where they may stand, and how they go on.
-use Rattle.std.proofs.Common.{◌≡◌, ℕ, nat_eq, nat_le, Bool, true, false, not, cond, [], ◌∷◌, refl, sym, ◌∙◌, ap, subst, List}
+use Rattle.std.proofs.Common.{◌≡◌, ℕ, nat_eq, Bool, true, false, not, cond, [], ◌∷◌, refl, sym, ◌∙◌, ap, subst, List}
 use Rattle.std.proofs.lemmas.Bool.{eqb-true, eq-eqb}
 use Rattle.std.specs.Prelude.{IsTrue, codes, Option, Some, None, ◌&&◌, ◌||◌}
 use Rattle.jsx_base.specs.Token.{Text, Mode, Operand, Operator, kind_number, TokenKind, NoToken, IdentifierName, Punctuator, NumericLiteral, BigIntLiteral, StringLiteral, RegExpLiteral, Lexeme, is_kind, is_token, among, no_token, breaks, skip, first_is, at_front, token, same}
 use Rattle.jsx_tree.specs.Signs.{Ending, AfterExpr, Sign, Tok, Unless}
-use Rattle.jsx_tree.specs.Kinds.{Object, Seq, expression, Kind, Tree, leaf, node, list, Forest, part}
+use Rattle.jsx_tree.specs.Kinds.{Label, Seq, statement, expression, Kind, Tree, leaf, node, list, Forest, part, Object}
 use Rattle.jsx_tree.specs.Nonterminals.{Nonterminal, Expr, DotObject, Argument, Name, homes, in_homes, literal_homes, leaf_in, is_value_word}
 use Rattle.jsx_tree.specs.Grammar.{ListShape, TwoOrMore, Context, Part, Fixed, heads, pun}
 use Rattle.jsx_tree.specs.Form.{admits, enough, is_leaf}
@@ -29,14 +29,15 @@ use Rattle.jsx_tree.proofs.Rows.Turns.{whole_of}
 use Rattle.jsx_tree.proofs.Rows.Spines.{grows, grown, spine}
 use Rattle.jsx_expression.proofs.OfSoFar.{of_so_far}
 use Rattle.jsx_expression.proofs.Slashes.{is_slash, regexp_slash}
-use Rattle.jsx_token.specs.Growths.{lead, opening_sign, same_sign, is_level, settled}
-use Rattle.jsx_expression.specs.Climbing.{Begins}
-use Rattle.jsx_token.proofs.Listed.{Listed, listed, code, kinds, every, of_each, of_level, one_place}
+use Rattle.jsx_token.specs.Growths.{Rung, is_rung, seat, lead, opening_sign, same_sign, settled, is_level}
+use Rattle.jsx_expression.specs.Climbing.{Begins, rises}
+use Rattle.jsx_token.proofs.Listed.{Listed, listed, code, kinds, every, of_each, one_place, of_level}
 use Rattle.jsx_token.specs.Headings.{heading_kind}
-use Rattle.jsx_token.proofs.Headings.{of_heading}
+use Rattle.jsx_token.proofs.Headings.{of_heading, of_begun}
 use Rattle.jsx_expression.proofs.Inners.{inner_kind, of_inner}
-use Rattle.jsx_expression.proofs.Homes.{Literal, IsName, IsNumber, IsLong, IsString, IsPattern, token_kind, Value, literal, made, value, AtWhole, single, several, at_whole, Taken, module', headed, inner, evaluation, sequence, operand, staged_leaf, taken_by, home_of, no_list, no_operand, names, spread}
+use Rattle.jsx_expression.proofs.Homes.{Literal, IsName, IsNumber, IsLong, IsString, IsPattern, token_kind, Value, literal, made, value, AtWhole, single, several, at_whole, Taken, module', headed, inner, evaluation, labelled, sequence, operand, staged_leaf, taken_by, home_of, no_list, no_operand, names, spread}
 use Rattle.jsx_token.proofs.Lives.{is_single}
+use Rattle.jsx_expression.proofs.Rungs.{leaf_seat, literal_seat, rises_leaf, rung_operand, rung_single}
 use Rattle.jsx_token.proofs.Levels.{signed}
 
 -- ---- where a token ended
@@ -215,7 +216,7 @@ is_opening s = false
 -- a token that no literal is
 pub record IsOpener (k : TokenKind) (d : ℕ) (t : Text) : Type 0 where
   unslashed : is_slash (d ∷ t) ≡ false
-  low : nat_eq d 60 ≡ false
+  pub low : nat_eq d 60 ≡ false
   some : is_kind NoToken k ≡ false
   other : (l : Literal) (u : Text) → value_leaf true (token_kind l) u ≡ true → (is_kind k (token_kind l) && same (d ∷ t) u) ≡ false
 
@@ -317,9 +318,10 @@ begins_single (Some c) = is_single c
 
 single_start : (d : Nonterminal) {k : Kind} (ts : Forest) → is_operand d ≡ true → Taken k → admits d (node k ts) ≡ true → begins_single (starts (row_so_far k)) ≡ true
 single_start d ts o module' h = refl
-single_start d ts o (headed g) h = of_heading (λ j. begins_single (starts (row_so_far (heading_kind j)))) refl g
+single_start d ts o (headed b) h = of_begun (λ j. begins_single (starts (row_so_far j))) refl b
 single_start d ts o (inner i) h = absurd (no_operand d (inner_kind i) ts o (is_not _ (of_inner (λ j. not (any_operand (homes (inner_kind j)))) refl i)) h)
 single_start d ts o evaluation h = refl
+single_start d ts o labelled h = absurd (no_operand d (statement Label) ts o refl h)
 single_start d ts o sequence h = refl
 single_start d ts o spread h = refl
 single_start d ts o (operand {k} l) h = of_each (λ j. begins_single (starts (row_so_far j))) refl k l
@@ -331,9 +333,6 @@ first_value {f = f} o r s (step k c d {ts = ts} b i w e q on) = value f (subst (
 
 pub begun : {v : Surroundings} {c : Nonterminal} {x z : Place} → is_single c ≡ true → (u : Tree) → Staged v false c x u z → Begun v x u z
 begun {c = c} o u r = let s = spine of_so_far u (and_left (is_operand c) _ o) r in record { tree = s.first; place = s.place; first = first_by (first_value o r s.reads s.onward) s.stands s.reads; onward = s.onward }
-
-pub level_single : (n : ℕ) → is_level n ≡ true → is_single (Expr n) ≡ true
-level_single n h = of_level (λ m. is_single (Expr m)) refl {n = n} h
 
 -- ---- where a value may stand
 
@@ -390,22 +389,12 @@ no_dot (list ts) n r = cc
 
 -- ---- what an expression that begins so is
 
-pub word_level : (n : ℕ) (t : Text) → is_level n ≡ true → is_value_word t ≡ true → leaf_in (Expr n) IdentifierName t ≡ true
-word_level n t h w = and_both _ _ (of_level (λ m. nat_le m 18) refl h) w
-
-pub literal_level : (n : ℕ) (l : Literal) (t : Text) → is_level n ≡ true → value_leaf true (token_kind l) t ≡ true → leaf_in (Expr n) (token_kind l) t ≡ true
-literal_level n IsName t h w = word_level n t h w
-literal_level n IsNumber t h w = of_level (λ m. in_homes (Expr m) (literal_homes NumericLiteral)) refl h
-literal_level n IsLong t h w = of_level (λ m. in_homes (Expr m) (literal_homes BigIntLiteral)) refl h
-literal_level n IsString t h w = of_level (λ m. in_homes (Expr m) (literal_homes StringLiteral)) refl h
-literal_level n IsPattern t h w = of_level (λ m. in_homes (Expr m) (literal_homes RegExpLiteral)) refl h
-
-literal_staged : {v : Surroundings} {n : ℕ} {x y : Place} (l : Literal) (t : Text) → is_level n ≡ true → value_leaf true (token_kind l) t ≡ true → is_leaf (token_kind l) t ≡ true → y ≡ forth (literal_sign l t) x → IsTrue (is_found y) → Staged v false (Expr n) x (leaf (token_kind l) t) y
-literal_staged {n = n} IsName t i h w e f = staged_leaf refl (literal_level n IsName t i h) h w e f
-literal_staged {n = n} IsNumber t i h w e f = staged_leaf refl (literal_level n IsNumber t i h) h w e f
-literal_staged {n = n} IsLong t i h w e f = staged_leaf refl (literal_level n IsLong t i h) h w e f
-literal_staged {n = n} IsString t i h w e f = staged_leaf refl (literal_level n IsString t i h) h w e f
-literal_staged {n = n} IsPattern t i h w e f = staged_leaf refl (literal_level n IsPattern t i h) h w e f
+literal_staged : {v : Surroundings} (r : Rung) {x y : Place} (l : Literal) (t : Text) → is_rung r ≡ true → value_leaf true (token_kind l) t ≡ true → is_leaf (token_kind l) t ≡ true → y ≡ forth (literal_sign l t) x → IsTrue (is_found y) → Staged v false (seat r) x (leaf (token_kind l) t) y
+literal_staged r IsName t i h w e f = staged_leaf refl (literal_seat r IsName t i h) (leaf_seat r IdentifierName t h) w e f
+literal_staged r IsNumber t i h w e f = staged_leaf refl (literal_seat r IsNumber t i h) (leaf_seat r NumericLiteral t h) w e f
+literal_staged r IsLong t i h w e f = staged_leaf refl (literal_seat r IsLong t i h) (leaf_seat r BigIntLiteral t h) w e f
+literal_staged r IsString t i h w e f = staged_leaf refl (literal_seat r IsString t i h) (leaf_seat r StringLiteral t h) w e f
+literal_staged r IsPattern t i h w e f = staged_leaf refl (literal_seat r IsPattern t i h) (leaf_seat r RegExpLiteral t h) w e f
 
 pub leaf_is : {l m : Literal} {t u : Text} → l ≡ m → t ≡ u → leaf (token_kind l) t ≡ leaf (token_kind m) u
 leaf_is e f = λ i. leaf (token_kind (e i)) (f i)
@@ -434,12 +423,12 @@ onto {v} {x} {f} {t} {u} {p} {y} {z} s o = subst (λ q. Onward so_far v x t q u 
 
 pub literal_follows : {v : Surroundings} {x y : Place} (l : Literal) (t : Text) → value_leaf true (token_kind l) t ≡ true → is_leaf (token_kind l) t ≡ true → y ≡ forth (literal_sign l t) x → IsTrue (is_found y) → Begins v x (leaf (token_kind l) t) y
 literal_follows {x = x} l t h w e f = record {
-  on = λ n i j. record {
-    follows = record { home = Expr n; operand = refl; reads = literal_staged l t i h w e f; all = λ u z q. let b = begun (level_single n i) u q.reads in onto (to_literal l t h e f b.first) b.onward };
-    reads = literal_staged l t i h w e f;
+  on = λ r i j. record {
+    follows = record { home = seat r; operand = rung_operand r; reads = literal_staged r l t i h w e f; all = λ u z q. let b = begun (rung_single r i) u q.reads in onto (to_literal l t h e f b.first) b.onward };
+    reads = literal_staged r l t i h w e f;
     ended = settled_token (mode_of (token_kind l)) (token_kind l) t x (leaf_full l t w) (sym e) f;
   };
-  low = λ n i j. absurd (clash (nat_le n 17) (of_level (λ m. nat_le m 17) refl i) j);
+  low = λ r i j. absurd (clash (rises r (leaf (token_kind l) t)) (rises_leaf r (token_kind l) t i) j);
 }
 
 -- ---- where a name and a sign ended

@@ -1,8 +1,9 @@
 -- What a parser knows of an expression that it has read so far.
-use Rattle.std.specs.Prelude.{◌≡◌, ℕ, List, Bool, true, false, nat_le, cond}
+use Rattle.std.specs.Prelude.{◌≡◌, ℕ, List, Bool, true, false, nat_le, cond, not, ◌&&◌}
 use Rattle.jsx_base.specs.Token.{IdentifierName}
 use Rattle.jsx_tree.specs.Kinds.{Member, Index, SuperMember, SuperIndex, Kind, expression, Tree, leaf, node, UnaryOp, Delete}
-use Rattle.jsx_tree.specs.Nonterminals.{Expr, is_bound}
+use Rattle.jsx_tree.specs.Nonterminals.{is_bound}
+use Rattle.jsx_tree.specs.Form.{calls}
 use Rattle.jsx_tree.specs.Grammar.{Part}
 use Rattle.jsx_tree.specs.Reading.{Place}
 use Rattle.jsx_tree.specs.StaticRules.{Surroundings, is_name}
@@ -11,7 +12,7 @@ use Rattle.jsx_tree.specs.Grows.{Follows}
 use Rattle.jsx_tree.specs.Walk.{Piece, tail}
 use Rattle.jsx_expression.specs.SoFar.{Staged, is_number, so_far}
 use Rattle.jsx_token.specs.Marks.{row_so_far}
-use Rattle.jsx_token.specs.Growths.{fits_by, is_level, level_of_kind, past_line, settled, takes_target}
+use Rattle.jsx_token.specs.Growths.{Rung, rung, callee, fits_by, is_rung, level_of_kind, past_line, seat, settled, takes_target}
 
 -- what stands behind the mark
 abbrev pub behind : Kind → List Piece
@@ -19,7 +20,7 @@ behind k = tail (past_line (tail (row_so_far k)))
 
 abbrev pub level : Tree → ℕ
 level (node k ts) = level_of_kind k
-level t = 17
+level t = 18
 
 abbrev pub is_target_kind : Kind → Bool
 is_target_kind (expression Member) = true
@@ -36,6 +37,15 @@ is_target t = false
 abbrev pub fits : Kind → Tree → Bool
 fits k t = cond (takes_target k) (is_target t) (fits_by k (level t) (is_number t))
 
+abbrev pub is_call : Tree → Bool
+is_call (node k ts) = calls k
+is_call t = false
+
+-- whether a tree that begins with no other expression may stand there
+abbrev pub rises : Rung → Tree → Bool
+rises (rung n) t = nat_le n (level t)
+rises callee t = nat_le 17 (level t) && not (is_call t)
+
 -- a name alone isn't deleted
 abbrev pub deletes_name : UnaryOp → Tree → Bool
 deletes_name Delete t = is_name t
@@ -43,16 +53,16 @@ deletes_name o t = false
 
 -- ---- what a parser knows of an expression that it has read so far
 
--- whatever is read at the level begins with this tree, which may stand there, and goes on from where a token ended
-pub record Climbs (v : Surroundings) (n : ℕ) (x : Place) (t : Tree) (a : Place) : Type 0 where
-  pub follows : Follows so_far v (Expr n) x t a
-  pub reads : Staged v false (Expr n) x t a
+-- whatever is read there begins with this tree, which may stand there, and goes on from where a token ended
+pub record Climbs (v : Surroundings) (r : Rung) (x : Place) (t : Tree) (a : Place) : Type 0 where
+  pub follows : Follows so_far v (seat r) x t a
+  pub reads : Staged v false (seat r) x t a
   pub ended : settled a ≡ true
 
--- so at every level up to that of the tree, and above it nothing is read; at no level does anything stand there
+-- so wherever the tree may stand, and elsewhere nothing is read; nowhere does anything stand there
 pub record Begins (v : Surroundings) (x : Place) (t : Tree) (a : Place) : Type 0 where
-  pub on : (n : ℕ) → is_level n ≡ true → nat_le n (level t) ≡ true → Climbs v n x t a
-  pub low : (n : ℕ) → is_level n ≡ true → nat_le n (level t) ≡ false → Barred so_far v (Part (Expr n)) x
+  pub on : (r : Rung) → is_rung r ≡ true → rises r t ≡ true → Climbs v r x t a
+  pub low : (r : Rung) → is_rung r ≡ true → rises r t ≡ false → Barred so_far v (Part (seat r)) x
 
 pub record NoneBegins (v : Surroundings) (x : Place) : Type 0 where
-  pub on : (n : ℕ) → is_level n ≡ true → Barred so_far v (Part (Expr n)) x
+  pub on : (r : Rung) → is_rung r ≡ true → Barred so_far v (Part (seat r)) x

@@ -5,3 +5,5 @@ pub mod Answers
 pub mod Elements
 pub mod Members
 pub mod Climbing
+pub mod Openings
+pub mod Gathering

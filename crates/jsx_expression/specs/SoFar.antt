@@ -6,7 +6,7 @@ use Rattle.jsx_tree.specs.Nonterminals.{Nonterminal}
 use Rattle.jsx_tree.specs.Grammar.{InModuleCode}
 use Rattle.jsx_tree.specs.Reading.{Place}
 use Rattle.jsx_tree.specs.StaticRules.{Surroundings, outside, enter, rule, stands}
-use Rattle.jsx_token.specs.Stage.{has_kind, limits, in_stage}
+use Rattle.jsx_token.specs.Stage.{has_kind, in_stage}
 use Rattle.jsx_tree.specs.Walk.{IsRead}
 use Rattle.jsx_tree.specs.Language.{Language}
 use Rattle.jsx_token.specs.Marks.{ends_so_far, row_so_far}
@@ -17,7 +17,7 @@ pub record Staged (v : Surroundings) (b : Bool) (c : Nonterminal) (x : Place) (t
   pub staged : in_stage c t ≡ true
 
 abbrev pub so_far : Language
-so_far = record { reads = Staged; ends = ends_so_far; rows = row_so_far; keeps = λ k v ts. has_kind k && (limits k ts && (rule k ts && stands k ts v)) }
+so_far = record { reads = Staged; ends = ends_so_far; rows = row_so_far; keeps = λ k v ts. has_kind k && (rule k ts && stands k ts v) }
 
 -- what the statements of a module stand in
 abbrev pub in_module : Surroundings

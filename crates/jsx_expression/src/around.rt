@@ -73,6 +73,19 @@ impl<'a> Context<'a> {
         Context { around, ..self }
     }
 
+    /// The same in the body of a label, with the labels that enclose there.
+    pub fn of_label<'b>(self, labels: &'b Labels<'b>) -> Context<'b>
+    where
+        'a: 'b,
+        ensures { around_of result.around ≡ record (around_of self.entry.around) { labels = labels_of labels.now } }
+    {
+        let around = Around {
+            labels,
+            ..self.around
+        };
+        Context { around, ..self }
+    }
+
     /// The same in the body of a loop.
     pub fn of_loop(self) -> Context<'a>
         ensures { around_of result.around ≡ record (around_of self.entry.around) { loop = true; breakable = true } }

@@ -3,7 +3,7 @@
 ghost use Rattle.std.specs.Prelude.{◌≡◌, ◌<◌, ◌≤◌, ◌||◌, [], ◌∷◌, IfOk, OnOk, IsTrue, map, true, false};
 ghost use Rattle.std.specs.Str.{chars};
 ghost use Rattle.jsx_base.specs.Token.{among};
-ghost use Rattle.jsx_tree.specs.Kinds.{Role, Assign, OpAssign, Unary, Binary, Cond, Call, Member, Index, ImportCall, Array, Object, Property, Spread, ComputedKey, function, Parenthesized, Element, expression, jsx, list, none, part, PrefixUpdate, PostfixUpdate};
+ghost use Rattle.jsx_tree.specs.Kinds.{Role, Assign, OpAssign, Unary, Binary, Cond, Call, Member, Index, ImportCall, New, Array, Object, Property, Spread, ComputedKey, function, Parenthesized, Element, expression, jsx, list, none, part, PrefixUpdate, PostfixUpdate};
 ghost use Rattle.jsx_tree.specs.Nonterminals as grammar;
 ghost use Rattle.jsx_tree.specs.Grammar.{Commas, Elisions, Many, Part, p};
 ghost use Rattle.jsx_tree.specs.View.{forest, inside, text_of, view_access, view_expr, view_key, view_operation, view_pattern};
@@ -15,6 +15,7 @@ ghost use Rattle.jsx_tree.specs.Told.{told_expr, told_key, told_list, told_pat, 
 ghost use Rattle.jsx_tree.specs.Reading.{forth};
 ghost use Rattle.jsx_tree.specs.Walk.{is_found, one, tail};
 ghost use Rattle.jsx_tree.specs.Answers.{Only, Barred, OnlyRow, NoRow, Built, NoNode, BuiltNode};
+ghost use Rattle.jsx_expression.specs.Openings.{OnlyOpened, NoneOpened};
 ghost use Rattle.jsx_expression.specs.Around.{around_of};
 ghost use Rattle.jsx_expression.specs.SoFar.{is_number, so_far};
 ghost use Rattle.jsx_token.specs.Marks.{row_so_far};
@@ -25,7 +26,8 @@ ghost use Rattle.jsx_expression.specs.Elements.{OnlyItem, NoItem};
 ghost use Rattle.jsx_expression.specs.Members.{OnlyMember, NoMember, NoOtherKey, behind_brace, is_word};
 ghost use Rattle.jsx_expression.specs.Climbing as climbing;
 ghost use Rattle.jsx_expression.specs.Climbing.{Begins, behind, NoneBegins};
-ghost use Rattle.jsx_token.specs.Growths.{NoOpening, growth_kind, is_level, mark, opening_kind, opening_sign, settled};
+ghost use Rattle.jsx_token.specs.Growths.{NoOpening, callee, growth_kind, is_level, mark, opening_kind, opening_sign, settled};
+ghost use Rattle.jsx_expression.specs.Gathering.{IsGathered, NotGathered};
 ghost use Rattle.jsx_make.specs.NodeSpans.{access_at, expr_at, jsx_at, operation_at};
 ghost use Rattle.jsx_expression.specs.Spans.{Extends, IsPlaced, IsPlacedAs, IsPlacedBehind, IsPlacedOn, IsPlacedPast, IsPlacedRow, Spans, Starts};
 ghost use Rattle.jsx_token.specs.Places.{begin_of, end_of, next_of};
@@ -38,10 +40,10 @@ use crate::proto::has_two_protos;
 use jsx_base::{BytePos, Span};
 use jsx_make::make;
 use jsx_token::growth::{self, Growth};
-use jsx_token::{Fixed, Leaf, Lexer, Opening, is_bound, is_reserved, value_word};
+use jsx_token::{Fixed, Leaf, Lexer, Opening, Word, is_bound, is_reserved, value_word};
 use jsx_tree::{
     Access, AssignOp, BinaryOp, Expr, Ident, Jsx, Key, LiteralKind, Operation, Pat, Prop, Tag,
-    Text, UnaryOp, UpdateOp,
+    Text, UnaryOp, UpdateOp, Word as Constant,
 };
 use std::alloc::{AllocError, Global};
 
@@ -128,14 +130,34 @@ fn is_number(expr: &Expr) -> bool
     matches!(expr, Expr::Literal(_, LiteralKind::Num, _))
 }
 
-/// The level of an expression, up to that of calls and members.
+/// The level of an expression, up to that of what may be called or have members.
 #[tactic(auto, using(crate::proofs::Leveling::leveling))]
 pub fn level(expr: &Expr) -> u8
     ensures { result ≡ climbing.level (view_expr expr.now) }
 {
     match expr {
         Expr::Operation(operation) => level_of_operation(operation),
-        _ => 17,
+        Expr::Access(access) => level_of_access(access),
+        _ => 18,
+    }
+}
+
+#[tactic(auto, using(crate::proofs::Leveling::leveling))]
+fn level_of_access(access: &Access) -> u8
+    ensures { result ≡ climbing.level (view_access access.now) }
+{
+    match access {
+        Access::NewWithoutArguments(_, _) => 17,
+        Access::Call(_, _, _) => 18,
+        Access::Member(_, _, _) => 18,
+        Access::Index(_, _, _) => 18,
+        Access::Tagged(_, _, _, _, _) => 18,
+        Access::New(_, _, _) => 18,
+        Access::SuperCall(_, _) => 18,
+        Access::SuperMember(_, _) => 18,
+        Access::SuperIndex(_, _) => 18,
+        Access::ImportCall(_, _) => 18,
+        Access::Chain(_, _, _) => 18,
     }
 }
 
@@ -155,14 +177,14 @@ fn level_of_operation(operation: &Operation) -> u8
         Operation::Binary(_, operator, _, _) => growth::level(*operator),
         Operation::Unary(_, _, _) => 15,
         Operation::Update(_, _, _, _) => 16,
-        Operation::Spread(_, _) => 17,
-        Operation::Hole => 17,
+        Operation::Spread(_, _) => 18,
+        Operation::Hole => 18,
     }
 }
 
 /// Whether an expression may stand at the left of what goes on with it: `-a` not of `**`, and of `??` nothing that binds
 /// less than `|` but another `??`.
-fn fits(growth: Growth, left: &Expr) -> bool
+pub fn fits(growth: Growth, left: &Expr) -> bool
     ensures { result ≡ climbing.fits (growth_kind growth) (view_expr left.now) }
 {
     match growth {
@@ -170,9 +192,9 @@ fn fits(growth: Growth, left: &Expr) -> bool
         Growth::Assign => is_target(left),
         Growth::OpAssign(_) => is_target(left),
         Growth::Cond => level(left) >= 3,
-        Growth::Call => level(left) >= 17,
-        Growth::Member => level(left) >= 17 && !is_number(left),
-        Growth::Index => level(left) >= 17,
+        Growth::Call => level(left) >= 18,
+        Growth::Member => level(left) >= 18 && !is_number(left),
+        Growth::Index => level(left) >= 18,
         Growth::Update(_) => is_target(left),
     }
 }
@@ -186,7 +208,7 @@ fn fits_operator(operator: BinaryOp, left: &Expr) -> bool
 
 /// Whether an expression may be assigned to: a name that may be bound, or a member.
 #[tactic(auto, using(crate::proofs::Targeting::targeting))]
-fn is_target(expr: &Expr) -> bool
+pub fn is_target(expr: &Expr) -> bool
     ensures { result ≡ climbing.is_target (view_expr expr.now) }
 {
     match expr {
@@ -225,6 +247,47 @@ fn is_target_access(access: &Access) -> bool
             | Access::SuperMember(_, _)
             | Access::SuperIndex(_, _)
     )
+}
+
+/// Whether an expression is a call, also of `super` or `import`, or a chain.
+#[tactic(auto, using(crate::proofs::Calling::calling))]
+fn is_call(expr: &Expr) -> bool
+    ensures { result ≡ climbing.is_call (view_expr expr.now) }
+{
+    match expr {
+        Expr::Access(access) => is_call_access(access),
+        Expr::Ident(_, _) => false,
+        Expr::Literal(_, _, _) => false,
+        Expr::Word(_, _) => false,
+        Expr::Operation(_) => false,
+        Expr::Array(_, _) => false,
+        Expr::Object(_, _) => false,
+        Expr::Template(_, _, _) => false,
+        Expr::Function(_, _, _, _, _) => false,
+        Expr::Class(_, _, _, _) => false,
+        Expr::Jsx(_) => false,
+        Expr::Paren(_, _) => false,
+    }
+}
+
+#[tactic(auto, using(crate::proofs::Calling::calling))]
+fn is_call_access(access: &Access) -> bool
+    ensures { result ≡ climbing.is_call (view_access access.now) }
+{
+    matches!(
+        access,
+        Access::Call(_, _, _)
+            | Access::SuperCall(_, _)
+            | Access::ImportCall(_, _)
+            | Access::Chain(_, _, _)
+    )
+}
+
+/// Whether an expression that begins with no other may stand behind `new`.
+fn is_callee(expr: &Expr) -> bool
+    ensures { result ≡ climbing.rises callee (view_expr expr.now) }
+{
+    level(expr) >= 17 && !is_call(expr)
 }
 
 fn is_name_text(text: &Text) -> bool
@@ -707,7 +770,7 @@ fn binary<'s>(
 }
 
 /// What is assigned to, of an expression: a name, or `a.b`.
-fn target_of<'s>(alloc: Global, expr: Box<Expr<'s>>) -> Result<Box<Pat<'s>>, AllocError>
+pub fn target_of<'s>(alloc: Global, expr: Box<Expr<'s>>) -> Result<Box<Pat<'s>>, AllocError>
     ensures view { IfOk result (λ p. (r : Role) → view_pattern p.value r ≡ view_expr expr.entry.value) }
     ensures told { IfOk result (λ p. told_pat p.value ≡ told_expr expr.entry.value) }
 {
@@ -778,7 +841,7 @@ fn postfix_update<'s>(
 
 /// What goes on with an expression, behind its first token.
 #[cycle(expression)]
-fn grow<'s>(
+pub fn grow<'s>(
     context: Context,
     lexer: &mut Lexer<'s>,
     growth: Growth,
@@ -865,6 +928,79 @@ fn import_call<'s>(context: Context, lexer: &mut Lexer<'s>) -> Result<Box<Expr<'
     Ok(make::import_call(context.alloc, span_to(lo, lexer), source)?)
 }
 
+/// What begins with `import`, behind that: an import call, or `import.meta`, which stands in modules alone (ECMA-262
+/// sections 13.3.10 and 13.3.12).
+#[cycle(expression)]
+fn import<'s>(context: Context, lexer: &mut Lexer<'s>) -> Result<Box<Expr<'s>>, ParseError>
+    ensures read { IfOk result (λ e. OnlyOpened (around_of context.entry.around) (opening_sign (expression ImportCall)) (view_expr e.value) (place_of lexer.old) (place_of lexer.new)) }
+    ensures span { IfOk result (λ e. Spans (expr_at e.value) (begin_of lexer.old) (end_of lexer.new)) }
+    ensures placed { IfOk result (λ e. IsPlacedBehind (opening_sign (expression ImportCall)) lexer.old (told_expr e.value) (view_expr e.value) lexer.new) }
+    ensures shorter { OnOk result (left lexer.new < left lexer.old) }
+    ensures ended { OnOk result (IsTrue (settled (place_of lexer.new))) }
+    ensures refused { Refused result (NoneOpened (around_of context.entry.around) (opening_sign (expression ImportCall)) (place_of lexer.old)) }
+{
+    let lo = lexer.last_place();
+    if !lexer.take(Fixed::Dot) {
+        return Ok(import_call(context, lexer)?);
+    }
+    expect(context, lexer, Fixed::Word(Word::Meta))?;
+    if !context.around.is_module {
+        return Err(give_up(lexer));
+    }
+    Ok(make::constant(context.alloc, span_to(lo, lexer), Constant::ImportMeta)?)
+}
+
+/// What `new` stands before: an expression with members, but no call outside of parentheses (ECMA-262 section 13.3.5).
+#[cycle(expression)]
+fn callee<'s>(context: Context, lexer: &mut Lexer<'s>) -> Result<Box<Expr<'s>>, ParseError>
+    ensures read { IfOk result (λ e. Only so_far (around_of context.entry.around) (Part grammar.NewCallee) (place_of lexer.old) (one (view_expr e.value)) (place_of lexer.new)) }
+    ensures placed { IfOk result (λ e. IsPlaced (told_expr e.value) (view_expr e.value) lexer.old lexer.new) }
+    ensures shorter { OnOk result (left lexer.new < left lexer.old) }
+    ensures ended { OnOk result (IsTrue (settled (place_of lexer.new))) }
+    ensures refused { Refused result (Barred so_far (around_of context.entry.around) (Part grammar.NewCallee) (place_of lexer.old)) }
+{
+    let mut expr = beginning(context, lexer)?;
+    if !is_callee(&expr) {
+        return Err(give_up(lexer));
+    }
+    'members: loop {
+        let Some(growth) = lexer.member_growth() else {
+            return Ok(expr);
+        };
+        if !fits(growth, &expr) {
+            return Err(give_up(lexer));
+        }
+        expr = grow(context, lexer, growth, expr)?;
+    }
+}
+
+/// What begins with `new`, behind that: what is made, with its arguments or without, or `new.target`, which stands in
+/// functions alone (ECMA-262 sections 13.3.5 and 13.3.12).
+#[cycle(expression)]
+fn new_expression<'s>(context: Context, lexer: &mut Lexer<'s>) -> Result<Box<Expr<'s>>, ParseError>
+    ensures read { IfOk result (λ e. OnlyOpened (around_of context.entry.around) (opening_sign (expression New)) (view_expr e.value) (place_of lexer.old) (place_of lexer.new)) }
+    ensures span { IfOk result (λ e. Spans (expr_at e.value) (begin_of lexer.old) (end_of lexer.new)) }
+    ensures placed { IfOk result (λ e. IsPlacedBehind (opening_sign (expression New)) lexer.old (told_expr e.value) (view_expr e.value) lexer.new) }
+    ensures shorter { OnOk result (left lexer.new < left lexer.old) }
+    ensures ended { OnOk result (IsTrue (settled (place_of lexer.new))) }
+    ensures refused { Refused result (NoneOpened (around_of context.entry.around) (opening_sign (expression New)) (place_of lexer.old)) }
+{
+    let lo = lexer.last_place();
+    if lexer.take(Fixed::Dot) {
+        expect(context, lexer, Fixed::Word(Word::Target))?;
+        if !context.around.has_target {
+            return Err(give_up(lexer));
+        }
+        return Ok(make::constant(context.alloc, span_to(lo, lexer), Constant::NewTarget)?);
+    }
+    let callee = callee(context, lexer)?;
+    if !lexer.take(Fixed::Open) {
+        return Ok(make::new_without_arguments(context.alloc, span_to(lo, lexer), callee)?);
+    }
+    let all = arguments(context, lexer)?;
+    Ok(make::new_with_arguments(context.alloc, span_to(lo, lexer), callee, all)?)
+}
+
 /// An expression in parentheses behind its `(`: `(a)` (ECMA-262 section 13.2.9). No `=>` comes behind it.
 #[cycle(expression)]
 fn parenthesized<'s>(context: Context, lexer: &mut Lexer<'s>) -> Result<Box<Expr<'s>>, ParseError>
@@ -892,15 +1028,16 @@ fn open<'s>(
     lexer: &mut Lexer<'s>,
     opening: Opening,
 ) -> Result<Box<Expr<'s>>, ParseError>
-    ensures read { IfOk result (λ e. BuiltNode so_far (around_of context.entry.around) (tail (row_so_far (opening_kind opening))) (opening_kind opening) (view_expr e.value) (place_of lexer.old) (place_of lexer.new)) }
+    ensures read { IfOk result (λ e. OnlyOpened (around_of context.entry.around) (opening_sign (opening_kind opening)) (view_expr e.value) (place_of lexer.old) (place_of lexer.new)) }
     ensures span { IfOk result (λ e. Spans (expr_at e.value) (begin_of lexer.old) (end_of lexer.new)) }
     ensures placed { IfOk result (λ e. IsPlacedBehind (opening_sign (opening_kind opening)) lexer.old (told_expr e.value) (view_expr e.value) lexer.new) }
     ensures shorter { OnOk result (left lexer.new < left lexer.old) }
     ensures ended { OnOk result (IsTrue (settled (place_of lexer.new))) }
-    ensures refused { Refused result (NoNode so_far (around_of context.entry.around) (tail (row_so_far (opening_kind opening))) (opening_kind opening) (place_of lexer.old)) }
+    ensures refused { Refused result (NoneOpened (around_of context.entry.around) (opening_sign (opening_kind opening)) (place_of lexer.old)) }
 {
     match opening {
-        Opening::ImportCall => Ok(import_call(context, lexer)?),
+        Opening::Import => Ok(import(context, lexer)?),
+        Opening::New => Ok(new_expression(context, lexer)?),
         Opening::Paren => Ok(parenthesized(context, lexer)?),
         Opening::Array => Ok(array(context, lexer)?),
         Opening::Object => Ok(object(context, lexer)?),
@@ -911,7 +1048,7 @@ fn open<'s>(
 
 /// An expression that begins with no other.
 #[cycle(expression)]
-fn beginning<'s>(context: Context, lexer: &mut Lexer<'s>) -> Result<Box<Expr<'s>>, ParseError>
+pub fn beginning<'s>(context: Context, lexer: &mut Lexer<'s>) -> Result<Box<Expr<'s>>, ParseError>
     ensures read { IfOk result (λ e. Begins (around_of context.entry.around) (place_of lexer.old) (view_expr e.value) (place_of lexer.new)) }
     ensures span { IfOk result (λ e. Spans (expr_at e.value) (next_of lexer.old) (end_of lexer.new)) }
     ensures placed { IfOk result (λ e. IsPlaced (told_expr e.value) (view_expr e.value) lexer.old lexer.new) }
@@ -965,6 +1102,22 @@ pub fn sequence<'s>(context: Context, lexer: &mut Lexer<'s>) -> Result<Box<Expr<
     ensures refused { Refused result (Barred so_far (around_of context.entry.around) (Part (grammar.Expr 0)) (place_of lexer.old)) }
 {
     let first = expression(context, lexer, ASSIGNMENT)?;
+    Ok(more_items(context, lexer, first)?)
+}
+
+/// What is read with an expression that stands before it, with commas between: `a` and `, b`.
+#[cycle(expression)]
+pub fn more_items<'s>(
+    context: Context,
+    lexer: &mut Lexer<'s>,
+    first: Box<Expr<'s>>,
+) -> Result<Box<Expr<'s>>, ParseError>
+    requires { IsTrue (settled (place_of lexer.old)) }
+    ensures read { IfOk result (λ e. IsGathered (around_of context.entry.around) first.entry.value lexer.old e.value lexer.new) }
+    ensures within { OnOk result (left lexer.new ≤ left lexer.old) }
+    ensures ended { OnOk result (IsTrue (settled (place_of lexer.new))) }
+    ensures refused { Refused result (NotGathered (around_of context.entry.around) (view_expr first.entry.value) (place_of lexer.old)) }
+{
     if !lexer.take(Fixed::Comma) {
         return Ok(first);
     }

@@ -2,8 +2,8 @@
 //! by value much.
 
 ghost use Rattle.std.specs.Prelude.{◌≡◌, [], ◌∷◌, IfOk, map};
-ghost use Rattle.jsx_tree.specs.Kinds.{Role, Block, Var, Declarator, Empty, If, Do, While, Continue, Break, Throw, Debugger, Assigns, ExprStmt, Assign, OpAssign, Unary, Binary, Cond, Call, Member, Index, ImportCall, Parenthesized, Element, statement, expression, jsx, leaf, node, list, none, part, PrefixUpdate, PostfixUpdate, Seq, For, ForDeclaration, Switch, Array, Spread, Try, Catch, Binds, Object, Property, Shorthand, ComputedKey, function};
-ghost use Rattle.jsx_tree.specs.View.{text_of, word, view_word, name_of, kind_of_literal, word_of, inside, forest, optional_name, optional_of, view_tag, view_expr, view_pattern, view_pat, view_stmt, view_jsx, optional_at_of, clause_of, view_control, view_key};
+ghost use Rattle.jsx_tree.specs.Kinds.{Role, Block, Var, Declarator, Empty, If, Do, While, Continue, Break, Label, Throw, Debugger, Assigns, ExprStmt, Assign, OpAssign, Unary, Binary, Cond, Call, Member, Index, ImportCall, Parenthesized, Element, statement, expression, jsx, leaf, node, list, none, part, PrefixUpdate, PostfixUpdate, Seq, For, ForDeclaration, Switch, Array, Spread, Try, Catch, Binds, Object, Property, Shorthand, ComputedKey, function, New, NewWithoutArguments, ForIn, ForOf, ForBinding};
+ghost use Rattle.jsx_tree.specs.View.{text_of, word, view_word, name_of, kind_of_literal, word_of, inside, forest, optional_name, optional_of, view_tag, view_expr, view_pattern, view_pat, view_stmt, view_jsx, optional_at_of, clause_of, view_control, view_key, view_target};
 ghost use Rattle.jsx_tree.specs.ViewOperators.{assign_of, binary_of, unary_of, step_of};
 ghost use Rattle.jsx_tree.specs.Told.{told_list, told_name, told_optional, told_text, told_leaf, told_node, told_tag, told_expr, told_pat, told_stmt, told_jsx, led_by, told_control, told_key, told_prop};
 ghost use Rattle.jsx_base.specs.Token.{Elision};
@@ -41,7 +41,7 @@ pub fn name<'s>(
     boxed(alloc, Expr::Ident(at, name))
 }
 
-/// `this`, `null`, `true` or `false`.
+/// `this`, `null`, `true`, `false`, `import.meta` or `new.target`.
 pub fn constant<'s>(
     alloc: Global,
     at: Option<Span>,
@@ -106,6 +106,33 @@ pub fn call<'s>(
     ensures span { IfOk result (λ e. expr_at e.value ≡ at) }
 {
     boxed(alloc, Expr::Access(Access::Call(at, callee, arguments)))
+}
+
+/// `new a(b)`
+pub fn new_with_arguments<'s>(
+    alloc: Global,
+    at: Option<Span>,
+    callee: Box<Expr<'s>>,
+    arguments: Vec<Box<Expr<'s>>>,
+) -> Result<Box<Expr<'s>>, AllocError>
+    ensures view { IfOk result (λ e. view_expr e.value ≡ node (expression New) (part (view_expr callee.entry.value) (part (list (forest (map (inside view_expr) arguments.entry.items))) none))) }
+    ensures told { IfOk result (λ e. told_expr e.value ≡ told_node at (told_expr callee.entry.value ∷ told_list (map (inside told_expr) arguments.entry.items) ∷ [])) }
+    ensures span { IfOk result (λ e. expr_at e.value ≡ at) }
+{
+    boxed(alloc, Expr::Access(Access::New(at, callee, arguments)))
+}
+
+/// `new a`
+pub fn new_without_arguments<'s>(
+    alloc: Global,
+    at: Option<Span>,
+    callee: Box<Expr<'s>>,
+) -> Result<Box<Expr<'s>>, AllocError>
+    ensures view { IfOk result (λ e. view_expr e.value ≡ node (expression NewWithoutArguments) (part (view_expr callee.entry.value) none)) }
+    ensures told { IfOk result (λ e. told_expr e.value ≡ told_node at (told_expr callee.entry.value ∷ [])) }
+    ensures span { IfOk result (λ e. expr_at e.value ≡ at) }
+{
+    boxed(alloc, Expr::Access(Access::NewWithoutArguments(at, callee)))
 }
 
 /// `[a, b]`
@@ -504,6 +531,20 @@ pub fn break_statement<'s>(
     boxed(alloc, Stmt::Break(at, label))
 }
 
+/// `a: b;`
+pub fn label_statement<'s>(
+    alloc: Global,
+    at: Option<Span>,
+    label: Ident<'s>,
+    body: Box<Stmt<'s>>,
+) -> Result<Box<Stmt<'s>>, AllocError>
+    ensures view { IfOk result (λ s. view_stmt s.value ≡ node (statement Label) (part (name_of label.entry) (part (view_stmt body.entry.value) none))) }
+    ensures told { IfOk result (λ s. told_stmt s.value ≡ told_node at (told_text label.entry.text ∷ told_stmt body.entry.value ∷ [])) }
+    ensures span { IfOk result (λ s. stmt_at s.value ≡ at) }
+{
+    boxed(alloc, Stmt::Control(Control::Label(at, label, body)))
+}
+
 /// `throw a;`
 pub fn throw_statement<'s>(
     alloc: Global,
@@ -580,6 +621,49 @@ pub fn head_declaration<'s>(
     ensures told { IfOk result (λ p. told_pat p.value ≡ told_node at (told_list (map (inside told_pat) declarators.entry.items) ∷ [])) }
 {
     boxed(alloc, Pat::Declaration(at, word, declarators))
+}
+
+/// `let a` in the head of a `for`-`in` or `for`-`of`.
+pub fn head<'s>(
+    alloc: Global,
+    at: Option<Span>,
+    word: DeclareWord,
+    target: Box<Pat<'s>>,
+) -> Result<Box<Pat<'s>>, AllocError>
+    ensures view { IfOk result (λ p. (r : Role) → view_pattern p.value r ≡ node (statement (ForBinding (word_of word))) (part (view_pat target.entry.value) none)) }
+    ensures told { IfOk result (λ p. told_pat p.value ≡ told_node at (told_pat target.entry.value ∷ [])) }
+{
+    boxed(alloc, Pat::Head(at, word, target))
+}
+
+/// `for (a in b) c;`
+pub fn for_in<'s>(
+    alloc: Global,
+    at: Option<Span>,
+    head: Box<Pat<'s>>,
+    object: Box<Expr<'s>>,
+    body: Box<Stmt<'s>>,
+) -> Result<Box<Stmt<'s>>, AllocError>
+    ensures view { IfOk result (λ s. view_stmt s.value ≡ node (statement ForIn) (part (view_target head.entry.value) (part (view_expr object.entry.value) (part (view_stmt body.entry.value) none)))) }
+    ensures told { IfOk result (λ s. told_stmt s.value ≡ told_node at (told_pat head.entry.value ∷ told_expr object.entry.value ∷ told_stmt body.entry.value ∷ [])) }
+    ensures span { IfOk result (λ s. stmt_at s.value ≡ at) }
+{
+    boxed(alloc, Stmt::Control(Control::ForIn(at, head, object, body)))
+}
+
+/// `for (a of b) c;`
+pub fn for_of<'s>(
+    alloc: Global,
+    at: Option<Span>,
+    head: Box<Pat<'s>>,
+    items: Box<Expr<'s>>,
+    body: Box<Stmt<'s>>,
+) -> Result<Box<Stmt<'s>>, AllocError>
+    ensures view { IfOk result (λ s. view_stmt s.value ≡ node (statement ForOf) (part (view_target head.entry.value) (part (view_expr items.entry.value) (part (view_stmt body.entry.value) none)))) }
+    ensures told { IfOk result (λ s. told_stmt s.value ≡ told_node at (told_pat head.entry.value ∷ told_expr items.entry.value ∷ told_stmt body.entry.value ∷ [])) }
+    ensures span { IfOk result (λ s. stmt_at s.value ≡ at) }
+{
+    boxed(alloc, Stmt::Control(Control::ForOf(at, head, items, body)))
 }
 
 /// `for (a; b; c) d;`

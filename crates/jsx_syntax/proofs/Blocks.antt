@@ -4,7 +4,7 @@ use Rattle.std.specs.Prelude.{IsTrue, nat_le, ◌||◌}
 use Rattle.jsx_tree.specs.Kinds.{Block, statement, Tree, leaf, node, list, Forest, none, part}
 use Rattle.jsx_tree.specs.Nonterminals.{Nonterminal, Stmt}
 use Rattle.jsx_tree.specs.Grammar.{Context, Lines, Many, Part, Fixed, pun}
-use Rattle.jsx_tree.specs.Reading.{Place, Lost, At, forth}
+use Rattle.jsx_tree.specs.Reading.{Place, Lost, forth}
 use Rattle.jsx_tree.specs.StaticRules.{Surroundings, count_of, has_plain_params, is_function}
 use Rattle.jsx_tree.specs.Walk.{is_found, one, Piece, piece, tail, Items, nil, last, more, many, sign, tree, Walk, done, next, steady}
 use Rattle.jsx_tree.specs.Language.{Language, Whole}
@@ -23,13 +23,13 @@ use Rattle.jsx_tree.proofs.Rows.Turns.{From, Turn, cons, early, item_of, no_rest
 use Rattle.jsx_expression.specs.SoFar.{Staged, so_far}
 use Rattle.jsx_token.specs.Marks.{row_so_far}
 use Rattle.jsx_token.specs.Growths.{same_sign}
-use Rattle.jsx_token.specs.Headings.{heading_kind, heading_sign}
+use Rattle.jsx_token.specs.Headings.{heading_sign}
 use Rattle.jsx_token.specs.declared.heading.Heading.{Heading}
 use Rattle.jsx_expression.proofs.OfSoFar.{of_so_far}
-use Rattle.jsx_token.proofs.Headings.{of_heading}
+use Rattle.jsx_token.proofs.Headings.{of_begun, of_heading}
 use Rattle.jsx_token.proofs.Marks.{one_sign}
 use Rattle.jsx_expression.proofs.Homes.{taken_by, home_of}
-use Rattle.jsx_syntax.proofs.Statements.{coded, none_begins, spot_kind, stmts}
+use Rattle.jsx_syntax.proofs.Statements.{coded, lost_if, none_begins, spot_kind, stmts}
 
 -- ---- the steps of the loop
 
@@ -95,10 +95,6 @@ line_barred {v} ts so n b = turn_none so (no_lines (subst (λ p. Barred so_far v
 
 -- ---- the brace
 
-lost_if : (x : Place) → (IsTrue (is_found x) → ⊥) → x ≡ Lost
-lost_if Lost f = refl
-lost_if (At q e text) f = absurd (f refl)
-
 pub no_heading : {y z : Place} → Moves (pun "}") y z → (h : Heading) → forth (heading_sign h) y ≡ Lost
 no_heading {y} m h = lost_if (forth (heading_sign h) y) (λ f. at h (one_sign (heading_sign h) (pun "}") y (coded h) refl f (found_at (sym m.is) m.found)))
   where
@@ -120,10 +116,7 @@ line_ended {v} {x} {y} {z} ts so m =
 function_not : {v : Surroundings} {x y : Place} (t : Tree) → Staged v false Stmt x t y → is_function t ≡ false
 function_not (leaf k s) r = refl
 function_not (list ts) r = refl
-function_not (node k ts) r = spot_kind stmts k ts (taken_by r) (home_of r) (λ g e. ap (λ l. is_function (node l ts)) e ∙ of_kind g) (λ e. ap (λ l. is_function (node l ts)) e)
-  where
-    of_kind : (g : Heading) → is_function (node (heading_kind g) ts) ≡ false
-    of_kind g = is_not _ (of_heading (λ j. not (is_function (node (heading_kind j) ts))) refl g)
+function_not (node k ts) r = spot_kind stmts k ts (taken_by r) (home_of r) (λ g b. is_not _ (of_begun (λ j. not (is_function (node j ts))) refl b)) (λ e. ap (λ l. is_function (node l ts)) e) (λ e. ap (λ l. is_function (node l ts)) e)
 
 pub no_functions : {v : Surroundings} {x y : Place} {ts : Forest} → Items (Whole so_far) v Lines Stmt x ts y → nat_le (count_of is_function ts) 0 ≡ true
 no_functions (nil f) = refl

@@ -4,7 +4,7 @@ use Rattle.std.specs.Prelude.{IsTrue, codes, nat_le, ◌&&◌, ◌||◌}
 use Rattle.std.proofs.lemmas.Bool.{leb-true}
 use Rattle.jsx_base.specs.Token.{IdentifierName, Punctuator}
 use Rattle.jsx_tree.specs.Signs.{Sign}
-use Rattle.jsx_tree.specs.Kinds.{Case, Default, Switch, Kind, statement, Tree, leaf, node, list, Forest, none, part}
+use Rattle.jsx_tree.specs.Kinds.{Case, Default, Label, Switch, Kind, statement, Tree, leaf, node, list, Forest, none, part}
 use Rattle.jsx_tree.specs.Nonterminals.{Nonterminal, Expr, CaseClause, Stmt}
 use Rattle.jsx_tree.specs.Grammar.{Context, InSwitch, Lines, Symbol, Many, Part, Fixed, key, pun}
 use Rattle.jsx_tree.specs.Form.{admits}
@@ -28,7 +28,7 @@ use Rattle.jsx_tree.proofs.Rows.Turns.{Turn, early, prepend, prepend_cons, turn_
 use Rattle.jsx_syntax.specs.Cases.{IsBody, IsCase, IsDefault, MoreCases, NoCase, NoCases, body_row, cases_row, default_row, one_default, with_case}
 use Rattle.jsx_token.specs.CaseEnds.{ends_case}
 use Rattle.jsx_token.specs.Growths.{is_code, same_sign}
-use Rattle.jsx_token.specs.Headings.{heading_kind, heading_sign}
+use Rattle.jsx_token.specs.Headings.{heading_sign}
 use Rattle.jsx_token.specs.Here.{Here, place_of}
 use Rattle.jsx_expression.specs.SoFar.{Staged, so_far}
 use Rattle.jsx_token.specs.Marks.{row_so_far}
@@ -36,13 +36,13 @@ use Rattle.jsx_token.specs.Places.{Takes}
 use Rattle.jsx_expression.proofs.OfSoFar.{of_so_far}
 use Rattle.jsx_token.proofs.Headings.{headings, every_heading, of_heading}
 use Rattle.jsx_token.proofs.Marks.{one_sign}
+use Rattle.jsx_expression.proofs.Homes.{Taken, no_list, taken_by, home_of}
 use Rattle.jsx_expression.proofs.Standing.{standing}
 use Rattle.jsx_tree.proofs.Rows.Firsts.{kind_home}
-use Rattle.jsx_expression.proofs.Homes.{Taken, no_list, taken_by, home_of}
 use Rattle.jsx_expression.proofs.Values.{led_sign}
 use Rattle.jsx_syntax.proofs.Blocks.{both_none, no_functions, no_heading, turn_line, turn_none_left}
 use Rattle.jsx_syntax.proofs.Heads.{as_front, as_turn, behind_both, head_of, items_of, rest_of}
-use Rattle.jsx_syntax.proofs.Statements.{KeySign, Spot, coded, heading_stands, keyed, none_begins, spot_kind, stmts, worded_evaluation}
+use Rattle.jsx_syntax.proofs.Statements.{KeySign, Spot, coded, heading_stands, keyed, named, none_begins, spot_kind, stmts, unlabelled_word, worded_evaluation}
 
 -- ---- the words of cases
 
@@ -136,21 +136,22 @@ no_cases_at {v} {y} n = record { no = at }
 
 -- ---- no statement stands where a case ends
 
-other_barred : {v : Surroundings} {c : Nonterminal} {x : Place} {s : Sign} → Spot c → KeySign s → every_heading (λ h. not (same_sign (heading_sign h) s)) headings ≡ true → is_code s ≡ true → IsTrue (is_found (forth s x)) → Barred so_far v (Part c) x
-other_barred {v} {c} {x} {s} spot k apart code f = record { no = at }
+other_barred : {v : Surroundings} {c : Nonterminal} {x : Place} {s : Sign} → Spot c → KeySign s → every_heading (λ h. not (same_sign (heading_sign h) s)) headings ≡ true → named s ≡ false → is_code s ≡ true → IsTrue (is_found (forth s x)) → Barred so_far v (Part c) x
+other_barred {v} {c} {x} {s} spot k apart word code f = record { no = at }
   where
     at : (g : Given) (y : Place) → Past (Whole so_far) v (Part c) x g y → ⊥
     at g y (tree {t = leaf j t} w) = spot.leafless j t w.reads.staged
     at g y (tree {t = list ts} w) = no_list w.reads
     at g y (tree {t = node l ts} w) = spot_kind spot l ts (taken_by w.reads) (home_of w.reads)
-        (λ h e. clash _ (one_sign (heading_sign h) s x (coded h) code (heading_stands h (of_so_far.from_node (heading_kind h) (subst (λ j. Staged v false c x (node j ts) y) e w.reads)).walk) f) (is_not _ (of_heading (λ j. not (same_sign (heading_sign j) s)) apart h)))
+        (λ h b. clash _ (one_sign (heading_sign h) s x (coded h) code (heading_stands b (of_so_far.from_node l w.reads).walk) f) (is_not _ (of_heading (λ j. not (same_sign (heading_sign j) s)) apart h)))
         (λ e. worded_evaluation k f (subst (λ j. Staged v false c x (node j ts) y) e w.reads))
+        (λ e. unlabelled_word s code word f (of_so_far.from_node (statement Label) (subst (λ j. Staged v false c x (node j ts) y) e w.reads)).walk)
 
 ended_barred : {v : Surroundings} (y : Place) → ends_case y ≡ true → Barred so_far v (Part Stmt) y
 ended_barred y h =
     or_cases (is_found (forth (pun "}") y)) (has_word y) h
     (λ f. none_begins stmts (record { on = no_heading {y = y} {z = forth (pun "}") y} (record { is = refl; found = f }) }) (closes brace f))
-    (λ g. or_cases (is_found (forth (key "case") y)) (is_found (forth (key "default") y)) g (λ f. other_barred stmts (keyed (key "case") refl) refl refl f) (λ f. other_barred stmts (keyed (key "default") refl) refl refl f))
+    (λ g. or_cases (is_found (forth (key "case") y)) (is_found (forth (key "default") y)) g (λ f. other_barred stmts (keyed (key "case") refl) refl refl refl f) (λ f. other_barred stmts (keyed (key "default") refl) refl refl refl f))
 
 -- ---- the statements of a case
 

@@ -3,7 +3,7 @@ use Rattle.std.proofs.Common.{◌≡◌, Bool, true, false, not, List, [], ◌�
 use Rattle.std.specs.Prelude.{IsTrue, codes, ◌&&◌, ◌||◌}
 use Rattle.jsx_base.specs.Token.{IdentifierName, token}
 use Rattle.jsx_tree.specs.Signs.{Unless}
-use Rattle.jsx_tree.specs.Kinds.{If, Try, Kind, statement, Tree, leaf, node, list, Forest, none, part}
+use Rattle.jsx_tree.specs.Kinds.{If, Try, Kind, statement, Tree, leaf, node, list, Forest, none, part, Label}
 use Rattle.jsx_tree.specs.Nonterminals.{Nonterminal, Expr, SubStmt}
 use Rattle.jsx_tree.specs.Grammar.{Context, Fixed, Part, Optional, Many, Within, key, pun, production}
 use Rattle.jsx_tree.specs.Reading.{Place, Lost, forth}
@@ -21,9 +21,9 @@ use Rattle.jsx_tree.proofs.Rows.Turns.{whole_of}
 use Rattle.jsx_expression.specs.SoFar.{Staged, so_far}
 use Rattle.jsx_token.specs.Marks.{row_so_far}
 use Rattle.jsx_syntax.specs.Statements.{Closes, alternative_row}
-use Rattle.jsx_token.specs.Headings.{heading_kind}
+use Rattle.jsx_token.specs.Headings.{Begins}
 use Rattle.jsx_token.specs.declared.heading.Heading.{Heading}
-use Rattle.jsx_token.proofs.Headings.{of_heading}
+use Rattle.jsx_token.proofs.Headings.{of_begun}
 use Rattle.jsx_expression.proofs.OfSoFar.{of_so_far}
 use Rattle.jsx_expression.proofs.Homes.{no_list, taken_by, home_of}
 use Rattle.jsx_syntax.proofs.PartWords.{absent_word, barred_word, of_else, present_word}
@@ -151,14 +151,15 @@ kind_closed {V} {x} {y} {us} k s a w h =
     (λ i. subst (λ l. Walk Staged V (row_so_far l) x us y → open_if (node l us) ≡ false) (sym (try_kind k i)) (λ w. try_closed w) w)
     (λ e. shut_closed k e a w h))
 
-heading_closed : (g : Heading) {V : List Context → Surroundings} {x y : Place} {us : Forest} → AllClosed us → Walk Staged V (row_so_far (heading_kind g)) x us y → Ahead y → open_if (node (heading_kind g) us) ≡ false
-heading_closed g a w h = kind_closed (heading_kind g) (of_heading (λ j. is_if (heading_kind j) || (is_try (heading_kind j) || ends_shut (heading_kind j))) refl g) a w h
+heading_closed : {g : Heading} {k : Kind} → Begins g k → {V : List Context → Surroundings} {x y : Place} {us : Forest} → AllClosed us → Walk Staged V (row_so_far k) x us y → Ahead y → open_if (node k us) ≡ false
+heading_closed {k = k} b a w h = kind_closed k (of_begun (λ j. is_if j || (is_try j || ends_shut j)) refl b) a w h
 
 node_closed : (k : Kind) (ts : Forest) → AllClosed ts → Closed (node k ts)
 node_closed k ts a = record {
   on = λ {v} {c} {x} {y} s r h. spot_kind s k ts (taken_by r) (home_of r)
-      (λ g e. ap (λ l. open_if (node l ts)) e ∙ heading_closed g a (of_so_far.from_node (heading_kind g) (subst (λ l. Staged v false c x (node l ts) y) e r)).walk h)
-      (λ e. ap (λ l. open_if (node l ts)) e);
+      (λ g b. heading_closed b a (of_so_far.from_node k r).walk h)
+      (λ e. ap (λ l. open_if (node l ts)) e)
+      (λ e. ap (λ l. open_if (node l ts)) e ∙ shut_closed (statement Label) refl a (of_so_far.from_node (statement Label) (subst (λ l. Staged v false c x (node l ts) y) e r)).walk h);
 }
 
 list_is : {us vs : Forest} → list us ≡ list vs → us ≡ vs

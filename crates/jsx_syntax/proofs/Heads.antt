@@ -33,17 +33,16 @@ use Rattle.jsx_expression.specs.SoFar.{Staged, so_far}
 use Rattle.jsx_token.specs.Marks.{ends_so_far, is_sign, row_so_far}
 use Rattle.jsx_token.specs.Semicolons.{in_list}
 use Rattle.jsx_token.specs.Here.{sign_of}
-use Rattle.jsx_token.specs.Headings.{heading_kind}
 use Rattle.jsx_syntax.specs.Heads.{Rest, Front, Declares, NotDeclared, IsDeclared, NotHeaded, IsHead, NoDeclaring, NoHead, NoInitial, clause_row, declare_sign, first_opens, free_row, initial_row, is_closer, marked_end, marked_row}
 use Rattle.jsx_syntax.specs.OpenIn.{any_opens, opens_whole}
 use Rattle.jsx_token.specs.declared.lexer.Fixed.{Fixed as Mark}
 use Rattle.jsx_token.specs.declared.lexer.Fixed.TheVariants as fixed
 use Rattle.jsx_expression.proofs.OfSoFar.{of_so_far}
-use Rattle.jsx_token.proofs.Headings.{of_heading}
-use Rattle.jsx_expression.proofs.Inners.{inner_kind, of_inner, declaration}
+use Rattle.jsx_token.proofs.Headings.{of_begun}
+use Rattle.jsx_expression.proofs.Inners.{declaration, inner_kind, of_inner}
 use Rattle.jsx_token.proofs.Listed.{agree, agreed, of_each}
 use Rattle.jsx_token.proofs.Marks.{by_sign}
-use Rattle.jsx_expression.proofs.Homes.{Taken, module', headed, inner, evaluation, sequence, spread, operand, no_list, taken_by, home_of, AtWhole, single, several, at_whole, made, value_kind}
+use Rattle.jsx_expression.proofs.Homes.{Taken, module', headed, inner, evaluation, labelled, sequence, spread, operand, no_list, taken_by, home_of, AtWhole, single, several, at_whole, made, value_kind}
 use Rattle.jsx_token.proofs.Lives.{lives}
 use Rattle.jsx_expression.proofs.Values.{Seat, at_any, led_sign, move, node_to}
 use Rattle.jsx_expression.proofs.Sequences.{and_equal, no_comma_ends}
@@ -60,7 +59,7 @@ as_front s = record { to = s.to; from = λ us w walk. let f = s.from us w walk i
 pub as_turn : {v : Surroundings} {ps qs : List Piece} {x y : Place} {t : Tree} → Front v ps qs x t y → Turn so_far v ps qs x y (part t)
 as_turn s = record { to = s.to; from = λ us w walk. let f = s.from us w walk in record { parts = f.parts; is = f.is; walk = f.walk } }
 
-lost_there : (s : Sign) (x : Place) → forth s x ≡ Lost → IsTrue (is_found (forth s x)) → ⊥
+pub lost_there : (s : Sign) (x : Place) → forth s x ≡ Lost → IsTrue (is_found (forth s x)) → ⊥
 lost_there s x e f = let bad : IsTrue (is_found Lost) = subst (λ p. IsTrue (is_found p)) e f in cc
 
 sign_there : {v : Surroundings} {s : Sign} {x y : Place} {g : Given} → Past (Whole so_far) v (Fixed s) x g y → IsTrue (is_found y)
@@ -143,17 +142,17 @@ undeclared_row d b = turn_none (as_turn d.free) (bar b)
 
 -- ---- the word of a declaration
 
-declare_is : (w : code.DeclareWord) → declare_sign w ≡ Tok Operator IdentifierName (vars (word_of w))
+pub declare_is : (w : code.DeclareWord) → declare_sign w ≡ Tok Operator IdentifierName (vars (word_of w))
 declare_is declare_word.Var = refl
 declare_is declare_word.Let = refl
 declare_is declare_word.Const = refl
 
-declare_key : (w : code.DeclareWord) → KeySign (declare_sign w)
+pub declare_key : (w : code.DeclareWord) → KeySign (declare_sign w)
 declare_key declare_word.Var = keyed (declare_sign declare_word.Var) refl
 declare_key declare_word.Let = keyed (declare_sign declare_word.Let) refl
 declare_key declare_word.Const = keyed (declare_sign declare_word.Const) refl
 
-undeclaring : {x : Place} → NoDeclaring x → (w : DeclareWord) → forth (Tok Operator IdentifierName (vars w)) x ≡ Lost
+pub undeclaring : {x : Place} → NoDeclaring x → (w : DeclareWord) → forth (Tok Operator IdentifierName (vars w)) x ≡ Lost
 undeclaring n VarWord = n.on declare_word.Var
 undeclaring n LetWord = n.on declare_word.Let
 undeclaring n ConstWord = n.on declare_word.Const
@@ -166,7 +165,7 @@ one_word VarWord _ h = cc
 one_word LetWord _ h = cc
 one_word ConstWord _ h = cc
 
-same_word : (v w : DeclareWord) (x : Place) → IsTrue (is_found (forth (Tok Operator IdentifierName (vars v)) x)) → IsTrue (is_found (forth (Tok Operator IdentifierName (vars w)) x)) → v ≡ w
+pub same_word : (v w : DeclareWord) (x : Place) → IsTrue (is_found (forth (Tok Operator IdentifierName (vars v)) x)) → IsTrue (is_found (forth (Tok Operator IdentifierName (vars w)) x)) → v ≡ w
 same_word v w x f g = one_word v w (subst (λ t. same (vars v) t ≡ true) (one_text Operator IdentifierName (vars v) (vars w) x f g) (same_self (vars v)))
 
 -- ---- what may stand before the first `;`
@@ -193,7 +192,8 @@ begin_kind l ts (inner i) h r =
     r
 begin_kind l ts module' h r = cc
 begin_kind l ts evaluation h r = cc
-begin_kind l ts (headed g) h r = absurd (clash _ h (is_not _ (of_heading (λ j. not (lives ForInit (heading_kind j))) refl g)))
+begin_kind l ts labelled h r = cc
+begin_kind l ts (headed b) h r = absurd (clash _ h (is_not _ (of_begun (λ j. not (lives ForInit j)) refl b)))
 
 begin_of : {v : Surroundings} {x y : Place} (t : Tree) → Staged v false ForInit x t y → Begin x t
 begin_of (leaf k r) q = of_value (single (value_kind k r q.staged))
@@ -216,7 +216,7 @@ to_init (single k) r = move at_init k r
 to_init several r = node_to ForInit refl r
 
 -- no expression stands where the word does
-key_value : {v : Surroundings} {x y : Place} {t : Tree} {s : Sign} → KeySign s → IsTrue (is_found (forth s x)) → Staged v false (Expr 0) x t y → ⊥
+pub key_value : {v : Surroundings} {x y : Place} {t : Tree} {s : Sign} → KeySign s → IsTrue (is_found (forth s x)) → Staged v false (Expr 0) x t y → ⊥
 key_value (key_sign {d} {w} k) f r = no_expression d w k.no_less k.no_slash k.no_head refl f r.reads
 
 word_value : {v : Surroundings} {x y : Place} {t : Tree} (w : code.DeclareWord) → IsTrue (is_found (forth (declare_sign w) x)) → AtWhole t → Staged v false ForInit x t y → ⊥
@@ -228,7 +228,7 @@ as_value {x} n (of_declaration w ts f) = absurd (lost_there (Tok Operator Identi
 
 -- ---- an expression
 
-whole_value : {v : Surroundings} {x y : Place} {t : Tree} → NoDeclaring x → Whole so_far v false ForInit x t y → Whole so_far v false (Expr 0) x t y
+pub whole_value : {v : Surroundings} {x y : Place} {t : Tree} → NoDeclaring x → Whole so_far v false ForInit x t y → Whole so_far v false (Expr 0) x t y
 whole_value {y = y} {t = t} n w = record { reads = to_whole (as_value n (begin_of t w.reads)) w.reads; ends_there = sym (init_ends y) ∙ w.ends_there }
 
 only_init : {v : Surroundings} {x y : Place} {t : Tree} → NoDeclaring x → Only so_far v (Part (Expr 0)) x (one t) y → Only so_far v (Part ForInit) x (one t) y
@@ -404,20 +404,13 @@ pub initial_closed : (t : Tree) → open_in t ≡ false → open_in (list (part 
 initial_closed t h = ap (λ b. b || false) h
 
 -- no `;` comes next, and what does come is none
-none_initial : {v : Surroundings} {x : Place} → Stuck (pun ";") x → NoHead v x → NoInitial v x
+pub none_initial : {v : Surroundings} {x : Place} → Stuck (pun ";") x → NoHead v x → NoInitial v x
 none_initial {v} {x} k n = record { no = at }
   where
     at : (us : Forest) (z : Place) → Walk (Whole so_far) (steady v) initial_row x us z → first_opens us ≡ false → ⊥
     at us z (next (absent e f) (next (sign g h) rest)) c = lost_there (pun ";") x k.is (subst (λ p. IsTrue (is_found (forth (pun ";") p))) (sym e ∙ unless_none x (found_first (Unless [] ∷ []) x (found_at e f))) (found_at g h))
     at us z (next (present {z = q} {t = t} a s b f) (next (sign g h) rest)) c =
         n.no t q (subst (λ p. Whole so_far v false ForInit p t q) (sym a) s) (subst (λ p. IsTrue (is_found (forth (pun ";") p))) (sym b) (found_at g h)) (or_left_false (open_in t) false c)
-
-pub initial_none : {v : Surroundings} {x y : Place} → Missed (pun ";") x y → NoHead v y → NoInitial v x
-initial_none {v} {x} m n = none_initial m.stuck (subst (NoHead v) (sym m.same) n)
-
--- where the one that was read stands
-pub head_from : {v : Surroundings} {x y z : Place} {t : Tree} → x ≡ y → IsHead v y t z → IsHead v x t z
-head_from {v} {z = z} {t = t} e h = subst (λ p. IsHead v p t z) (sym e) h
 
 pub unended_initial : {v : Surroundings} {x y : Place} {t : Tree} → IsHead v x t y → Barred so_far v (Fixed (pun ";")) y → NoInitial v x
 unended_initial h b = let n = turn_none (as_turn h.front) (bar b) in record { no = λ us z w c. n.no us z w }

@@ -28,11 +28,11 @@ use Rattle.jsx_tree.proofs.Rows.Optionals.{turn_absent, present_last, none_last}
 use Rattle.jsx_tree.proofs.Rows.Laws.{lost_barred, end_found, start_found}
 use Rattle.jsx_tree.proofs.Rows.Placing.{Chosen, OnlyAt, NoneAt, then_at, only_at, barred_at}
 use Rattle.jsx_expression.proofs.OfSoFar.{of_so_far}
-use Rattle.jsx_expression.proofs.Standing.{standing}
-use Rattle.jsx_tree.proofs.Rows.Firsts.{kind_home}
 use Rattle.jsx_expression.proofs.Homes.{IsName, patterns, no_list, Taken, taken_by, home_of}
 use Rattle.jsx_syntax.specs.Statements.{has_value}
 use Rattle.jsx_expression.proofs.Inners.{declaration}
+use Rattle.jsx_expression.proofs.Standing.{standing}
+use Rattle.jsx_tree.proofs.Rows.Firsts.{kind_home}
 use Rattle.jsx_token.specs.Growths.{settled}
 use Rattle.jsx_expression.proofs.Values.{settled_token, leaf_full, is_next, found_next, no_heads}
 

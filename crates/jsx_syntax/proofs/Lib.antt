@@ -7,7 +7,14 @@ pub mod Blocks
 pub mod Controls
 pub mod OpenIn
 pub mod Heads
+pub mod Overs
+pub mod Stems
+pub mod Declaring
+pub mod Lists
+pub mod Loops
 pub mod Cases
 pub mod Modules
 pub mod Texts
 pub mod PlacedNodes
+pub mod Labels
+pub mod Jumps

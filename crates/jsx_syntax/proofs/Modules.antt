@@ -5,7 +5,7 @@ use Rattle.jsx_base.specs.Token.{Text, Operator, NoToken, StringLiteral, at_fron
 use Rattle.jsx_tree.specs.declared.text.Goal.TheVariants as goals
 use Rattle.jsx_tree.specs.declared.text.Text.{Text as TreeText}
 use Rattle.jsx_tree.specs.Signs.{AfterExpr, Sign, Tok, Unless}
-use Rattle.jsx_tree.specs.Kinds.{Module, Directive, ExprStmt, Object, Kind, program, statement, expression, Tree, leaf, node, list, Forest, none, part}
+use Rattle.jsx_tree.specs.Kinds.{Module, Directive, ExprStmt, Kind, program, statement, Tree, leaf, node, list, Forest, none, part, Object, expression}
 use Rattle.jsx_tree.specs.Nonterminals.{Nonterminal, Expr, Item, DirectiveOnly, StringOnly, WholeProgram}
 use Rattle.jsx_tree.specs.Grammar.{TopLines, Part, heads, pun}
 use Rattle.jsx_tree.specs.Form.{admits, is}
@@ -17,7 +17,7 @@ use Rattle.jsx_token.specs.Stage.{ReadsSoFar}
 use Rattle.jsx_tree.specs.Walk.{is_found, Items, nil, last, more, sign, tree, many, Walk, done, next, around, steady}
 use Rattle.jsx_tree.specs.Texts.{start}
 use Rattle.jsx_tree.specs.Language.{Whole}
-use Rattle.jsx_tree.specs.Answers.{Stuck, Barred, ToEnd, OnlyToEnd, NoneToEnd}
+use Rattle.jsx_tree.specs.Answers.{Barred, ToEnd, OnlyToEnd, NoneToEnd, Stuck}
 use Rattle.jsx_expression.specs.SoFar.{Staged, so_far, in_module}
 use Rattle.jsx_token.specs.Marks.{row_so_far}
 use Rattle.jsx_tree.proofs.Tokens.{and_left, and_right, and_both, same_is}
@@ -32,12 +32,12 @@ use Rattle.jsx_tree.proofs.Rows.Optionals.{end_shut}
 use Rattle.jsx_tree.proofs.Rows.Lines.{found_end}
 use Rattle.jsx_expression.proofs.OfSoFar.{of_so_far}
 use Rattle.jsx_expression.proofs.Homes.{Taken, taken_by, home_of, no_list, strings, IsString}
+use Rattle.jsx_expression.proofs.Values.{no_heads, literal_opening, opener_of}
+use Rattle.jsx_token.specs.Growths.{is_code}
+use Rattle.jsx_token.specs.Headings.{heading_sign}
 use Rattle.jsx_expression.proofs.Standing.{standing}
 use Rattle.jsx_tree.proofs.Rows.Firsts.{kind_home}
 use Rattle.jsx_token.proofs.Listed.{listed}
-use Rattle.jsx_expression.proofs.Values.{literal_opening, no_heads, opener_of}
-use Rattle.jsx_token.specs.Growths.{is_code}
-use Rattle.jsx_token.specs.Headings.{heading_sign}
 use Rattle.jsx_syntax.specs.Modules.{IsModule, NoModule, OnlyModule, module_row}
 use Rattle.jsx_syntax.proofs.Statements.{items, spot_ends, coded, none_begins}
 
@@ -359,7 +359,7 @@ and_no : (a : Bool) → (a && false) ≡ false
 and_no true = refl
 and_no false = refl
 
-end_lost : (s : Sign) (x : Place) → is_code s ≡ true → ended_at x ≡ true → forth s x ≡ Lost
+pub end_lost : (s : Sign) (x : Place) → is_code s ≡ true → ended_at x ≡ true → forth s x ≡ Lost
 end_lost (Tok Operator k (d ∷ t)) Lost c e = refl
 end_lost (Tok Operator k (d ∷ t)) (At q f text) c e =
     let over : skip text ≡ [] = same_is (skip text) [] (and_left (same (skip text) []) _ e) in

@@ -25,7 +25,7 @@ use Rattle.jsx_tree.specs.ViewOperators.{update_of}
 use Rattle.jsx_tree.proofs.Tokens.{and_left, and_right}
 use Rattle.jsx_tree.proofs.Views.{views}
 use Rattle.jsx_tree.proofs.Rows.Stopping.{is_not, or_cases}
-use Rattle.jsx_token.specs.Stage.{has_kind, limits, in_stage, in_stages, each_in_stage}
+use Rattle.jsx_token.specs.Stage.{has_kind, in_stage, in_stages, each_in_stage}
 use Rattle.jsx_expression.specs.SoFar.{Staged, so_far}
 use Rattle.jsx_token.specs.Marks.{row_so_far}
 use Rattle.jsx_syntax.specs.OpenIn.{spreads, fronts, opens, any_of, first_of, is_several, opens_listed, opens_whole, some_of, opens_declared, any_opens}
@@ -228,7 +228,7 @@ node_listed (made l) = l
 
 node_opened : (k : Kind) (ts : Forest) → AllOpened ts → Opened (node k ts)
 node_opened k ts a = record {
-  on = λ c o i s. kind_opened k ts (node_listed (operand_kind c {ts = ts} o (taken k (and_left (has_kind k) _ s)) (and_left (admits c (node k ts)) _ i))) a (and_right (admits c (node k ts)) _ i) (and_right (limits k ts) _ (and_right (has_kind k) _ s));
+  on = λ c o i s. kind_opened k ts (node_listed (operand_kind c {ts = ts} o (taken k (and_left (has_kind k) _ s)) (and_left (admits c (node k ts)) _ i))) a (and_right (admits c (node k ts)) _ i) (and_right (has_kind k) _ s);
 }
 
 mutual

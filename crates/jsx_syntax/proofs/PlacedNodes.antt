@@ -1,11 +1,12 @@
 -- The places of the statements that the parser makes, and of a module: each along its row.
-use Rattle.std.proofs.Common.{◌≡◌, ◌-◌, true, false, not, List, [], ◌∷◌, ◌++◌, map, refl, sym, ◌∙◌, ap, subst, Option}
+use Rattle.std.proofs.Common.{◌≡◌, ◌-◌, true, false, not, List, [], ◌∷◌, ◌++◌, map, refl, sym, ◌∙◌, ap, subst, Option, Some, None}
+use Rattle.std.specs.Str.{chars}
 use Rattle.jsx_base.specs.Token.{Text, Operator, IdentifierName, StringLiteral, breaks}
 use Rattle.jsx_base.specs.Lines.{size}
 use Rattle.jsx_base.specs.declared.place.Span.{Span}
 use Rattle.jsx_tree.specs.declared.text.Text.{Text as TreeText}
 use Rattle.jsx_tree.specs.Signs.{Sign, Space, SameLine, AfterExpr, AfterBinding, AfterWord, AfterDo, Tok, Semicolon, Unless, Ends}
-use Rattle.jsx_tree.specs.Kinds.{DeclareWord, Module, Block, Var, Declarator, Empty, ExprStmt, If, Do, While, Continue, Break, Throw, Debugger, program, statement, Tree, leaf, node, list, Forest, none, part, For, ForDeclaration, Switch, Case, Default, Try, Catch}
+use Rattle.jsx_tree.specs.Kinds.{DeclareWord, Module, Block, Var, Declarator, Empty, ExprStmt, If, Do, While, Continue, Break, Throw, Debugger, program, statement, Tree, leaf, node, list, Forest, none, part, For, ForDeclaration, Switch, Case, Default, Try, Catch, Label as LabelKind, ForIn, ForOf, ForBinding}
 use Rattle.jsx_tree.specs.Nonterminals.{Nonterminal}
 use Rattle.jsx_tree.specs.Grammar.{Optional, NoTrailing, TopLines, production, Lines, heads, key, vars, pun}
 use Rattle.jsx_tree.specs.Spelling.{leaf_signs, saids, spelled}
@@ -14,20 +15,23 @@ use Rattle.jsx_tree.specs.Spans.{Comes, spans, Told, tells, Tales, no_tales, tal
 use Rattle.jsx_tree.specs.View.{forest, directive, text_of, word_of}
 use Rattle.jsx_tree.specs.declared.text.DeclareWord as code
 use Rattle.jsx_tree.specs.declared.text.DeclareWord.TheVariants as declare_word
-use Rattle.jsx_tree.specs.Told.{tales, told_leaf, told_list, told_node, told_directive}
+use Rattle.jsx_tree.specs.Told.{tales, told_leaf, told_list, told_node, told_text, told_directive}
 use Rattle.jsx_tree.specs.Walk.{is_found}
 use Rattle.jsx_token.specs.Here.{Here, place_of, sign_of}
 use Rattle.jsx_token.specs.declared.lexer.Fixed.{Fixed}
 use Rattle.jsx_token.specs.declared.lexer.Fixed.TheVariants as fixed
 use Rattle.jsx_syntax.specs.Cases.{cases_symbols}
-use Rattle.jsx_syntax.specs.Heads.{clause_symbols, declare_sign, initial_symbols}
+use Rattle.jsx_syntax.specs.Heads.{clause_symbols, declare_sign, initial_symbols, items_symbols, keys_symbols}
 use Rattle.jsx_token.specs.declared.word.Word.TheVariants as word
+use Rattle.jsx_syntax.specs.declared.label.Label.{Label}
+use Rattle.jsx_syntax.specs.Labels.{TakesLabel, jump_symbols, label_text, target_of, told_target}
 use Rattle.jsx_syntax.specs.Modules.{module_symbols}
-use Rattle.jsx_syntax.specs.Statements.{alternative_symbols, block_symbols}
+use Rattle.jsx_syntax.specs.Statements.{alternative_symbols, block_symbols, loop_symbols}
 use Rattle.jsx_syntax.specs.Tries.{catch_symbols, finally_symbols}
 use Rattle.jsx_expression.specs.Spans.{Spans, IsPlaced, IsPlacedAs, IsPlacedFront, is_argument, IsPlacedRow, IsPlacedList}
 use Rattle.jsx_token.specs.Places.{next_of, end_of, Takes}
 use Rattle.jsx_token.specs.Growths.{opening_sign}
+use Rattle.jsx_expression.proofs.PlacedExpressions.{name_placed}
 use Rattle.jsx_expression.proofs.Placing.{IsItem, PlacedFront, row_end, row_sign, row_quiet, row_unless, row_within, row_part, row_list, row_present, row_absent, row_guarded, row_unguarded, list_none, front_last, front_more, front_none, laid_last, laid_more, map_pushed, plain_top_lines, node_is, led, row_around}
 
 -- ---- nodes
@@ -98,6 +102,26 @@ for_placed sign bracket init test update body s =
     node_is (λ c e ps. refl) (λ ms text. refl) s
     (row_quiet (λ q. refl) (row_sign sign (row_quiet (λ q. refl) (row_sign bracket (init.on _ _ _ _ (test.on _ _ _ _ (update.on _ _ _ _ (row_quiet (λ q. refl) (row_within (row_part body row_end))))))))))
 
+pub binding_placed : {at : Option Span} {e : Told} {t : Tree} {w x y : Here} (d : code.DeclareWord) → Takes (declare_sign d) w x → IsPlaced e t x y → Spans at (next_of w) (end_of y) → IsPlaced (told_node at (e ∷ [])) (node (statement (ForBinding (word_of d))) (part t none)) w y
+binding_placed {w = w} {x = x} d sign l s = node_is (λ c e ps. refl) (λ ms text. refl) s (row_sign (subst (λ m. Takes m w x) (declaring_is d) sign) (row_quiet (λ q. refl) (row_part l row_end)))
+
+pub keys_placed : {d : Told} {t : Tree} {x y z : Here} → IsPlaced d t x y → Takes (key "in") y z → IsPlacedFront keys_symbols d t x z
+keys_placed l sign = record { on = λ ps ds ts z r. row_part l (row_quiet (λ q. refl) (row_sign sign r)) }
+
+pub items_placed : {d : Told} {t : Tree} {x y z : Here} → IsPlaced d t x y → Takes (key "of") y z → IsPlacedFront items_symbols d t x z
+items_placed l sign = record { on = λ ps ds ts z r. row_part l (row_quiet (λ q. refl) (row_sign sign r)) }
+
+pub loop_placed : {g : Told} {b : Tree} {x y z : Here} → Takes (sign_of fixed.Close) x y → IsPlaced g b y z → IsPlacedRow loop_symbols (tale g no_tales) (part b none) x z
+loop_placed close body = row_sign close (row_quiet (λ q. refl) (row_within (row_part body row_end)))
+
+pub in_placed : {at : Option Span} {d e g : Told} {t u b : Tree} {w x y z q c : Here} → Takes (opening_sign (statement For)) w x → Takes (sign_of fixed.Open) x y → IsPlacedFront keys_symbols d t y z → IsPlaced e u z q → IsPlacedRow loop_symbols (tale g no_tales) (part b none) q c → Spans at (next_of w) (end_of c)
+    → IsPlaced (told_node at (d ∷ e ∷ g ∷ [])) (node (statement ForIn) (part t (part u (part b none)))) w c
+in_placed sign bracket head value body s = node_is (λ c e ps. refl) (λ ms text. refl) s (row_quiet (λ q. refl) (row_sign sign (row_quiet (λ q. refl) (row_sign bracket (head.on _ _ _ _ (row_quiet (λ q. refl) (row_part value body)))))))
+
+pub of_placed : {at : Option Span} {d e g : Told} {t u b : Tree} {w x y z q c : Here} → Takes (opening_sign (statement For)) w x → Takes (sign_of fixed.Open) x y → IsPlacedFront items_symbols d t y z → IsPlaced e u z q → IsPlacedRow loop_symbols (tale g no_tales) (part b none) q c → Spans at (next_of w) (end_of c)
+    → IsPlaced (told_node at (d ∷ e ∷ g ∷ [])) (node (statement ForOf) (part t (part u (part b none)))) w c
+of_placed sign bracket head value body s = node_is (λ c e ps. refl) (λ ms text. refl) s (row_quiet (λ q. refl) (row_sign sign (row_quiet (λ q. refl) (row_sign bracket (head.on _ _ _ _ (row_quiet (λ q. refl) (row_part value body)))))))
+
 pub case_placed : {at : Option Span} {d : Told} {t : Tree} {ds : Tales} {ts : Forest} {w x y z q : Here} → Takes (sign_of (fixed.Word word.Case)) w x → IsPlaced d t x y → Takes (sign_of fixed.Colon) y z → IsPlacedList Lines ds ts z q → Spans at (next_of w) (end_of q) → IsPlaced (tells (spans at ∷ []) (tale d (tale (tells [] ds) no_tales))) (node (statement Case) (part t (part (list ts) none))) w q
 case_placed sign test colon l s = node_is (λ c e ps. refl) (λ ms text. refl) s (row_quiet (λ q. refl) (row_sign sign (row_quiet (λ q. refl) (row_part test (row_sign colon (row_quiet (λ q. refl) (row_list l (row_quiet (λ q. refl) row_end))))))))
 
@@ -127,11 +151,23 @@ pub bare_placed : {at : Option Span} {e : Told} {u : Tree} {w q : Here} → IsPl
     → IsPlaced (told_node at (told_list [] ∷ e ∷ [])) (node (statement Catch) (part (list none) (part u none))) w q
 bare_placed body s = node_is (λ c e ps. refl) (led body _) s (row_absent (row_part body row_end))
 
-pub break_placed : {at : Option Span} {w x y z : Here} → Takes (opening_sign (statement Break)) w x → Takes (Ends AfterWord) x y → Takes Semicolon y z → Spans at (next_of w) (end_of z) → IsPlaced (told_node at (told_list [] ∷ [])) (node (statement Break) (part (list none) none)) w z
-break_placed sign ends end s = node_is (λ c e ps. refl) (λ ms text. refl) s (row_quiet (λ q. refl) (row_sign sign (row_sign ends (row_absent (row_sign end row_end)))))
+-- the label of a jump, or none
+pub no_target_placed : {x y : Here} → Takes (Ends AfterWord) x y → IsPlacedFront jump_symbols (told_target None) (target_of None) x y
+no_target_placed ends = record { on = λ ps ds ts z r. row_sign ends (row_absent r) }
 
-pub continue_placed : {at : Option Span} {w x y z : Here} → Takes (opening_sign (statement Continue)) w x → Takes (Ends AfterWord) x y → Takes Semicolon y z → Spans at (next_of w) (end_of z) → IsPlaced (told_node at (told_list [] ∷ [])) (node (statement Continue) (part (list none) none)) w z
-continue_placed sign ends end s = node_is (λ c e ps. refl) (λ ms text. refl) s (row_quiet (λ q. refl) (row_sign sign (row_sign ends (row_absent (row_sign end row_end)))))
+pub target_placed : {x y z w : Here} (l : Label) → Takes (Ends AfterWord) x y → Takes SameLine y y → Takes (Tok Operator IdentifierName (chars l.name.now)) y z → l.place.0 ≡ next_of y → Takes (Ends AfterWord) z w → IsPlacedFront jump_symbols (told_target (Some l)) (target_of (Some l)) x w
+target_placed l word line name at ends = record { on = λ ps ds ts z r. row_sign word (row_around line.same line.leads (name_placed {a = label_text l} name at) ends.same ends.leads r) }
+
+pub break_placed : {at : Option Span} {d : Told} {t : Tree} {w x y z : Here} → Takes (opening_sign (statement Break)) w x → IsPlacedFront jump_symbols d t x y → Takes Semicolon y z → Spans at (next_of w) (end_of z) → IsPlaced (told_node at (d ∷ [])) (node (statement Break) (part t none)) w z
+break_placed sign target end s = node_is (λ c e ps. refl) (λ ms text. refl) s (row_quiet (λ q. refl) (row_sign sign (target.on _ _ _ _ (row_sign end row_end))))
+
+pub continue_placed : {at : Option Span} {d : Told} {t : Tree} {w x y z : Here} → Takes (opening_sign (statement Continue)) w x → IsPlacedFront jump_symbols d t x y → Takes Semicolon y z → Spans at (next_of w) (end_of z) → IsPlaced (told_node at (d ∷ [])) (node (statement Continue) (part t none)) w z
+continue_placed sign target end s = node_is (λ c e ps. refl) (λ ms text. refl) s (row_quiet (λ q. refl) (row_sign sign (target.on _ _ _ _ (row_sign end row_end))))
+
+pub label_placed : {at : Option Span} {a : TreeText} {d : Told} {t : Tree} {w x y : Here} → TakesLabel (text_of a) w x → Comes a (next_of w) → IsPlaced d t x y → Spans at (next_of w) (end_of y) → IsPlaced (told_node at (told_text a ∷ d ∷ [])) (node (statement LabelKind) (part (leaf IdentifierName (text_of a)) (part t none))) w y
+label_placed k there l s =
+    let n = name_placed k.takes_name there in
+    node_is (λ c e ps. refl) (λ ms text. refl) s (row_part n (row_quiet (λ q. refl) (row_sign k.takes_colon (row_quiet (λ q. refl) (row_within (row_part l row_end))))))
 
 pub takes_line : {x : Here} → not (breaks x.rest) ≡ true → Takes SameLine x x
 takes_line {x} n = record { leads = ap (λ b. go_if b (place_of x)) n; same = refl }

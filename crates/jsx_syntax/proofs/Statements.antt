@@ -5,16 +5,16 @@ use Rattle.jsx_base.specs.Token.{Text, TokenKind, Operand, Operator, IdentifierN
 use Rattle.jsx_base.proofs.Families.{may_be}
 use Rattle.jsx_base.proofs.Fronts.{none_ahead}
 use Rattle.jsx_tree.specs.Signs.{AfterExpr, Sign, Tok, Unless}
-use Rattle.jsx_tree.specs.Kinds.{Module, ExprStmt, Seq, Kind, program, statement, expression, Tree, leaf, node, list, Forest, Spread}
-use Rattle.jsx_tree.specs.Nonterminals.{Nonterminal, Expr, Stmt, SubStmt, Item}
-use Rattle.jsx_tree.specs.Grammar.{Part, Fixed, heads}
-use Rattle.jsx_tree.specs.Form.{admits}
+use Rattle.jsx_tree.specs.Kinds.{Module, ExprStmt, Label, Seq, Kind, program, statement, expression, Tree, leaf, node, list, Forest, Spread, ForIn, ForOf}
+use Rattle.jsx_tree.specs.Nonterminals.{Nonterminal, Expr, Ident, Stmt, SubStmt, Item, is_ident}
+use Rattle.jsx_tree.specs.Grammar.{Part, Fixed, heads, pun, Context}
+use Rattle.jsx_tree.specs.Form.{admits, is_leaf}
 use Rattle.jsx_tree.specs.Reading.{Place, Lost, At, forth, go_if}
 use Rattle.jsx_tree.specs.StaticRules.{Surroundings, has_plain_params}
 use Rattle.jsx_tree.specs.Walk.{Relation, is_found, one, Piece, piece, row, tail, Given, Past, sign, tree, Walk, next, steady}
 use Rattle.jsx_tree.specs.Language.{Whole}
 use Rattle.jsx_tree.specs.Answers.{Moves, Only, Barred, OnlyRow, NoNode, Built, BuiltNode}
-use Rattle.jsx_tree.proofs.Tokens.{and_left, and_right, same_is}
+use Rattle.jsx_tree.proofs.Tokens.{and_left, and_right, found_first, same_is}
 use Rattle.jsx_tree.proofs.Apart.{clash, found_token}
 use Rattle.jsx_tree.proofs.Signs.{not_first}
 use Rattle.jsx_tree.proofs.Rows.Bridge.{found_at, node_walk}
@@ -27,21 +27,22 @@ use Rattle.jsx_tree.proofs.Rows.Steps.{only_sign, then'}
 use Rattle.jsx_tree.proofs.Rows.Placing.{Chosen, free, free_around, moved, only_node, barred_node}
 use Rattle.jsx_token.specs.Stage.{leaf_at}
 use Rattle.jsx_expression.specs.SoFar.{Staged, so_far}
-use Rattle.jsx_syntax.specs.Statements.{OnlyNode}
+use Rattle.jsx_syntax.specs.Statements.{NoneHeaded, OnlyHeaded, OnlyNode}
 use Rattle.jsx_token.specs.Marks.{ends_so_far, row_so_far}
 use Rattle.jsx_token.specs.Growths.{is_code, lead, same_sign}
-use Rattle.jsx_token.specs.Headings.{NoHeading, heading_kind, heading_sign, is_lexical}
+use Rattle.jsx_token.specs.Headings.{Begins, own, over_keys, over_items, NoHeading, heading_kind, heading_sign, is_lexical}
 use Rattle.jsx_token.specs.declared.heading.Heading.{Heading}
 use Rattle.jsx_token.specs.declared.heading.Heading.TheVariants as heading
+use Rattle.jsx_syntax.specs.Labels.{NoLabel}
 use Rattle.jsx_expression.proofs.OfSoFar.{of_so_far}
-use Rattle.jsx_token.proofs.Headings.{headings, number, every_heading, of_heading, of_two_headings, one_number}
+use Rattle.jsx_token.proofs.Headings.{number, begins_one, every_begun, its_kind, of_begun, of_heading, of_two_headings, one_number}
 use Rattle.jsx_expression.proofs.Inners.{inner_kind, every_inner, of_inner}
 use Rattle.jsx_token.proofs.Listed.{kinds, every, implies, implied, agree, agreed}
 use Rattle.jsx_token.proofs.Marks.{one_sign}
-use Rattle.jsx_expression.proofs.Homes.{Taken, module', headed, evaluation, sequence, operand, no_list, no_operand_at, taken_by, home_of, inner, spread}
+use Rattle.jsx_expression.proofs.Homes.{IsName, Taken, module', headed, evaluation, labelled, sequence, operand, no_list, no_operand_at, taken_by, home_of, idents, inner, spread}
 use Rattle.jsx_token.proofs.Lives.{lives}
 use Rattle.jsx_token.proofs.Levels.{signed}
-use Rattle.jsx_expression.proofs.Values.{led_sign}
+use Rattle.jsx_expression.proofs.Values.{leaf_forth, led_sign, whole_of_leaf}
 
 -- ---- the places of statements
 
@@ -52,38 +53,47 @@ pub record Spot (c : Nonterminal) : Type 0 where
   pub no_sequence : lives c (expression Seq) ≡ false
   pub no_spread : lives c (expression Spread) ≡ false
   pub no_operand : every (λ j. not (lives c j)) kinds ≡ true
-  pub guards : every_heading (λ h. guarded c (row_so_far (heading_kind h))) headings ≡ true
+  pub guards : every_begun (λ k. guarded c (row_so_far k)) ≡ true
   pub guards_plain : guarded c (row_so_far (statement ExprStmt)) ≡ true
   pub never : is_never c ≡ true
   pub home : (k : Kind) (ts : Forest) → lives c k ≡ true → admits c (node k ts) ≡ true
+  pub guards_label : guarded c (row_so_far (statement Label)) ≡ true
   pub plain_home : lives c (statement ExprStmt) ≡ true
+  pub label_home : lives c (statement Label) ≡ true
 
 pub items : Spot Item
-items = record { leafless = λ s t h. cc; no_module = refl; no_inner = refl; no_sequence = refl; no_spread = refl; no_operand = refl; guards = refl; guards_plain = refl; never = refl; home = λ k ts h. h; plain_home = refl }
+items = record { leafless = λ s t h. cc; no_module = refl; no_inner = refl; no_sequence = refl; no_spread = refl; no_operand = refl; guards = refl; guards_plain = refl; never = refl; home = λ k ts h. h; guards_label = refl; plain_home = refl; label_home = refl }
 
 pub stmts : Spot Stmt
-stmts = record { leafless = λ s t h. cc; no_module = refl; no_inner = refl; no_sequence = refl; no_spread = refl; no_operand = refl; guards = refl; guards_plain = refl; never = refl; home = λ k ts h. h; plain_home = refl }
+stmts = record { leafless = λ s t h. cc; no_module = refl; no_inner = refl; no_sequence = refl; no_spread = refl; no_operand = refl; guards = refl; guards_plain = refl; never = refl; home = λ k ts h. h; guards_label = refl; plain_home = refl; label_home = refl }
 
 pub subs : Spot SubStmt
-subs = record { leafless = λ s t h. cc; no_module = refl; no_inner = refl; no_sequence = refl; no_spread = refl; no_operand = refl; guards = refl; guards_plain = refl; never = refl; home = λ k ts h. h; plain_home = refl }
+subs = record { leafless = λ s t h. cc; no_module = refl; no_inner = refl; no_sequence = refl; no_spread = refl; no_operand = refl; guards = refl; guards_plain = refl; never = refl; home = λ k ts h. h; guards_label = refl; plain_home = refl; label_home = refl }
 
--- what stands at one of them begins with one of those signs, or is an expression
-pub spot_kind : {c : Nonterminal} → Spot c → (l : Kind) (ts : Forest) {A : Type 0} → Taken l → admits c (node l ts) ≡ true → ((g : Heading) → l ≡ heading_kind g → A) → (l ≡ statement ExprStmt → A) → A
-spot_kind s l ts (headed g) h f e = f g refl
-spot_kind s l ts evaluation h f e = e refl
-spot_kind {c} s l ts module' h f e = absurd (clash _ (kind_home c _ ts h) s.no_module)
-spot_kind {c} s l ts (inner i) h f e = absurd (clash _ (kind_home c _ ts h) (is_not _ (of_inner (λ j. not (lives c (inner_kind j))) s.no_inner i)))
-spot_kind {c} s l ts sequence h f e = absurd (clash _ (kind_home c _ ts h) s.no_sequence)
-spot_kind {c} s l ts spread h f e = absurd (clash _ (kind_home c _ ts h) s.no_spread)
-spot_kind {c} s l ts (operand m) h f e = absurd (no_operand_at c s.no_operand m (kind_home c _ ts h))
+-- what stands at one of them begins with one of those signs, or is an expression or a label with what it stands on
+pub spot_kind : {c : Nonterminal} → Spot c → (l : Kind) (ts : Forest) {A : Type 0} → Taken l → admits c (node l ts) ≡ true → ((g : Heading) → Begins g l → A) → (l ≡ statement ExprStmt → A) → (l ≡ statement Label → A) → A
+spot_kind s l ts (headed {h = g} a) h f e b = f g a
+spot_kind s l ts evaluation h f e b = e refl
+spot_kind s l ts labelled h f e b = b refl
+spot_kind {c} s l ts module' h f e b = absurd (clash _ (kind_home c _ ts h) s.no_module)
+spot_kind {c} s l ts (inner i) h f e b = absurd (clash _ (kind_home c _ ts h) (is_not _ (of_inner (λ j. not (lives c (inner_kind j))) s.no_inner i)))
+spot_kind {c} s l ts sequence h f e b = absurd (clash _ (kind_home c _ ts h) s.no_sequence)
+spot_kind {c} s l ts spread h f e b = absurd (clash _ (kind_home c _ ts h) s.no_spread)
+spot_kind {c} s l ts (operand m) h f e b = absurd (no_operand_at c s.no_operand m (kind_home c _ ts h))
 
 pub spot_ends : {c : Nonterminal} → Spot c → (y : Place) → ends_so_far c y ≡ true
 spot_ends {c} s y = of_so_far.ends_there c y (never_stops c y s.never)
 
+pub lost_if : (x : Place) → (IsTrue (is_found x) → ⊥) → x ≡ Lost
+lost_if Lost f = refl
+lost_if (At q e text) f = absurd (f refl)
+
 -- ---- the signs
 
-pub heading_stands : (h : Heading) {R : Relation} {V : _} {x y : Place} {ts : Forest} → Walk R V (row_so_far (heading_kind h)) x ts y → IsTrue (is_found (forth (heading_sign h) x))
-heading_stands h w = led_sign (row_so_far (heading_kind h)) (of_heading (λ j. signed (row_so_far (heading_kind j))) refl h) w
+pub heading_stands : {h : Heading} {k : Kind} → Begins h k → {R : Relation} {V : _} {x y : Place} {ts : Forest} → Walk R V (row_so_far k) x ts y → IsTrue (is_found (forth (heading_sign h) x))
+heading_stands (own h) w = led_sign (row_so_far (heading_kind h)) (of_heading (λ j. signed (row_so_far (heading_kind j))) refl h) w
+heading_stands over_keys w = led_sign (row_so_far (statement ForIn)) refl w
+heading_stands over_items w = led_sign (row_so_far (statement ForOf)) refl w
 
 pub coded : (h : Heading) → is_code (heading_sign h) ≡ true
 coded h = of_heading (λ j. is_code (heading_sign j)) refl h
@@ -155,25 +165,67 @@ no_evaluation h f r =
     (λ m. marked_evaluation h m f r)
     (λ k. worded_evaluation (keyed (heading_sign h) k) f r)
 
+-- ---- a label begins with a name, which none of those words is
+
+pub record NameThere (x : Place) (u : Tree) (z : Place) : Type 0 where
+  pub name : Text
+  pub is : u ≡ leaf IdentifierName name
+  pub there : forth (Tok Operator IdentifierName name) x ≡ z
+  pub found : IsTrue (is_found z)
+  pub free : is_ident name ≡ true
+  pub whole : is_leaf IdentifierName name ≡ true
+
+pub name_there : {v : Surroundings} {x z : Place} (u : Tree) → Staged v false Ident x u z → NameThere x u z
+name_there (leaf IdentifierName t) r = record { name = t; is = refl; there = leaf_forth IsName r; found = r.reads.found; free = and_left (is_ident t) _ r.reads.is; whole = whole_of_leaf IsName r }
+name_there (leaf _ t) r = let bad = r.staged in cc
+name_there (node k ts) r = absurd (idents.node k ts (taken_by r) (home_of r))
+name_there (list ts) r = absurd (no_list r)
+
+abbrev pub named : Sign → Bool
+named (Tok m IdentifierName t) = is_ident t
+named s = false
+
+pub same_named : (s : Sign) (name : Text) → same_sign s (Tok Operator IdentifierName name) ≡ true → is_ident name ≡ true → named s ≡ true
+same_named (Tok m IdentifierName t) name h f = ap is_ident (same_is t name h) ∙ f
+same_named (Tok m _ t) name h f = cc
+same_named _ name h f = cc
+
+pub named_code : (name : Text) → is_leaf IdentifierName name ≡ true → is_code (Tok Operator IdentifierName name) ≡ true
+named_code [] w = cc
+named_code (d ∷ t) w = refl
+
+pub unlabelled_word : {V : _} {x y : Place} {ts : Forest} (s : Sign) → is_code s ≡ true → named s ≡ false → IsTrue (is_found (forth s x)) → Walk Staged V (row_so_far (statement Label)) x ts y → ⊥
+unlabelled_word {x = x} s c d f (next (tree {t = u} q) w) =
+    let n = name_there u q in
+    clash _ (same_named s n.name (one_sign s (Tok Operator IdentifierName n.name) x c (named_code n.name n.whole) f (found_at n.there n.found)) n.free) d
+
+unlabelled_heading : {V : _} {x y : Place} {ts : Forest} (h : Heading) → IsTrue (is_found (forth (heading_sign h) x)) → Walk Staged V (row_so_far (statement Label)) x ts y → ⊥
+unlabelled_heading h f w = unlabelled_word (heading_sign h) (coded h) (is_not _ (of_heading (λ j. not (named (heading_sign j))) refl h)) f w
+
+unlabelled : {V : _} {x y : Place} {ts : Forest} → NoLabel x → Walk Staged V (row_so_far (statement Label)) x ts y → ⊥
+unlabelled {x = x} l (next (tree {t = u} q) (next (sign e f) w)) =
+    let n = name_there u q in
+    let bad : IsTrue (is_found Lost) = subst (λ p. IsTrue (is_found p)) (sym e ∙ (ap (forth (pun ":")) (sym n.there) ∙ l.on n.name n.free)) f in cc
+
 -- ---- which kind stands there
 
-headed_chosen : {v : Surroundings} {c : Nonterminal} {x : Place} → Spot c → (h : Heading) → IsTrue (is_found (forth (heading_sign h) x)) → Chosen so_far v c (heading_kind h) x
-headed_chosen {v} {c} {x} s h f = record {
-  no_leaf = λ k t y w. s.leafless k t w.reads.staged;
-  kind = λ l ts y w. spot_kind s l ts (taken_by w.reads) (home_of w.reads)
-      (λ g e. e ∙ ap heading_kind (one_heading g h x (heading_stands g (of_so_far.from_node (heading_kind g) (subst (λ k. Staged v false c x (node k ts) y) e w.reads)).walk) f))
-      (λ e. absurd (no_evaluation h f (subst (λ k. Staged v false c x (node k ts) y) e w.reads)));
-}
+pub headed_kind : {v : Surroundings} {c : Nonterminal} {x y : Place} → Spot c → (h : Heading) → IsTrue (is_found (forth (heading_sign h) x)) → (l : Kind) (ts : Forest) → Whole so_far v false c x (node l ts) y → Begins h l
+headed_kind {v} {c} {x} {y} s h f l ts w =
+    spot_kind s l ts (taken_by w.reads) (home_of w.reads)
+    (λ g b. subst (λ j. Begins j l) (one_heading g h x (heading_stands b (of_so_far.from_node l w.reads).walk) f) b)
+    (λ e. absurd (no_evaluation h f (subst (λ k. Staged v false c x (node k ts) y) e w.reads)))
+    (λ e. absurd (unlabelled_heading h f (of_so_far.from_node (statement Label) (subst (λ k. Staged v false c x (node k ts) y) e w.reads)).walk))
 
 lost_there : (s : Sign) (x : Place) → forth s x ≡ Lost → IsTrue (is_found (forth s x)) → ⊥
 lost_there s x e f = let bad : IsTrue (is_found Lost) = subst (λ p. IsTrue (is_found p)) e f in cc
 
-plain_chosen : {v : Surroundings} {c : Nonterminal} {x : Place} → Spot c → NoHeading x → Chosen so_far v c (statement ExprStmt) x
-plain_chosen {v} {c} {x} s n = record {
+pub plain_chosen : {v : Surroundings} {c : Nonterminal} {x : Place} → Spot c → NoHeading x → NoLabel x → Chosen so_far v c (statement ExprStmt) x
+plain_chosen {v} {c} {x} s n l = record {
   no_leaf = λ k t y w. s.leafless k t w.reads.staged;
-  kind = λ l ts y w. spot_kind s l ts (taken_by w.reads) (home_of w.reads)
-      (λ g e. absurd (lost_there (heading_sign g) x (n.on g) (heading_stands g (of_so_far.from_node (heading_kind g) (subst (λ k. Staged v false c x (node k ts) y) e w.reads)).walk)))
-      (λ e. e);
+  kind = λ k ts y w. spot_kind s k ts (taken_by w.reads) (home_of w.reads)
+      (λ g b. absurd (lost_there (heading_sign g) x (n.on g) (heading_stands b (of_so_far.from_node k w.reads).walk)))
+      (λ e. e)
+      (λ e. absurd (unlabelled l (of_so_far.from_node (statement Label) (subst (λ j. Staged v false c x (node j ts) y) e w.reads)).walk));
 }
 
 -- ---- behind its sign, and with it
@@ -189,11 +241,17 @@ signed_none {v} {x} {y} k (piece [] (Fixed s) ∷ ps) g m n = record { no = at }
     at ts z (next {ts = us} (sign e f) w) h = n.no us z (subst (λ p. Walk (Whole so_far) (steady v) ps p us z) (sym e ∙ sym m.is) w) h
 signed_none k _ g m n = cc
 
-heading_signed : (h : Heading) → signed (row_so_far (heading_kind h)) ≡ true
-heading_signed h = of_heading (λ j. signed (row_so_far (heading_kind j))) refl h
+begun_signed : {h : Heading} {k : Kind} → Begins h k → signed (row_so_far k) ≡ true
+begun_signed b = of_begun (λ j. signed (row_so_far j)) refl b
 
-heading_free : (h : Heading) → free (row_so_far (heading_kind h)) ≡ true
-heading_free h = of_heading (λ j. free (row_so_far (heading_kind j))) refl h
+begun_free : {h : Heading} {k : Kind} → Begins h k → free (row_so_far k) ≡ true
+begun_free b = of_begun (λ j. free (row_so_far j)) refl b
+
+-- the rows of all that it begins begin with its sign
+begun_moves : {h : Heading} {k : Kind} {x y : Place} → Begins h k → Moves (heading_sign h) x y → Moves (lead (row_so_far k)) x y
+begun_moves (own h) m = m
+begun_moves over_keys m = m
+begun_moves over_items m = m
 
 pub of_built : {v : Surroundings} {ps : List Piece} {k : Kind} {t : Tree} {x y : Place} → BuiltNode so_far v ps k t x y → OnlyNode v ps k t x y
 of_built b = record { parts = b.parts; is = b.is; walk = b.row.walk; keeps = b.keeps; alone = λ us z w h. b.row.alone us z w }
@@ -205,62 +263,88 @@ signed_only {v} {k} {t} {x} {y} {z} (piece [] (Fixed s) ∷ ps) g m o = record {
     at us w (next {ts = vs} (sign e f) r) h = o.alone vs w (subst (λ p. Walk (Whole so_far) (steady v) ps p vs w) (sym e ∙ sym m.is) r) h
 signed_only _ g m o = cc
 
-node_only : {v : Surroundings} {c : Nonterminal} {k : Kind} {x y : Place} {t : Tree} → Chosen so_far v c k x → guarded c (row_so_far k) ≡ true → free (row_so_far k) ≡ true → ((ts : Forest) → admits c (node k ts) ≡ true) → OnlyNode v (row_so_far k) k t x y → ends_so_far c y ≡ true → Only so_far v (Part c) x (one t) y
-node_only {v} {c} {k} {x} {y} {t} ch g f a o st = record {
-  past = tree (subst (λ u. Whole so_far v false c x u y) (sym o.is) (record { reads = of_so_far.to_node k (a o.parts) (record { walk = moved (λ b h. sym (free_around b o.parts v h)) f (loosen o.walk); keeps = o.keeps }); ends_there = st }));
+behind_sign : {V : List Context → Surroundings} {x y z : Place} {us : Forest} (ps : List Piece) → signed ps ≡ true → Moves (lead ps) x y → Walk (Whole so_far) V ps x us z → Walk (Whole so_far) V (tail ps) y us z
+behind_sign {V} {z = z} (piece [] (Fixed s) ∷ ps) g m (next {ts = us} (sign e f) w) = subst (λ p. Walk (Whole so_far) V ps p us z) (sym e ∙ sym m.is) w
+behind_sign _ g m w = cc
+
+-- of one kind
+pub of_one : {v : Surroundings} {h : Heading} {t : Tree} {x y : Place} → begins_one h ≡ true → OnlyNode v (tail (row_so_far (heading_kind h))) (heading_kind h) t x y → OnlyHeaded v h t x y
+of_one {h = h} e o = record { kind = heading_kind h; begun = own h; node' = o; others = λ k b us z w kept. its_kind e b }
+
+pub none_one : {v : Surroundings} {h : Heading} {x : Place} → begins_one h ≡ true → NoNode so_far v (tail (row_so_far (heading_kind h))) (heading_kind h) x → NoneHeaded v h x
+none_one {v} {x = x} e n = record { on = λ k b. subst (λ j. NoNode so_far v (tail (row_so_far j)) j x) (sym (its_kind e b)) n }
+
+-- the same of a heading that is known to be that one
+pub headed_as : {v : Surroundings} {h : Heading} {t : Tree} {x y : Place} (g : Heading) → h ≡ g → begins_one g ≡ true → BuiltNode so_far v (tail (row_so_far (heading_kind g))) (heading_kind g) t x y → OnlyHeaded v h t x y
+headed_as {v} {t = t} {x} {y} g e o b = subst (λ j. OnlyHeaded v j t x y) (sym e) (of_one o (of_built b))
+
+pub none_as : {v : Surroundings} {h : Heading} {x : Place} (g : Heading) → h ≡ g → begins_one g ≡ true → NoNode so_far v (tail (row_so_far (heading_kind g))) (heading_kind g) x → NoneHeaded v h x
+none_as {v} {x = x} g e o n = subst (λ j. NoneHeaded v j x) (sym e) (none_one o n)
+
+pub headed_only : {v : Surroundings} {c : Nonterminal} {x y z : Place} {t : Tree} → Spot c → (h : Heading) → ((k : Kind) → Begins h k → lives c k ≡ true) → Moves (heading_sign h) x y → OnlyHeaded v h t y z → Only so_far v (Part c) x (one t) z
+headed_only {v} {c} {x} {y} {z} {t} s h l m o = record {
+  past = tree (subst (λ u. Whole so_far v false c x u z) (sym n.is) (record { reads = of_so_far.to_node o.kind (s.home o.kind n.parts (l o.kind o.begun)) (record { walk = moved (λ b i. sym (free_around b n.parts v i)) (begun_free o.begun) (loosen n.walk); keeps = n.keeps }); ends_there = spot_ends s z }));
   alone = at;
 }
   where
-    at : (h : Given) (z : Place) → Past (Whole so_far) v (Part c) x h z → (one t ≡ h) × (y ≡ z)
-    at h z (tree {t = leaf s r} w) = absurd (ch.no_leaf s r z w)
-    at h z (tree {t = list us} w) = absurd (no_list w.reads)
-    at h z (tree {t = node l us} w) =
-        let e = ch.kind l us z w in
-        let w' : Whole so_far v false c x (node k us) z = subst (λ m. Whole so_far v false c x (node m us) z) e w in
-        let p = of_so_far.from_node k w'.reads in
-        let same' = o.alone us z (moved (λ b h. free_around b us v h) f (whole_walk of_so_far c (row_so_far k) g w'.ends_there p.walk)) p.keeps in
-        (ap one (o.is ∙ (ap (node k) same'.0 ∙ ap (λ m. node m us) (sym e))), same'.1)
+    n : OnlyNode v (row_so_far o.kind) o.kind t x z
+    n = signed_only (row_so_far o.kind) (begun_signed o.begun) (begun_moves o.begun m) o.node'
 
-pub headed_only : {v : Surroundings} {c : Nonterminal} {x y z : Place} {t : Tree} → Spot c → (h : Heading) → lives c (heading_kind h) ≡ true → Moves (heading_sign h) x y → OnlyNode v (tail (row_so_far (heading_kind h))) (heading_kind h) t y z → Only so_far v (Part c) x (one t) z
-headed_only {c = c} {z = z} s h l m o =
-    node_only (headed_chosen s h (found_at (sym m.is) m.found)) (of_heading (λ j. guarded c (row_so_far (heading_kind j))) s.guards h) (heading_free h) (λ ts. s.home (heading_kind h) ts l)
-    (signed_only (row_so_far (heading_kind h)) (heading_signed h) m o) (spot_ends s z)
+    walked : {w : Place} {us : Forest} {k : Kind} → Begins h k → Whole so_far v false c x (node k us) w → Walk (Whole so_far) (steady v) (row_so_far k) x us w
+    walked {us = us} {k} b w = moved (λ a i. free_around a us v i) (begun_free b) (whole_walk of_so_far c (row_so_far k) (of_begun (λ j. guarded c (row_so_far j)) s.guards b) w.ends_there (of_so_far.from_node k w.reads).walk)
 
-pub headed_barred : {v : Surroundings} {c : Nonterminal} {x y : Place} → Spot c → (h : Heading) → Moves (heading_sign h) x y → NoNode so_far v (tail (row_so_far (heading_kind h))) (heading_kind h) y → Barred so_far v (Part c) x
-headed_barred {c = c} s h m n =
-    barred_node of_so_far (headed_chosen s h (found_at (sym m.is) m.found)) (of_heading (λ j. guarded c (row_so_far (heading_kind j))) s.guards h) (heading_free h) (signed_none (heading_kind h) (row_so_far (heading_kind h)) (heading_signed h) m n)
+    at : (g : Given) (w : Place) → Past (Whole so_far) v (Part c) x g w → (one t ≡ g) × (z ≡ w)
+    at g w (tree {t = leaf k r} q) = absurd (s.leafless k r q.reads.staged)
+    at g w (tree {t = list us} q) = absurd (no_list q.reads)
+    at g w (tree {t = node k us} q) =
+        let b = headed_kind s h (found_at (sym m.is) m.found) k us q in
+        let p = of_so_far.from_node k q.reads in
+        let e = o.others k b us w (behind_sign (row_so_far k) (begun_signed b) (begun_moves b m) (walked b q)) p.keeps in
+        let q' : Whole so_far v false c x (node o.kind us) w = subst (λ j. Whole so_far v false c x (node j us) w) e q in
+        let same' = n.alone us w (walked o.begun q') (of_so_far.from_node o.kind q'.reads).keeps in
+        (ap one (n.is ∙ (ap (node o.kind) same'.0 ∙ ap (λ j. node j us) (sym e))), same'.1)
+
+pub headed_barred : {v : Surroundings} {c : Nonterminal} {x y : Place} → Spot c → (h : Heading) → Moves (heading_sign h) x y → NoneHeaded v h y → Barred so_far v (Part c) x
+headed_barred {v} {c} {x} {y} s h m n = record { no = at }
+  where
+    at : (g : Given) (w : Place) → Past (Whole so_far) v (Part c) x g w → ⊥
+    at g w (tree {t = leaf k r} q) = s.leafless k r q.reads.staged
+    at g w (tree {t = list us} q) = no_list q.reads
+    at g w (tree {t = node k us} q) =
+        let b = headed_kind s h (found_at (sym m.is) m.found) k us q in
+        let p = of_so_far.from_node k q.reads in
+        let whole = moved (λ a i. free_around a us v i) (begun_free b) (whole_walk of_so_far c (row_so_far k) (of_begun (λ j. guarded c (row_so_far j)) s.guards b) q.ends_there p.walk) in
+        (n.on k b).no us w (behind_sign (row_so_far k) (begun_signed b) (begun_moves b m) whole) p.keeps
 
 -- what isn't at home there
-pub homeless_barred : {v : Surroundings} {c : Nonterminal} {x y : Place} → Spot c → (h : Heading) → lives c (heading_kind h) ≡ false → Moves (heading_sign h) x y → Barred so_far v (Part c) x
+pub homeless_barred : {v : Surroundings} {c : Nonterminal} {x y : Place} → Spot c → (h : Heading) → ((k : Kind) → Begins h k → lives c k ≡ false) → Moves (heading_sign h) x y → Barred so_far v (Part c) x
 homeless_barred {v} {c} {x} s h n m = record { no = at }
   where
-    there : Chosen so_far v c (heading_kind h) x
-    there = headed_chosen s h (found_at (sym m.is) m.found)
-
     at : (g : Given) (z : Place) → Past (Whole so_far) v (Part c) x g z → ⊥
-    at g z (tree {t = leaf k t} w) = there.no_leaf k t z w
+    at g z (tree {t = leaf k t} w) = s.leafless k t w.reads.staged
     at g z (tree {t = list ts} w) = no_list w.reads
-    at g z (tree {t = node l ts} w) = clash _ (kind_home c l ts (home_of w.reads)) (ap (lives c) (there.kind l ts z w) ∙ n)
+    at g z (tree {t = node l ts} w) = clash _ (kind_home c l ts (home_of w.reads)) (n l (headed_kind s h (found_at (sym m.is) m.found) l ts w))
 
 -- ---- an expression
 
-pub plain_only : {v : Surroundings} {c : Nonterminal} {x z : Place} {t : Tree} → Spot c → NoHeading x → BuiltNode so_far v (row_so_far (statement ExprStmt)) (statement ExprStmt) t x z → Only so_far v (Part c) x (one t) z
-plain_only {z = z} s n b = only_node of_so_far (plain_chosen s n) s.guards_plain refl (λ ts. s.home (statement ExprStmt) ts s.plain_home) (record { parts = b.parts; is = b.is; row = b.row }) b.keeps (spot_ends s z)
+pub plain_only : {v : Surroundings} {c : Nonterminal} {x z : Place} {t : Tree} → Spot c → NoHeading x → NoLabel x → BuiltNode so_far v (row_so_far (statement ExprStmt)) (statement ExprStmt) t x z → Only so_far v (Part c) x (one t) z
+plain_only {z = z} s n l b = only_node of_so_far (plain_chosen s n l) s.guards_plain refl (λ ts. s.home (statement ExprStmt) ts s.plain_home) (record { parts = b.parts; is = b.is; row = b.row }) b.keeps (spot_ends s z)
 
-pub plain_barred : {v : Surroundings} {c : Nonterminal} {x : Place} → Spot c → NoHeading x → NoNode so_far v (row_so_far (statement ExprStmt)) (statement ExprStmt) x → Barred so_far v (Part c) x
-plain_barred s n b = barred_node of_so_far (plain_chosen s n) s.guards_plain refl b
+pub plain_barred : {v : Surroundings} {c : Nonterminal} {x : Place} → Spot c → NoHeading x → NoLabel x → NoNode so_far v (row_so_far (statement ExprStmt)) (statement ExprStmt) x → Barred so_far v (Part c) x
+plain_barred s n l b = barred_node of_so_far (plain_chosen s n l) s.guards_plain refl b
 
 -- ---- a statement of a list is an item of a module, and the other way
 
-spot_to : {v : Surroundings} {c d : Nonterminal} {x y : Place} → Spot c → Spot d → every_heading (λ h. implies (lives c (heading_kind h)) (lives d (heading_kind h))) headings ≡ true → (t : Tree) → Staged v false c x t y → Staged v false d x t y
+spot_to : {v : Surroundings} {c d : Nonterminal} {x y : Place} → Spot c → Spot d → every_begun (λ k. implies (lives c k) (lives d k)) ≡ true → (t : Tree) → Staged v false c x t y → Staged v false d x t y
 spot_to s r i (leaf k t) w = absurd (s.leafless k t w.staged)
 spot_to s r i (list ts) w = absurd (no_list w)
 spot_to {c = c} {d} s r i (node k ts) w = of_so_far.to_node k (r.home k ts there) (of_so_far.from_node k w)
   where
     there : lives d k ≡ true
     there = spot_kind s k ts (taken_by w) (home_of w)
-        (λ g e. ap (lives d) e ∙ implied (lives c (heading_kind g)) _ (of_heading (λ h. implies (lives c (heading_kind h)) (lives d (heading_kind h))) i g) (ap (lives c) (sym e) ∙ kind_home c k ts (home_of w)))
+        (λ g b. implied (lives c k) _ (of_begun (λ j. implies (lives c j) (lives d j)) i b) (kind_home c k ts (home_of w)))
         (λ e. ap (lives d) e ∙ r.plain_home)
+        (λ e. ap (lives d) e ∙ r.label_home)
 
 pub as_item : {v : Surroundings} {x y : Place} {t : Tree} → Only so_far v (Part Stmt) x (one t) y → Only so_far v (Part Item) x (one t) y
 as_item {v} {x} {y} {t} o = record { past = to o.past; alone = at }
@@ -279,8 +363,12 @@ no_item {v} {x} b = record { no = at }
 
 -- ---- nothing stands where no token of a statement does
 
+-- a name is an expression too
+shut_label : {x : Place} → Shut x → NoLabel x
+shut_label {x} shut = record { on = λ name f. lost_if (forth (pun ":") (forth (Tok Operator IdentifierName name) x)) (λ g. shut.no Operator IdentifierName name refl (found_first (pun ":" ∷ []) (forth (Tok Operator IdentifierName name) x) g)) }
+
 pub none_begins : {v : Surroundings} {c : Nonterminal} {x : Place} → Spot c → NoHeading x → Shut x → Barred so_far v (Part c) x
-none_begins {v} {c} {x} s n shut = plain_barred s n (record { no = λ ts y w h. at w })
+none_begins {v} {c} {x} s n shut = plain_barred s n (shut_label shut) (record { no = λ ts y w h. at w })
   where
     at : {V : _} {y : Place} {ts : Forest} → Walk (Whole so_far) V (row_so_far (statement ExprStmt)) x ts y → ⊥
     at {V} (next (sign e f) (next {y = z} (tree {t = u} q) w)) = shut_reading refl shut (subst (λ p. Staged (V []) false (Expr 0) p u z) (sym e ∙ stays (Unless heads) x refl (found_at e f)) q.reads).reads
@@ -292,14 +380,18 @@ plain_node {ps = ps} b f n = record { parts = n.parts; is = n.is; row = n.row; k
 
 -- ---- which may stand where
 
-pub stmt_home : (h : Heading) → lives Stmt (heading_kind h) ≡ true
-stmt_home h = of_heading (λ j. lives Stmt (heading_kind j)) refl h
+pub stmt_home : (h : Heading) (k : Kind) → Begins h k → lives Stmt k ≡ true
+stmt_home h k b = of_begun (λ j. lives Stmt j) refl b
 
-nested_by : (h : Heading) → not (is_lexical h) ≡ lives SubStmt (heading_kind h)
+pub nested_by : (h : Heading) → not (is_lexical h) ≡ lives SubStmt (heading_kind h)
 nested_by h = agreed (not (is_lexical h)) (lives SubStmt (heading_kind h)) (of_heading (λ j. agree (not (is_lexical j)) (lives SubStmt (heading_kind j))) refl h)
 
-pub nested_home : (h : Heading) → is_lexical h ≡ false → lives SubStmt (heading_kind h) ≡ true
-nested_home h n = sym (nested_by h) ∙ ap not n
+pub nested_home : (h : Heading) → is_lexical h ≡ false → (k : Kind) → Begins h k → lives SubStmt k ≡ true
+nested_home _ n k (own h) = sym (nested_by h) ∙ ap not n
+nested_home _ n k over_keys = refl
+nested_home _ n k over_items = refl
 
-pub lexical_home : (h : Heading) → is_lexical h ≡ true → lives SubStmt (heading_kind h) ≡ false
-lexical_home h n = sym (nested_by h) ∙ ap not n
+pub lexical_home : (h : Heading) → is_lexical h ≡ true → (k : Kind) → Begins h k → lives SubStmt k ≡ false
+lexical_home _ n k (own h) = sym (nested_by h) ∙ ap not n
+lexical_home _ n k over_keys = cc
+lexical_home _ n k over_items = cc

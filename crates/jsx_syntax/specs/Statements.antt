@@ -3,15 +3,21 @@ use Rattle.std.specs.Prelude.{◌≡◌, List, [], ◌∷◌, Bool, true, codes,
 use Rattle.std.specs.Global.{Global}
 use Rattle.jsx_tree.specs.Signs.{Space, Outdent}
 use Rattle.jsx_tree.specs.Nonterminals as grammar
-use Rattle.jsx_tree.specs.Grammar.{Lines, Many, Optional, Production, key, pun}
+use Rattle.jsx_tree.specs.Grammar.{Lines, Many, Optional, Part, Production, key, pun, InLoop, Within, p, sp}
 use Rattle.jsx_tree.specs.Grammar as symbol
-use Rattle.jsx_tree.specs.Walk.{Piece, is_found, pieces, Walk, steady}
+use Rattle.jsx_tree.specs.Walk.{Piece, is_found, one, pieces, Walk, steady}
 use Rattle.jsx_tree.specs.declared.tree.Stmt.{Stmt}
 use Rattle.jsx_tree.specs.Kinds.{DeclareWord, ConstWord, Kind, Tree, node, Forest}
 use Rattle.jsx_tree.specs.StaticRules.{Surroundings, has_init}
 use Rattle.jsx_tree.specs.Reading.{Place, forth}
 use Rattle.jsx_tree.specs.Language.{Whole}
+use Rattle.jsx_tree.specs.Answers.{Barred, Only}
 use Rattle.jsx_expression.specs.SoFar.{so_far}
+use Rattle.jsx_token.specs.Marks.{row_so_far}
+use Rattle.jsx_token.specs.Headings.{Begins}
+use Rattle.jsx_token.specs.declared.heading.Heading.{Heading}
+use Rattle.jsx_tree.specs.Walk.{tail}
+use Rattle.jsx_tree.specs.Answers.{NoNode}
 
 -- the row of a block, behind its `{`
 abbrev pub block_symbols : Production
@@ -23,6 +29,13 @@ alternative_symbols = Optional (Space ∷ key "else" ∷ Space ∷ []) grammar.S
 
 abbrev pub alternative_row : List Piece
 alternative_row = pieces [] alternative_symbols
+
+-- the rows of `for`-`in` and `for`-`of` behind what is gone over
+abbrev pub loop_symbols : Production
+loop_symbols = p ")" ∷ sp ∷ Within InLoop ∷ Part grammar.SubStmt ∷ []
+
+abbrev pub loop_row : List Piece
+loop_row = pieces [] loop_symbols
 
 -- where there is an `else`, it stands there
 abbrev pub Closes : Option (Box Stmt Global) → Place → Type 0
@@ -41,3 +54,23 @@ pub record OnlyNode (v : Surroundings) (ps : List Piece) (k : Kind) (t : Tree) (
   pub walk : Walk (Whole so_far) (steady v) ps x parts y
   pub keeps : so_far.keeps k v parts ≡ true
   pub alone : (us : Forest) (z : Place) → Walk (Whole so_far) (steady v) ps x us z → so_far.keeps k v us ≡ true → (parts ≡ us) × (y ≡ z)
+
+-- the tree is the statement that stands there, as a part of another and in a list; none stands there
+pub record OnlyStatement (v : Surroundings) (x : Place) (t : Tree) (y : Place) : Type 0 where
+  pub nested : Only so_far v (Part grammar.SubStmt) x (one t) y
+  pub listed : Only so_far v (Part grammar.Stmt) x (one t) y
+
+pub record NoStatement (v : Surroundings) (x : Place) : Type 0 where
+  pub nested : Barred so_far v (Part grammar.SubStmt) x
+  pub listed : Barred so_far v (Part grammar.Stmt) x
+
+-- the same of what begins with a heading, behind it: of the kinds that it begins the tree is the one node that does
+pub record OnlyHeaded (v : Surroundings) (h : Heading) (t : Tree) (x y : Place) : Type 0 where
+  pub kind : Kind
+  pub begun : Begins h kind
+  pub node' : OnlyNode v (tail (row_so_far kind)) kind t x y
+  pub others : (k : Kind) → Begins h k → (us : Forest) (z : Place) → Walk (Whole so_far) (steady v) (tail (row_so_far k)) x us z → so_far.keeps k v us ≡ true → k ≡ kind
+
+-- of those no node does
+pub record NoneHeaded (v : Surroundings) (h : Heading) (x : Place) : Type 0 where
+  pub on : (k : Kind) → Begins h k → NoNode so_far v (tail (row_so_far k)) k x

@@ -1,27 +1,31 @@
 //! What stands in the parentheses of a `for` (ECMA-262 section 14.7.4).
 
-ghost use Rattle.std.specs.Prelude.{◌≡◌, ◌<◌, IfNone, IfOk, IfSome, IsTrue, OnOk, false};
-ghost use Rattle.jsx_tree.specs.Kinds.{Assigns, none, part};
-ghost use Rattle.jsx_tree.specs.StaticRules.{open_in};
-ghost use Rattle.jsx_tree.specs.View.{optional_at_of, optional_of, view_expr, view_pattern, view_target, word_of};
-ghost use Rattle.jsx_tree.specs.Told.{told_expr, told_optional, told_pat};
+ghost use Rattle.std.specs.Prelude.{◌≡◌, ◌<◌, IfNone, IfOk, IfSome, IsTrue, OnOk, codes, not, ◌&&◌};
+ghost use Rattle.jsx_base.specs.Token.{same};
+ghost use Rattle.jsx_tree.specs.Kinds.{none, part};
+ghost use Rattle.jsx_tree.specs.View.{optional_of, text_of, view_expr};
+ghost use Rattle.jsx_tree.specs.Told.{told_expr, told_optional};
 ghost use Rattle.jsx_tree.specs.Answers.{NoRow, OnlyRow};
+ghost use Rattle.jsx_make.specs.NodeSpans.{expr_at};
 ghost use Rattle.jsx_expression.specs.Around.{around_of};
+ghost use Rattle.jsx_expression.specs.Climbing.{is_target};
 ghost use Rattle.jsx_expression.specs.SoFar.{so_far};
-ghost use Rattle.jsx_tree.specs.Reading.{Lost, forth};
+ghost use Rattle.jsx_tree.specs.Reading.{forth};
 ghost use Rattle.jsx_token.specs.Here.{place_of, left};
 ghost use Rattle.jsx_expression.specs.Answers.{Refused};
-ghost use Rattle.jsx_syntax.specs.Heads.{IsDeclared, IsHead, NoDeclaring, NoHead, NoInitial, NotHeaded, clause_row, clause_symbols, declare_sign, initial_row, initial_symbols, is_closer};
-ghost use Rattle.jsx_expression.specs.Spans.{IsPlaced, IsPlacedBehind, IsPlacedFront};
-ghost use Rattle.jsx_token.specs.Places.{Takes, begin_of, next_of};
+ghost use Rattle.jsx_syntax.specs.Heads.{DeclaresHead, DeclaresNoHead, Heads, IsPlacedHead, IsPlacedHeadBehind, IsStem, AtValue, NoDeclaring, NoHeads, NoStem, clause_row, clause_symbols, declare_sign, is_async, is_closer};
+ghost use Rattle.jsx_expression.specs.Spans.{IsPlaced, IsPlacedFront, Spans};
+ghost use Rattle.jsx_token.specs.Places.{Takes, begin_of, end_of, next_of};
 
 use crate::open_in::{any_has_open_in, head_has_open_in};
-use crate::statement::declarators;
-use jsx_expression::expression::sequence;
-use jsx_expression::{Context, ParseError, expect, give_up, span_to};
+use crate::statement::{initialized, more_declarators};
+use jsx_expression::expression::{
+    ASSIGNMENT, beginning, fits, grow, is_target, level, more_items, sequence, target_of,
+};
+use jsx_expression::{Context, ParseError, binding_identifier, expect, give_up, span_to};
 use jsx_make::make;
 use jsx_token::{Fixed, Lexer, Word};
-use jsx_tree::{DeclareWord, Expr, Pat};
+use jsx_tree::{DeclareWord, Expr, Pat, Text};
 
 /// The word of a declaration, if it comes next.
 fn declare_word(lexer: &mut Lexer) -> Option<DeclareWord>
@@ -44,70 +48,142 @@ fn declare_word(lexer: &mut Lexer) -> Option<DeclareWord>
     None
 }
 
-/// The variables of a `for` behind their word, as far as its `;`: `let a = 1, b = 2`.
-fn head_declaration<'s>(
+/// What stands in the parentheses of a `for` up to the token that tells what it is, with that (ECMA-262 section 14.7).
+#[derive(Drop)]
+pub enum ForHead<'s> {
+    /// `let a = 1;`, `a = 1;`, or `;`
+    Initial(Option<Box<Pat<'s>>>),
+    /// `let a in`, or `a in`
+    Keys(Box<Pat<'s>>),
+    /// `let a of`, or `a of`
+    Items(Box<Pat<'s>>),
+}
+
+/// A declaration with which a `for` begins, behind its word: `a in`, `a of`, or `a = 1, b = 2;`.
+fn declared_head<'s>(
     context: Context,
     lexer: &mut Lexer<'s>,
     word: DeclareWord,
-) -> Result<Box<Pat<'s>>, ParseError>
-    ensures read { IfOk result (λ p. IsDeclared (around_of context.entry.around) (word_of word) (place_of lexer.old) (view_target p.value) (place_of lexer.new)) }
-    ensures placed { IfOk result (λ p. IsPlacedBehind (declare_sign word) lexer.old (told_pat p.value) (view_target p.value) lexer.new) }
+) -> Result<ForHead<'s>, ParseError>
+    ensures read { IfOk result (λ h. DeclaresHead (around_of context.entry.around) word (place_of lexer.old) h (place_of lexer.new)) }
+    ensures placed { IfOk result (λ h. IsPlacedHeadBehind (declare_sign word) lexer.old h lexer.new) }
     ensures shorter { OnOk result (left lexer.new < left lexer.old) }
-    ensures refused { Refused result (NotHeaded (around_of context.entry.around) (word_of word) (place_of lexer.old)) }
+    ensures refused { Refused result (DeclaresNoHead (around_of context.entry.around) word (place_of lexer.old)) }
 {
     let lo = lexer.last_place();
-    let all = declarators(context, lexer, word)?;
+    let name = binding_identifier(context, lexer)?;
+    let span = span_to(lo, lexer);
+    if lexer.take(Fixed::Word(Word::In)) {
+        return Ok(ForHead::Keys(make::head(context.alloc, span, word, name)?));
+    }
+    if lexer.take(Fixed::Word(Word::Of)) {
+        return Ok(ForHead::Items(make::head(context.alloc, span, word, name)?));
+    }
+    let first = initialized(context, lexer, lexer.last_place(), name)?;
+    let all = more_declarators(context, lexer, word, first)?;
     if any_has_open_in(&all) {
         return Err(give_up(lexer));
     }
-    Ok(make::head_declaration(context.alloc, span_to(lo, lexer), word, all)?)
+    let init = make::head_declaration(context.alloc, span_to(lo, lexer), word, all)?;
+    expect(context, lexer, Fixed::Semicolon)?;
+    Ok(ForHead::Initial(Some(init)))
 }
 
-/// An expression with which a `for` begins, as far as its `;`: `a = 1`.
-fn value_head<'s>(context: Context, lexer: &mut Lexer<'s>) -> Result<Box<Pat<'s>>, ParseError>
+/// An expression that no comma goes on with, as far as an `in` that is no part of one of its operands: `a.b`, `a = c in d`.
+fn stem<'s>(context: Context, lexer: &mut Lexer<'s>) -> Result<Box<Expr<'s>>, ParseError>
     requires { NoDeclaring (place_of lexer.old) }
-    ensures read { IfOk result (λ p. IsHead (around_of context.entry.around) (place_of lexer.old) (view_target p.value) (place_of lexer.new)) }
-    ensures placed { IfOk result (λ p. IsPlaced (told_pat p.value) (view_target p.value) lexer.old lexer.new) }
+    ensures read { IfOk result (λ e. IsStem (around_of context.entry.around) (place_of lexer.old) (view_expr e.value) (place_of lexer.new)) }
+    ensures span { IfOk result (λ e. Spans (expr_at e.value) (next_of lexer.old) (end_of lexer.new)) }
+    ensures placed { IfOk result (λ e. IsPlaced (told_expr e.value) (view_expr e.value) lexer.old lexer.new) }
     ensures shorter { OnOk result (left lexer.new < left lexer.old) }
-    ensures refused { Refused result (NoHead (around_of context.entry.around) (place_of lexer.old)) }
+    ensures refused { Refused result (NoStem (around_of context.entry.around) (place_of lexer.old)) }
 {
-    let expr = sequence(context, lexer)?;
+    let mut expr = beginning(context, lexer)?;
+    if level(&expr) < ASSIGNMENT {
+        return Err(give_up(lexer));
+    }
+    'steps: while !lexer.is_before(Fixed::Word(Word::In)) {
+        let Some(growth) = lexer.growth(ASSIGNMENT) else {
+            return Ok(expr);
+        };
+        if !fits(growth, &expr) {
+            return Err(give_up(lexer));
+        }
+        expr = grow(context, lexer, growth, expr)?;
+    }
+    Ok(expr)
+}
+
+/// Whether an expression is the name `async`, which would begin an arrow before `of`.
+#[tactic(auto, using(crate::proofs::OpenIn::opening))]
+fn is_async(expr: &Expr) -> bool
+    ensures { result ≡ is_async (view_expr expr.now) }
+{
+    match expr {
+        Expr::Ident(_, name) => is_async_text(&name.text),
+        _ => false,
+    }
+}
+
+fn is_async_text(text: &Text) -> bool
+    ensures { result ≡ same (text_of text.now) (codes "async") }
+{
+    match text {
+        Text::Read(raw, _) => Word::Async.is(raw),
+        Text::Made(made, _) => Word::Async.is(made),
+    }
+}
+
+/// Whether a `for`-`of` may assign to an expression.
+fn takes_items(expr: &Expr) -> bool
+    ensures { result ≡ (is_target (view_expr expr.now) && not (is_async (view_expr expr.now))) }
+{
+    is_target(expr) && !is_async(expr)
+}
+
+/// An expression with which a `for` begins: `a.b in`, `a.b of`, or `a = 1;`.
+fn value_head<'s>(context: Context, lexer: &mut Lexer<'s>) -> Result<ForHead<'s>, ParseError>
+    requires { AtValue (place_of lexer.old) }
+    ensures read { IfOk result (λ h. Heads (around_of context.entry.around) (place_of lexer.old) h (place_of lexer.new)) }
+    ensures placed { IfOk result (λ h. IsPlacedHead h lexer.old lexer.new) }
+    ensures shorter { OnOk result (left lexer.new < left lexer.old) }
+    ensures refused { Refused result (NoHeads (around_of context.entry.around) (place_of lexer.old)) }
+{
+    let first = stem(context, lexer)?;
+    if lexer.take(Fixed::Word(Word::In)) {
+        if !is_target(&first) {
+            return Err(give_up(lexer));
+        }
+        return Ok(ForHead::Keys(target_of(context.alloc, first)?));
+    }
+    if lexer.take(Fixed::Word(Word::Of)) {
+        if !takes_items(&first) {
+            return Err(give_up(lexer));
+        }
+        return Ok(ForHead::Items(target_of(context.alloc, first)?));
+    }
+    let expr = more_items(context, lexer, first)?;
     if head_has_open_in(&expr) {
         return Err(give_up(lexer));
     }
-    Ok(make::target(context.alloc, expr)?)
+    expect(context, lexer, Fixed::Semicolon)?;
+    Ok(ForHead::Initial(Some(make::target(context.alloc, expr)?)))
 }
 
-/// What a `for` begins with: `let a = 1`, or `a = 1`.
-fn head<'s>(context: Context, lexer: &mut Lexer<'s>) -> Result<Box<Pat<'s>>, ParseError>
-    ensures read { IfOk result (λ p. IsHead (around_of context.entry.around) (place_of lexer.old) (view_target p.value) (place_of lexer.new)) }
-    ensures placed { IfOk result (λ p. IsPlaced (told_pat p.value) (view_target p.value) lexer.old lexer.new) }
+/// What a `for` begins with, up to the token that tells what it is, with that.
+pub fn head<'s>(context: Context, lexer: &mut Lexer<'s>) -> Result<ForHead<'s>, ParseError>
+    ensures read { IfOk result (λ h. Heads (around_of context.entry.around) (place_of lexer.old) h (place_of lexer.new)) }
+    ensures placed { IfOk result (λ h. IsPlacedHead h lexer.old lexer.new) }
     ensures shorter { OnOk result (left lexer.new < left lexer.old) }
-    ensures refused { Refused result (NoHead (around_of context.entry.around) (place_of lexer.old)) }
+    ensures refused { Refused result (NoHeads (around_of context.entry.around) (place_of lexer.old)) }
 {
+    if lexer.take(Fixed::Semicolon) {
+        return Ok(ForHead::Initial(None));
+    }
     let Some(word) = declare_word(lexer) else {
         return Ok(value_head(context, lexer)?);
     };
-    Ok(head_declaration(context, lexer, word)?)
-}
-
-/// What a `for` has before its first `;`, with that: `let a = 1;`, `a = 1;`, or `;`.
-pub fn initial<'s>(
-    context: Context,
-    lexer: &mut Lexer<'s>,
-) -> Result<Option<Box<Pat<'s>>>, ParseError>
-    ensures read { IfOk result (λ i. OnlyRow so_far (around_of context.entry.around) initial_row (place_of lexer.old) (part (optional_at_of Assigns view_pattern i) none) (place_of lexer.new)) }
-    ensures closed { IfOk result (λ i. open_in (optional_at_of Assigns view_pattern i) ≡ false) }
-    ensures placed { IfOk result (λ i. IsPlacedFront initial_symbols (told_optional told_pat i) (optional_at_of Assigns view_pattern i) lexer.old lexer.new) }
-    ensures shorter { OnOk result (left lexer.new < left lexer.old) }
-    ensures refused { Refused result (NoInitial (around_of context.entry.around) (place_of lexer.old)) }
-{
-    if lexer.take(Fixed::Semicolon) {
-        return Ok(None);
-    }
-    let init = head(context, lexer)?;
-    expect(context, lexer, Fixed::Semicolon)?;
-    Ok(Some(init))
+    Ok(declared_head(context, lexer, word)?)
 }
 
 /// An expression of a `for`, or none, with the token behind it: `a < b;`, or `)`.

@@ -2,6 +2,7 @@
 #![tactic(auto)]
 
 mod for_head;
+mod label;
 mod module;
 mod open_in;
 mod statement;

@@ -72,9 +72,9 @@ fn of_access(access: &Access) -> bool
         Access::Call(_, callee, _) => has_open_in(callee),
         Access::Member(_, object, _) => has_open_in(object),
         Access::Index(_, object, _) => has_open_in(object),
+        Access::New(_, callee, _) => has_open_in(callee),
+        Access::NewWithoutArguments(_, callee) => has_open_in(callee),
         Access::Tagged(..)
-        | Access::New(..)
-        | Access::NewWithoutArguments(..)
         | Access::SuperCall(..)
         | Access::SuperMember(..)
         | Access::SuperIndex(..)

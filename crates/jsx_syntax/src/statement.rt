@@ -13,27 +13,56 @@ ghost use Rattle.jsx_tree.specs.Answers.{Only, Barred, OnlyRow, NoRow, NoNode, B
 ghost use Rattle.jsx_expression.specs.Around.{around_of};
 ghost use Rattle.jsx_token.specs.Marks.{row_so_far};
 ghost use Rattle.jsx_expression.specs.SoFar.{so_far};
+ghost use Rattle.std.specs.Str.{chars};
+ghost use Rattle.jsx_syntax.specs.Labels.{BuiltLabel, IsPlacedLabelled, NoBody};
 ghost use Rattle.jsx_token.specs.Here.{place_of, left};
 ghost use Rattle.jsx_token.specs.Growths.{opening_sign};
-ghost use Rattle.jsx_syntax.specs.Statements.{Closes, alternative_row, alternative_symbols, block_symbols, has_value, OnlyNode};
+ghost use Rattle.jsx_syntax.specs.Statements.{Closes, alternative_row, alternative_symbols, block_symbols, has_value, NoStatement, OnlyNode, OnlyStatement, loop_row, loop_symbols, NoneHeaded, OnlyHeaded};
 ghost use Rattle.jsx_token.specs.Headings.{heading_kind, heading_sign, NoHeading};
-ghost use Rattle.jsx_syntax.specs.Heads.{Declares, NotDeclared};
+ghost use Rattle.jsx_syntax.specs.Heads.{Declares, NotDeclared, AllDeclare, Initializes, NoneDeclare, NotInitialized};
 ghost use Rattle.jsx_syntax.specs.Tries.{IsCatch, catch_row, catch_symbol, catch_symbols, finally_symbol, finally_symbols};
+ghost use Rattle.jsx_token.specs.declared.heading.Heading.TheVariants as headings;
 ghost use Rattle.jsx_syntax.specs.Cases.{IsBody, IsCase, IsDefault, NoCase, NoCases, body_row, cases_row, cases_symbols, default_row};
 ghost use Rattle.jsx_expression.specs.Answers.{Refused};
 ghost use Rattle.jsx_token.specs.Semicolons.{in_list};
 ghost use Rattle.jsx_make.specs.NodeSpans.{pat_at, stmt_at};
-ghost use Rattle.jsx_expression.specs.Spans.{IsPlaced, IsPlacedBehind, IsPlacedFront, IsPlacedList, IsPlacedRow, Spans};
+ghost use Rattle.jsx_expression.specs.Spans.{IsPlaced, IsPlacedBehind, IsPlacedFront, IsPlacedList, IsPlacedPast, IsPlacedRow, Spans};
 ghost use Rattle.jsx_token.specs.Places.{begin_of, end_of, next_of};
 
-use crate::for_head::{clause, initial};
+use crate::for_head::{ForHead, clause, head};
+use crate::label::{
+    Label, has_label, is_before_loop, jump_label, may_break, may_continue, take_label, target,
+};
+use jsx_base::BytePos;
 use jsx_expression::expression::{ASSIGNMENT, expression, sequence, start_of};
 use jsx_expression::{
-    Context, ParseError, binding_identifier, expect, give_up, semicolon, span_to,
+    Context, Labels, ParseError, binding_identifier, expect, give_up, semicolon, span_to,
 };
 use jsx_make::make;
 use jsx_token::{Ending, Fixed, Heading, Lexer, Word};
 use jsx_tree::{Control, DeclareWord, Pat, Stmt};
+
+/// A variable behind its name, which begins at a place: with an initializer, or without one.
+pub fn initialized<'s>(
+    context: Context,
+    lexer: &mut Lexer<'s>,
+    lo: BytePos,
+    name: Box<Pat<'s>>,
+) -> Result<Box<Pat<'s>>, ParseError>
+    ensures read { IfOk result (λ p. Initializes (around_of context.entry.around) (view_pat name.entry.value) (place_of lexer.old) (view_pat p.value) (place_of lexer.new)) }
+    ensures span { IfOk result (λ p. Spans (pat_at p.value) lo.0 (end_of lexer.new)) }
+    ensures placed { IfOk result (λ p. IsPlacedPast lo.0 (told_pat name.entry.value) (view_pat name.entry.value) lexer.old (told_pat p.value) (view_pat p.value) lexer.new) }
+    ensures within { OnOk result (left lexer.new ≤ left lexer.old) }
+    ensures behind { OnOk result (IsTrue (in_list (place_of lexer.new))) }
+    ensures refused { Refused result (NotInitialized (around_of context.entry.around) (view_pat name.entry.value) (place_of lexer.old)) }
+{
+    lexer.ends(Ending::Binding);
+    if !lexer.take(Fixed::Equals) {
+        return Ok(make::declarator(context.alloc, span_to(lo, lexer), name, None)?);
+    }
+    let value = expression(context, lexer, ASSIGNMENT)?;
+    Ok(make::declarator(context.alloc, span_to(lo, lexer), name, Some(value))?)
+}
 
 /// A variable, with an initializer or without: `a = b`.
 fn declarator<'s>(context: Context, lexer: &mut Lexer<'s>) -> Result<Box<Pat<'s>>, ParseError>
@@ -45,13 +74,7 @@ fn declarator<'s>(context: Context, lexer: &mut Lexer<'s>) -> Result<Box<Pat<'s>
     ensures refused { Refused result (Barred so_far (around_of context.entry.around) (Part grammar.Declarators) (place_of lexer.old)) }
 {
     let name = binding_identifier(context, lexer)?;
-    let lo = lexer.last_place();
-    lexer.ends(Ending::Binding);
-    if !lexer.take(Fixed::Equals) {
-        return Ok(make::declarator(context.alloc, span_to(lo, lexer), name, None)?);
-    }
-    let value = expression(context, lexer, ASSIGNMENT)?;
-    Ok(make::declarator(context.alloc, span_to(lo, lexer), name, Some(value))?)
+    Ok(initialized(context, lexer, lexer.last_place(), name)?)
 }
 
 /// Whether a variable has an initializer where its word wants one: so far only names are bound.
@@ -65,8 +88,34 @@ fn is_initialized(word: DeclareWord, declarator: &Pat) -> bool
     }
 }
 
+/// What is declared with a variable that stands before it, with commas between: `a = b` and `, c = d`.
+pub fn more_declarators<'s>(
+    context: Context,
+    lexer: &mut Lexer<'s>,
+    word: DeclareWord,
+    first: Box<Pat<'s>>,
+) -> Result<Vec<Box<Pat<'s>>>, ParseError>
+    requires { IsTrue (in_list (place_of lexer.old)) }
+    ensures read { IfOk result (λ v. AllDeclare (around_of context.entry.around) (word_of word) first.entry.value lexer.old v.items lexer.new) }
+    ensures within { OnOk result (left lexer.new ≤ left lexer.old) }
+    ensures refused { Refused result (NoneDeclare (around_of context.entry.around) (word_of word) first.entry.value lexer.old) }
+{
+    let mut all = Vec::with_capacity(context.alloc, 1)?;
+    let mut next = first;
+    'declarators: loop {
+        if !is_initialized(word, &next) {
+            return Err(give_up(lexer));
+        }
+        all.push(next)?;
+        if !lexer.take(Fixed::Comma) {
+            return Ok(all);
+        }
+        next = declarator(context, lexer)?;
+    }
+}
+
 /// One declarator or more behind the word, with commas between: `a = b, c = d`.
-pub fn declarators<'s>(
+fn declarators<'s>(
     context: Context,
     lexer: &mut Lexer<'s>,
     word: DeclareWord,
@@ -77,17 +126,8 @@ pub fn declarators<'s>(
     ensures shorter { OnOk result (left lexer.new < left lexer.old) }
     ensures refused { Refused result (NotDeclared (around_of context.entry.around) (word_of word) (place_of lexer.old)) }
 {
-    let mut all = Vec::with_capacity(context.alloc, 1)?;
-    'declarators: loop {
-        let next = declarator(context, lexer)?;
-        if !is_initialized(word, &next) {
-            return Err(give_up(lexer));
-        }
-        all.push(next)?;
-        if !lexer.take(Fixed::Comma) {
-            return Ok(all);
-        }
-    }
+    let first = declarator(context, lexer)?;
+    Ok(more_declarators(context, lexer, word, first)?)
 }
 
 /// A declaration of variables behind its word: `const a = b, c = d;` (ECMA-262 sections 14.3.1 and 14.3.2).
@@ -172,7 +212,7 @@ fn debugger_statement<'s>(
     Ok(make::debugger_statement(context.alloc, span_to(lo, lexer))?)
 }
 
-/// A `break` statement behind its word, without a label (ECMA-262 section 14.9).
+/// A `break` statement behind its word (ECMA-262 section 14.9).
 fn break_statement<'s>(context: Context, lexer: &mut Lexer<'s>) -> Result<Box<Stmt<'s>>, ParseError>
     ensures read { IfOk result (λ s. BuiltNode so_far (around_of context.entry.around) (tail (row_so_far (statement Break))) (statement Break) (view_stmt s.value) (place_of lexer.old) (place_of lexer.new)) }
     ensures span { IfOk result (λ s. Spans (stmt_at s.value) (begin_of lexer.old) (end_of lexer.new)) }
@@ -180,16 +220,16 @@ fn break_statement<'s>(context: Context, lexer: &mut Lexer<'s>) -> Result<Box<St
     ensures within { OnOk result (left lexer.new ≤ left lexer.old) }
     ensures refused { Refused result (NoNode so_far (around_of context.entry.around) (tail (row_so_far (statement Break))) (statement Break) (place_of lexer.old)) }
 {
-    if !context.around.breakable {
+    let lo = lexer.last_place();
+    let label = jump_label(context, lexer)?;
+    if !may_break(context, label) {
         return Err(give_up(lexer));
     }
-    let lo = lexer.last_place();
-    lexer.ends(Ending::Word);
     semicolon(context, lexer)?;
-    Ok(make::break_statement(context.alloc, span_to(lo, lexer), None)?)
+    Ok(make::break_statement(context.alloc, span_to(lo, lexer), target(label))?)
 }
 
-/// A `continue` statement behind its word, without a label (ECMA-262 section 14.8).
+/// A `continue` statement behind its word (ECMA-262 section 14.8).
 fn continue_statement<'s>(
     context: Context,
     lexer: &mut Lexer<'s>,
@@ -200,13 +240,13 @@ fn continue_statement<'s>(
     ensures within { OnOk result (left lexer.new ≤ left lexer.old) }
     ensures refused { Refused result (NoNode so_far (around_of context.entry.around) (tail (row_so_far (statement Continue))) (statement Continue) (place_of lexer.old)) }
 {
-    if !context.around.in_loop {
+    let lo = lexer.last_place();
+    let label = jump_label(context, lexer)?;
+    if !may_continue(context, label) {
         return Err(give_up(lexer));
     }
-    let lo = lexer.last_place();
-    lexer.ends(Ending::Word);
     semicolon(context, lexer)?;
-    Ok(make::continue_statement(context.alloc, span_to(lo, lexer), None)?)
+    Ok(make::continue_statement(context.alloc, span_to(lo, lexer), target(label))?)
 }
 
 /// The statements of a block, behind its `{` and with its `}`: `a; b; }`.
@@ -317,23 +357,50 @@ fn while_statement<'s>(context: Context, lexer: &mut Lexer<'s>) -> Result<Box<St
     Ok(make::while_statement(context.alloc, span, test, body)?)
 }
 
-/// A loop behind its word: `for (let a = 1; a < b; a += 1) c;` (ECMA-262 section 14.7.4).
+/// The body of a `for`-`in` or `for`-`of`, with the `)` before it.
+#[cycle(statement)]
+fn for_body<'s>(context: Context, lexer: &mut Lexer<'s>) -> Result<Box<Stmt<'s>>, ParseError>
+    ensures read { IfOk result (λ s. OnlyRow so_far (around_of context.entry.around) loop_row (place_of lexer.old) (part (view_stmt s.value) none) (place_of lexer.new)) }
+    ensures placed { IfOk result (λ s. IsPlacedRow loop_symbols (tale (told_stmt s.value) no_tales) (part (view_stmt s.value) none) lexer.old lexer.new) }
+    ensures within { OnOk result (left lexer.new ≤ left lexer.old) }
+    ensures refused { Refused result (NoRow so_far (around_of context.entry.around) loop_row (place_of lexer.old)) }
+{
+    expect(context, lexer, Fixed::Close)?;
+    Ok(nested(context.of_loop(), lexer)?)
+}
+
+/// A loop behind its word: `for (let a = 1; a < b; a += 1) c;` (ECMA-262 section 14.7.4), `for (a in b) c;`, or `for (a of b) c;`
+/// (section 14.7.5).
 #[cycle(statement)]
 fn for_statement<'s>(context: Context, lexer: &mut Lexer<'s>) -> Result<Box<Stmt<'s>>, ParseError>
-    ensures read { IfOk result (λ s. BuiltNode so_far (around_of context.entry.around) (tail (row_so_far (statement For))) (statement For) (view_stmt s.value) (place_of lexer.old) (place_of lexer.new)) }
+    ensures read { IfOk result (λ s. OnlyHeaded (around_of context.entry.around) headings.For (view_stmt s.value) (place_of lexer.old) (place_of lexer.new)) }
     ensures span { IfOk result (λ s. Spans (stmt_at s.value) (begin_of lexer.old) (end_of lexer.new)) }
     ensures placed { IfOk result (λ s. IsPlacedBehind (opening_sign (statement For)) lexer.old (told_stmt s.value) (view_stmt s.value) lexer.new) }
     ensures within { OnOk result (left lexer.new ≤ left lexer.old) }
-    ensures refused { Refused result (NoNode so_far (around_of context.entry.around) (tail (row_so_far (statement For))) (statement For) (place_of lexer.old)) }
+    ensures refused { Refused result (NoneHeaded (around_of context.entry.around) headings.For (place_of lexer.old)) }
 {
     let lo = lexer.last_place();
     expect(context, lexer, Fixed::Open)?;
-    let init = initial(context, lexer)?;
-    let test = clause(context, lexer, Fixed::Semicolon)?;
-    let update = clause(context, lexer, Fixed::Close)?;
-    let body = nested(context.of_loop(), lexer)?;
-    let span = span_to(lo, lexer);
-    Ok(make::for_statement(context.alloc, span, init, test, update, body)?)
+    let begun = head(context, lexer)?;
+    match begun {
+        ForHead::Initial(init) => {
+            let test = clause(context, lexer, Fixed::Semicolon)?;
+            let update = clause(context, lexer, Fixed::Close)?;
+            let body = nested(context.of_loop(), lexer)?;
+            let span = span_to(lo, lexer);
+            Ok(make::for_statement(context.alloc, span, init, test, update, body)?)
+        }
+        ForHead::Keys(target) => {
+            let object = sequence(context, lexer)?;
+            let body = for_body(context, lexer)?;
+            Ok(make::for_in(context.alloc, span_to(lo, lexer), target, object, body)?)
+        }
+        ForHead::Items(target) => {
+            let items = expression(context, lexer, ASSIGNMENT)?;
+            let body = for_body(context, lexer)?;
+            Ok(make::for_of(context.alloc, span_to(lo, lexer), target, items, body)?)
+        }
+    }
 }
 
 /// The statements of a case, as far as the next case or the `}`: `a; b;`.
@@ -563,17 +630,16 @@ fn try_statement<'s>(context: Context, lexer: &mut Lexer<'s>) -> Result<Box<Stmt
 
 /// A statement behind its first token.
 #[cycle(statement)]
-#[tactic(auto, using(crate::proofs::Statements::of_built))]
 fn headed<'s>(
     context: Context,
     lexer: &mut Lexer<'s>,
     heading: Heading,
 ) -> Result<Box<Stmt<'s>>, ParseError>
-    ensures read { IfOk result (λ s. OnlyNode (around_of context.entry.around) (tail (row_so_far (heading_kind heading))) (heading_kind heading) (view_stmt s.value) (place_of lexer.old) (place_of lexer.new)) }
+    ensures read { IfOk result (λ s. OnlyHeaded (around_of context.entry.around) heading (view_stmt s.value) (place_of lexer.old) (place_of lexer.new)) }
     ensures span { IfOk result (λ s. Spans (stmt_at s.value) (begin_of lexer.old) (end_of lexer.new)) }
     ensures placed { IfOk result (λ s. IsPlacedBehind (heading_sign heading) lexer.old (told_stmt s.value) (view_stmt s.value) lexer.new) }
     ensures within { OnOk result (left lexer.new ≤ left lexer.old) }
-    ensures refused { Refused result (NoNode so_far (around_of context.entry.around) (tail (row_so_far (heading_kind heading))) (heading_kind heading) (place_of lexer.old)) }
+    ensures refused { Refused result (NoneHeaded (around_of context.entry.around) heading (place_of lexer.old)) }
 {
     match heading {
         Heading::Empty => Ok(empty_statement(context, lexer)?),
@@ -592,6 +658,45 @@ fn headed<'s>(
     }
 }
 
+/// A statement behind its label, which encloses it then: `a: b;` (ECMA-262 section 14.13).
+#[cycle(statement)]
+fn labelled<'s>(
+    context: Context,
+    lexer: &mut Lexer<'s>,
+    label: Label<'s>,
+) -> Result<Box<Stmt<'s>>, ParseError>
+    ensures read { IfOk result (λ s. BuiltLabel (around_of context.entry.around) (chars label.entry.name.now) (view_stmt s.value) (place_of lexer.old) (place_of lexer.new)) }
+    ensures span { IfOk result (λ s. Spans (stmt_at s.value) label.entry.place.0 (end_of lexer.new)) }
+    ensures placed { IfOk result (λ s. IsPlacedLabelled (chars label.entry.name.now) label.entry.place.0 lexer.old (told_stmt s.value) (view_stmt s.value) lexer.new) }
+    ensures within { OnOk result (left lexer.new ≤ left lexer.old) }
+    ensures refused { Refused result (NoBody (around_of context.entry.around) (chars label.entry.name.now) (place_of lexer.old)) }
+{
+    if has_label(context.around.labels, label.name, false) {
+        return Err(give_up(lexer));
+    }
+    let on_loop = is_before_loop(lexer);
+    let labels = Labels::Inside(label.name, on_loop, context.around.labels);
+    let body = nested(context.of_label(&labels), lexer)?;
+    let span = span_to(label.place, lexer);
+    Ok(make::label_statement(context.alloc, span, label.ident(), body)?)
+}
+
+/// A statement that begins with no token of its own: a labelled one, or an expression.
+#[cycle(statement)]
+fn unheaded<'s>(context: Context, lexer: &mut Lexer<'s>) -> Result<Box<Stmt<'s>>, ParseError>
+    requires { NoHeading (place_of lexer.old) }
+    ensures read { IfOk result (λ s. OnlyStatement (around_of context.entry.around) (place_of lexer.old) (view_stmt s.value) (place_of lexer.new)) }
+    ensures span { IfOk result (λ s. Spans (stmt_at s.value) (next_of lexer.old) (end_of lexer.new)) }
+    ensures placed { IfOk result (λ s. IsPlaced (told_stmt s.value) (view_stmt s.value) lexer.old lexer.new) }
+    ensures shorter { OnOk result (left lexer.new < left lexer.old) }
+    ensures refused { Refused result (NoStatement (around_of context.entry.around) (place_of lexer.old)) }
+{
+    let Some(label) = take_label(lexer) else {
+        return Ok(expression_statement(context, lexer)?);
+    };
+    Ok(labelled(context, lexer, label)?)
+}
+
 /// A statement that is a part of another, as the body of a loop: no lexical declaration.
 #[cycle(statement)]
 fn nested<'s>(context: Context, lexer: &mut Lexer<'s>) -> Result<Box<Stmt<'s>>, ParseError>
@@ -602,7 +707,7 @@ fn nested<'s>(context: Context, lexer: &mut Lexer<'s>) -> Result<Box<Stmt<'s>>, 
     ensures refused { Refused result (Barred so_far (around_of context.entry.around) (Part grammar.SubStmt) (place_of lexer.old)) }
 {
     let Some(heading) = lexer.heading() else {
-        return Ok(expression_statement(context, lexer)?);
+        return Ok(unheaded(context, lexer)?);
     };
     if heading.is_lexical() {
         return Err(give_up(lexer));
@@ -620,7 +725,7 @@ pub fn statement<'s>(context: Context, lexer: &mut Lexer<'s>) -> Result<Box<Stmt
     ensures refused { Refused result (Barred so_far (around_of context.entry.around) (Part grammar.Stmt) (place_of lexer.old)) }
 {
     let Some(heading) = lexer.heading() else {
-        return Ok(expression_statement(context, lexer)?);
+        return Ok(unheaded(context, lexer)?);
     };
     Ok(headed(context, lexer, heading)?)
 }

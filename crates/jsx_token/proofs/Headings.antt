@@ -6,6 +6,8 @@ use Rattle.jsx_tree.specs.declared.text.DeclareWord.TheVariants as declare_word
 use Rattle.jsx_tree.proofs.Tokens.{and_left, and_right}
 use Rattle.jsx_token.specs.declared.heading.Heading.{Heading}
 use Rattle.jsx_token.specs.declared.heading.Heading.TheVariants as heading
+use Rattle.jsx_token.specs.Headings.{Begins, own, over_keys, over_items, heading_kind}
+use Rattle.jsx_tree.specs.Kinds.{ForIn, ForOf, Kind, statement}
 
 abbrev pub headings : List Heading
 headings = heading.Empty ∷ heading.Block ∷ heading.Var declare_word.Var ∷ heading.Var declare_word.Let ∷ heading.Var declare_word.Const ∷ heading.If ∷ heading.Do ∷ heading.While ∷ heading.For ∷ heading.Switch ∷ heading.Continue ∷ heading.Break ∷ heading.Throw ∷ heading.Try ∷ heading.Debugger ∷ []
@@ -64,6 +66,25 @@ at_place p (g ∷ hs) (suc i) a e = at_place p hs i (and_right (p g) _ a) e
 
 pub of_heading : (p : Heading → Bool) → every_heading p headings ≡ true → (h : Heading) → p h ≡ true
 of_heading p a h = at_place p headings (number h) a (there h)
+
+-- the kinds that they begin
+abbrev pub every_begun : (Kind → Bool) → Bool
+every_begun p = p (statement ForIn) && (p (statement ForOf) && every_heading (λ h. p (heading_kind h)) headings)
+
+pub of_begun : (p : Kind → Bool) → every_begun p ≡ true → {h : Heading} {k : Kind} → Begins h k → p k ≡ true
+of_begun p a (own h) = of_heading (λ j. p (heading_kind j)) (and_right (p (statement ForOf)) _ (and_right (p (statement ForIn)) _ a)) h
+of_begun p a over_keys = and_left (p (statement ForIn)) _ a
+of_begun p a over_items = and_left (p (statement ForOf)) _ (and_right (p (statement ForIn)) _ a)
+
+-- of one kind are those of all but `for`
+abbrev pub begins_one : Heading → Bool
+begins_one heading.For = false
+begins_one h = true
+
+pub its_kind : {h : Heading} {k : Kind} → begins_one h ≡ true → Begins h k → k ≡ heading_kind h
+its_kind o (own h) = refl
+its_kind o over_keys = cc
+its_kind o over_items = cc
 
 abbrev pub every_two_headings : (Heading → Heading → Bool) → Bool
 every_two_headings p = every_heading (λ h. every_heading (p h) headings) headings

@@ -1,23 +1,23 @@
 -- Of what goes on with an expression: its row, its mark, and at which levels it does.
-use Rattle.std.proofs.Common.{Bool, true, false, [], ◌∷◌, List, ◌≡◌, ℕ, nat_le, not, cond, refl, ◌∙◌}
+use Rattle.std.proofs.Common.{Bool, true, false, [], ◌∷◌, List, ◌≡◌, nat_le, not, cond, refl, ◌∙◌}
 use Rattle.jsx_tree.specs.Grammar.{Fixed, right_of}
 use Rattle.jsx_tree.specs.Walk.{Piece, piece, tail}
 use Rattle.std.specs.Prelude.{Option, Some, None, ◌&&◌}
 use Rattle.jsx_base.specs.Token.{Lexeme, NumericLiteral, BigIntLiteral, StringLiteral, RegExpLiteral}
-use Rattle.jsx_tree.specs.Kinds.{Assigns, Assign, OpAssign, Delete, Unary, Binary, Cond, Kind, expression, PrefixUpdate, Call, Member, Index, Object, PostfixUpdate, Increment, Decrement}
-use Rattle.jsx_tree.specs.Nonterminals.{Nonterminal, Expr, NullishLeft, MemberObject, DotObject, SimpleTarget, Pat, TagName, homes, in_homes, literal_homes}
+use Rattle.jsx_tree.specs.Kinds.{Assigns, Assign, OpAssign, Delete, Unary, Binary, Cond, Kind, expression, PrefixUpdate, Call, Member, Index, NewWithoutArguments, NewTarget, ImportMeta, Object, PostfixUpdate, Increment, Decrement}
+use Rattle.jsx_tree.specs.Nonterminals.{Nonterminal, Expr, NullishLeft, MemberObject, DotObject, SimpleTarget, Pat, TagName, NewCallee, homes, in_homes, literal_homes}
 use Rattle.jsx_token.specs.Stage.{has_kind}
 use Rattle.jsx_tree.specs.Stops.{level_asked}
 use Rattle.jsx_tree.specs.Grows.{starts}
 use Rattle.jsx_token.specs.Marks.{goes_at, marks, is_sign, row_so_far}
-use Rattle.jsx_tree.proofs.Tokens.{and_left, and_right}
+use Rattle.jsx_tree.proofs.Tokens.{and_left, and_right, and_both}
 use Rattle.jsx_tree.proofs.Rows.Stopping.{is_not, covers}
 use Rattle.jsx_tree.proofs.Rows.Guarded.{guarded}
 use Rattle.jsx_tree.proofs.Rows.Bodies.{bodiless}
 use Rattle.jsx_tree.proofs.Rows.Closers.{any_operand}
 use Rattle.jsx_tree.proofs.Rows.Placing.{free}
 use Rattle.jsx_tree.proofs.Rows.Spines.{grows}
-use Rattle.jsx_token.specs.Growths.{mark, on_line, past_line, has_sign, is_code, levels, is_level, level_of_kind, fits_by, takes_target, growth_kind}
+use Rattle.jsx_token.specs.Growths.{Rung, rung, callee, asked, is_rung, least, reaches, seat, mark, on_line, past_line, has_sign, is_code, levels, level_of_kind, fits_by, takes_target, growth_kind}
 use Rattle.jsx_token.proofs.Listed.{Listed, kinds, every, of_each, every_level, of_level_kind, implies, implied, agree, agreed, listed, listed_binary}
 use Rattle.jsx_token.proofs.Marks.{text_of_sign, by_sign}
 use Rattle.jsx_token.proofs.Lives.{is_single}
@@ -42,6 +42,8 @@ signed ps = false
 abbrev pub is_ruled : Kind → Bool
 is_ruled (expression (Unary Delete)) = true
 is_ruled (expression Object) = true
+is_ruled (expression ImportMeta) = true
+is_ruled (expression NewTarget) = true
 is_ruled k = false
 
 abbrev pub grows_on : Kind → Bool
@@ -62,6 +64,7 @@ edge (expression Assign) = Expr 1
 edge (expression (OpAssign o)) = Expr 1
 edge (expression (Unary o)) = Expr 15
 edge (expression (PrefixUpdate o)) = Expr 17
+edge (expression NewWithoutArguments) = NewCallee
 edge k = TagName
 
 -- the places at the left of a step
@@ -89,7 +92,7 @@ taken_literals c = in_homes c (literal_homes NumericLiteral) && (in_homes c (lit
 
 -- which leaves stand at the left
 abbrev pub leaves_fit : Kind → Bool
-leaves_fit k = cond (takes_target k) (is_left (side k)) (not (is_left (side k)) && (taken_literals (side k) && (fits_by k 17 false && agree (fits_by k 17 true) (takes_number (side k)))))
+leaves_fit k = cond (takes_target k) (is_left (side k)) (not (is_left (side k)) && (taken_literals (side k) && (fits_by k 18 false && agree (fits_by k 18 true) (takes_number (side k)))))
 
 -- its row begins with a part at such a place, goes on by a mark, and each part of the rest is ended by what stands behind it
 abbrev pub well_formed : Kind → Bool
@@ -102,16 +105,23 @@ pub all_well_formed : every well_formed kinds ≡ true
 unfolding marks
 all_well_formed = refl
 
--- of a level and a kind, with a line end before the mark or without: whether the mark goes on there
-abbrev pub goes_as : ℕ → Kind → Bool → Bool
-goes_as n k b = agree (goes_at n b (text_of_sign (mark k))) (nat_le n (level_of_kind k) && not (on_line k && b))
+-- of a place and a kind, with a line end before the mark or without: whether the mark goes on there
+abbrev pub goes_as : Rung → Kind → Bool → Bool
+goes_as r k b = agree (goes_at (asked r) b (text_of_sign (mark k))) (reaches r k && not (on_line k && b))
 
--- whether the kind is at home there is the same
-abbrev pub placed : ℕ → Kind → Bool
-placed n k = agree (in_homes (Expr n) (homes k)) (nat_le n (level_of_kind k)) && (implies (grows_on k) (goes_as n k true && goes_as n k false) && implies (nat_le n (level_of_kind k)) (covers (level_asked (Expr n)) (level_asked (edge k))))
+-- whether the kind is at home there is told by its level
+abbrev pub placed : Rung → Kind → Bool
+placed r k = agree (in_homes (seat r) (homes k)) (nat_le (least r) (level_of_kind k)) && (implies (grows_on k) (goes_as r k true && goes_as r k false) && implies (reaches r k) (covers (level_asked (seat r)) (level_asked (edge k))))
 
-pub all_placed : every_level (λ n. every (placed n) kinds) levels ≡ true
+pub all_placed : every_level (λ n. every (placed (rung n)) kinds) levels ≡ true
 all_placed = refl
+
+all_called : every (placed callee) kinds ≡ true
+all_called = refl
+
+placed_at : (r : Rung) → is_rung r ≡ true → (k : Kind) → Listed k → placed r k ≡ true
+placed_at (rung n) h k m = of_level_kind (λ i. placed (rung i)) all_placed {n = n} h k m
+placed_at callee h k m = of_each (placed callee) all_called k m
 
 -- ---- what these say
 
@@ -122,14 +132,14 @@ pub record Fitting (k : Kind) : Type 0 where
   pub longs : in_homes (side k) (literal_homes BigIntLiteral) ≡ true
   pub strings : in_homes (side k) (literal_homes StringLiteral) ≡ true
   pub patterns : in_homes (side k) (literal_homes RegExpLiteral) ≡ true
-  pub leaves : fits_by k 17 false ≡ true
-  pub number : fits_by k 17 true ≡ takes_number (side k)
+  pub leaves : fits_by k 18 false ≡ true
+  pub number : fits_by k 18 true ≡ takes_number (side k)
 
 pub data Leaves (k : Kind) : Type 0 where
   assigned : takes_target k ≡ true → is_left (side k) ≡ true → Leaves k
   fitting_in : takes_target k ≡ false → Fitting k → Leaves k
 
-pub leaves_of : (k : Kind) (b : Bool) → takes_target k ≡ b → cond b (is_left (side k)) (not (is_left (side k)) && (taken_literals (side k) && (fits_by k 17 false && agree (fits_by k 17 true) (takes_number (side k))))) ≡ true → Leaves k
+pub leaves_of : (k : Kind) (b : Bool) → takes_target k ≡ b → cond b (is_left (side k)) (not (is_left (side k)) && (taken_literals (side k) && (fits_by k 18 false && agree (fits_by k 18 true) (takes_number (side k))))) ≡ true → Leaves k
 leaves_of k true e h = assigned e h
 leaves_of k false e h =
     let a = and_right (not (is_left (side k))) _ h in
@@ -143,8 +153,8 @@ leaves_of k false e h =
       longs = and_left (in_homes (side k) (literal_homes BigIntLiteral)) _ d;
       strings = and_left (in_homes (side k) (literal_homes StringLiteral)) _ e';
       patterns = and_right (in_homes (side k) (literal_homes StringLiteral)) _ e';
-      leaves = and_left (fits_by k 17 false) _ c;
-      number = agreed (fits_by k 17 true) (takes_number (side k)) (and_right (fits_by k 17 false) _ c);
+      leaves = and_left (fits_by k 18 false) _ c;
+      number = agreed (fits_by k 18 true) (takes_number (side k)) (and_right (fits_by k 18 false) _ c);
     })
 
 pub record Formed (k : Kind) : Type 0 where
@@ -185,35 +195,49 @@ formed k m g =
       stood = and_right (has_kind k) _ c6;
     }
 
-pub record Level (n : ℕ) (k : Kind) : Type 0 where
-  pub home : in_homes (Expr n) (homes k) ≡ nat_le n (level_of_kind k)
-  pub goes : grows_on k ≡ true → (b : Bool) → goes_at n b (text_of_sign (mark k)) ≡ (nat_le n (level_of_kind k) && not (on_line k && b))
-  pub covered : nat_le n (level_of_kind k) ≡ true → covers (level_asked (Expr n)) (level_asked (edge k)) ≡ true
+pub record Level (r : Rung) (k : Kind) : Type 0 where
+  pub home : in_homes (seat r) (homes k) ≡ nat_le (least r) (level_of_kind k)
+  pub goes : grows_on k ≡ true → (b : Bool) → goes_at (asked r) b (text_of_sign (mark k)) ≡ (reaches r k && not (on_line k && b))
+  pub covered : reaches r k ≡ true → covers (level_asked (seat r)) (level_asked (edge k)) ≡ true
 
 pub either_way : (p : Bool → Bool) → (p true && p false) ≡ true → (b : Bool) → p b ≡ true
 either_way p e true = and_left (p true) (p false) e
 either_way p e false = and_right (p true) (p false) e
 
-pub at_level : {n : ℕ} → is_level n ≡ true → (k : Kind) → Listed k → Level n k
-at_level {n} h k m =
-    let a = of_level_kind placed all_placed h k m in
-    let p = agree (in_homes (Expr n) (homes k)) (nat_le n (level_of_kind k)) in
-    let q = implies (grows_on k) (goes_as n k true && goes_as n k false) in
+pub at_level : {r : Rung} → is_rung r ≡ true → (k : Kind) → Listed k → Level r k
+at_level {r} h k m =
+    let a = placed_at r h k m in
+    let p = agree (in_homes (seat r) (homes k)) (nat_le (least r) (level_of_kind k)) in
+    let q = implies (grows_on k) (goes_as r k true && goes_as r k false) in
     let b = and_right p _ a in
     record {
-      home = agreed (in_homes (Expr n) (homes k)) (nat_le n (level_of_kind k)) (and_left p _ a);
-      goes = λ g c. agreed (goes_at n c (text_of_sign (mark k))) (nat_le n (level_of_kind k) && not (on_line k && c)) (either_way (goes_as n k) (implied (grows_on k) _ (and_left q _ b) g) c);
-      covered = λ e. implied (nat_le n (level_of_kind k)) _ (and_right q _ b) e;
+      home = agreed (in_homes (seat r) (homes k)) (nat_le (least r) (level_of_kind k)) (and_left p _ a);
+      goes = λ g c. agreed (goes_at (asked r) c (text_of_sign (mark k))) (reaches r k && not (on_line k && c)) (either_way (goes_as r k) (implied (grows_on k) _ (and_left q _ b) g) c);
+      covered = λ e. implied (reaches r k) _ (and_right q _ b) e;
     }
+
+pub seat_asks : (r : Rung) → level_asked (seat r) ≡ Some (asked r)
+seat_asks (rung n) = refl
+seat_asks callee = refl
+
+-- what goes on with what `new` stands before may stand on a new line
+abbrev called_anywhere : Kind → Bool
+called_anywhere k = implies (grows_on k && reaches callee k) (not (on_line k))
+
+all_called_anywhere : every called_anywhere kinds ≡ true
+all_called_anywhere = refl
+
+pub called_line : (k : Kind) → Listed k → grows_on k ≡ true → reaches callee k ≡ true → on_line k ≡ false
+called_line k m g e = is_not _ (implied (grows_on k && reaches callee k) _ (of_each called_anywhere all_called_anywhere k m) (and_both _ _ g e))
 
 pub agree_self : (b : Bool) → agree b b ≡ true
 agree_self true = refl
 agree_self false = refl
 
-pub mark_among : (n : ℕ) (k : Kind) → is_level n ≡ true → Listed k → grows_on k ≡ true → (b : Bool) (x : Lexeme) → is_sign x (mark k) ≡ true → goes_at n b x.raw ≡ (nat_le n (level_of_kind k) && not (on_line k && b))
-mark_among n k h m g b x e =
-    let u = goes_at n b (text_of_sign (mark k)) in
-    agreed (goes_at n b x.raw) u (by_sign (λ t. agree (goes_at n b t) u) (mark k) x (agree_self u) e) ∙ (at_level h k m).goes g b
+pub mark_among : (r : Rung) (k : Kind) → is_rung r ≡ true → Listed k → grows_on k ≡ true → (b : Bool) (x : Lexeme) → is_sign x (mark k) ≡ true → goes_at (asked r) b x.raw ≡ (reaches r k && not (on_line k && b))
+mark_among r k h m g b x e =
+    let u = goes_at (asked r) b (text_of_sign (mark k)) in
+    agreed (goes_at (asked r) b x.raw) u (by_sign (λ t. agree (goes_at (asked r) b t) u) (mark k) x (agree_self u) e) ∙ (at_level {r = r} h k m).goes g b
 
 pub mark_is_code : (k : Kind) → Listed k → grows_on k ≡ true → is_code (mark k) ≡ true
 mark_is_code k m g = (formed k m g).coded

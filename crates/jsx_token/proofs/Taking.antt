@@ -148,6 +148,7 @@ pub fixed_kind_is : (f : Fixed) (t : Token) → is_it t (fixed_kind f) (fixed_te
 fixed_kind_is f t i = kind_some (kind_of t.kind) (fixed_kind f) (fixed_some f) ((and_parts (is_kind (kind_of t.kind) (fixed_kind f)) _ i).0)
 
 pub word_full : (w : Word) → same (word_text w) [] ≡ false
+word_full word.Async = refl
 word_full word.Break = refl
 word_full word.Case = refl
 word_full word.Catch = refl
@@ -160,8 +161,12 @@ word_full word.Else = refl
 word_full word.Finally = refl
 word_full word.For = refl
 word_full word.If = refl
+word_full word.In = refl
 word_full word.Let = refl
+word_full word.Meta = refl
+word_full word.Of = refl
 word_full word.Switch = refl
+word_full word.Target = refl
 word_full word.Throw = refl
 word_full word.Try = refl
 word_full word.Var = refl

@@ -4,12 +4,12 @@ use Rattle.std.specs.Prelude.{Some, None, ◌&&◌, ◌||◌, codes}
 use Rattle.std.specs.Str.{chars}
 use Rattle.jsx_base.specs.Token.{Text, Operator, Lexeme, NoToken, among, breaks, is_kind, token, same}
 use Rattle.jsx_tree.specs.Signs.{Ending, AfterExpr, Sign, Tok}
-use Rattle.jsx_tree.specs.Reading.{At, forth, go_if}
-use Rattle.jsx_tree.specs.Nonterminals.{Expr}
+use Rattle.jsx_tree.specs.Reading.{Place, At, forth, go_if}
 use Rattle.jsx_token.specs.Marks.{marks, is_sign, is_mark, goes_at, steps, goes_on_so_far, ends_so_far, goers}
 use Rattle.jsx_tree.specs.Grammar.{pun}
 use Rattle.jsx_tree.specs.Stops.{going}
 use Rattle.jsx_tree.proofs.Tokens.{and_left, and_right, same_is}
+use Rattle.jsx_tree.proofs.Apart.{clash}
 use Rattle.jsx_tree.proofs.Rows.Stopping.{is_not, not_is}
 use Rattle.jsx_lex.specs.declared.lexer.Lexer.{Lexer as Tokens}
 use Rattle.jsx_lex.specs.declared.token.Token.{Token}
@@ -19,12 +19,12 @@ use Rattle.jsx_token.specs.Seen.{IsNext, NoNext, here_of, next_token}
 use Rattle.jsx_token.specs.Places.{begin_of, next_of}
 use Rattle.jsx_token.specs.declared.lexer.Ending.TheVariants as ending
 use Rattle.jsx_token.specs.declared.growth.Growth.{Growth}
-use Rattle.jsx_token.specs.Growths.{OnLine, growth_kind, is_code, is_level, level_of_kind, mark, on_line, settled}
+use Rattle.jsx_token.specs.Growths.{Rung, rung, callee, asked, is_rung, reaches, seat, OnLine, growth_kind, is_code, mark, on_line, settled}
 use Rattle.jsx_token.specs.GrowthTokens.{growth_by}
 use Rattle.jsx_token.proofs.GrowthTokens.{lexeme, growth_mark, growth_none}
 use Rattle.jsx_token.proofs.Listed.{of_level}
 use Rattle.jsx_token.proofs.Marks.{by_sign}
-use Rattle.jsx_token.proofs.Levels.{mark_among, mark_is_code, growth_listed, growth_grows}
+use Rattle.jsx_token.proofs.Levels.{called_line, seat_asks, mark_among, mark_is_code, growth_listed, growth_grows}
 use Rattle.jsx_token.proofs.Taking.{taken_by, begins_by, shorter_by, kind_some}
 
 and_false : (a : Bool) → (a && false) ≡ false
@@ -58,33 +58,38 @@ pub lexeme_is : {h : Here} {t : Token} {b : Tokens} → IsNext Operator h t b �
 lexeme_is {h} n = λ i. record { kind = n.kind i; raw = n.raw i; rest = (next_token Operator h).rest }
 
 -- a comma goes on with no expression but a sequence
-comma_level : (n : ℕ) (x : Lexeme) → is_level n ≡ true → is_sign x (pun ",") ≡ true → among x.raw (going n) ≡ false
-comma_level n x l e = is_not _ (by_sign (λ t. not (among t (going n))) (pun ",") x (of_level (λ m. not (among (codes ",") (going m))) refl {n = n} l) e)
+comma_off : (r : Rung) → is_rung r ≡ true → not (among (codes ",") (going (asked r))) ≡ true
+comma_off (rung n) l = of_level (λ m. not (among (codes ",") (going m))) refl {n = n} l
+comma_off callee l = refl
 
-comma_goes_on : (n : ℕ) (b : Bool) (x : Lexeme) → is_level n ≡ true → is_sign x (pun ",") ≡ true → goes_at n b x.raw ≡ false
-comma_goes_on n b x l e =
+comma_level : (r : Rung) (x : Lexeme) → is_rung r ≡ true → is_sign x (pun ",") ≡ true → among x.raw (going (asked r)) ≡ false
+comma_level r x l e = is_not _ (by_sign (λ t. not (among t (going (asked r)))) (pun ",") x (comma_off r l) e)
+
+comma_goes_on : (r : Rung) (b : Bool) (x : Lexeme) → is_rung r ≡ true → is_sign x (pun ",") ≡ true → goes_at (asked r) b x.raw ≡ false
+comma_goes_on r b x l e =
+    let n = asked r in
     let step : among x.raw steps ≡ false = is_not _ (by_sign (λ t. not (among t steps)) (pun ",") x refl e) in
-    (λ i. comma_level n x l e i || (nat_le n 16 && (not b && step i))) ∙ ((λ i. nat_le n 16 && and_false (not b) i) ∙ and_false (nat_le n 16))
+    (λ i. comma_level r x l e i || (nat_le n 16 && (not b && step i))) ∙ ((λ i. nat_le n 16 && and_false (not b) i) ∙ and_false (nat_le n 16))
 
-off_list : (n : ℕ) (b : Bool) (x : Lexeme) (c : Bool) → is_level n ≡ true → is_sign x (pun ",") ≡ c → is_mark x marks ≡ false → (goes_at n b x.raw && is_mark x goers) ≡ false
-off_list n b x true l e m = ap (λ c. c && is_mark x goers) (comma_goes_on n b x l e)
-off_list n b x false l e m = (λ i. goes_at n b x.raw && (e i || m i)) ∙ and_false (goes_at n b x.raw)
+off_list : (r : Rung) (b : Bool) (x : Lexeme) (c : Bool) → is_rung r ≡ true → is_sign x (pun ",") ≡ c → is_mark x marks ≡ false → (goes_at (asked r) b x.raw && is_mark x goers) ≡ false
+off_list r b x true l e m = ap (λ c. c && is_mark x goers) (comma_goes_on r b x l e)
+off_list r b x false l e m = (λ i. goes_at (asked r) b x.raw && (e i || m i)) ∙ and_false (goes_at (asked r) b x.raw)
 
-pub other_goes : {h : Here} {t : Token} {b : Tokens} (n : ℕ) → is_level n ≡ true → IsNext Operator h t b → growth_by t.kind (chars t.raw.now) ≡ None → goes_on_so_far (Some n) AfterExpr (breaks h.rest) (next_token Operator h) ≡ false
-other_goes {h} {t} {b} n l e g = off_list n (breaks h.rest) (next_token Operator h) _ l refl (subst (λ x. is_mark x marks ≡ false) (lexeme_is e) (growth_none t.kind (chars t.raw.now) (next_token Operator h).rest e.spelled g))
+pub other_goes : {h : Here} {t : Token} {b : Tokens} (r : Rung) → is_rung r ≡ true → IsNext Operator h t b → growth_by t.kind (chars t.raw.now) ≡ None → goes_on_so_far (Some (asked r)) AfterExpr (breaks h.rest) (next_token Operator h) ≡ false
+other_goes {h} {t} {b} r l e g = off_list r (breaks h.rest) (next_token Operator h) _ l refl (subst (λ x. is_mark x marks ≡ false) (lexeme_is e) (growth_none t.kind (chars t.raw.now) (next_token Operator h).rest e.spelled g))
 
 sign_there : {h : Here} {t : Token} {b : Tokens} (g : Growth) → IsNext Operator h t b → growth_by t.kind (chars t.raw.now) ≡ Some g → is_sign (next_token Operator h) (mark (growth_kind g)) ≡ true
 sign_there {h} {t} g e is = subst (λ x. is_sign x (mark (growth_kind g)) ≡ true) (lexeme_is e) (growth_mark t.kind (chars t.raw.now) (next_token Operator h).rest g e.spelled is)
 
-pub below_goes : {h : Here} {t : Token} {b : Tokens} (n : ℕ) (g : Growth) → is_level n ≡ true → IsNext Operator h t b → growth_by t.kind (chars t.raw.now) ≡ Some g → nat_le n (level_of_kind (growth_kind g)) ≡ false → goes_on_so_far (Some n) AfterExpr (breaks h.rest) (next_token Operator h) ≡ false
-below_goes {h} n g l e is below =
-    ap (λ c. c && is_mark (next_token Operator h) goers) (mark_among n (growth_kind g) l (growth_listed g) (growth_grows g) (breaks h.rest) (next_token Operator h) (sign_there g e is) ∙ ap (λ c. c && not (on_line (growth_kind g) && breaks h.rest)) below)
+pub below_goes : {h : Here} {t : Token} {b : Tokens} (r : Rung) (g : Growth) → is_rung r ≡ true → IsNext Operator h t b → growth_by t.kind (chars t.raw.now) ≡ Some g → reaches r (growth_kind g) ≡ false → goes_on_so_far (Some (asked r)) AfterExpr (breaks h.rest) (next_token Operator h) ≡ false
+below_goes {h} r g l e is below =
+    ap (λ c. c && is_mark (next_token Operator h) goers) (mark_among r (growth_kind g) l (growth_listed g) (growth_grows g) (breaks h.rest) (next_token Operator h) (sign_there g e is) ∙ ap (λ c. c && not (on_line (growth_kind g) && breaks h.rest)) below)
 
 -- on a new line
-pub line_goes : {h : Here} {t : Token} {b : Tokens} (n : ℕ) (g : Growth) → is_level n ≡ true → IsNext Operator h t b → growth_by t.kind (chars t.raw.now) ≡ Some g → (on_line (growth_kind g) && t.new_line) ≡ true → goes_on_so_far (Some n) AfterExpr (breaks h.rest) (next_token Operator h) ≡ false
-line_goes {h} {t} n g l e is late =
-    ap (λ c. c && is_mark (next_token Operator h) goers) (mark_among n (growth_kind g) l (growth_listed g) (growth_grows g) (breaks h.rest) (next_token Operator h) (sign_there g e is)
-    ∙ ((λ i. nat_le n (level_of_kind (growth_kind g)) && not (on_line (growth_kind g) && sym (e.line refl) i)) ∙ (λ i. nat_le n (level_of_kind (growth_kind g)) && not (late i)) ∙ and_false (nat_le n (level_of_kind (growth_kind g)))))
+pub line_goes : {h : Here} {t : Token} {b : Tokens} (r : Rung) (g : Growth) → is_rung r ≡ true → IsNext Operator h t b → growth_by t.kind (chars t.raw.now) ≡ Some g → (on_line (growth_kind g) && t.new_line) ≡ true → goes_on_so_far (Some (asked r)) AfterExpr (breaks h.rest) (next_token Operator h) ≡ false
+line_goes {h} {t} r g l e is late =
+    ap (λ c. c && is_mark (next_token Operator h) goers) (mark_among r (growth_kind g) l (growth_listed g) (growth_grows g) (breaks h.rest) (next_token Operator h) (sign_there g e is)
+    ∙ ((λ i. reaches r (growth_kind g) && not (on_line (growth_kind g) && sym (e.line refl) i)) ∙ (λ i. reaches r (growth_kind g) && not (late i)) ∙ and_false (reaches r (growth_kind g))))
 
 -- on the line
 pub line_stays : {h : Here} {t : Token} {b : Tokens} (g : Growth) → IsNext Operator h t b → (on_line (growth_kind g) && t.new_line) ≡ false → OnLine (growth_kind g) (place_of h)
@@ -93,6 +98,10 @@ line_stays {h} g e n = record { stays = λ on. ap (λ b. go_if (not b) (place_of
     second : (a b : Bool) → a ≡ true → (a && b) ≡ false → b ≡ false
     second true b f g = g
     second false b f g = cc
+
+-- what goes on anywhere does so there
+pub called_stays : {x : Place} (g : Growth) → reaches callee (growth_kind g) ≡ true → OnLine (growth_kind g) x
+called_stays g e = record { stays = λ on. absurd (clash _ on (called_line (growth_kind g) (growth_listed g) (growth_grows g) e)) }
 
 pub record Took (h : Here) (s : Sign) (t : Token) (b : Tokens) : Type 0 where
   pub full : same (chars t.raw.now) [] ≡ false
@@ -112,9 +121,9 @@ growth_took {h} {t} g e is = took (next_token Operator h).rest (mark (growth_kin
 
 -- ---- where none goes on, an expression has come to its end
 
-pub ended : (n : ℕ) (h : Here) → settled (place_of h) ≡ true → goes_on_so_far (Some n) AfterExpr (breaks h.rest) (next_token Operator h) ≡ false → ends_so_far (Expr n) (place_of h) ≡ true
-ended n h s g = at h.last h.ending h.rest s g
+pub ended : (r : Rung) (h : Here) → settled (place_of h) ≡ true → goes_on_so_far (Some (asked r)) AfterExpr (breaks h.rest) (next_token Operator h) ≡ false → ends_so_far (seat r) (place_of h) ≡ true
+ended r h s g = at h.last h.ending h.rest s g
   where
-    at : (q : Text) (e : Ending) (text : Text) → settled (At q e text) ≡ true → goes_on_so_far (Some n) AfterExpr (breaks text) (token Operator (same q []) text) ≡ false → ends_so_far (Expr n) (At q e text) ≡ true
-    at q AfterExpr text s g = not_is _ (ap (λ b. goes_on_so_far (Some n) AfterExpr (breaks text) (token Operator b text)) (sym (is_not (same q []) s)) ∙ g)
+    at : (q : Text) (e : Ending) (text : Text) → settled (At q e text) ≡ true → goes_on_so_far (Some (asked r)) AfterExpr (breaks text) (token Operator (same q []) text) ≡ false → ends_so_far (seat r) (At q e text) ≡ true
+    at q AfterExpr text s g = not_is _ (ap (λ l. goes_on_so_far l AfterExpr (breaks text) (token Operator false text)) (seat_asks r) ∙ (ap (λ b. goes_on_so_far (Some (asked r)) AfterExpr (breaks text) (token Operator b text)) (sym (is_not (same q []) s)) ∙ g))
     at q _ text s g = cc

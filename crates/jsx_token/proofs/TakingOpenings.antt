@@ -17,8 +17,8 @@ use Rattle.jsx_token.specs.declared.opening.Opening.TheVariants as opening
 use Rattle.jsx_tree.specs.ViewOperators.{unary_of, step_of}
 use Rattle.jsx_tree.specs.declared.operator.UnaryOp.{UnaryOp}
 use Rattle.jsx_tree.specs.declared.operator.UnaryOp.TheVariants as unary
-use Rattle.jsx_tree.specs.Kinds.{Unary, ImportCall, Array, Object, Parenthesized, expression, Kind, PrefixUpdate}
-use Rattle.jsx_token.specs.Growths.{opening_kind, opening_sign, opening_signs, is_code, NoOpening, has_sign}
+use Rattle.jsx_tree.specs.Kinds.{Unary, ImportCall, New, Array, Object, Parenthesized, expression, PrefixUpdate}
+use Rattle.jsx_token.specs.Growths.{opening_kind, opening_sign, opening_signs, is_code, NoOpening}
 use Rattle.jsx_tree.specs.declared.operator.UpdateOp.TheVariants as update
 use Rattle.jsx_token.specs.GrowthTokens.{opening_by}
 use Rattle.jsx_token.proofs.Listed.{Listed, listed}
@@ -61,8 +61,27 @@ unary_listed unary.Negative h = listed (expression (Unary (unary_of unary.Negati
 unary_listed unary.Complement h = listed (expression (Unary (unary_of unary.Complement))) refl refl refl
 unary_listed unary.Not h = listed (expression (Unary (unary_of unary.Not))) refl refl refl
 
+unary_staged : (o : UnaryOp) → has_kind (expression (Unary (unary_of o))) ≡ true
+unary_staged unary.Delete = refl
+unary_staged unary.Void = refl
+unary_staged unary.TypeOf = refl
+unary_staged unary.Positive = refl
+unary_staged unary.Negative = refl
+unary_staged unary.Complement = refl
+unary_staged unary.Not = refl
+
+pub opening_staged : (g : Opening) → has_kind (opening_kind g) ≡ true
+opening_staged opening.Import = refl
+opening_staged opening.New = refl
+opening_staged opening.Paren = refl
+opening_staged opening.Array = refl
+opening_staged opening.Object = refl
+opening_staged (opening.Unary o) = unary_staged o
+opening_staged (opening.Update o) = refl
+
 pub opening_listed : (g : Opening) → has_kind (opening_kind g) ≡ true → Listed (opening_kind g)
-opening_listed opening.ImportCall h = listed (expression ImportCall) refl refl refl
+opening_listed opening.Import h = listed (expression ImportCall) refl refl refl
+opening_listed opening.New h = listed (expression New) refl refl refl
 opening_listed opening.Paren h = listed (expression Parenthesized) refl refl refl
 opening_listed opening.Array h = listed (expression Array) refl refl refl
 opening_listed opening.Object h = listed (expression Object) refl refl refl
@@ -80,7 +99,8 @@ unary_opens unary.Complement = refl
 unary_opens unary.Not = refl
 
 pub opening_opens : (g : Opening) → grows_on (opening_kind g) ≡ false
-opening_opens opening.ImportCall = refl
+opening_opens opening.Import = refl
+opening_opens opening.New = refl
 opening_opens opening.Paren = refl
 opening_opens opening.Array = refl
 opening_opens opening.Object = refl
@@ -88,7 +108,8 @@ opening_opens (opening.Unary o) = unary_opens o
 opening_opens (opening.Update o) = refl
 
 sign_code : (g : Opening) → is_code (opening_sign (opening_kind g)) ≡ true
-sign_code opening.ImportCall = refl
+sign_code opening.Import = refl
+sign_code opening.New = refl
 sign_code opening.Paren = refl
 sign_code opening.Array = refl
 sign_code opening.Object = refl

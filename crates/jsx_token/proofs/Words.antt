@@ -63,6 +63,10 @@ word_delete : Spelled (codes "delete")
 unfolding chars is_utf8 encode
 word_delete = record { same = refl; text = IsUtf8-from_is_utf8 (codes "delete") refl }
 
+word_new : Spelled (codes "new")
+unfolding chars is_utf8 encode
+word_new = record { same = refl; text = IsUtf8-from_is_utf8 (codes "new") refl }
+
 word_import : Spelled (codes "import")
 unfolding chars is_utf8 encode
 word_import = record { same = refl; text = IsUtf8-from_is_utf8 (codes "import") refl }
@@ -84,6 +88,9 @@ is_delete = is_word (codes "delete") word_delete
 
 pub is_import : (raw : List ℕ) → IsUtf8 raw → bytes_eq raw (codes "import") ≡ same (chars raw) (codes "import")
 is_import = is_word (codes "import") word_import
+
+pub is_new : (raw : List ℕ) → IsUtf8 raw → bytes_eq raw (codes "new") ≡ same (chars raw) (codes "new")
+is_new = is_word (codes "new") word_new
 
 word_comma : Spelled (codes ",")
 unfolding chars is_utf8 encode
@@ -137,6 +144,7 @@ is_proto_string raw u =
 -- each word of the grammar
 reserved : (w : Word) → Spelled (word_text w)
 unfolding chars is_utf8 encode
+reserved word.Async = record { same = refl; text = IsUtf8-from_is_utf8 (codes "async") refl }
 reserved word.Break = record { same = refl; text = IsUtf8-from_is_utf8 (codes "break") refl }
 reserved word.Case = record { same = refl; text = IsUtf8-from_is_utf8 (codes "case") refl }
 reserved word.Catch = record { same = refl; text = IsUtf8-from_is_utf8 (codes "catch") refl }
@@ -149,8 +157,12 @@ reserved word.Else = record { same = refl; text = IsUtf8-from_is_utf8 (codes "el
 reserved word.Finally = record { same = refl; text = IsUtf8-from_is_utf8 (codes "finally") refl }
 reserved word.For = record { same = refl; text = IsUtf8-from_is_utf8 (codes "for") refl }
 reserved word.If = record { same = refl; text = IsUtf8-from_is_utf8 (codes "if") refl }
+reserved word.In = record { same = refl; text = IsUtf8-from_is_utf8 (codes "in") refl }
+reserved word.Of = record { same = refl; text = IsUtf8-from_is_utf8 (codes "of") refl }
 reserved word.Let = record { same = refl; text = IsUtf8-from_is_utf8 (codes "let") refl }
+reserved word.Meta = record { same = refl; text = IsUtf8-from_is_utf8 (codes "meta") refl }
 reserved word.Switch = record { same = refl; text = IsUtf8-from_is_utf8 (codes "switch") refl }
+reserved word.Target = record { same = refl; text = IsUtf8-from_is_utf8 (codes "target") refl }
 reserved word.Throw = record { same = refl; text = IsUtf8-from_is_utf8 (codes "throw") refl }
 reserved word.Try = record { same = refl; text = IsUtf8-from_is_utf8 (codes "try") refl }
 reserved word.Var = record { same = refl; text = IsUtf8-from_is_utf8 (codes "var") refl }

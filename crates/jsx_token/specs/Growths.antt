@@ -2,8 +2,9 @@
 use Rattle.std.specs.Prelude.{◌≡◌, ℕ, List, [], ◌∷◌, Bool, true, false, not, nat_le, nat_eq, IsTrue, ◌&&◌, ◌||◌}
 use Rattle.jsx_base.specs.Token.{Operator, NoToken, is_kind, same, kind_number}
 use Rattle.jsx_tree.specs.Signs.{AfterExpr, Sign, Semicolon, Tok, SameLine}
-use Rattle.jsx_tree.specs.Kinds.{BinaryOp, Nullish, Exponentiate, ExpressionKind, Seq, Assign, OpAssign, Arrow, ArrowBlock, BareArrow, BareArrowBlock, Cond, Binary, Unary, PrefixUpdate, PostfixUpdate, Call, Member, Index, ImportCall, Array, Object, Parenthesized, Kind, expression}
-use Rattle.jsx_tree.specs.Nonterminals.{level_of}
+use Rattle.jsx_tree.specs.Kinds.{BinaryOp, Nullish, Exponentiate, ExpressionKind, Seq, Assign, OpAssign, Arrow, ArrowBlock, BareArrow, BareArrowBlock, Cond, Binary, Unary, PrefixUpdate, PostfixUpdate, Call, Member, Index, New, NewWithoutArguments, ImportCall, Array, Object, Parenthesized, Kind, expression}
+use Rattle.jsx_tree.specs.Nonterminals.{Nonterminal, Expr, NewCallee, level_of}
+use Rattle.jsx_tree.specs.Form.{calls}
 use Rattle.jsx_tree.specs.Grammar.{Fixed, key, pun}
 use Rattle.jsx_tree.specs.Reading.{Place, Lost, At, forth}
 use Rattle.jsx_tree.specs.Walk.{Piece, piece, tail}
@@ -74,7 +75,7 @@ any_number n (m ∷ ms) = nat_eq n m || any_number n ms
 abbrev pub is_level : ℕ → Bool
 is_level n = any_number n levels
 
--- the level of an expression, up to that of calls and members
+-- the level of an expression, up to that of what may be called or have members
 abbrev pub level_of_expression : ExpressionKind → ℕ
 level_of_expression Seq = 0
 level_of_expression Assign = 1
@@ -88,11 +89,12 @@ level_of_expression (Binary o) = level_of o
 level_of_expression (Unary o) = 15
 level_of_expression (PrefixUpdate o) = 16
 level_of_expression (PostfixUpdate o) = 16
-level_of_expression k = 17
+level_of_expression NewWithoutArguments = 17
+level_of_expression k = 18
 
 abbrev pub level_of_kind : Kind → ℕ
 level_of_kind (expression k) = level_of_expression k
-level_of_kind k = 17
+level_of_kind k = 18
 
 -- the level that the left side of an operator has at least; of `??` also another `??`
 abbrev pub left_level : BinaryOp → ℕ
@@ -104,8 +106,8 @@ left_level o = level_of o
 abbrev pub fits_by : Kind → ℕ → Bool → Bool
 fits_by (expression (Binary o)) n m = nat_le (left_level o) n || (nat_eq n 3 && nat_eq (level_of o) 3)
 fits_by (expression Cond) n m = nat_le 3 n
-fits_by (expression Member) n m = nat_le 17 n && not m
-fits_by k n m = nat_le 17 n
+fits_by (expression Member) n m = nat_le 18 n && not m
+fits_by k n m = nat_le 18 n
 
 -- what these stand behind is a name that may be bound, or a member
 abbrev pub takes_target : Kind → Bool
@@ -114,6 +116,36 @@ takes_target (expression (OpAssign o)) = true
 takes_target (expression (PostfixUpdate o)) = true
 takes_target k = false
 
+-- ---- where an expression is read that is no sequence
+
+-- from a level on, or what `new` stands before
+pub data Rung : Type 0 where
+  rung : ℕ → Rung
+  callee : Rung
+
+abbrev pub is_rung : Rung → Bool
+is_rung (rung n) = is_level n
+is_rung callee = true
+
+abbrev pub seat : Rung → Nonterminal
+seat (rung n) = Expr n
+seat callee = NewCallee
+
+-- the level of what goes on with an expression there, as the grammar asks it of the place
+abbrev pub asked : Rung → ℕ
+asked (rung n) = n
+asked callee = 100
+
+-- and the least level of what stands there
+abbrev pub least : Rung → ℕ
+least (rung n) = n
+least callee = 17
+
+-- which kinds may stand there, if what they begin with may
+abbrev pub reaches : Rung → Kind → Bool
+reaches (rung n) k = nat_le n (level_of_kind k)
+reaches callee k = nat_le 17 (level_of_kind k) && not (calls k)
+
 -- behind a token, where the next one is an operator
 abbrev pub settled : Place → Bool
 settled (At q AfterExpr text) = not (same q [])
@@ -121,8 +153,10 @@ settled x = false
 
 -- ---- what an expression begins with that is neither a literal nor an element
 
+-- a kind that begins so
 abbrev pub opening_kind : opening_code.Opening → Kind
-opening_kind opening.ImportCall = expression ImportCall
+opening_kind opening.Import = expression ImportCall
+opening_kind opening.New = expression New
 opening_kind opening.Paren = expression Parenthesized
 opening_kind opening.Array = expression Array
 opening_kind opening.Object = expression Object
@@ -135,7 +169,7 @@ opening_sign k = lead (row_so_far k)
 
 -- these signs
 unfoldable pub opening_signs : List Sign
-opening_signs = key "import" ∷ key "delete" ∷ key "void" ∷ key "typeof" ∷ pun "+" ∷ pun "-" ∷ pun "~" ∷ pun "!" ∷ pun "++" ∷ pun "--" ∷ pun "(" ∷ pun "[" ∷ pun "{" ∷ []
+opening_signs = key "new" ∷ key "import" ∷ key "delete" ∷ key "void" ∷ key "typeof" ∷ pun "+" ∷ pun "-" ∷ pun "~" ∷ pun "!" ∷ pun "++" ∷ pun "--" ∷ pun "(" ∷ pun "[" ∷ pun "{" ∷ []
 
 -- none of them stands there
 pub record NoOpening (x : Place) : Type 0 where

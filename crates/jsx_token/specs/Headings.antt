@@ -3,7 +3,7 @@ use Rattle.std.specs.Prelude.{◌≡◌, ℕ, List, [], ◌∷◌, Bool, true, f
 use Rattle.std.specs.Str.{bytes_eq}
 use Rattle.jsx_base.specs.Token.{Text, same}
 use Rattle.jsx_tree.specs.Signs.{Sign}
-use Rattle.jsx_tree.specs.Kinds.{Block, Var, Empty, If, Do, While, For, Switch, Continue, Break, Throw, Debugger, Kind, statement, Try}
+use Rattle.jsx_tree.specs.Kinds.{Block, Var, Empty, If, Do, While, For, ForIn, ForOf, Switch, Continue, Break, Throw, Debugger, Kind, statement, Try}
 use Rattle.jsx_tree.specs.View.{word_of}
 use Rattle.jsx_tree.specs.Reading.{Place, Lost, forth}
 use Rattle.jsx_tree.specs.declared.text.DeclareWord as code
@@ -33,6 +33,12 @@ heading_kind heading.Break = statement Break
 heading_kind heading.Throw = statement Throw
 heading_kind heading.Try = statement Try
 heading_kind heading.Debugger = statement Debugger
+
+-- what it begins: `for` begins three kinds
+pub data Begins : Heading → Kind → Type 0 where
+  own : (h : Heading) → Begins h (heading_kind h)
+  over_keys : Begins heading.For (statement ForIn)
+  over_items : Begins heading.For (statement ForOf)
 
 -- the sign with which its row begins
 abbrev pub heading_sign : Heading → Sign

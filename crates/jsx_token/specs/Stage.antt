@@ -1,10 +1,11 @@
--- What of the language the compiler takes so far: a table over kinds, leaves and a few further limits. Widening the language widens this table.
+-- What of the language the compiler takes so far: a table over kinds and leaves. Widening the language widens this table.
 use Rattle.std.specs.Prelude.{List, [], ◌∷◌, codes, Bool, true, false, IsTrue, not, ◌&&◌}
 use Rattle.std.specs.Char.{is_ascii_alphabetic}
 use Rattle.jsx_base.specs.Token.{Text, TokenKind, IdentifierName, NumericLiteral, BigIntLiteral, StringLiteral, RegExpLiteral, JsxName, Elision, same, first_is}
 use Rattle.jsx_tree.specs.declared.text.Goal.TheVariants as goals
-use Rattle.jsx_tree.specs.Kinds.{Module, Directive, Block, Var, Declarator, Empty, ExprStmt, If, Do, While, Continue, Break, Throw, Debugger, Assign, OpAssign, Void, TypeOf, Positive, Negative, Complement, Not, Unary, Binary, Cond, Call, Member, Index, ImportCall, Parenthesized, Element, Kind, program, statement, expression, jsx, Tree, leaf, node, list, Forest, none, part, Delete, PrefixUpdate, PostfixUpdate, Seq, For, ForDeclaration, Switch, Case, Default, Array, Spread, Try, Catch, Object, Property, Shorthand, ComputedKey, function}
-use Rattle.jsx_tree.specs.Nonterminals.{Nonterminal, Expr, MemberObject, NullishLeft, Name, StringOnly, Pat, SimpleTarget, Argument, TagName, WholeProgram, DotObject, assigns, is_value_word, has_dash, ForInit, ArrayItem, Ident, Key}
+use Rattle.jsx_tree.specs.Kinds.{Module, Directive, Block, Var, Declarator, Empty, ExprStmt, If, Do, While, Continue, Break, Throw, Debugger, Assign, OpAssign, Void, TypeOf, Positive, Negative, Complement, Not, Unary, Binary, Cond, Call, Member, Index, ImportCall, Parenthesized, Element, Kind, program, statement, expression, jsx, Tree, leaf, node, list, Forest, none, part, Delete, PrefixUpdate, PostfixUpdate, Seq, For, ForDeclaration, Switch, Case, Default, Array, Spread, Try, Catch, Object, Property, Shorthand, ComputedKey, function, Label, New, NewWithoutArguments, NewTarget, ImportMeta, ForIn, ForOf, ForBinding}
+use Rattle.jsx_tree.specs.Nonterminals.{Nonterminal, Expr, MemberObject, NullishLeft, Name, StringOnly, Pat, SimpleTarget, Argument, TagName, WholeProgram, DotObject, assigns, is_value_word, has_dash, ForInit, ArrayItem, Ident, Key, NewCallee, ForHead, ForOfHead}
+use Rattle.jsx_tree.specs.StaticRules.{is_here}
 use Rattle.jsx_tree.specs.Form.{Position, position, positions}
 use Rattle.jsx_tree.specs.Program.{Reads}
 
@@ -21,11 +22,15 @@ has_kind (statement Do) = true
 has_kind (statement While) = true
 has_kind (statement For) = true
 has_kind (statement (ForDeclaration v)) = true
+has_kind (statement ForIn) = true
+has_kind (statement ForOf) = true
+has_kind (statement (ForBinding v)) = true
 has_kind (statement Switch) = true
 has_kind (statement Case) = true
 has_kind (statement Default) = true
 has_kind (statement Continue) = true
 has_kind (statement Break) = true
+has_kind (statement Label) = true
 has_kind (statement Throw) = true
 has_kind (statement Try) = true
 has_kind (statement Catch) = true
@@ -45,6 +50,10 @@ has_kind (expression (Unary Not)) = true
 has_kind (expression (PrefixUpdate o)) = true
 has_kind (expression (PostfixUpdate o)) = true
 has_kind (expression ImportCall) = true
+has_kind (expression ImportMeta) = true
+has_kind (expression New) = true
+has_kind (expression NewWithoutArguments) = true
+has_kind (expression NewTarget) = true
 has_kind (function ComputedKey) = true
 has_kind (expression Array) = true
 has_kind (expression Object) = true
@@ -91,27 +100,20 @@ leaf_at TagName JsxName t = is_plain_tag t
 leaf_at (Expr n) k t = value_leaf true k t
 leaf_at NullishLeft k t = value_leaf true k t
 leaf_at MemberObject k t = value_leaf true k t
+leaf_at NewCallee k t = value_leaf true k t
 leaf_at DotObject k t = value_leaf false k t
 leaf_at Argument k t = value_leaf true k t
 leaf_at ForInit k t = value_leaf true k t
+leaf_at ForHead IdentifierName t = true
+leaf_at ForOfHead IdentifierName t = true
 leaf_at ArrayItem Elision t = true
 leaf_at ArrayItem k t = value_leaf true k t
 leaf_at c k t = false
 
--- no jump has a label
-abbrev pub is_unlabelled : Forest → Bool
-is_unlabelled (part (list none) cs) = true
-is_unlabelled cs = false
-
-abbrev pub limits : Kind → Forest → Bool
-limits (statement Continue) cs = is_unlabelled cs
-limits (statement Break) cs = is_unlabelled cs
-limits k cs = true
-
 abbrev mutual
   pub in_stage : Nonterminal → Tree → Bool
   in_stage c (leaf k t) = leaf_at c k t
-  in_stage c (node k cs) = has_kind k && (limits k cs && in_stages (positions k) cs)
+  in_stage c (node k cs) = has_kind k && in_stages (positions k) cs
   in_stage c (list ts) = each_in_stage c ts
 
   pub in_stages : List Position → Forest → Bool

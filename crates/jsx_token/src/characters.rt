@@ -145,6 +145,14 @@ pub fn is_import(word: &str) -> bool
     word == "import"
 }
 
+/// Whether the word is `new`.
+#[inline]
+pub fn is_new(word: &str) -> bool
+    ensures { result ≡ same (chars word.now) (codes "new") }
+{
+    word == "new"
+}
+
 /// Whether the token is `=>`.
 #[inline]
 pub fn is_arrow(token: &str) -> bool

@@ -46,10 +46,22 @@ impl Growth {
             Growth::Assign => 1,
             Growth::OpAssign(_) => 1,
             Growth::Cond => 2,
-            Growth::Call => 17,
-            Growth::Member => 17,
-            Growth::Index => 17,
+            Growth::Call => 18,
+            Growth::Member => 18,
+            Growth::Index => 18,
             Growth::Update(_) => 16,
+        }
+    }
+
+    /// Whether it goes on with what `new` stands before: all that binds as tightly as a member does, but a call
+    /// (ECMA-262 section 13.3).
+    pub fn is_member(self) -> bool
+        ensures { result ≡ growths.reaches growths.callee (growths.growth_kind self) }
+    {
+        match self {
+            Growth::Member => true,
+            Growth::Index => true,
+            _ => false,
         }
     }
 

@@ -23,7 +23,7 @@ pub enum Heading {
     Do,
     /// `while (a) b;`
     While,
-    /// `for (a; b; c) d;`
+    /// `for (a; b; c) d;`, `for (a in b) c;`, `for (a of b) c;`
     For,
     /// `switch (a) { case b: c; }`
     Switch,

@@ -11,7 +11,7 @@ ghost use Rattle.jsx_token.specs.Stage.{has_kind};
 ghost use Rattle.jsx_lex.specs.Kinds.{is_punctuator, mode_of as mode_read, kind_of, spelling};
 ghost use Rattle.jsx_token.specs.declared.lexer.Fixed.TheVariants as fixed;
 ghost use Rattle.jsx_token.specs.Here.{Here, place_of, ending_of, left, sign_of, leaf_kind, leaf_sign};
-ghost use Rattle.jsx_token.specs.Growths.{NoOpening, growth_kind, is_level, level_of_kind, mark, opening_kind, opening_sign, OnLine, settled};
+ghost use Rattle.jsx_token.specs.Growths.{NoOpening, callee, growth_kind, is_level, level_of_kind, mark, opening_kind, opening_sign, reaches, OnLine, settled};
 ghost use Rattle.jsx_tree.specs.Walk.{is_found};
 ghost use Rattle.jsx_token.specs.CaseEnds.{ends_case};
 ghost use Rattle.jsx_token.specs.Headings.{NoHeading, heading_sign};
@@ -215,6 +215,19 @@ impl<'s> Lexer<'s> {
         }
     }
 
+    /// Another one that stands where this one does, to look further ahead.
+    pub fn fork(&self) -> Lexer<'s>
+        ensures { result ≡ self.now }
+    {
+        Lexer {
+            last: self.last,
+            ending: self.ending,
+            here: self.here,
+            seen: self.seen,
+            end: self.end,
+        }
+    }
+
     /// Reads the token that comes next in a mode, and keeps it.
     #[inline(always)]
     fn read(&mut self, mode: Mode) -> Option<Seen<'s>>
@@ -412,6 +425,30 @@ impl<'s> Lexer<'s> {
             return None;
         }
         if growth.is_late(seen.token.new_line) {
+            return None;
+        }
+        self.step(&seen);
+        Some(growth)
+    }
+
+    /// Takes the next token if it goes on with what `new` stands before.
+    pub fn member_growth(&mut self) -> Option<Growth>
+        ensures taken { IfSome result (λ g. place_of self.new ≡ forth (mark (growth_kind g)) (place_of self.old)) }
+        ensures takes { IfSome result (λ g. Takes (mark (growth_kind g)) self.old self.new) }
+        ensures on_line { IfSome result (λ g. OnLine (growth_kind g) (place_of self.old)) }
+        ensures ended { IfSome result (λ _. IsTrue (settled (place_of self.new))) }
+        ensures reaches { IfSome result (λ g. IsTrue (reaches callee (growth_kind g))) }
+        ensures shorter { IfSome result (λ g. left self.new < left self.old) }
+        ensures missing { IfNone result (goes_on_so_far (Some 100) AfterExpr (breaks self.old.rest) (next_token Operator self.old) ≡ false) }
+        ensures stays { IfNone result (self.new ≡ self.old) }
+    {
+        let Some(seen) = self.look(Mode::Operator) else {
+            return None;
+        };
+        let Some(growth) = growth_of(&seen.token) else {
+            return None;
+        };
+        if !growth.is_member() {
             return None;
         }
         self.step(&seen);

@@ -1,19 +1,21 @@
 //! What an expression begins with that is neither a name, a literal nor an element (ECMA-262 sections 13.2.4, 13.2.5,
-//! 13.2.9, 13.3.10, 13.4 and 13.5).
+//! 13.2.9, 13.3.5, 13.3.10, 13.3.12, 13.4 and 13.5).
 
 ghost use Rattle.std.specs.Prelude.{◌≡◌};
 ghost use Rattle.std.specs.Str.{chars};
 ghost use Rattle.jsx_token.specs.GrowthTokens.{opening_word, opening_by};
 
-use crate::characters::{is_delete, is_import, is_typeof, is_void};
+use crate::characters::{is_delete, is_import, is_new, is_typeof, is_void};
 use jsx_lex::{Token, TokenKind};
 use jsx_tree::{UnaryOp, UpdateOp};
 
 /// What an expression begins with that is neither a name, a literal nor an element.
 #[derive(Clone, Copy)]
 pub enum Opening {
-    /// `import(a)`
-    ImportCall,
+    /// `import(a)` or `import.meta`
+    Import,
+    /// `new a(b)`, `new a` or `new.target`
+    New,
     /// `(a)`
     Paren,
     /// `[a, b]`
@@ -37,10 +39,13 @@ fn word(raw: &str) -> Option<Opening>
         return Some(Opening::Unary(UnaryOp::TypeOf));
     }
     if is_import(raw) {
-        return Some(Opening::ImportCall);
+        return Some(Opening::Import);
     }
     if is_delete(raw) {
         return Some(Opening::Unary(UnaryOp::Delete));
+    }
+    if is_new(raw) {
+        return Some(Opening::New);
     }
     None
 }

@@ -1,13 +1,15 @@
-//! Reserved words that the grammar asks for.
+//! Words that the grammar asks for.
 
 ghost use Rattle.std.specs.Prelude.{◌≡◌};
 ghost use Rattle.std.specs.Str.{chars};
 ghost use Rattle.jsx_base.specs.Token.{same};
 ghost use Rattle.jsx_token.specs.WordTexts.{word_text};
 
-/// A word that begins a statement or stands in one.
+/// A word that begins a statement or stands in one, or in an expression.
 #[derive(Clone, Copy, Debug, PartialEq, Eq)]
 pub enum Word {
+    /// No reserved word.
+    Async,
     Break,
     Case,
     Catch,
@@ -20,8 +22,13 @@ pub enum Word {
     Finally,
     For,
     If,
+    In,
     Let,
+    Meta,
+    /// No reserved word.
+    Of,
     Switch,
+    Target,
     Throw,
     Try,
     Var,
@@ -35,6 +42,7 @@ impl Word {
         ensures { result.now ≡ word_text self }
     {
         match self {
+            Word::Async => "async",
             Word::Break => "break",
             Word::Case => "case",
             Word::Catch => "catch",
@@ -47,8 +55,12 @@ impl Word {
             Word::Finally => "finally",
             Word::For => "for",
             Word::If => "if",
+            Word::In => "in",
             Word::Let => "let",
+            Word::Meta => "meta",
+            Word::Of => "of",
             Word::Switch => "switch",
+            Word::Target => "target",
             Word::Throw => "throw",
             Word::Try => "try",
             Word::Var => "var",

@@ -3,11 +3,11 @@ use Rattle.std.proofs.Common.{◌≡◌, List, [], ◌∷◌, Bool, true, false,
 use Rattle.std.proofs.lemmas.Bool.{and_parts, and_from, false≢true}
 use Rattle.std.specs.Prelude.{◌&&◌}
 use Rattle.jsx_base.specs.Token.{Text, TokenKind, JsxName}
-use Rattle.jsx_tree.specs.Kinds.{BinaryOp, Nullish, Kind, program, statement, function, expression, jsx, Module, Directive, Block, Var, VarWord, LetWord, ConstWord, Declarator, Empty, ExprStmt, If, Do, While, Continue, Break, Throw, Debugger, Seq, Assign, OpAssign, Binary, Unary, Cond, ImportCall, Call, Member, Index, Parenthesized, ParenTarget, Element, Tree, leaf, node, list, Forest, none, part, PrefixUpdate, PostfixUpdate, For, ForDeclaration, Switch, Case, Default, Array, Spread, Try, Catch, Object, Property, Shorthand, ComputedKey}
+use Rattle.jsx_tree.specs.Kinds.{BinaryOp, Nullish, Kind, program, statement, function, expression, jsx, Module, Directive, Block, Var, VarWord, LetWord, ConstWord, Declarator, Empty, ExprStmt, If, Do, While, Continue, Break, Label, Throw, Debugger, Seq, Assign, OpAssign, Binary, Unary, Cond, ImportCall, Call, Member, Index, Parenthesized, ParenTarget, Element, Tree, leaf, node, list, Forest, none, part, PrefixUpdate, PostfixUpdate, For, ForDeclaration, Switch, Case, Default, Array, Spread, Try, Catch, Object, Property, Shorthand, ComputedKey, ImportMeta, New, NewWithoutArguments, NewTarget, ForIn, ForOf, ForBinding}
 use Rattle.jsx_tree.specs.Nonterminals.{Nonterminal, TagName, Attributes, WholeProgram, assigns, expr, in_homes, homes}
 use Rattle.jsx_tree.specs.Form.{Position, position, positions, shaped, last_only, admits, fits_below, fit_slots, fit_each, is}
 use Rattle.jsx_tree.specs.Sound.{each_node, each_nodes}
-use Rattle.jsx_token.specs.Stage.{has_kind, limits, leaf_at, in_stage, in_stages, each_in_stage, ReadsSoFar}
+use Rattle.jsx_token.specs.Stage.{has_kind, leaf_at, in_stage, in_stages, each_in_stage, ReadsSoFar}
 use Rattle.react_compile.specs.Lowering.{is_lowerable, can_lower, is_bare_target, has_bare_targets}
 
 -- no kind that is taken is a tag's name or an attribute
@@ -36,6 +36,11 @@ no_tag (statement If) h = record { name = refl; attribute = refl }
 no_tag (statement Do) h = record { name = refl; attribute = refl }
 no_tag (statement While) h = record { name = refl; attribute = refl }
 no_tag (statement For) h = record { name = refl; attribute = refl }
+no_tag (statement ForIn) h = record { name = refl; attribute = refl }
+no_tag (statement ForOf) h = record { name = refl; attribute = refl }
+no_tag (statement (ForBinding VarWord)) h = record { name = refl; attribute = refl }
+no_tag (statement (ForBinding LetWord)) h = record { name = refl; attribute = refl }
+no_tag (statement (ForBinding ConstWord)) h = record { name = refl; attribute = refl }
 no_tag (statement Switch) h = record { name = refl; attribute = refl }
 no_tag (statement Case) h = record { name = refl; attribute = refl }
 no_tag (statement Default) h = record { name = refl; attribute = refl }
@@ -44,6 +49,7 @@ no_tag (statement (ForDeclaration LetWord)) h = record { name = refl; attribute 
 no_tag (statement (ForDeclaration ConstWord)) h = record { name = refl; attribute = refl }
 no_tag (statement Continue) h = record { name = refl; attribute = refl }
 no_tag (statement Break) h = record { name = refl; attribute = refl }
+no_tag (statement Label) h = record { name = refl; attribute = refl }
 no_tag (statement Throw) h = record { name = refl; attribute = refl }
 no_tag (statement Try) h = record { name = refl; attribute = refl }
 no_tag (statement Catch) h = record { name = refl; attribute = refl }
@@ -59,6 +65,10 @@ no_tag (expression (Unary o)) h = record { name = refl; attribute = refl }
 no_tag (expression (PrefixUpdate o)) h = record { name = refl; attribute = refl }
 no_tag (expression (PostfixUpdate o)) h = record { name = refl; attribute = refl }
 no_tag (expression ImportCall) h = record { name = refl; attribute = refl }
+no_tag (expression ImportMeta) h = record { name = refl; attribute = refl }
+no_tag (expression New) h = record { name = refl; attribute = refl }
+no_tag (expression NewWithoutArguments) h = record { name = refl; attribute = refl }
+no_tag (expression NewTarget) h = record { name = refl; attribute = refl }
 no_tag (expression Parenthesized) h = record { name = refl; attribute = refl }
 no_tag (expression Array) h = record { name = refl; attribute = refl }
 no_tag (expression Object) h = record { name = refl; attribute = refl }
@@ -110,9 +120,8 @@ mutual
   staged_pass p h c (leaf k x) f s = refl
   staged_pass p h c (list ts) f s = each_pass p h c ts f s
   staged_pass p h c (node k cs) f s =
-      let a = and_parts (has_kind k) (limits k cs && in_stages (positions k) cs) s in
-      let b = and_parts (limits k cs) (in_stages (positions k) cs) a.1 in
-      and_from _ _ (h.on k cs a.0 f b.1) (slots_pass p h (positions k) cs f b.1)
+      let a = and_parts (has_kind k) (in_stages (positions k) cs) s in
+      and_from _ _ (h.on k cs a.0 f a.1) (slots_pass p h (positions k) cs f a.1)
 
   slots_pass : (p : Kind → Forest → Bool) → Passes p → (ss : List Position) (cs : Forest) → fit_slots ss cs ≡ true → in_stages ss cs ≡ true → each_nodes p cs ≡ true
   slots_pass p h ss none f s = refl

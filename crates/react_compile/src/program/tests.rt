@@ -118,6 +118,14 @@ fn code_of_sources(rt: HostRuntime) -> Result<(), Fail> {
             "import('a')['b'](void 0x1f,10n,this,null,!0);",
             "import('a')['b'](void 0x1f, 10n, this, null, !0);\n",
         ),
+        (
+            "x=new a;new a.b(c,<d/>).e;new(f())();new new g()(h);import.meta.url",
+            "x = new a();\nnew a.b(c, /*#__PURE__*/ React.createElement(\"d\", null)).e;\nnew (f())();\nnew new g()(h);\nimport.meta.url;\n",
+        ),
+        (
+            "(new a).b;(new a)();new(a)(b);new(a.b());-new a",
+            "new a().b;\nnew a()();\nnew a(b);\nnew (a.b())();\n-new a();\n",
+        ),
         ("x = a / b / /[/]\\/c/g", "x = a / b / /[/]\\/c/g;\n"),
         ("1.5;0x1;null;f(this);", "1.5;\n0x1;\nnull;\nf(this);\n"),
         ("a=b=c in d instanceof e;", "a = b = c in d instanceof e;\n"),
@@ -139,8 +147,16 @@ fn code_of_sources(rt: HostRuntime) -> Result<(), Fail> {
             "for (let i = 0, n = /*#__PURE__*/ React.createElement(\"a\", null); i < n; i += 1) f(i);\nfor (;;) break;\nfor ((a in b);;) ;\n",
         ),
         (
+            "for(const a of[<b/>])f(a);for(a.b in c,<d/>){}for(var e of(f,g))for(h[0]in i in j);",
+            "for (const a of [/*#__PURE__*/ React.createElement(\"b\", null)]) f(a);\nfor (a.b in c, /*#__PURE__*/ React.createElement(\"d\", null)) {}\nfor (var e of (f, g)) for (h[0] in i in j) ;\n",
+        ),
+        (
             "switch(a){case 1:f(<b/>);break\ndefault:}",
             "switch (a) {\n    case 1:\n        f(/*#__PURE__*/ React.createElement(\"b\", null));\n        break;\n    default:\n}\n",
+        ),
+        (
+            "a:b:while(c){continue a;d:{f(<b/>);break d}}e:g",
+            "a: b: while (c) {\n    continue a;\n    d: {\n        f(/*#__PURE__*/ React.createElement(\"b\", null));\n        break d;\n    }\n}\ne: g;\n",
         ),
         (
             "try{f(<a/>)}catch(e){}try{}catch{}try{}finally{g()}try{}catch(h){}finally{}",
@@ -229,6 +245,10 @@ fn sources_that_do_not_read(rt: HostRuntime) -> Result<(), Fail> {
         b"x = {__proto__: a, __proto__: b};",
         b"x = {a() {}};",
         b"x = {a = 1};",
+        b"new import(a);",
+        b"new.target;",
+        b"new a = b;",
+        b"import.metas;",
         b"delete a;",
         b"delete (a);",
         b"const a;",

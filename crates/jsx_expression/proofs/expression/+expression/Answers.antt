@@ -3,41 +3,43 @@ use Rattle.std.specs.Prelude.{codes}
 use Rattle.std.specs.Str.{chars}
 use Rattle.jsx_base.specs.Token.{Operator, Punctuator, IdentifierName}
 use Rattle.jsx_tree.specs.Kinds.{Assigns, Assign, expression, node, none, part, Tree}
-use Rattle.jsx_tree.specs.Nonterminals.{Expr}
+use Rattle.jsx_tree.specs.Nonterminals.{Expr, NewCallee}
 use Rattle.jsx_tree.specs.Signs.{Tok}
-use Rattle.jsx_tree.specs.Grammar.{Commas, Elisions, Part, pun}
+use Rattle.jsx_tree.specs.Grammar.{Commas, Elisions, Part, key, pun}
 use Rattle.jsx_tree.specs.View.{forest, inside, view_expr}
 use Rattle.jsx_make.specs.Members.{view_prop}
 use Rattle.jsx_tree.specs.Told.{tales, told_expr, told_node, told_prop}
 use Rattle.jsx_tree.specs.Reading.{Place, forth}
 use Rattle.jsx_tree.specs.StaticRules.{Surroundings, at_most, is_proto}
 use Rattle.jsx_tree.specs.Walk.{one, tail}
-use Rattle.jsx_tree.specs.Answers.{Only, NoRow, NoNode, BuiltNode}
+use Rattle.jsx_tree.specs.Answers.{Only, NoRow, NoNode, Built, BuiltNode}
+use Rattle.jsx_expression.specs.Openings.{OnlyOpened, NoneOpened}
 use Rattle.jsx_expression.specs.SoFar.{so_far}
 use Rattle.jsx_token.specs.Marks.{row_so_far}
 use Rattle.jsx_expression.specs.Around.{around_of}
 use Rattle.jsx_token.specs.Here.{place_of, left}
 use Rattle.jsx_make.specs.NodeSpans.{expr_at}
-use Rattle.jsx_token.specs.Growths.{NoOpening, growth_kind, opening_kind, is_level, settled}
-use Rattle.jsx_expression.specs.Climbing.{fits, is_target, level, deletes_name}
+use Rattle.jsx_token.specs.Growths.{NoOpening, callee, rung, growth_kind, opening_kind, opening_sign, is_level, settled}
+use Rattle.jsx_expression.specs.Climbing.{fits, is_target, level, deletes_name, rises}
 use Rattle.jsx_tree.specs.ViewOperators.{assign_of, binary_of, unary_of, step_of}
-use Rattle.jsx_expression.specs.Spans.{IsPlacedListAs, Spans}
-use Rattle.jsx_token.specs.Places.{Takes, end_of, next_of}
+use Rattle.jsx_expression.specs.Spans.{IsPlacedBehind, IsPlacedListAs, Spans}
+use Rattle.jsx_token.specs.Places.{Takes, begin_of, end_of, next_of}
 use Rattle.jsx_expression.proofs.OfSoFar.{of_so_far}
-use Rattle.jsx_tree.proofs.Rows.Steps.{both, bar, no_sign, on, only_sign, built_1, built_2, built_3}
+use Rattle.jsx_tree.proofs.Rows.Steps.{bar, no_sign, on, only_sign, built_1, built_2, built_3}
 use Rattle.jsx_tree.proofs.Rows.Lists.{begun, ended, ended_behind, no_more, not_closed, item_more, round}
 use Rattle.jsx_expression.proofs.Values.{settled_token, sign_ended}
 use Rattle.jsx_expression.proofs.Operators.{binary_built, binary_none, unary_none, mark_is, right_is_level}
-use Rattle.jsx_token.proofs.Levels.{growth_listed, growth_grows}
+use Rattle.jsx_token.proofs.Levels.{growth_listed, growth_grows, is_ruled}
 use Rattle.jsx_expression.proofs.Climbing.{climb_only, climb_on, climb_barred, climb_unfit}
 use Rattle.jsx_tree.proofs.Rows.Placing.{no_node}
-use Rattle.jsx_expression.proofs.Openings.{kept_behind, signed_follows, unread_opening}
+use Rattle.jsx_expression.proofs.Openings.{is_shared, kept_behind, signed_follows, sole_none, sole_opened, unread_opening}
+use Rattle.jsx_expression.proofs.Shared.{arguments_unread, callee_unread, import_called, import_uncalled, meta_opened, meta_outside, meta_unread, target_opened, target_outside, target_unread, with_opened, without_opened}
 use Rattle.jsx_expression.proofs.Deleting.{no_deleted, unary_node}
 use Rattle.jsx_token.specs.declared.opening.Opening.{Opening}
 use Rattle.jsx_token.specs.declared.opening.Opening.TheVariants as opening
 use Rattle.jsx_expression.proofs.Targets.{only_target, no_target, unfit_target}
 use Rattle.std.proofs.lemmas.Bool.{le-leb, lt-leb}
-use Rattle.jsx_token.proofs.TakingOpenings.{opening_listed, opening_opens}
+use Rattle.jsx_token.proofs.TakingOpenings.{opening_listed, opening_opens, opening_staged}
 use Rattle.jsx_token.proofs.TakingGrowths.{ended as stopped}
 use Rattle.jsx_expression.proofs.Places.{spans_from}
 use Rattle.jsx_expression.proofs.Steps.{passed}
@@ -54,7 +56,8 @@ use Rattle.jsx_expression.proofs.Protos.{object_node, two_protos, not_false}
 use Rattle.jsx_expression.proofs.Trees.{pushed, pushed_as}
 use Rattle.jsx_expression.proofs.Sequences.{Listing, whole_only, whole_barred, listing_one, listing_more, sequence_only, sequence_barred}
 use Rattle.jsx_expression.proofs.Placing.{PlacedFront, plain_commas, plain_elisions, plain_two, hole_item, laid_more, laid_last, takes_from, row_end, row_quiet, row_sign, row_list, list_none, front_none, front_more, front_last, list_to, map_pushed, placed_as, placed_from, placed_to}
-use Rattle.jsx_expression.proofs.PlacedExpressions.{led_more, sequence_row, no_trailing, takes_trailing, call_row, index_row, conditional_row, binary_row, assign_row, op_assign_row, unary_row, update_row, import_row, array_row, spread_row, name_placed, object_row, computed_row, property_row, shorthand_row}
+use Rattle.jsx_expression.proofs.PlacedExpressions.{led_more, sequence_row, no_trailing, takes_trailing, call_row, index_row, conditional_row, binary_row, assign_row, op_assign_row, unary_row, update_row, import_row, meta_row, target_row, new_row, new_alone_row, array_row, spread_row, name_placed, object_row, computed_row, property_row, shorthand_row}
+use Rattle.jsx_expression.proofs.Gatherings.{gathered_all, gathered_alone, gathered_none, gathers_more, gathers_one}
 use Rattle.jsx_expression.proofs.expression.+expression.Goals as goal
 
 pub arguments-arguments-init : goal.arguments-arguments-init
@@ -184,7 +187,7 @@ binary-returns-clause-placed t c = record {
 
 pub expression-steps-init : goal.expression-steps-init
 expression-steps-init t c = record {
-  so_far = c.in_ok-expr.ensures.read.on c.args.level c.requires (ap (λ e. nat_le c.args.level (level (view_expr e))) (sym c.deref.ensures) ∙ le-leb c.args.level (level (view_expr c.deref.result.now)) (omega (arith, c.level.ensures, c.if-level.false)));
+  so_far = c.in_ok-expr.ensures.read.on (rung c.args.level) c.requires (ap (λ e. nat_le c.args.level (level (view_expr e))) (sym c.deref.ensures) ∙ le-leb c.args.level (level (view_expr c.deref.result.now)) (omega (arith, c.level.ensures, c.if-level.false)));
   span = c.in_ok-expr.ensures.span;
   placed = c.in_ok-expr.ensures.placed;
   within = c.in_ok-expr.ensures.shorter;
@@ -192,16 +195,16 @@ expression-steps-init t c = record {
 
 pub expression-returns-then-level-clause-refused : goal.expression-returns-then-level-clause-refused
 expression-returns-then-level-clause-refused t c = record {
-  bars = λ _ _. c.in_ok-expr.ensures.read.low c.args.level c.requires (ap (λ e. nat_le c.args.level (level (view_expr e))) (sym c.deref.ensures) ∙ lt-leb c.args.level (level (view_expr c.deref.result.now)) (omega (arith, c.level.ensures, c.if-level.true)));
+  bars = λ _ _. c.in_ok-expr.ensures.read.low (rung c.args.level) c.requires (ap (λ e. nat_le c.args.level (level (view_expr e))) (sym c.deref.ensures) ∙ lt-leb c.args.level (level (view_expr c.deref.result.now)) (omega (arith, c.level.ensures, c.if-level.true)));
 }
 
 pub expression-returns-in_err-expr-clause-refused : goal.expression-returns-in_err-expr-clause-refused
-expression-returns-in_err-expr-clause-refused t c = passed _ c.in_err-expr.ensures.refused c.from_residual.ensures.1 (λ n. n.on c.args.level c.requires)
+expression-returns-in_err-expr-clause-refused t c = passed _ c.in_err-expr.ensures.refused c.from_residual.ensures.1 (λ n. n.on (rung c.args.level) c.requires)
 
 pub expression-returns-in_default-clause-read : goal.expression-returns-in_default-clause-read
 expression-returns-in_default-clause-read t c =
     subst (λ p. Only so_far (around_of c.args.context.around) (Part (Expr c.args.level)) (place_of c.args.lexer.now) (one (view_expr c.steps.expr.value)) p) (sym (ap place_of c.in_default.ensures.stays))
-    (climb_only c.requires c.steps.invariant.so_far (stopped c.args.level c.steps.lexer c.steps.invariant.so_far.ended c.in_default.ensures.missing))
+    (climb_only (rung c.args.level) c.requires c.steps.invariant.so_far (stopped (rung c.args.level) c.steps.lexer c.steps.invariant.so_far.ended c.in_default.ensures.missing))
 
 pub expression-returns-in_default-clause-span : goal.expression-returns-in_default-clause-span
 expression-returns-in_default-clause-span t c = spans_from c.steps.invariant.span refl refl (sym (ap end_of c.in_default.ensures.stays))
@@ -216,20 +219,20 @@ pub expression-returns-then-not-fits-clause-refused : goal.expression-returns-th
 expression-returns-then-not-fits-clause-refused t c = record {
   bars = λ _ _.
       let g = c.in-Some.growth in
-      climb_unfit (growth_kind g) c.requires (growth_listed g) (growth_grows g) c.steps.invariant.so_far c.in-Some.ensures.on_line (record { is = c.in-Some.ensures.taken; found = refl }) c.in-Some.ensures.reaches
+      climb_unfit (rung c.args.level) (growth_kind g) c.requires (growth_listed g) (growth_grows g) c.steps.invariant.so_far c.in-Some.ensures.on_line (record { is = c.in-Some.ensures.taken; found = refl }) c.in-Some.ensures.reaches
       (ap (λ e. fits (growth_kind g) (view_expr e)) (sym c.deref-in-steps.ensures) ∙ (sym c.fits.ensures ∙ c.if-not-fits.true));
 }
 
 pub expression-returns-in_err-expr-2-clause-refused : goal.expression-returns-in_err-expr-2-clause-refused
 expression-returns-in_err-expr-2-clause-refused t c =
     let g = c.in-Some.growth in
-    passed _ c.in_err-expr-2.ensures.refused c.from_residual-in_err-expr-2.ensures.1 (λ n. climb_barred (growth_kind g) c.requires (growth_listed g) (growth_grows g) c.steps.invariant.so_far c.in-Some.ensures.on_line (record { is = c.in-Some.ensures.taken; found = refl }) c.in-Some.ensures.reaches n)
+    passed _ c.in_err-expr-2.ensures.refused c.from_residual-in_err-expr-2.ensures.1 (λ n. climb_barred (rung c.args.level) (growth_kind g) c.requires (growth_listed g) (growth_grows g) c.steps.invariant.so_far c.in-Some.ensures.on_line (record { is = c.in-Some.ensures.taken; found = refl }) c.in-Some.ensures.reaches n)
 
 pub expression-steps-preserved : goal.expression-steps-preserved
 expression-steps-preserved t c =
     let g = c.in-Some.growth in
     record {
-      so_far = climb_on (growth_kind g) c.requires (growth_listed g) (growth_grows g) c.steps.invariant.so_far c.in-Some.ensures.on_line (record { is = c.in-Some.ensures.taken; found = refl }) c.in-Some.ensures.reaches
+      so_far = climb_on (rung c.args.level) (growth_kind g) c.requires (growth_listed g) (growth_grows g) c.steps.invariant.so_far c.in-Some.ensures.on_line (record { is = c.in-Some.ensures.taken; found = refl }) c.in-Some.ensures.reaches
           (ap (λ e. fits (growth_kind g) (view_expr e)) (sym c.deref-in-steps.ensures) ∙ (sym c.fits.ensures ∙ c.if-not-fits.false)) c.in_ok-expr-2.ensures.read c.in_ok-expr-2.ensures.ended;
       span = c.in_ok-expr-2.ensures.span.on _ _ c.steps.invariant.span;
       placed = c.in_ok-expr-2.ensures.placed.on _ _ c.steps.invariant.span c.steps.invariant.placed c.in-Some.ensures.takes;
@@ -275,34 +278,58 @@ import_call-returns-clause-placed t c = record {
       placed_as c.in_ok-import_call.ensures.told c.in_ok-import_call.ensures.view (import_row sign c.in_ok-expect.ensures.takes c.in_ok-source.ensures.placed c.in_ok-expect-2.ensures.takes (spans_from c.span_to.ensures refl (c.last_place-lo.ensures ∙ begins) refl));
 }
 
--- what begins so is the node of what was found, and where that is none, nothing
-opened_node : {v : Surroundings} {x y : Place} {t : Tree} (g h : Opening) → g ≡ h → BuiltNode so_far v (tail (row_so_far (opening_kind h))) (opening_kind h) t x y → BuiltNode so_far v (tail (row_so_far (opening_kind g))) (opening_kind g) t x y
-opened_node {v} {x} {y} {t} g h e b = subst (λ o. BuiltNode so_far v (tail (row_so_far (opening_kind o))) (opening_kind o) t x y) (sym e) b
+-- what begins with the sign of what was found
+opened_as : {v : Surroundings} {x y : Place} {t : Tree} (g h : Opening) → g ≡ h → OnlyOpened v (opening_sign (opening_kind h)) t x y → OnlyOpened v (opening_sign (opening_kind g)) t x y
+opened_as {v} {x} {y} {t} g h e b = subst (λ o. OnlyOpened v (opening_sign (opening_kind o)) t x y) (sym e) b
 
-opened_none : {v : Surroundings} {x : Place} (g h : Opening) → g ≡ h → NoRow so_far v (tail (row_so_far (opening_kind h))) x → NoNode so_far v (tail (row_so_far (opening_kind g))) (opening_kind g) x
-opened_none {v} {x} g h e n = subst (λ o. NoNode so_far v (tail (row_so_far (opening_kind o))) (opening_kind o) x) (sym e) (no_node n)
+none_as : {v : Surroundings} {x : Place} (g h : Opening) → g ≡ h → NoneOpened v (opening_sign (opening_kind h)) x → NoneOpened v (opening_sign (opening_kind g)) x
+none_as {v} {x} g h e n = subst (λ o. NoneOpened v (opening_sign (opening_kind o)) x) (sym e) n
 
-pub open-returns-in_ok-import_call-in-ImportCall-clause-read : goal.open-returns-in_ok-import_call-in-ImportCall-clause-read
-open-returns-in_ok-import_call-in-ImportCall-clause-read t c =
-    opened_node c.args.opening opening.ImportCall c.in-ImportCall.is (kept_behind (opening_kind opening.ImportCall) (opening_listed opening.ImportCall refl) refl refl c.in_ok-import_call-in-ImportCall.ensures.read)
+-- where one kind alone begins so
+sole_as : {v : Surroundings} {x y : Place} {t : Tree} (g h : Opening) → g ≡ h → is_shared (opening_kind h) ≡ false → BuiltNode so_far v (tail (row_so_far (opening_kind h))) (opening_kind h) t x y → OnlyOpened v (opening_sign (opening_kind g)) t x y
+sole_as g h e n b = opened_as g h e (sole_opened (opening_kind h) (opening_listed h (opening_staged h)) (opening_opens h) n b)
 
-pub open-returns-in_err-import_call-in-ImportCall-clause-refused : goal.open-returns-in_err-import_call-in-ImportCall-clause-refused
-open-returns-in_err-import_call-in-ImportCall-clause-refused t c = passed _ c.in_err-import_call-in-ImportCall.ensures.refused c.from_residual.ensures.1 (λ n. opened_none c.args.opening opening.ImportCall c.in-ImportCall.is n)
+no_sole_as : {v : Surroundings} {x : Place} (g h : Opening) → g ≡ h → is_shared (opening_kind h) ≡ false → NoNode so_far v (tail (row_so_far (opening_kind h))) (opening_kind h) x → NoneOpened v (opening_sign (opening_kind g)) x
+no_sole_as g h e n b = none_as g h e (sole_none (opening_kind h) (opening_listed h (opening_staged h)) (opening_opens h) n b)
+
+kept_opening : {v : Surroundings} {x y : Place} {t : Tree} (g : Opening) → is_ruled (opening_kind g) ≡ false → Built so_far v (tail (row_so_far (opening_kind g))) (opening_kind g) (λ ts. ts) t x y → BuiltNode so_far v (tail (row_so_far (opening_kind g))) (opening_kind g) t x y
+kept_opening g n b = kept_behind (opening_kind g) (opening_listed g (opening_staged g)) (opening_opens g) n b
+
+pub open-returns-in_ok-import-in-Import-clause-read : goal.open-returns-in_ok-import-in-Import-clause-read
+open-returns-in_ok-import-in-Import-clause-read t c = opened_as c.args.opening opening.Import c.in-Import.is c.in_ok-import-in-Import.ensures.read
+
+pub open-returns-in_err-import-in-Import-clause-refused : goal.open-returns-in_err-import-in-Import-clause-refused
+open-returns-in_err-import-in-Import-clause-refused t c = passed _ c.in_err-import-in-Import.ensures.refused c.from_residual.ensures.1 (λ n. none_as c.args.opening opening.Import c.in-Import.is n)
+
+pub open-returns-in_ok-new_expression-in-New-clause-read : goal.open-returns-in_ok-new_expression-in-New-clause-read
+open-returns-in_ok-new_expression-in-New-clause-read t c = opened_as c.args.opening opening.New c.in-New.is c.in_ok-new_expression-in-New.ensures.read
+
+pub open-returns-in_err-new_expression-in-New-clause-refused : goal.open-returns-in_err-new_expression-in-New-clause-refused
+open-returns-in_err-new_expression-in-New-clause-refused t c = passed _ c.in_err-new_expression-in-New.ensures.refused c.from_residual-in_err-new_expression-in-New.ensures.1 (λ n. none_as c.args.opening opening.New c.in-New.is n)
 
 pub open-returns-in_ok-parenthesized-in-Paren-clause-read : goal.open-returns-in_ok-parenthesized-in-Paren-clause-read
-open-returns-in_ok-parenthesized-in-Paren-clause-read t c =
-    opened_node c.args.opening opening.Paren c.in-Paren.is (kept_behind (opening_kind opening.Paren) (opening_listed opening.Paren refl) refl refl c.in_ok-parenthesized-in-Paren.ensures.read)
+open-returns-in_ok-parenthesized-in-Paren-clause-read t c = sole_as c.args.opening opening.Paren c.in-Paren.is refl (kept_opening opening.Paren refl c.in_ok-parenthesized-in-Paren.ensures.read)
 
 pub open-returns-in_err-parenthesized-in-Paren-clause-refused : goal.open-returns-in_err-parenthesized-in-Paren-clause-refused
-open-returns-in_err-parenthesized-in-Paren-clause-refused t c = passed _ c.in_err-parenthesized-in-Paren.ensures.refused c.from_residual-in_err-parenthesized-in-Paren.ensures.1 (λ n. opened_none c.args.opening opening.Paren c.in-Paren.is n)
+open-returns-in_err-parenthesized-in-Paren-clause-refused t c = passed _ c.in_err-parenthesized-in-Paren.ensures.refused c.from_residual-in_err-parenthesized-in-Paren.ensures.1 (λ n. no_sole_as c.args.opening opening.Paren c.in-Paren.is refl (no_node n))
+
+pub open-returns-in_ok-unary-in-Unary-clause-read : goal.open-returns-in_ok-unary-in-Unary-clause-read
+open-returns-in_ok-unary-in-Unary-clause-read t c = sole_as c.args.opening (opening.Unary c.in-Unary.operator) c.in-Unary.is refl c.in_ok-unary-in-Unary.ensures.read
+
+pub open-returns-in_err-unary-in-Unary-clause-refused : goal.open-returns-in_err-unary-in-Unary-clause-refused
+open-returns-in_err-unary-in-Unary-clause-refused t c = passed _ c.in_err-unary-in-Unary.ensures.refused c.from_residual-in_err-unary-in-Unary.ensures.1 (λ n. no_sole_as c.args.opening (opening.Unary c.in-Unary.operator) c.in-Unary.is refl n)
+
+pub open-returns-in_ok-object-in-Object-clause-read : goal.open-returns-in_ok-object-in-Object-clause-read
+open-returns-in_ok-object-in-Object-clause-read t c = sole_as c.args.opening opening.Object c.in-Object.is refl c.in_ok-object-in-Object.ensures.read
+
+pub open-returns-in_err-object-in-Object-clause-refused : goal.open-returns-in_err-object-in-Object-clause-refused
+open-returns-in_err-object-in-Object-clause-refused t c = passed _ c.in_err-object-in-Object.ensures.refused c.from_residual-in_err-object-in-Object.ensures.1 (λ n. no_sole_as c.args.opening opening.Object c.in-Object.is refl n)
 
 pub open-returns-in_ok-prefix_update-in-Update-clause-read : goal.open-returns-in_ok-prefix_update-in-Update-clause-read
-open-returns-in_ok-prefix_update-in-Update-clause-read t c =
-    let g = opening.Update c.in-Update.operator in
-    opened_node c.args.opening g c.in-Update.is (kept_behind (opening_kind g) (opening_listed g refl) (opening_opens g) refl c.in_ok-prefix_update-in-Update.ensures.read)
+open-returns-in_ok-prefix_update-in-Update-clause-read t c = let g = opening.Update c.in-Update.operator in sole_as c.args.opening g c.in-Update.is refl (kept_opening g refl c.in_ok-prefix_update-in-Update.ensures.read)
 
 pub open-returns-in_err-prefix_update-in-Update-clause-refused : goal.open-returns-in_err-prefix_update-in-Update-clause-refused
-open-returns-in_err-prefix_update-in-Update-clause-refused t c = passed _ c.in_err-prefix_update-in-Update.ensures.refused c.from_residual-in_err-prefix_update-in-Update.ensures.1 (λ n. opened_none c.args.opening (opening.Update c.in-Update.operator) c.in-Update.is n)
+open-returns-in_err-prefix_update-in-Update-clause-refused t c = passed _ c.in_err-prefix_update-in-Update.ensures.refused c.from_residual-in_err-prefix_update-in-Update.ensures.1 (λ n. no_sole_as c.args.opening (opening.Update c.in-Update.operator) c.in-Update.is refl (no_node n))
 
 pub beginning-primary-requires : goal.beginning-primary-requires
 beginning-primary-requires t c = subst (λ h. NoOpening (place_of h)) (sym c.in_default.ensures.stays) c.in_default.ensures.missing
@@ -349,6 +376,148 @@ operator_assignment-returns-clause-placed t c = record {
   on = λ w z s l sign.
       placed_as c.in_ok-op_assign.ensures.told c.in_ok-op_assign.ensures.view (op_assign_row (assign_of c.args.operator) l sign c.in_ok-value.ensures.placed
       (spans_from c.span_to-span.ensures refl (c.start_of.ensures.on _ _ (subst (λ e. Spans (expr_at e) (next_of w) (end_of z)) (sym c.deref.ensures) s)) refl));
+}
+
+-- what begins with `import`
+
+pub import-returns-in_err-import_call-clause-refused : goal.import-returns-in_err-import_call-clause-refused
+import-returns-in_err-import_call-clause-refused t c = passed _ c.in_err-import_call.ensures.refused c.from_residual.ensures.1
+    (λ n. import_uncalled (record { same = sym (ap place_of (c.take.ensures.stays c.if-not-take.true)); stuck = record { is = c.take.ensures.missing c.if-not-take.true } }) n)
+
+pub import-returns-then-not-take-clause-read : goal.import-returns-then-not-take-clause-read
+import-returns-then-not-take-clause-read t c = import_called (record { same = sym (ap place_of (c.take.ensures.stays c.if-not-take.true)); stuck = record { is = c.take.ensures.missing c.if-not-take.true } }) c.in_ok-import_call.ensures.read
+
+pub import-returns-then-not-take-clause-span : goal.import-returns-then-not-take-clause-span
+import-returns-then-not-take-clause-span t c = spans_from c.in_ok-import_call.ensures.span refl (ap begin_of (c.take.ensures.stays c.if-not-take.true)) refl
+
+pub import-returns-then-not-take-clause-placed : goal.import-returns-then-not-take-clause-placed
+import-returns-then-not-take-clause-placed t c = subst (λ h. IsPlacedBehind (key "import") h (told_expr c.in_ok-import_call.field-0.value) (view_expr c.in_ok-import_call.field-0.value) c.import_call.new.lexer) (c.take.ensures.stays c.if-not-take.true) c.in_ok-import_call.ensures.placed
+
+pub import-returns-in_err-expect-clause-refused : goal.import-returns-in_err-expect-clause-refused
+import-returns-in_err-expect-clause-refused t c = passed _ c.in_err-expect.ensures.refused c.from_residual-in_err-expect.ensures.1 (λ b. meta_unread (record { is = c.take.ensures.taken c.if-not-take.false; found = refl }) b)
+
+pub import-returns-then-not-context-clause-refused : goal.import-returns-then-not-context-clause-refused
+import-returns-then-not-context-clause-refused t c = record { bars = λ _ _. meta_outside c.if-not-context.true (record { is = c.take.ensures.taken c.if-not-take.false; found = refl }) }
+
+pub import-returns-clause-read : goal.import-returns-clause-read
+import-returns-clause-read t c = meta_opened c.if-not-context.false (record { is = c.take.ensures.taken c.if-not-take.false; found = refl }) c.in_ok-expect.ensures.read refl c.in_ok-constant.ensures.view
+
+pub import-returns-clause-ended : goal.import-returns-clause-ended
+import-returns-clause-ended t c = sign_ended c.in_ok-expect.ensures.read.past
+
+pub import-returns-clause-placed : goal.import-returns-clause-placed
+import-returns-clause-placed t c = record {
+  on = λ w sign begins. placed_as c.in_ok-constant.ensures.told c.in_ok-constant.ensures.view (meta_row sign (c.take.ensures.takes c.if-not-take.false) c.in_ok-expect.ensures.takes (spans_from c.span_to.ensures refl (c.last_place-lo.ensures ∙ begins) refl));
+}
+
+-- what `new` stands before
+
+pub callee-members-init : goal.callee-members-init
+callee-members-init t c = record {
+  so_far = c.in_ok-expr.ensures.read.on callee refl (ap (λ e. rises callee (view_expr e)) (sym c.deref.ensures) ∙ (sym c.is_callee.ensures ∙ c.if-not-is_callee.false));
+  span = c.in_ok-expr.ensures.span;
+  placed = c.in_ok-expr.ensures.placed;
+  within = c.in_ok-expr.ensures.shorter;
+}
+
+pub callee-returns-then-not-is_callee-clause-refused : goal.callee-returns-then-not-is_callee-clause-refused
+callee-returns-then-not-is_callee-clause-refused t c = record {
+  bars = λ _ _. c.in_ok-expr.ensures.read.low callee refl (ap (λ e. rises callee (view_expr e)) (sym c.deref.ensures) ∙ (sym c.is_callee.ensures ∙ c.if-not-is_callee.true));
+}
+
+pub callee-returns-in_err-expr-clause-refused : goal.callee-returns-in_err-expr-clause-refused
+callee-returns-in_err-expr-clause-refused t c = passed _ c.in_err-expr.ensures.refused c.from_residual.ensures.1 (λ n. n.on callee refl)
+
+pub callee-returns-in_default-clause-read : goal.callee-returns-in_default-clause-read
+callee-returns-in_default-clause-read t c =
+    subst (λ p. Only so_far (around_of c.args.context.around) (Part NewCallee) (place_of c.args.lexer.now) (one (view_expr c.members.expr.value)) p) (sym (ap place_of c.in_default.ensures.stays))
+    (climb_only callee refl c.members.invariant.so_far (stopped callee c.members.lexer c.members.invariant.so_far.ended c.in_default.ensures.missing))
+
+pub callee-returns-in_default-clause-placed : goal.callee-returns-in_default-clause-placed
+callee-returns-in_default-clause-placed t c = placed_to c.in_default.ensures.stays c.members.invariant.placed
+
+pub callee-returns-in_default-clause-ended : goal.callee-returns-in_default-clause-ended
+callee-returns-in_default-clause-ended t c = subst (λ h. settled (place_of h) ≡ true) (sym c.in_default.ensures.stays) c.members.invariant.so_far.ended
+
+pub callee-returns-then-not-fits-clause-refused : goal.callee-returns-then-not-fits-clause-refused
+callee-returns-then-not-fits-clause-refused t c = record {
+  bars = λ _ _.
+      let g = c.in-Some.growth in
+      climb_unfit callee (growth_kind g) refl (growth_listed g) (growth_grows g) c.members.invariant.so_far c.in-Some.ensures.on_line (record { is = c.in-Some.ensures.taken; found = refl }) c.in-Some.ensures.reaches
+      (ap (λ e. fits (growth_kind g) (view_expr e)) (sym c.deref-in-members.ensures) ∙ (sym c.fits.ensures ∙ c.if-not-fits.true));
+}
+
+pub callee-returns-in_err-expr-2-clause-refused : goal.callee-returns-in_err-expr-2-clause-refused
+callee-returns-in_err-expr-2-clause-refused t c =
+    let g = c.in-Some.growth in
+    passed _ c.in_err-expr-2.ensures.refused c.from_residual-in_err-expr-2.ensures.1 (λ n. climb_barred callee (growth_kind g) refl (growth_listed g) (growth_grows g) c.members.invariant.so_far c.in-Some.ensures.on_line (record { is = c.in-Some.ensures.taken; found = refl }) c.in-Some.ensures.reaches n)
+
+pub callee-members-preserved : goal.callee-members-preserved
+callee-members-preserved t c =
+    let g = c.in-Some.growth in
+    record {
+      so_far = climb_on callee (growth_kind g) refl (growth_listed g) (growth_grows g) c.members.invariant.so_far c.in-Some.ensures.on_line (record { is = c.in-Some.ensures.taken; found = refl }) c.in-Some.ensures.reaches
+          (ap (λ e. fits (growth_kind g) (view_expr e)) (sym c.deref-in-members.ensures) ∙ (sym c.fits.ensures ∙ c.if-not-fits.false)) c.in_ok-expr-2.ensures.read c.in_ok-expr-2.ensures.ended;
+      span = c.in_ok-expr-2.ensures.span.on _ _ c.members.invariant.span;
+      placed = c.in_ok-expr-2.ensures.placed.on _ _ c.members.invariant.span c.members.invariant.placed c.in-Some.ensures.takes;
+      within = omega (arith, c.in_ok-expr-2.ensures.within, c.in-Some.ensures.shorter, c.members.invariant.within);
+    }
+
+-- what begins with `new`
+
+pub new_expression-returns-in_err-expect-clause-refused : goal.new_expression-returns-in_err-expect-clause-refused
+new_expression-returns-in_err-expect-clause-refused t c = passed _ c.in_err-expect.ensures.refused c.from_residual.ensures.1 (λ b. target_unread (record { is = c.take.ensures.taken c.if-take.true; found = refl }) b)
+
+pub new_expression-returns-then-not-context-clause-refused : goal.new_expression-returns-then-not-context-clause-refused
+new_expression-returns-then-not-context-clause-refused t c = record { bars = λ _ _. target_outside c.if-not-context.true (record { is = c.take.ensures.taken c.if-take.true; found = refl }) }
+
+pub new_expression-returns-then-take-clause-read : goal.new_expression-returns-then-take-clause-read
+new_expression-returns-then-take-clause-read t c = target_opened c.if-not-context.false (record { is = c.take.ensures.taken c.if-take.true; found = refl }) c.in_ok-expect.ensures.read refl c.in_ok-constant.ensures.view
+
+pub new_expression-returns-then-take-clause-ended : goal.new_expression-returns-then-take-clause-ended
+new_expression-returns-then-take-clause-ended t c = sign_ended c.in_ok-expect.ensures.read.past
+
+pub new_expression-returns-then-take-clause-placed : goal.new_expression-returns-then-take-clause-placed
+new_expression-returns-then-take-clause-placed t c = record {
+  on = λ w sign begins. placed_as c.in_ok-constant.ensures.told c.in_ok-constant.ensures.view (target_row sign (c.take.ensures.takes c.if-take.true) c.in_ok-expect.ensures.takes (spans_from c.span_to.ensures refl (c.last_place-lo.ensures ∙ begins) refl));
+}
+
+pub new_expression-returns-in_err-callee-clause-refused : goal.new_expression-returns-in_err-callee-clause-refused
+new_expression-returns-in_err-callee-clause-refused t c = passed _ c.in_err-callee.ensures.refused c.from_residual-in_err-callee.ensures.1
+    (λ b. callee_unread (record { same = sym (ap place_of (c.take.ensures.stays c.if-take.false)); stuck = record { is = c.take.ensures.missing c.if-take.false } }) b)
+
+pub new_expression-returns-then-not-take-clause-read : goal.new_expression-returns-then-not-take-clause-read
+new_expression-returns-then-not-take-clause-read t c =
+    without_opened (record { same = sym (ap place_of (c.take.ensures.stays c.if-take.false)); stuck = record { is = c.take.ensures.missing c.if-take.false } }) c.in_ok-callee.ensures.read
+    (record { same = sym (ap place_of (c.take-2.ensures.stays c.if-not-take.true)); stuck = record { is = c.take-2.ensures.missing c.if-not-take.true } }) c.in_ok-new_without_arguments.ensures.view
+
+pub new_expression-returns-then-not-take-clause-span : goal.new_expression-returns-then-not-take-clause-span
+new_expression-returns-then-not-take-clause-span t c = spans_from c.span_to-then-not-take.ensures c.in_ok-new_without_arguments.ensures.span c.last_place-lo.ensures refl
+
+pub new_expression-returns-then-not-take-clause-ended : goal.new_expression-returns-then-not-take-clause-ended
+new_expression-returns-then-not-take-clause-ended t c = subst (λ h. settled (place_of h) ≡ true) (sym (c.take-2.ensures.stays c.if-not-take.true)) c.in_ok-callee.ensures.ended
+
+pub new_expression-returns-then-not-take-clause-placed : goal.new_expression-returns-then-not-take-clause-placed
+new_expression-returns-then-not-take-clause-placed t c = record {
+  on = λ w sign begins.
+      placed_as c.in_ok-new_without_arguments.ensures.told c.in_ok-new_without_arguments.ensures.view
+      (new_alone_row sign (placed_to (c.take-2.ensures.stays c.if-not-take.true) (placed_from (c.take.ensures.stays c.if-take.false) c.in_ok-callee.ensures.placed)) (spans_from c.span_to-then-not-take.ensures refl (c.last_place-lo.ensures ∙ begins) refl));
+}
+
+pub new_expression-returns-in_err-all-clause-refused : goal.new_expression-returns-in_err-all-clause-refused
+new_expression-returns-in_err-all-clause-refused t c = passed _ c.in_err-all.ensures.refused c.from_residual-in_err-all.ensures.1
+    (λ n. arguments_unread (record { same = sym (ap place_of (c.take.ensures.stays c.if-take.false)); stuck = record { is = c.take.ensures.missing c.if-take.false } }) c.in_ok-callee.ensures.read (record { is = c.take-2.ensures.taken c.if-not-take.false; found = refl }) n)
+
+pub new_expression-returns-clause-read : goal.new_expression-returns-clause-read
+new_expression-returns-clause-read t c =
+    with_opened (record { same = sym (ap place_of (c.take.ensures.stays c.if-take.false)); stuck = record { is = c.take.ensures.missing c.if-take.false } }) c.in_ok-callee.ensures.read
+    (record { is = c.take-2.ensures.taken c.if-not-take.false; found = refl }) c.in_ok-all.ensures.read c.in_ok-new_with_arguments.ensures.view
+
+pub new_expression-returns-clause-placed : goal.new_expression-returns-clause-placed
+new_expression-returns-clause-placed t c = record {
+  on = λ w sign begins.
+      placed_as c.in_ok-new_with_arguments.ensures.told c.in_ok-new_with_arguments.ensures.view
+      (new_row sign (placed_from (c.take.ensures.stays c.if-take.false) c.in_ok-callee.ensures.placed) (c.take-2.ensures.takes c.if-not-take.false) c.in_ok-all.ensures.placed (spans_from c.span_to-2.ensures refl (c.last_place-lo.ensures ∙ begins) refl));
 }
 
 pub parenthesized-returns-in_err-inner-clause-refused : goal.parenthesized-returns-in_err-inner-clause-refused
@@ -710,11 +879,10 @@ object-returns-clause-placed t c = record {
 }
 
 pub open-returns-in_ok-array-in-Array-clause-read : goal.open-returns-in_ok-array-in-Array-clause-read
-open-returns-in_ok-array-in-Array-clause-read t c =
-    opened_node c.args.opening opening.Array c.in-Array.is (kept_behind (opening_kind opening.Array) (opening_listed opening.Array refl) refl refl c.in_ok-array-in-Array.ensures.read)
+open-returns-in_ok-array-in-Array-clause-read t c = sole_as c.args.opening opening.Array c.in-Array.is refl (kept_opening opening.Array refl c.in_ok-array-in-Array.ensures.read)
 
 pub open-returns-in_err-array-in-Array-clause-refused : goal.open-returns-in_err-array-in-Array-clause-refused
-open-returns-in_err-array-in-Array-clause-refused t c = passed _ c.in_err-array-in-Array.ensures.refused c.from_residual-in_err-array-in-Array.ensures.1 (λ n. opened_none c.args.opening opening.Array c.in-Array.is n)
+open-returns-in_err-array-in-Array-clause-refused t c = passed _ c.in_err-array-in-Array.ensures.refused c.from_residual-in_err-array-in-Array.ensures.1 (λ n. no_sole_as c.args.opening opening.Array c.in-Array.is refl (no_node n))
 
 pub prefix_update-returns-in_err-operand-clause-refused : goal.prefix_update-returns-in_err-operand-clause-refused
 prefix_update-returns-in_err-operand-clause-refused t c = passed _ c.in_err-operand.ensures.refused c.from_residual.ensures.1 (λ b. bar (no_target b))
@@ -737,65 +905,44 @@ prefix_update-returns-clause-placed t c = record {
 pub sequence-returns-in_err-first-clause-refused : goal.sequence-returns-in_err-first-clause-refused
 sequence-returns-in_err-first-clause-refused t c = passed _ c.in_err-first.ensures.refused c.from_residual.ensures.1 (λ b. whole_barred b)
 
-pub sequence-returns-then-not-take-clause-read : goal.sequence-returns-then-not-take-clause-read
-sequence-returns-then-not-take-clause-read t c =
-    subst (λ p. Only so_far (around_of c.args.context.around) (Part (Expr 0)) (place_of c.args.lexer.now) (one (view_expr c.in_ok-first.first.value)) p) (sym (ap place_of (c.take.ensures.stays c.if-not-take.true)))
-    (whole_only c.in_ok-first.ensures.read c.in_ok-first.ensures.ended (c.take.ensures.missing c.if-not-take.true))
+pub sequence-returns-in_err-more_items-clause-refused : goal.sequence-returns-in_err-more_items-clause-refused
+sequence-returns-in_err-more_items-clause-refused t c = passed _ c.in_err-more_items.ensures.refused c.from_residual-in_err-more_items.ensures.1 (λ n. n.no _ c.in_ok-first.ensures.read)
 
-pub sequence-returns-then-not-take-clause-span : goal.sequence-returns-then-not-take-clause-span
-sequence-returns-then-not-take-clause-span t c = spans_from c.in_ok-first.ensures.span refl refl (sym (ap end_of (c.take.ensures.stays c.if-not-take.true)))
+pub sequence-returns-clause-read : goal.sequence-returns-clause-read
+sequence-returns-clause-read t c = c.in_ok-more_items.ensures.read.reads _ c.in_ok-first.ensures.read
 
-pub sequence-returns-then-not-take-clause-placed : goal.sequence-returns-then-not-take-clause-placed
-sequence-returns-then-not-take-clause-placed t c = placed_to (c.take.ensures.stays c.if-not-take.true) c.in_ok-first.ensures.placed
+pub sequence-returns-clause-span : goal.sequence-returns-clause-span
+sequence-returns-clause-span t c = c.in_ok-more_items.ensures.read.spans _ c.in_ok-first.ensures.span
 
-pub sequence-returns-then-not-take-clause-ended : goal.sequence-returns-then-not-take-clause-ended
-sequence-returns-then-not-take-clause-ended t c = subst (λ h. settled (place_of h) ≡ true) (sym (c.take.ensures.stays c.if-not-take.true)) c.in_ok-first.ensures.ended
+pub sequence-returns-clause-placed : goal.sequence-returns-clause-placed
+sequence-returns-clause-placed t c = c.in_ok-more_items.ensures.read.placed _ c.in_ok-first.ensures.span c.in_ok-first.ensures.placed
 
-pub sequence-items-init : goal.sequence-items-init
-sequence-items-init t c =
-    let items = c.in_ok-push.ensures.items ∙ ap (λ xs. xs ++ c.in_ok-first.first ∷ []) c.in_ok-all.ensures.items in
-    let comma = c.take.ensures.takes c.if-not-take.false in
-    record {
-      so_far = subst (λ xs. Listing (around_of c.args.context.around) (place_of c.args.lexer.now) (forest (map (inside view_expr) xs)) (place_of c.take.new.self)) (sym items)
-          (listing_one c.in_ok-first.ensures.read c.in_ok-first.ensures.ended (record { is = c.take.ensures.taken c.if-not-take.false; found = refl }));
-      led = record { first = view_expr c.in_ok-first.first.value; rest = []; is = ap (map (inside view_expr)) items; begins = c.in_ok-first.ensures.placed.begins };
-      lo = c.start_of-lo.ensures.on _ _ (subst (λ e. Spans (expr_at e) (next_of c.args.lexer.now) (end_of c.expression.new.lexer)) (sym c.deref.ensures) c.in_ok-first.ensures.span);
-      placed = front_more plain_two front_none c.in_ok-first.ensures.placed comma.same comma.leads (ap (map (inside told_expr)) items) (ap (map (inside view_expr)) items);
-      within = omega (arith, c.take.ensures.shorter c.if-not-take.false, c.in_ok-first.ensures.shorter);
-    }
+pub more_items-returns-then-not-take-clause-read : goal.more_items-returns-then-not-take-clause-read
+more_items-returns-then-not-take-clause-read t c = gathered_alone (c.take.ensures.stays c.if-not-take.true) c.requires (c.take.ensures.missing c.if-not-take.true)
 
-pub sequence-returns-in_err-next-clause-refused : goal.sequence-returns-in_err-next-clause-refused
-sequence-returns-in_err-next-clause-refused t c =
-    passed _ c.in_err-next.ensures.refused c.from_residual-in_err-next.ensures.1
-    (λ b. sequence_barred (subst (λ ts. Listing (around_of c.args.context.around) (place_of c.args.lexer.now) (forest ts) (place_of c.items.lexer)) c.items.invariant.led.is c.items.invariant.so_far) b)
+pub more_items-returns-then-not-take-clause-ended : goal.more_items-returns-then-not-take-clause-ended
+more_items-returns-then-not-take-clause-ended t c = subst (λ h. settled (place_of h) ≡ true) (sym (c.take.ensures.stays c.if-not-take.true)) c.requires
 
-pub sequence-items-preserved : goal.sequence-items-preserved
-sequence-items-preserved t c =
-    let comma = c.take-in-items.ensures.takes c.if-not-take-2.false in
-    let views = map_pushed (inside view_expr) c.items.all.items _ c.in_ok-next.next _ c.in_ok-push-2.ensures.items refl in
-    record {
-      so_far = listing_more c.items.invariant.so_far c.in_ok-next.ensures.read c.in_ok-next.ensures.ended (record { is = c.take-in-items.ensures.taken c.if-not-take-2.false; found = refl }) (pushed (inside view_expr) _ _ _ c.in_ok-push-2.ensures.items);
-      led = led_more _ c.items.invariant.led views;
-      lo = c.items.invariant.lo;
-      placed = front_more plain_two c.items.invariant.placed c.in_ok-next.ensures.placed comma.same comma.leads (map_pushed (inside told_expr) c.items.all.items _ c.in_ok-next.next _ c.in_ok-push-2.ensures.items refl) views;
-      within = omega (arith, c.take-in-items.ensures.shorter c.if-not-take-2.false, c.in_ok-next.ensures.shorter, c.items.invariant.within);
-    }
+pub more_items-items-init : goal.more_items-items-init
+more_items-items-init t c = record {
+  so_far = gathers_one c.args.first (c.in_ok-push.ensures.items ∙ ap (λ xs. xs ++ c.args.first ∷ []) c.in_ok-all.ensures.items)
+      (λ n s. c.start_of-lo.ensures.on _ _ (subst (λ e. Spans (expr_at e) n (end_of c.args.lexer.now)) (sym c.deref.ensures) s)) c.requires (record { is = c.take.ensures.taken c.if-not-take.false; found = refl }) (c.take.ensures.takes c.if-not-take.false);
+  within = omega (arith, c.take.ensures.shorter c.if-not-take.false);
+}
 
-pub sequence-returns-then-not-take-2-clause-read : goal.sequence-returns-then-not-take-2-clause-read
-sequence-returns-then-not-take-2-clause-read t c =
-    let is = c.items.invariant.led.is in
-    subst (λ p. Only so_far (around_of c.args.context.around) (Part (Expr 0)) (place_of c.args.lexer.now) (one (view_expr c.in_ok-sequence.field-0.value)) p) (sym (ap place_of (c.take-in-items.ensures.stays c.if-not-take-2.true)))
-    (sequence_only (subst (λ ts. Listing (around_of c.args.context.around) (place_of c.args.lexer.now) (forest ts) (place_of c.items.lexer)) is c.items.invariant.so_far) c.in_ok-next.ensures.read c.in_ok-next.ensures.ended (c.take-in-items.ensures.missing c.if-not-take-2.true)
-    (pushed (inside view_expr) _ _ _ c.in_ok-push-2.ensures.items ∙ ap (λ ts. both (forest ts) (part (view_expr c.in_ok-next.next.value) none)) is) c.in_ok-sequence.ensures.view)
+pub more_items-returns-in_err-next-clause-refused : goal.more_items-returns-in_err-next-clause-refused
+more_items-returns-in_err-next-clause-refused t c = passed _ c.in_err-next.ensures.refused c.from_residual-in_err-next.ensures.1 (λ b. gathered_none c.items.invariant.so_far b)
 
-pub sequence-returns-then-not-take-2-clause-span : goal.sequence-returns-then-not-take-2-clause-span
-sequence-returns-then-not-take-2-clause-span t c = spans_from c.span_to.ensures c.in_ok-sequence.ensures.span c.items.invariant.lo refl
+pub more_items-items-preserved : goal.more_items-items-preserved
+more_items-items-preserved t c = record {
+  so_far = gathers_more c.in_ok-next.next c.items.invariant.so_far c.in_ok-push-2.ensures.items c.in_ok-next.ensures.read c.in_ok-next.ensures.ended c.in_ok-next.ensures.placed (record { is = c.take-in-items.ensures.taken c.if-not-take-2.false; found = refl }) (c.take-in-items.ensures.takes c.if-not-take-2.false);
+  within = omega (arith, c.take-in-items.ensures.shorter c.if-not-take-2.false, c.in_ok-next.ensures.shorter, c.items.invariant.within);
+}
 
-pub sequence-returns-then-not-take-2-clause-placed : goal.sequence-returns-then-not-take-2-clause-placed
-sequence-returns-then-not-take-2-clause-placed t c =
-    let views = map_pushed (inside view_expr) c.items.all.items _ c.in_ok-next.next _ c.in_ok-push-2.ensures.items refl in
-    placed_as c.in_ok-sequence.ensures.told c.in_ok-sequence.ensures.view
-    (sequence_row _ c.items.invariant.led views (list_to (c.take-in-items.ensures.stays c.if-not-take-2.true) (front_last plain_two c.items.invariant.placed c.in_ok-next.ensures.placed refl refl (map_pushed (inside told_expr) c.items.all.items _ c.in_ok-next.next _ c.in_ok-push-2.ensures.items refl) views)) (spans_from c.span_to.ensures refl c.items.invariant.lo refl))
+pub more_items-returns-then-not-take-2-clause-read : goal.more_items-returns-then-not-take-2-clause-read
+more_items-returns-then-not-take-2-clause-read t c =
+    gathered_all c.in_ok-next.next c.items.invariant.so_far c.in_ok-push-2.ensures.items c.in_ok-next.ensures.read c.in_ok-next.ensures.ended c.in_ok-next.ensures.placed (c.take-in-items.ensures.missing c.if-not-take-2.true) (c.take-in-items.ensures.stays c.if-not-take-2.true)
+    c.in_ok-sequence.ensures.view c.in_ok-sequence.ensures.told c.in_ok-sequence.ensures.span c.span_to.ensures
 
-pub sequence-returns-then-not-take-2-clause-ended : goal.sequence-returns-then-not-take-2-clause-ended
-sequence-returns-then-not-take-2-clause-ended t c = subst (λ h. settled (place_of h) ≡ true) (sym (c.take-in-items.ensures.stays c.if-not-take-2.true)) c.in_ok-next.ensures.ended
+pub more_items-returns-then-not-take-2-clause-ended : goal.more_items-returns-then-not-take-2-clause-ended
+more_items-returns-then-not-take-2-clause-ended t c = subst (λ h. settled (place_of h) ≡ true) (sym (c.take-in-items.ensures.stays c.if-not-take-2.true)) c.in_ok-next.ensures.ended

@@ -1,6 +1,6 @@
-use Rattle.std.proofs.Common.{◌≡◌, ◌+◌, ◌*◌, ◌<◌, ◌≤◌, map, true, false}
+use Rattle.std.proofs.Common.{◌+◌, ◌*◌, ◌<◌, ◌≤◌, map, true, false}
 use Rattle.jsx_tree.specs.Kinds.{Array, Call, Object, expression}
-use Rattle.jsx_tree.specs.Grammar.{Commas, Elisions, TwoOrMore}
+use Rattle.jsx_tree.specs.Grammar.{Commas, Elisions}
 use Rattle.jsx_tree.specs.Told.{tales, told_expr, told_prop}
 use Rattle.jsx_tree.specs.View.{forest, inside, view_expr}
 use Rattle.jsx_make.specs.Members.{view_prop}
@@ -9,14 +9,14 @@ use Rattle.jsx_token.specs.Marks.{row_so_far}
 use Rattle.jsx_expression.specs.SoFar.{so_far}
 use Rattle.jsx_expression.specs.Around.{around_of}
 use Rattle.jsx_token.specs.Here.{place_of, left}
+use Rattle.jsx_token.specs.Growths.{callee, rung}
 use Rattle.jsx_expression.specs.Climbing.{Climbs}
 use Rattle.jsx_make.specs.NodeSpans.{expr_at}
 use Rattle.jsx_expression.specs.Spans.{IsPlaced, IsPlacedListAs, Spans}
 use Rattle.jsx_token.specs.Places.{end_of, next_of}
 use Rattle.jsx_tree.proofs.Rows.Turns.{Turn, prepend}
 use Rattle.jsx_expression.proofs.Placing.{PlacedFront}
-use Rattle.jsx_expression.proofs.PlacedExpressions.{Led}
-use Rattle.jsx_expression.proofs.Sequences.{Listing}
+use Rattle.jsx_expression.proofs.Gatherings.{Gathers}
 use Rattle.jsx_expression.proofs.expression.+expression.Given as goal
 
 abbrev pub decreases-expression : goal.decreases-expression
@@ -116,6 +116,26 @@ decreases-prefix_update l = 6 * left l.lexer.now + 3
 abbrev pub decreases-import_call : goal.decreases-import_call
 decreases-import_call l = 6 * left l.lexer.now + 3
 
+abbrev pub decreases-import : goal.decreases-import
+decreases-import l = 6 * left l.lexer.now + 4
+
+abbrev pub decreases-callee : goal.decreases-callee
+decreases-callee l = 6 * left l.lexer.now + 1
+
+abbrev pub invariant-callee-members : goal.invariant-callee-members
+invariant-callee-members l = record {
+  so_far : Climbs (around_of l.context.around) callee (place_of l.fn.lexer) (view_expr l.expr.value) (place_of l.lexer);
+  span : Spans (expr_at l.expr.value) (next_of l.fn.lexer) (end_of l.lexer);
+  placed : IsPlaced (told_expr l.expr.value) (view_expr l.expr.value) l.fn.lexer l.lexer;
+  within : left l.lexer < left l.fn.lexer;
+}
+
+abbrev pub decreases-callee-members : goal.decreases-callee-members
+decreases-callee-members l = left l.lexer
+
+abbrev pub decreases-new_expression : goal.decreases-new_expression
+decreases-new_expression l = 6 * left l.lexer.now + 4
+
 abbrev pub decreases-arguments : goal.decreases-arguments
 decreases-arguments l = 6 * left l.lexer.now + 3
 
@@ -132,7 +152,7 @@ decreases-arguments-arguments l = left l.lexer
 
 abbrev pub invariant-expression-steps : goal.invariant-expression-steps
 invariant-expression-steps l = record {
-  so_far : Climbs (around_of l.context.around) l.level (place_of l.fn.lexer) (view_expr l.expr.value) (place_of l.lexer);
+  so_far : Climbs (around_of l.context.around) (rung l.level) (place_of l.fn.lexer) (view_expr l.expr.value) (place_of l.lexer);
   span : Spans (expr_at l.expr.value) (next_of l.fn.lexer) (end_of l.lexer);
   placed : IsPlaced (told_expr l.expr.value) (view_expr l.expr.value) l.fn.lexer l.lexer;
   within : left l.lexer < left l.fn.lexer;
@@ -144,14 +164,14 @@ decreases-expression-steps l = left l.lexer
 abbrev pub decreases-sequence : goal.decreases-sequence
 decreases-sequence l = 6 * left l.lexer.now + 2
 
-abbrev pub invariant-sequence-items : goal.invariant-sequence-items
-invariant-sequence-items l = record {
-  so_far : Listing (around_of l.context.around) (place_of l.fn.lexer) (forest (map (inside view_expr) l.all.items)) (place_of l.lexer);
-  led : Led (map (inside view_expr) l.all.items);
-  lo : l.lo.0 ≡ next_of l.fn.lexer;
-  placed : PlacedFront false TwoOrMore (map (inside told_expr) l.all.items) (map (inside view_expr) l.all.items) l.fn.lexer l.lexer;
+abbrev pub decreases-more_items : goal.decreases-more_items
+decreases-more_items l = 6 * left l.lexer.now + 2
+
+abbrev pub invariant-more_items-items : goal.invariant-more_items-items
+invariant-more_items-items l = record {
+  so_far : Gathers (around_of l.context.around) l.fn.first.value l.fn.lexer l.all.items l.lo l.lexer;
   within : left l.lexer < left l.fn.lexer;
 }
 
-abbrev pub decreases-sequence-items : goal.decreases-sequence-items
-decreases-sequence-items l = left l.lexer
+abbrev pub decreases-more_items-items : goal.decreases-more_items-items
+decreases-more_items-items l = left l.lexer

@@ -1,13 +1,14 @@
 use Rattle.std.proofs.Common.{◌≡◌, true, false, cond, [], ◌∷◌, arith, map, refl, sym, ◌∙◌, ap, subst}
 use Rattle.std.specs.Prelude.{◌&&◌, ◌||◌}
+use Rattle.jsx_base.specs.Token.{IdentifierName}
 use Rattle.jsx_tree.specs.Walk.{one}
 use Rattle.jsx_tree.specs.Grammar.{Lines, Fixed, Part, key, pun}
 use Rattle.jsx_tree.specs.Nonterminals.{Stmt}
 use Rattle.jsx_tree.specs.StaticRules.{is_default}
-use Rattle.jsx_tree.specs.Kinds.{ExprStmt, statement, list, none, part}
+use Rattle.jsx_tree.specs.Kinds.{ExprStmt, Label, statement, leaf, node, list, none, part}
 use Rattle.jsx_tree.specs.Spans.{no_tales, tale}
-use Rattle.jsx_tree.specs.Told.{tales, told_control, told_list, told_stmt}
-use Rattle.jsx_tree.specs.View.{forest, inside, view_control, view_stmt}
+use Rattle.jsx_tree.specs.Told.{tales, told_control, told_list, told_node, told_stmt, told_text}
+use Rattle.jsx_tree.specs.View.{forest, inside, text_of, view_control, view_stmt}
 use Rattle.jsx_tree.specs.Answers.{Only, Barred, OnlyRow, NoNode, BuiltNode}
 use Rattle.jsx_tree.proofs.Rows.Bridge.{found_at}
 use Rattle.jsx_tree.proofs.Rows.Lists.{begun}
@@ -16,7 +17,8 @@ use Rattle.jsx_tree.proofs.Rows.Steps.{bar, on, only_sign}
 use Rattle.jsx_expression.specs.Around.{around_of}
 use Rattle.jsx_syntax.specs.Cases.{IsBody}
 use Rattle.jsx_syntax.specs.Tries.{catch_symbol, catch_symbols, finally_symbol, finally_symbols}
-use Rattle.jsx_syntax.specs.Statements.{alternative_row, alternative_symbols}
+use Rattle.jsx_syntax.specs.Statements.{alternative_row, alternative_symbols, NoStatement, OnlyStatement}
+use Rattle.jsx_syntax.specs.Labels.{label_text}
 use Rattle.jsx_token.specs.Headings.{NoHeading}
 use Rattle.jsx_token.specs.Here.{place_of, left}
 use Rattle.jsx_token.specs.Marks.{row_so_far}
@@ -25,16 +27,18 @@ use Rattle.jsx_expression.specs.Spans.{IsPlacedFront, IsPlacedList, IsPlacedRow}
 use Rattle.jsx_syntax.proofs.Blocks.{block_built, line_barred, line_ended, line_more}
 use Rattle.jsx_syntax.proofs.Controls.{barred_in, do_built, no_while_body, only_in, while_built}
 use Rattle.jsx_syntax.proofs.Cases.{ahead_more, ahead_none, body_barred, body_ended, body_more, case_at, case_is, case_word, cases_barred, cases_ended, cases_more, default_is, defaults, defaults_next, few_defaults, more_defaults, no_case, no_clause, no_default, no_switch_brace, no_switch_cases, second_default, switch_built}
-use Rattle.jsx_syntax.proofs.Heads.{for_built, no_for_body, no_for_initial, no_for_test, no_for_update}
+use Rattle.jsx_syntax.proofs.Heads.{for_built, no_for_body, no_for_test, no_for_update}
 use Rattle.jsx_syntax.proofs.Tries.{block_barred, block_only, caught_bare, caught_named, no_body, no_caught, no_caught_bare, no_try, taken_on, try_built}
 use Rattle.jsx_syntax.proofs.PartWords.{absent_word, barred_word, of_catch, of_finally, present_word}
 use Rattle.jsx_syntax.proofs.Elses.{if_built, no_else, none_else, some_else}
-use Rattle.jsx_syntax.proofs.Statements.{headed_barred, headed_only, homeless_barred, lexical_home, nested_home, plain_barred, plain_only, stmt_home, stmts, subs}
+use Rattle.jsx_syntax.proofs.Statements.{headed_barred, headed_only, homeless_barred, lexical_home, nested_home, stmt_home, stmts, subs, headed_as, none_as}
+use Rattle.jsx_syntax.proofs.Labels.{label_built, labelled_statement, no_label_body, no_labelled, no_plain, plain_statement, taken_label}
 use Rattle.jsx_expression.proofs.Steps.{passed}
 use Rattle.jsx_expression.proofs.Trees.{pushed}
-use Rattle.jsx_expression.proofs.Placing.{PlacedFront, plain_lines, front_last, front_more, front_none, list_none, map_pushed, placed_as, placed_from, placed_to, row_end, row_list, row_quiet, row_sign, takes_ends, list_to}
+use Rattle.jsx_expression.proofs.Placing.{PlacedFront, plain_lines, front_last, front_more, front_none, list_none, map_pushed, placed_as, placed_from, row_end, row_list, row_quiet, row_sign, takes_ends, list_to}
 use Rattle.jsx_expression.proofs.Places.{spans_from}
-use Rattle.jsx_syntax.proofs.PlacedNodes.{bare_placed, block_placed, case_placed, caught_placed, default_placed, do_placed, else_placed, for_placed, if_placed, led_placed, no_else_placed, switch_placed, try_placed, unled_placed, while_placed}
+use Rattle.jsx_syntax.proofs.PlacedNodes.{bare_placed, block_placed, case_placed, caught_placed, default_placed, do_placed, else_placed, for_placed, if_placed, led_placed, no_else_placed, switch_placed, try_placed, unled_placed, while_placed, label_placed, in_placed, loop_placed, of_placed}
+use Rattle.jsx_syntax.proofs.Loops.{as_initial, as_items, as_keys, body_row, in_built, initial_only, initial_other, items_only, items_other, keys_only, keys_other, no_loop_body, no_bracket, no_head, no_in_body, no_listed, no_object, no_of_body, of_node, placed_initial, placed_items, placed_keys}
 use Rattle.jsx_syntax.proofs.statement.+statement.Goals as goal
 
 pub statements-statements-init : goal.statements-statements-init
@@ -180,29 +184,70 @@ while_statement-returns-clause-placed t c = record {
   on = λ w sign begins. placed_as c.in_ok-while_statement.ensures.told c.in_ok-while_statement.ensures.view (while_placed sign c.in_ok-expect.ensures.takes c.in_ok-test.ensures.placed c.in_ok-expect-2.ensures.takes c.in_ok-body.ensures.placed (spans_from c.span_to-span.ensures refl (c.last_place-lo.ensures ∙ begins) refl));
 }
 
+pub for_body-returns-in_err-expect-clause-refused : goal.for_body-returns-in_err-expect-clause-refused
+for_body-returns-in_err-expect-clause-refused t c = passed _ c.in_err-expect.ensures.refused c.from_residual.ensures.1 (λ b. bar b)
+
+pub for_body-returns-in_err-nested-clause-refused : goal.for_body-returns-in_err-nested-clause-refused
+for_body-returns-in_err-nested-clause-refused t c = passed _ c.in_err-nested.ensures.refused c.from_residual-in_err-nested.ensures.1 (λ b. no_loop_body c.of_loop.ensures c.in_ok-expect.ensures.read b)
+
+pub for_body-returns-clause-read : goal.for_body-returns-clause-read
+for_body-returns-clause-read t c = body_row c.of_loop.ensures c.in_ok-expect.ensures.read c.in_ok-nested.ensures.read
+
+pub for_body-returns-clause-placed : goal.for_body-returns-clause-placed
+for_body-returns-clause-placed t c = loop_placed c.in_ok-expect.ensures.takes c.in_ok-nested.ensures.placed
+
 pub for_statement-returns-in_err-expect-clause-refused : goal.for_statement-returns-in_err-expect-clause-refused
-for_statement-returns-in_err-expect-clause-refused t c = passed _ c.in_err-expect.ensures.refused c.from_residual.ensures.1 (λ b. no_node (bar b))
+for_statement-returns-in_err-expect-clause-refused t c = passed _ c.in_err-expect.ensures.refused c.from_residual.ensures.1 (λ b. no_bracket b)
 
-pub for_statement-returns-in_err-init-clause-refused : goal.for_statement-returns-in_err-init-clause-refused
-for_statement-returns-in_err-init-clause-refused t c = passed _ c.in_err-init.ensures.refused c.from_residual-in_err-init.ensures.1 (λ n. no_for_initial c.in_ok-expect.ensures.read n)
+pub for_statement-returns-in_err-begun-clause-refused : goal.for_statement-returns-in_err-begun-clause-refused
+for_statement-returns-in_err-begun-clause-refused t c = passed _ c.in_err-begun.ensures.refused c.from_residual-in_err-begun.ensures.1 (λ n. no_head c.in_ok-expect.ensures.read n)
 
-pub for_statement-returns-in_err-test-clause-refused : goal.for_statement-returns-in_err-test-clause-refused
-for_statement-returns-in_err-test-clause-refused t c = passed _ c.in_err-test.ensures.refused c.from_residual-in_err-test.ensures.1 (λ n. no_for_test c.in_ok-expect.ensures.read c.in_ok-init.ensures.read n)
+pub for_statement-returns-in_err-test-in-Initial-clause-refused : goal.for_statement-returns-in_err-test-in-Initial-clause-refused
+for_statement-returns-in_err-test-in-Initial-clause-refused t c = passed _ c.in_err-test-in-Initial.ensures.refused c.from_residual-in_err-test-in-Initial.ensures.1 (λ n. let r = (as_initial c.in-Initial.is c.in_ok-begun.ensures.read) in initial_other c.in_ok-expect.ensures.read r (no_for_test c.in_ok-expect.ensures.read r.initial n))
 
-pub for_statement-returns-in_err-update-clause-refused : goal.for_statement-returns-in_err-update-clause-refused
-for_statement-returns-in_err-update-clause-refused t c = passed _ c.in_err-update.ensures.refused c.from_residual-in_err-update.ensures.1 (λ n. no_for_update c.in_ok-expect.ensures.read c.in_ok-init.ensures.read c.in_ok-test.ensures.read n)
+pub for_statement-returns-in_err-update-in-Initial-clause-refused : goal.for_statement-returns-in_err-update-in-Initial-clause-refused
+for_statement-returns-in_err-update-in-Initial-clause-refused t c = passed _ c.in_err-update-in-Initial.ensures.refused c.from_residual-in_err-update-in-Initial.ensures.1 (λ n. let r = (as_initial c.in-Initial.is c.in_ok-begun.ensures.read) in initial_other c.in_ok-expect.ensures.read r (no_for_update c.in_ok-expect.ensures.read r.initial c.in_ok-test-in-Initial.ensures.read n))
 
-pub for_statement-returns-in_err-body-clause-refused : goal.for_statement-returns-in_err-body-clause-refused
-for_statement-returns-in_err-body-clause-refused t c = passed _ c.in_err-body.ensures.refused c.from_residual-in_err-body.ensures.1
-    (λ b. no_for_body c.of_loop.ensures c.in_ok-expect.ensures.read c.in_ok-init.ensures.read c.in_ok-test.ensures.read c.in_ok-update.ensures.read b)
+pub for_statement-returns-in_err-body-in-Initial-clause-refused : goal.for_statement-returns-in_err-body-in-Initial-clause-refused
+for_statement-returns-in_err-body-in-Initial-clause-refused t c = passed _ c.in_err-body-in-Initial.ensures.refused c.from_residual-in_err-body-in-Initial.ensures.1 (λ b. let r = (as_initial c.in-Initial.is c.in_ok-begun.ensures.read) in initial_other c.in_ok-expect.ensures.read r (no_for_body c.of_loop.ensures c.in_ok-expect.ensures.read r.initial c.in_ok-test-in-Initial.ensures.read c.in_ok-update-in-Initial.ensures.read b))
 
-pub for_statement-returns-clause-read : goal.for_statement-returns-clause-read
-for_statement-returns-clause-read t c = for_built c.of_loop.ensures c.in_ok-expect.ensures.read c.in_ok-init.ensures.read c.in_ok-init.ensures.closed c.in_ok-test.ensures.read c.in_ok-update.ensures.read c.in_ok-body.ensures.read c.in_ok-for_statement.ensures.view
+pub for_statement-returns-in_ok-for_statement-in-Initial-clause-read : goal.for_statement-returns-in_ok-for_statement-in-Initial-clause-read
+for_statement-returns-in_ok-for_statement-in-Initial-clause-read t c = let r = (as_initial c.in-Initial.is c.in_ok-begun.ensures.read) in initial_only c.in_ok-expect.ensures.read r (for_built c.of_loop.ensures c.in_ok-expect.ensures.read r.initial r.closed c.in_ok-test-in-Initial.ensures.read c.in_ok-update-in-Initial.ensures.read c.in_ok-body-in-Initial.ensures.read c.in_ok-for_statement-in-Initial.ensures.view)
 
-pub for_statement-returns-clause-placed : goal.for_statement-returns-clause-placed
-for_statement-returns-clause-placed t c = record {
-  on = λ w sign begins. placed_as c.in_ok-for_statement.ensures.told c.in_ok-for_statement.ensures.view
-      (for_placed sign c.in_ok-expect.ensures.takes c.in_ok-init.ensures.placed c.in_ok-test.ensures.placed c.in_ok-update.ensures.placed c.in_ok-body.ensures.placed (spans_from c.span_to-span.ensures refl (c.last_place-lo.ensures ∙ begins) refl));
+pub for_statement-returns-in_ok-for_statement-in-Initial-clause-placed : goal.for_statement-returns-in_ok-for_statement-in-Initial-clause-placed
+for_statement-returns-in_ok-for_statement-in-Initial-clause-placed t c = record {
+  on = λ w sign begins. placed_as c.in_ok-for_statement-in-Initial.ensures.told c.in_ok-for_statement-in-Initial.ensures.view
+      (for_placed sign c.in_ok-expect.ensures.takes (placed_initial c.in-Initial.is c.in_ok-begun.ensures.placed) c.in_ok-test-in-Initial.ensures.placed c.in_ok-update-in-Initial.ensures.placed c.in_ok-body-in-Initial.ensures.placed (spans_from c.span_to-span.ensures refl (c.last_place-lo.ensures ∙ begins) refl));
+}
+
+pub for_statement-returns-in_err-object-in-Keys-clause-refused : goal.for_statement-returns-in_err-object-in-Keys-clause-refused
+for_statement-returns-in_err-object-in-Keys-clause-refused t c = passed _ c.in_err-object-in-Keys.ensures.refused c.from_residual-in_err-object-in-Keys.ensures.1 (λ n. let r = (as_keys c.in-Keys.is c.in_ok-begun.ensures.read) in keys_other c.in_ok-expect.ensures.read r (no_object c.in_ok-expect.ensures.read r.keys n))
+
+pub for_statement-returns-in_err-body-in-Keys-clause-refused : goal.for_statement-returns-in_err-body-in-Keys-clause-refused
+for_statement-returns-in_err-body-in-Keys-clause-refused t c = passed _ c.in_err-body-in-Keys.ensures.refused c.from_residual-in_err-body-in-Keys.ensures.1 (λ n. let r = (as_keys c.in-Keys.is c.in_ok-begun.ensures.read) in keys_other c.in_ok-expect.ensures.read r (no_in_body c.in_ok-expect.ensures.read r.keys c.in_ok-object-in-Keys.ensures.read n))
+
+pub for_statement-returns-in_ok-for_in-in-Keys-clause-read : goal.for_statement-returns-in_ok-for_in-in-Keys-clause-read
+for_statement-returns-in_ok-for_in-in-Keys-clause-read t c = let r = (as_keys c.in-Keys.is c.in_ok-begun.ensures.read) in keys_only c.in_ok-expect.ensures.read r (in_built c.in_ok-expect.ensures.read r.keys c.in_ok-object-in-Keys.ensures.read c.in_ok-body-in-Keys.ensures.read c.in_ok-for_in-in-Keys.ensures.view)
+
+pub for_statement-returns-in_ok-for_in-in-Keys-clause-placed : goal.for_statement-returns-in_ok-for_in-in-Keys-clause-placed
+for_statement-returns-in_ok-for_in-in-Keys-clause-placed t c = record {
+  on = λ w sign begins. placed_as c.in_ok-for_in-in-Keys.ensures.told c.in_ok-for_in-in-Keys.ensures.view
+      (in_placed sign c.in_ok-expect.ensures.takes (placed_keys c.in-Keys.is c.in_ok-begun.ensures.placed) c.in_ok-object-in-Keys.ensures.placed c.in_ok-body-in-Keys.ensures.placed (spans_from c.span_to.ensures refl (c.last_place-lo.ensures ∙ begins) refl));
+}
+
+pub for_statement-returns-in_err-items-in-Items-clause-refused : goal.for_statement-returns-in_err-items-in-Items-clause-refused
+for_statement-returns-in_err-items-in-Items-clause-refused t c = passed _ c.in_err-items-in-Items.ensures.refused c.from_residual-in_err-items-in-Items.ensures.1 (λ n. let r = (as_items c.in-Items.is c.in_ok-begun.ensures.read) in items_other c.in_ok-expect.ensures.read r (no_listed c.in_ok-expect.ensures.read r.items n))
+
+pub for_statement-returns-in_err-body-in-Items-clause-refused : goal.for_statement-returns-in_err-body-in-Items-clause-refused
+for_statement-returns-in_err-body-in-Items-clause-refused t c = passed _ c.in_err-body-in-Items.ensures.refused c.from_residual-in_err-body-in-Items.ensures.1 (λ n. let r = (as_items c.in-Items.is c.in_ok-begun.ensures.read) in items_other c.in_ok-expect.ensures.read r (no_of_body c.in_ok-expect.ensures.read r.items c.in_ok-items-in-Items.ensures.read n))
+
+pub for_statement-returns-in_ok-for_of-in-Items-clause-read : goal.for_statement-returns-in_ok-for_of-in-Items-clause-read
+for_statement-returns-in_ok-for_of-in-Items-clause-read t c = let r = (as_items c.in-Items.is c.in_ok-begun.ensures.read) in items_only c.in_ok-expect.ensures.read r (of_node c.in_ok-expect.ensures.read r.items c.in_ok-items-in-Items.ensures.read c.in_ok-body-in-Items.ensures.read c.in_ok-for_of-in-Items.ensures.view)
+
+pub for_statement-returns-in_ok-for_of-in-Items-clause-placed : goal.for_statement-returns-in_ok-for_of-in-Items-clause-placed
+for_statement-returns-in_ok-for_of-in-Items-clause-placed t c = record {
+  on = λ w sign begins. placed_as c.in_ok-for_of-in-Items.ensures.told c.in_ok-for_of-in-Items.ensures.view
+      (of_placed sign c.in_ok-expect.ensures.takes (placed_items c.in-Items.is c.in_ok-begun.ensures.placed) c.in_ok-items-in-Items.ensures.placed c.in_ok-body-in-Items.ensures.placed (spans_from c.span_to-in-Items.ensures refl (c.last_place-lo.ensures ∙ begins) refl));
 }
 
 pub case_body-statements-init : goal.case_body-statements-init
@@ -353,16 +398,53 @@ switch_statement-returns-clause-placed t c = record {
       (switch_placed sign c.in_ok-expect.ensures.takes c.in_ok-value.ensures.placed c.in_ok-expect-2.ensures.takes c.in_ok-expect-3.ensures.takes c.in_ok-all.ensures.placed (spans_from c.span_to-span.ensures refl (c.last_place-lo.ensures ∙ begins) refl));
 }
 
-pub nested-expression_statement-requires : goal.nested-expression_statement-requires
-nested-expression_statement-requires t c = subst (λ h. NoHeading (place_of h)) (sym c.in_default.ensures.stays) c.in_default.ensures.missing
+pub headed-returns-in_ok-empty_statement-in-Empty-clause-read : goal.headed-returns-in_ok-empty_statement-in-Empty-clause-read
+headed-returns-in_ok-empty_statement-in-Empty-clause-read t c = headed_as _ c.in-Empty.is refl c.in_ok-empty_statement-in-Empty.ensures.read
+
+pub headed-returns-in_ok-block-in-Block-clause-read : goal.headed-returns-in_ok-block-in-Block-clause-read
+headed-returns-in_ok-block-in-Block-clause-read t c = headed_as _ c.in-Block.is refl c.in_ok-block-in-Block.ensures.read
+
+pub headed-returns-in_ok-declaration-in-Var-clause-read : goal.headed-returns-in_ok-declaration-in-Var-clause-read
+headed-returns-in_ok-declaration-in-Var-clause-read t c = headed_as _ c.in-Var.is refl c.in_ok-declaration-in-Var.ensures.read
+
+pub headed-returns-in_ok-if_statement-in-If-clause-read : goal.headed-returns-in_ok-if_statement-in-If-clause-read
+headed-returns-in_ok-if_statement-in-If-clause-read t c = headed_as _ c.in-If.is refl c.in_ok-if_statement-in-If.ensures.read
+
+pub headed-returns-in_ok-do_statement-in-Do-clause-read : goal.headed-returns-in_ok-do_statement-in-Do-clause-read
+headed-returns-in_ok-do_statement-in-Do-clause-read t c = headed_as _ c.in-Do.is refl c.in_ok-do_statement-in-Do.ensures.read
+
+pub headed-returns-in_ok-while_statement-in-While-clause-read : goal.headed-returns-in_ok-while_statement-in-While-clause-read
+headed-returns-in_ok-while_statement-in-While-clause-read t c = headed_as _ c.in-While.is refl c.in_ok-while_statement-in-While.ensures.read
+
+pub headed-returns-in_ok-switch_statement-in-Switch-clause-read : goal.headed-returns-in_ok-switch_statement-in-Switch-clause-read
+headed-returns-in_ok-switch_statement-in-Switch-clause-read t c = headed_as _ c.in-Switch.is refl c.in_ok-switch_statement-in-Switch.ensures.read
+
+pub headed-returns-in_ok-continue_statement-in-Continue-clause-read : goal.headed-returns-in_ok-continue_statement-in-Continue-clause-read
+headed-returns-in_ok-continue_statement-in-Continue-clause-read t c = headed_as _ c.in-Continue.is refl c.in_ok-continue_statement-in-Continue.ensures.read
+
+pub headed-returns-in_ok-break_statement-in-Break-clause-read : goal.headed-returns-in_ok-break_statement-in-Break-clause-read
+headed-returns-in_ok-break_statement-in-Break-clause-read t c = headed_as _ c.in-Break.is refl c.in_ok-break_statement-in-Break.ensures.read
+
+pub headed-returns-in_ok-throw_statement-in-Throw-clause-read : goal.headed-returns-in_ok-throw_statement-in-Throw-clause-read
+headed-returns-in_ok-throw_statement-in-Throw-clause-read t c = headed_as _ c.in-Throw.is refl c.in_ok-throw_statement-in-Throw.ensures.read
+
+pub headed-returns-in_ok-try_statement-in-Try-clause-read : goal.headed-returns-in_ok-try_statement-in-Try-clause-read
+headed-returns-in_ok-try_statement-in-Try-clause-read t c = headed_as _ c.in-Try.is refl c.in_ok-try_statement-in-Try.ensures.read
+
+pub headed-returns-in_ok-debugger_statement-in-Debugger-clause-read : goal.headed-returns-in_ok-debugger_statement-in-Debugger-clause-read
+headed-returns-in_ok-debugger_statement-in-Debugger-clause-read t c = headed_as _ c.in-Debugger.is refl c.in_ok-debugger_statement-in-Debugger.ensures.read
+
+pub headed-returns-in_err-declaration-in-Var-clause-refused : goal.headed-returns-in_err-declaration-in-Var-clause-refused
+headed-returns-in_err-declaration-in-Var-clause-refused t c = passed _ c.in_err-declaration-in-Var.ensures.refused c.from_residual-in_err-declaration-in-Var.ensures.1 (λ n. none_as _ c.in-Var.is refl n)
+
+pub nested-unheaded-requires : goal.nested-unheaded-requires
+nested-unheaded-requires t c = (omega (arith, ap left c.in_default.ensures.stays), subst (λ h. NoHeading (place_of h)) (sym c.in_default.ensures.stays) c.in_default.ensures.missing)
 
 pub nested-returns-in_default-clause-read : goal.nested-returns-in_default-clause-read
-nested-returns-in_default-clause-read t c = plain_only subs c.in_default.ensures.missing
-    (subst (λ p. BuiltNode so_far (around_of c.args.context.around) (row_so_far (statement ExprStmt)) (statement ExprStmt) (view_stmt c.in_ok-expression_statement.field-0.value) p (place_of c.expression_statement.new.lexer)) (ap place_of c.in_default.ensures.stays) c.in_ok-expression_statement.ensures.read)
+nested-returns-in_default-clause-read t c = (subst (λ h. OnlyStatement (around_of c.args.context.around) (place_of h) (view_stmt c.in_ok-unheaded.field-0.value) (place_of c.unheaded.new.lexer)) c.in_default.ensures.stays c.in_ok-unheaded.ensures.read).nested
 
-pub nested-returns-in_err-expression_statement-clause-refused : goal.nested-returns-in_err-expression_statement-clause-refused
-nested-returns-in_err-expression_statement-clause-refused t c = passed _ c.in_err-expression_statement.ensures.refused c.from_residual.ensures.1
-    (λ n. plain_barred subs c.in_default.ensures.missing (subst (λ p. NoNode so_far (around_of c.args.context.around) (row_so_far (statement ExprStmt)) (statement ExprStmt) p) (ap place_of c.in_default.ensures.stays) n))
+pub nested-returns-in_err-unheaded-clause-refused : goal.nested-returns-in_err-unheaded-clause-refused
+nested-returns-in_err-unheaded-clause-refused t c = passed _ c.in_err-unheaded.ensures.refused c.from_residual.ensures.1 (λ n. (subst (λ h. NoStatement (around_of c.args.context.around) (place_of h)) c.in_default.ensures.stays n).nested)
 
 pub nested-returns-clause-read : goal.nested-returns-clause-read
 nested-returns-clause-read t c = headed_only subs c.in-Some.heading (nested_home c.in-Some.heading (sym c.is_lexical.ensures ∙ c.if-is_lexical.false)) (record { is = c.in-Some.ensures.taken; found = refl }) c.in_ok-headed.ensures.read
@@ -373,16 +455,14 @@ nested-returns-in_err-headed-clause-refused t c = passed _ c.in_err-headed.ensur
 pub nested-returns-then-is_lexical-clause-refused : goal.nested-returns-then-is_lexical-clause-refused
 nested-returns-then-is_lexical-clause-refused t c = record { bars = λ _ _. homeless_barred subs c.in-Some.heading (lexical_home c.in-Some.heading (sym c.is_lexical.ensures ∙ c.if-is_lexical.true)) (record { is = c.in-Some.ensures.taken; found = refl }) }
 
-pub statement-expression_statement-requires : goal.statement-expression_statement-requires
-statement-expression_statement-requires t c = subst (λ h. NoHeading (place_of h)) (sym c.in_default.ensures.stays) c.in_default.ensures.missing
+pub statement-unheaded-requires : goal.statement-unheaded-requires
+statement-unheaded-requires t c = (omega (arith, ap left c.in_default.ensures.stays), subst (λ h. NoHeading (place_of h)) (sym c.in_default.ensures.stays) c.in_default.ensures.missing)
 
 pub statement-returns-in_default-clause-read : goal.statement-returns-in_default-clause-read
-statement-returns-in_default-clause-read t c = plain_only stmts c.in_default.ensures.missing
-    (subst (λ p. BuiltNode so_far (around_of c.args.context.around) (row_so_far (statement ExprStmt)) (statement ExprStmt) (view_stmt c.in_ok-expression_statement.field-0.value) p (place_of c.expression_statement.new.lexer)) (ap place_of c.in_default.ensures.stays) c.in_ok-expression_statement.ensures.read)
+statement-returns-in_default-clause-read t c = (subst (λ h. OnlyStatement (around_of c.args.context.around) (place_of h) (view_stmt c.in_ok-unheaded.field-0.value) (place_of c.unheaded.new.lexer)) c.in_default.ensures.stays c.in_ok-unheaded.ensures.read).listed
 
-pub statement-returns-in_err-expression_statement-clause-refused : goal.statement-returns-in_err-expression_statement-clause-refused
-statement-returns-in_err-expression_statement-clause-refused t c = passed _ c.in_err-expression_statement.ensures.refused c.from_residual.ensures.1
-    (λ n. plain_barred stmts c.in_default.ensures.missing (subst (λ p. NoNode so_far (around_of c.args.context.around) (row_so_far (statement ExprStmt)) (statement ExprStmt) p) (ap place_of c.in_default.ensures.stays) n))
+pub statement-returns-in_err-unheaded-clause-refused : goal.statement-returns-in_err-unheaded-clause-refused
+statement-returns-in_err-unheaded-clause-refused t c = passed _ c.in_err-unheaded.ensures.refused c.from_residual.ensures.1 (λ n. (subst (λ h. NoStatement (around_of c.args.context.around) (place_of h)) c.in_default.ensures.stays n).listed)
 
 pub statement-returns-clause-read : goal.statement-returns-clause-read
 statement-returns-clause-read t c = headed_only stmts c.in-Some.heading (stmt_home c.in-Some.heading) (record { is = c.in-Some.ensures.taken; found = refl }) c.in_ok-headed.ensures.read
@@ -492,4 +572,40 @@ try_statement-returns-clause-read t c = try_built c.in_ok-handler.handler c.in_o
 pub try_statement-returns-clause-placed : goal.try_statement-returns-clause-placed
 try_statement-returns-clause-placed t c = record {
   on = λ w sign begins. placed_as c.in_ok-try_statement.ensures.told c.in_ok-try_statement.ensures.view (try_placed sign c.in_ok-body.ensures.placed c.in_ok-handler.ensures.placed c.in_ok-finalizer.ensures.placed (spans_from c.span_to-span.ensures refl (c.last_place-lo.ensures ∙ begins) refl));
+}
+
+pub unheaded-expression_statement-requires : goal.unheaded-expression_statement-requires
+unheaded-expression_statement-requires t c = subst (λ h. NoHeading (place_of h)) (sym c.in_default.ensures.stays) c.requires
+
+pub unheaded-returns-in_default-clause-read : goal.unheaded-returns-in_default-clause-read
+unheaded-returns-in_default-clause-read t c = plain_statement c.requires c.in_default.ensures.missing
+    (subst (λ h. BuiltNode so_far (around_of c.args.context.around) (row_so_far (statement ExprStmt)) (statement ExprStmt) (view_stmt c.in_ok-expression_statement.field-0.value) (place_of h) (place_of c.expression_statement.new.lexer)) c.in_default.ensures.stays c.in_ok-expression_statement.ensures.read)
+
+pub unheaded-returns-in_err-expression_statement-clause-refused : goal.unheaded-returns-in_err-expression_statement-clause-refused
+unheaded-returns-in_err-expression_statement-clause-refused t c = passed _ c.in_err-expression_statement.ensures.refused c.from_residual.ensures.1
+    (λ n. no_plain c.requires c.in_default.ensures.missing (subst (λ h. NoNode so_far (around_of c.args.context.around) (row_so_far (statement ExprStmt)) (statement ExprStmt) (place_of h)) c.in_default.ensures.stays n))
+
+pub unheaded-returns-clause-read : goal.unheaded-returns-clause-read
+unheaded-returns-clause-read t c = labelled_statement c.in-Some.ensures.taken c.in_ok-labelled.ensures.read
+
+pub unheaded-returns-clause-placed : goal.unheaded-returns-clause-placed
+unheaded-returns-clause-placed t c = c.in_ok-labelled.ensures.placed.on c.args.lexer.now c.in-Some.ensures.takes c.in-Some.ensures.place
+
+pub unheaded-returns-in_err-labelled-clause-refused : goal.unheaded-returns-in_err-labelled-clause-refused
+unheaded-returns-in_err-labelled-clause-refused t c = passed _ c.in_err-labelled.ensures.refused c.from_residual-in_err-labelled.ensures.1 (λ n. no_labelled c.in-Some.ensures.taken n)
+
+pub labelled-returns-then-has_label-clause-refused : goal.labelled-returns-then-has_label-clause-refused
+labelled-returns-then-has_label-clause-refused t c = record { bars = λ _ _. taken_label (sym c.has_label.ensures ∙ c.if-has_label.true) }
+
+pub labelled-returns-in_err-body-clause-refused : goal.labelled-returns-in_err-body-clause-refused
+labelled-returns-in_err-body-clause-refused t c = passed _ c.in_err-body.ensures.refused c.from_residual.ensures.1 (λ b. no_label_body c.is_before_loop-on_loop.result c.is_before_loop-on_loop.ensures c.of_label.ensures b)
+
+pub labelled-returns-clause-read : goal.labelled-returns-clause-read
+labelled-returns-clause-read t c = label_built c.is_before_loop-on_loop.result c.is_before_loop-on_loop.ensures c.of_label.ensures (sym c.has_label.ensures ∙ c.if-has_label.false) c.in_ok-body.ensures.read (c.in_ok-label_statement.ensures.view ∙ ap (λ a. node (statement Label) (part (leaf IdentifierName (text_of a)) (part (view_stmt c.in_ok-body.body.value) none))) c.ident.ensures)
+
+pub labelled-returns-clause-placed : goal.labelled-returns-clause-placed
+labelled-returns-clause-placed t c = record {
+  on = λ w k at. placed_as (c.in_ok-label_statement.ensures.told ∙ ap (λ a. told_node c.span_to-span.result (told_text a ∷ told_stmt c.in_ok-body.body.value ∷ [])) c.ident.ensures)
+      (c.in_ok-label_statement.ensures.view ∙ ap (λ a. node (statement Label) (part (leaf IdentifierName (text_of a)) (part (view_stmt c.in_ok-body.body.value) none))) c.ident.ensures)
+      (label_placed {a = label_text c.args.label} k at c.in_ok-body.ensures.placed (spans_from c.span_to-span.ensures refl at refl));
 }

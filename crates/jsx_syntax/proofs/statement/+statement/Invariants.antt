@@ -37,6 +37,9 @@ decreases-do_statement l = 6 * left l.lexer.now + 3
 abbrev pub decreases-while_statement : goal.decreases-while_statement
 decreases-while_statement l = 6 * left l.lexer.now + 3
 
+abbrev pub decreases-for_body : goal.decreases-for_body
+decreases-for_body l = 6 * left l.lexer.now + 3
+
 abbrev pub decreases-for_statement : goal.decreases-for_statement
 decreases-for_statement l = 6 * left l.lexer.now + 3
 
@@ -75,6 +78,12 @@ decreases-try_statement l = 6 * left l.lexer.now + 3
 
 abbrev pub decreases-headed : goal.decreases-headed
 decreases-headed l = 6 * left l.lexer.now + 4
+
+abbrev pub decreases-labelled : goal.decreases-labelled
+decreases-labelled l = 6 * left l.lexer.now + 2
+
+abbrev pub decreases-unheaded : goal.decreases-unheaded
+decreases-unheaded l = 6 * left l.lexer.now
 
 abbrev pub invariant-statements-statements : goal.invariant-statements-statements
 invariant-statements-statements l = record {

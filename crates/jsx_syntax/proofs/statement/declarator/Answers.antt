@@ -1,50 +1,20 @@
-use Rattle.std.proofs.Common.{refl, sym, ◌∙◌, ap, subst}
-use Rattle.jsx_tree.specs.View.{view_pat}
-use Rattle.jsx_tree.specs.Kinds.{Binds}
-use Rattle.jsx_tree.specs.Nonterminals.{Declarators}
-use Rattle.jsx_tree.specs.Grammar.{Part}
-use Rattle.jsx_tree.specs.Walk.{one}
-use Rattle.jsx_tree.specs.Answers.{Only}
-use Rattle.jsx_expression.specs.SoFar.{so_far}
-use Rattle.jsx_expression.specs.Around.{around_of}
-use Rattle.jsx_token.specs.Here.{place_of}
-use Rattle.jsx_token.specs.Places.{end_of}
-use Rattle.jsx_syntax.proofs.Items.{initialized, uninitialized, no_binding, no_initializer}
-use Rattle.jsx_token.specs.Semicolons.{in_list}
-use Rattle.jsx_token.proofs.Semicolons.{settled_in_list}
+use Rattle.std.proofs.Common.{refl, ◌∙◌}
+use Rattle.jsx_syntax.proofs.Items.{no_binding}
 use Rattle.jsx_expression.proofs.Steps.{passed}
 use Rattle.jsx_expression.proofs.Places.{spans_from}
-use Rattle.jsx_expression.proofs.Placing.{placed_as, placed_to, takes_ends}
-use Rattle.jsx_syntax.proofs.PlacedNodes.{declarator_row, plain_row}
 use Rattle.jsx_syntax.proofs.statement.declarator.Goals as goal
 
 pub returns-in_err-name-clause-refused : goal.returns-in_err-name-clause-refused
 returns-in_err-name-clause-refused c = passed _ c.in_err-name.ensures.refused c.from_residual.ensures.1 (λ b. no_binding b)
 
-pub returns-then-not-take-clause-read : goal.returns-then-not-take-clause-read
-returns-then-not-take-clause-read c = subst (λ p. Only so_far (around_of c.args.context.around) (Part Declarators) (place_of c.args.lexer.now) (one (view_pat c.in_ok-declarator.field-0.value)) p) (sym (ap place_of (c.take.ensures.stays c.if-not-take.true)))
-    (uninitialized c.in_ok-name.ensures.read (record { is = ap place_of c.ends.ensures; found = refl }) (record { is = c.take.ensures.missing c.if-not-take.true }) (c.in_ok-declarator.ensures.view Binds))
-
-pub returns-in_err-value-clause-refused : goal.returns-in_err-value-clause-refused
-returns-in_err-value-clause-refused c = passed _ c.in_err-value.ensures.refused c.from_residual-in_err-value.ensures.1
-    (λ b. no_initializer c.in_ok-name.ensures.read (record { is = ap place_of c.ends.ensures; found = refl }) (record { is = c.take.ensures.taken c.if-not-take.false; found = refl }) b)
+pub returns-in_err-initialized-clause-refused : goal.returns-in_err-initialized-clause-refused
+returns-in_err-initialized-clause-refused c = passed _ c.in_err-initialized.ensures.refused c.from_residual-in_err-initialized.ensures.1 (λ n. n.no _ c.in_ok-name.ensures.read)
 
 pub returns-clause-read : goal.returns-clause-read
-returns-clause-read c = initialized c.in_ok-name.ensures.read (record { is = ap place_of c.ends.ensures; found = refl }) (record { is = c.take.ensures.taken c.if-not-take.false; found = refl }) c.in_ok-value.ensures.read
-    (c.in_ok-declarator-2.ensures.view Binds)
+returns-clause-read c = c.in_ok-initialized.ensures.read.on _ c.in_ok-name.ensures.read
 
-pub returns-then-not-take-clause-placed : goal.returns-then-not-take-clause-placed
-returns-then-not-take-clause-placed c =
-    placed_to (c.take.ensures.stays c.if-not-take.true) (placed_as c.in_ok-declarator.ensures.told (c.in_ok-declarator.ensures.view Binds) (plain_row c.in_ok-name.ensures.placed (takes_ends c.ends.ensures)
-    (spans_from c.span_to.ensures refl (c.last_place-lo.ensures ∙ c.in_ok-name.ensures.begins) (ap end_of (c.take.ensures.stays c.if-not-take.true)))))
+pub returns-clause-span : goal.returns-clause-span
+returns-clause-span c = spans_from c.in_ok-initialized.ensures.span refl (c.last_place.ensures ∙ c.in_ok-name.ensures.begins) refl
 
 pub returns-clause-placed : goal.returns-clause-placed
-returns-clause-placed c =
-    placed_as c.in_ok-declarator-2.ensures.told (c.in_ok-declarator-2.ensures.view Binds) (declarator_row c.in_ok-name.ensures.placed (takes_ends c.ends.ensures)
-    (c.take.ensures.takes c.if-not-take.false) c.in_ok-value.ensures.placed (spans_from c.span_to-2.ensures refl (c.last_place-lo.ensures ∙ c.in_ok-name.ensures.begins) refl))
-
-pub returns-then-not-take-clause-behind : goal.returns-then-not-take-clause-behind
-returns-then-not-take-clause-behind c = ap (λ h. in_list (place_of h)) (c.take.ensures.stays c.if-not-take.true ∙ c.ends.ensures)
-
-pub returns-clause-behind : goal.returns-clause-behind
-returns-clause-behind c = settled_in_list (place_of c.expression.new.lexer) c.in_ok-value.ensures.ended
+returns-clause-placed c = c.in_ok-initialized.ensures.placed.on c.args.lexer.now (c.last_place.ensures ∙ c.in_ok-name.ensures.begins) c.in_ok-name.ensures.placed

@@ -1,7 +1,7 @@
-use Rattle.std.proofs.Common.{◌<◌, ◌&&◌, not, arith, sym, ap, ◌∙◌, subst}
+use Rattle.std.proofs.Common.{◌<◌, not, arith, sym, ap, ◌∙◌, subst}
 use Rattle.std.proofs.lemmas.Bool.{le-leb, lt-leb}
 use Rattle.jsx_token.specs.Here.{place_of, left}
-use Rattle.jsx_token.specs.Growths.{settled}
+use Rattle.jsx_token.specs.Growths.{rung, settled}
 use Rattle.jsx_token.proofs.TakingGrowths.{none_goes, other_goes, below_goes, line_goes, line_stays, growth_took}
 use Rattle.jsx_token.proofs.lexer.Lexer.growth.Goals as goal
 
@@ -9,13 +9,13 @@ pub returns-in_default-clause-missing : goal.returns-in_default-clause-missing
 returns-in_default-clause-missing c = none_goes c.args.level c.in_default.ensures.found
 
 pub returns-in_default-growth_of-clause-missing : goal.returns-in_default-growth_of-clause-missing
-returns-in_default-growth_of-clause-missing c = other_goes c.args.level c.requires c.in-Some.ensures.found (sym c.growth_of.ensures ∙ c.in_default-growth_of.is)
+returns-in_default-growth_of-clause-missing c = other_goes (rung c.args.level) c.requires c.in-Some.ensures.found (sym c.growth_of.ensures ∙ c.in_default-growth_of.is)
 
 pub returns-then-level-clause-missing : goal.returns-then-level-clause-missing
-returns-then-level-clause-missing c = below_goes c.args.level c.in-Some-growth_of.growth c.requires c.in-Some.ensures.found (sym c.growth_of.ensures ∙ c.in-Some-growth_of.is) (lt-leb _ _ (omega (arith, c.if-level.true, c.level.ensures)))
+returns-then-level-clause-missing c = below_goes (rung c.args.level) c.in-Some-growth_of.growth c.requires c.in-Some.ensures.found (sym c.growth_of.ensures ∙ c.in-Some-growth_of.is) (lt-leb _ _ (omega (arith, c.if-level.true, c.level.ensures)))
 
 pub returns-then-is_late-clause-missing : goal.returns-then-is_late-clause-missing
-returns-then-is_late-clause-missing c = line_goes c.args.level c.in-Some-growth_of.growth c.requires c.in-Some.ensures.found (sym c.growth_of.ensures ∙ c.in-Some-growth_of.is) (sym c.is_late.ensures ∙ c.if-is_late.true)
+returns-then-is_late-clause-missing c = line_goes (rung c.args.level) c.in-Some-growth_of.growth c.requires c.in-Some.ensures.found (sym c.growth_of.ensures ∙ c.in-Some-growth_of.is) (sym c.is_late.ensures ∙ c.if-is_late.true)
 
 pub returns-clause-on_line : goal.returns-clause-on_line
 returns-clause-on_line c = line_stays c.in-Some-growth_of.growth c.in-Some.ensures.found (sym c.is_late.ensures ∙ c.if-is_late.false)
