@@ -34,7 +34,7 @@ use Rattle.jsx_expression.proofs.OfSoFar.{of_so_far}
 use Rattle.jsx_expression.proofs.Inners.{inner_kind, every_inner, of_inner}
 use Rattle.jsx_expression.proofs.Homes.{Literal, IsName, IsNumber, IsLong, IsString, IsPattern, token_kind, Taken, module', headed, inner, evaluation, labelled, sequence, operand, Value, literal, made, value_kind, value, taken_by, home_of, no_list}
 use Rattle.jsx_expression.proofs.Homes as home
-use Rattle.jsx_expression.proofs.Values.{is_opening, opener, one_opening, literal_opening, opener_of, opened_sign, led_sign, First, name, opened, begun, Seat, at_one, at_argument, move}
+use Rattle.jsx_expression.proofs.Values.{is_opening, opener, one_opening, literal_opening, opener_of, opened_sign, led_sign, First, name, opened, quoted, piece_of, opener_piece, begun, Seat, at_one, at_argument, move}
 use Rattle.jsx_expression.proofs.Climbing.{plain_kind, signed_built, signed_none}
 
 -- ---- what stands there
@@ -73,7 +73,7 @@ item_ends : (y : Place) → ends_so_far ArrayItem y ≡ ends_so_far (Expr 1) y
 item_ends Lost = refl
 item_ends (At q e text) = refl
 
-item_literal : (l : Literal) (t : Text) → value_leaf true (token_kind l) t ≡ true → leaf_at ArrayItem (token_kind l) t ≡ true
+item_literal : (l : Literal) (t : Text) → value_leaf (token_kind l) t ≡ true → leaf_at ArrayItem (token_kind l) t ≡ true
 item_literal IsName t h = h
 item_literal IsNumber t h = h
 item_literal IsLong t h = h
@@ -159,6 +159,7 @@ no_value_at {v} {x} {u = u} s o e f r = at (begun refl u r).first
   where
     at : {g : Tree} {p : Place} → First v x g p → ⊥
     at (name l {t} h w g i) = literal_opening l t s x (opener s o) h (found_at g i) f
+    at (quoted d q r) = opener_piece x (opener s o) f (piece_of q r)
     at (opened d {k} m g q) =
         clash _ (one_opening (opening_sign k) s x (opener_of k m g) (opener s o) (opened_sign k m g q) f)
         (is_not _ (or_cases (grows_on k) _ (of_each (begins_none s) e k m) (λ h. absurd (clash _ h g)) (λ n. n)))

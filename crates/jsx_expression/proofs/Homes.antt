@@ -1,10 +1,10 @@
 -- Which trees of the language so far stand where.
 use Rattle.std.proofs.Common.{◌≡◌, true, false, not, refl, sym, ◌∙◌, ap, subst}
 use Rattle.std.specs.Prelude.{IsTrue, codes, [], ◌∷◌, ◌&&◌, ◌||◌}
-use Rattle.jsx_base.specs.Token.{Text, TokenKind, IdentifierName, NumericLiteral, BigIntLiteral, StringLiteral, JsxName, Elision, RegExpLiteral, among}
+use Rattle.jsx_base.specs.Token.{Text, Operator, TokenKind, IdentifierName, NumericLiteral, BigIntLiteral, StringLiteral, NoSubstitution, TemplateHead, TemplateMiddle, TemplateTail, JsxName, Elision, RegExpLiteral, among}
 use Rattle.jsx_tree.specs.Signs.{Tok}
-use Rattle.jsx_tree.specs.Kinds.{VarWord, LetWord, ConstWord, Block, Empty, If, Do, While, Continue, Break, Label, Throw, Debugger, Module, Directive, Var, Declarator, ExprStmt, Binds, Assigns, Assign, OpAssign, Nullish, Or, And, BitOr, BitXor, BitAnd, ShiftLeft, ShiftRight, ShiftOut, Add, Subtract, Multiply, Divide, Remainder, Exponentiate, Void, TypeOf, Positive, Negative, Complement, Not, Unary, Binary, Cond, Call, Member, Index, ImportCall, Parenthesized, Element, Kind, program, statement, expression, jsx, Tree, leaf, node, list, Forest, Delete, PrefixUpdate, PostfixUpdate, Increment, Decrement, Seq, For, ForDeclaration, Switch, Case, Default, Array, Spread, Try, Catch, Object, Property, Shorthand, ComputedKey, function, New, NewWithoutArguments, NewTarget, ImportMeta, ForIn, ForOf, ForBinding}
-use Rattle.jsx_tree.specs.Nonterminals.{Nonterminal, Expr, NullishLeft, MemberObject, DotObject, SimpleTarget, Argument, Ident, Name, StringOnly, Pat, TagName, Attributes, is_ident, is_bound, is_value_word, leaf_in, homes, NewCallee}
+use Rattle.jsx_tree.specs.Kinds.{VarWord, LetWord, ConstWord, Block, Empty, If, Do, While, Continue, Break, Label, Throw, Debugger, Module, Directive, Var, Declarator, ExprStmt, Binds, Assigns, Assign, OpAssign, Nullish, Or, And, BitOr, BitXor, BitAnd, ShiftLeft, ShiftRight, ShiftOut, Add, Subtract, Multiply, Divide, Remainder, Exponentiate, Void, TypeOf, Positive, Negative, Complement, Not, Unary, Binary, Cond, Call, Member, Index, ImportCall, Parenthesized, Element, Kind, program, statement, expression, jsx, Tree, leaf, node, list, Forest, Delete, PrefixUpdate, PostfixUpdate, Increment, Decrement, Seq, For, ForDeclaration, Switch, Case, Default, Array, Spread, Try, Catch, Object, Property, Shorthand, ComputedKey, function, New, NewWithoutArguments, NewTarget, ImportMeta, ForIn, ForOf, ForBinding, PlainTemplate, SubstitutedTemplate, TemplateSpan, Tagged, Chain, NameLink, IndexLink, CallLink}
+use Rattle.jsx_tree.specs.Nonterminals.{Nonterminal, Expr, NullishLeft, MemberObject, DotObject, SimpleTarget, Argument, Ident, Name, StringOnly, Pat, TagName, Attributes, is_ident, is_bound, is_value_word, leaf_in, homes, NewCallee, TemplatePart}
 use Rattle.jsx_tree.specs.Grammar.{Part}
 use Rattle.jsx_tree.specs.Form.{admits, fits_below, is_leaf}
 use Rattle.jsx_tree.specs.Spelling.{mode_of, spelled}
@@ -29,7 +29,7 @@ use Rattle.jsx_token.specs.declared.heading.Heading.{Heading}
 use Rattle.jsx_token.specs.declared.heading.Heading.TheVariants as heading
 use Rattle.jsx_token.specs.Headings.{Begins, own, over_keys, over_items}
 use Rattle.jsx_token.proofs.Headings.{every_begun, of_begun}
-use Rattle.jsx_expression.proofs.Inners.{Inner, directive, declarator, declaration, binding, case', default', inner_kind, every_inner, of_inner, catch', property, shorthand, computed}
+use Rattle.jsx_expression.proofs.Inners.{Inner, directive, declarator, declaration, binding, case', default', inner_kind, every_inner, of_inner, catch', property, shorthand, computed, span, tagged_plain, tagged_substituted, name_link, index_link, call_link}
 use Rattle.jsx_token.proofs.Listed.{Listed, listed, listed_binary, kinds, every, of_each}
 use Rattle.jsx_token.proofs.Lives.{is_single, lives}
 
@@ -95,6 +95,7 @@ taken (expression Cond) h = operand (listed (expression Cond) refl refl refl)
 taken (expression Call) h = operand (listed (expression Call) refl refl refl)
 taken (expression Member) h = operand (listed (expression Member) refl refl refl)
 taken (expression Index) h = operand (listed (expression Index) refl refl refl)
+taken (expression Tagged) h = operand (listed (expression Tagged) refl refl refl)
 taken (expression (Unary Delete)) h = operand (listed (expression (Unary Delete)) refl refl refl)
 taken (expression (Unary Void)) h = operand (listed (expression (Unary Void)) refl refl refl)
 taken (expression (Unary TypeOf)) h = operand (listed (expression (Unary TypeOf)) refl refl refl)
@@ -113,6 +114,15 @@ taken (expression Object) h = operand (listed (expression Object) refl refl refl
 taken (expression Property) h = inner property
 taken (expression Shorthand) h = inner shorthand
 taken (function ComputedKey) h = inner computed
+taken (expression (PlainTemplate false)) h = operand (listed (expression (PlainTemplate false)) refl refl refl)
+taken (expression (SubstitutedTemplate false)) h = operand (listed (expression (SubstitutedTemplate false)) refl refl refl)
+taken (expression (PlainTemplate true)) h = inner tagged_plain
+taken (expression (SubstitutedTemplate true)) h = inner tagged_substituted
+taken (expression (TemplateSpan b)) h = inner (span b)
+taken (expression Chain) h = operand (listed (expression Chain) refl refl refl)
+taken (expression (NameLink q)) h = inner (name_link q)
+taken (expression (IndexLink q)) h = inner (index_link q)
+taken (expression (CallLink q)) h = inner (call_link q)
 taken (expression (PrefixUpdate Increment)) h = operand (listed (expression (PrefixUpdate Increment)) refl refl refl)
 taken (expression (PrefixUpdate Decrement)) h = operand (listed (expression (PrefixUpdate Decrement)) refl refl refl)
 taken (expression (PostfixUpdate Increment)) h = operand (listed (expression (PostfixUpdate Increment)) refl refl refl)
@@ -252,8 +262,46 @@ strings = record { token = refl; never = refl; node = λ l ts. nowhere StringOnl
 pub names : LeafOnly Name IdentifierName
 names = record { token = refl; never = refl; node = λ l ts. nowhere Name refl refl refl refl refl refl refl; kind = name_kind }
 
+-- a name that was read has its token
+pub record NameThere (x : Place) : Type 0 where
+  pub text : Text
+  pub found : IsTrue (is_found (forth (Tok Operator IdentifierName text) x))
+
+pub name_there : {v : Surroundings} {x y : Place} (u : Tree) → Staged v false Name x u y → NameThere x
+name_there u r = let m = told names u r in record { text = m.text; found = found_at m.there m.found }
+
 pub idents : LeafOnly Ident IdentifierName
 idents = record { token = refl; never = refl; node = λ l ts. nowhere Ident refl refl refl refl refl refl refl; kind = ident_kind }
+
+-- the pieces of templates
+
+whole_kind' : (l : TokenKind) (t : Text) → leaf_at (TemplatePart NoSubstitution) l t ≡ true → l ≡ NoSubstitution
+whole_kind' NoSubstitution t h = refl
+whole_kind' _ t h = cc
+
+head_kind : (l : TokenKind) (t : Text) → leaf_at (TemplatePart TemplateHead) l t ≡ true → l ≡ TemplateHead
+head_kind TemplateHead t h = refl
+head_kind _ t h = cc
+
+middle_kind : (l : TokenKind) (t : Text) → leaf_at (TemplatePart TemplateMiddle) l t ≡ true → l ≡ TemplateMiddle
+middle_kind TemplateMiddle t h = refl
+middle_kind _ t h = cc
+
+tail_kind : (l : TokenKind) (t : Text) → leaf_at (TemplatePart TemplateTail) l t ≡ true → l ≡ TemplateTail
+tail_kind TemplateTail t h = refl
+tail_kind _ t h = cc
+
+pub wholes : LeafOnly (TemplatePart NoSubstitution) NoSubstitution
+wholes = record { token = refl; never = refl; node = λ l ts. nowhere (TemplatePart NoSubstitution) refl refl refl refl refl refl refl; kind = whole_kind' }
+
+pub heads : LeafOnly (TemplatePart TemplateHead) TemplateHead
+heads = record { token = refl; never = refl; node = λ l ts. nowhere (TemplatePart TemplateHead) refl refl refl refl refl refl refl; kind = head_kind }
+
+pub middles : LeafOnly (TemplatePart TemplateMiddle) TemplateMiddle
+middles = record { token = refl; never = refl; node = λ l ts. nowhere (TemplatePart TemplateMiddle) refl refl refl refl refl refl refl; kind = middle_kind }
+
+pub tails : LeafOnly (TemplatePart TemplateTail) TemplateTail
+tails = record { token = refl; never = refl; node = λ l ts. nowhere (TemplatePart TemplateTail) refl refl refl refl refl refl refl; kind = tail_kind }
 
 -- ---- where nothing stands
 
@@ -285,10 +333,10 @@ token_kind IsString = StringLiteral
 token_kind IsPattern = RegExpLiteral
 
 pub data Value : Tree → Type 0 where
-  literal : (l : Literal) {t : Text} → value_leaf true (token_kind l) t ≡ true → Value (leaf (token_kind l) t)
+  literal : (l : Literal) {t : Text} → value_leaf (token_kind l) t ≡ true → Value (leaf (token_kind l) t)
   made : {k : Kind} {ts : Forest} → Listed k → Value (node k ts)
 
-pub value_kind : (k : TokenKind) (t : Text) → value_leaf true k t ≡ true → Value (leaf k t)
+pub value_kind : (k : TokenKind) (t : Text) → value_leaf k t ≡ true → Value (leaf k t)
 value_kind IdentifierName t h = literal IsName h
 value_kind NumericLiteral t h = literal IsNumber h
 value_kind BigIntLiteral t h = literal IsLong h
@@ -296,27 +344,23 @@ value_kind StringLiteral t h = literal IsString h
 value_kind RegExpLiteral t h = literal IsPattern h
 value_kind _ t h = cc
 
-dot_leaf : (k : TokenKind) (t : Text) → value_leaf false k t ≡ true → value_leaf true k t ≡ true
-dot_leaf IdentifierName t h = h
-dot_leaf StringLiteral t h = refl
-dot_leaf RegExpLiteral t h = refl
-dot_leaf BigIntLiteral t h = refl
-dot_leaf NumericLiteral t h = cc
-dot_leaf _ t h = cc
-
 pub bound_word : (t : Text) → is_bound t ≡ true → is_value_word t ≡ true
 bound_word t h = ap (λ b. b || among t (codes "this" ∷ codes "null" ∷ codes "true" ∷ codes "false" ∷ [])) (and_left (is_ident t) _ h)
 
-operand_leaf : (d : Nonterminal) (k : TokenKind) (t : Text) → is_operand d ≡ true → leaf_in d k t ≡ true → leaf_at d k t ≡ true → value_leaf true k t ≡ true
+no_piece : (j : TokenKind) → is_single (TemplatePart j) ≡ true → ⊥
+no_piece j o = let bad : false ≡ true = and_right (not (lives (TemplatePart j) (expression Spread))) _ (and_right (not (lives (TemplatePart j) (expression Seq))) _ (and_right (is_operand (TemplatePart j)) _ o)) in cc
+
+operand_leaf : (d : Nonterminal) (k : TokenKind) (t : Text) → is_single d ≡ true → leaf_in d k t ≡ true → leaf_at d k t ≡ true → value_leaf k t ≡ true
 operand_leaf (Expr n) k t o i h = h
 operand_leaf MemberObject k t o i h = h
 operand_leaf NullishLeft k t o i h = h
 operand_leaf Argument k t o i h = h
 operand_leaf NewCallee k t o i h = h
-operand_leaf DotObject k t o i h = dot_leaf k t h
+operand_leaf DotObject k t o i h = h
 operand_leaf (Pat Assigns) IdentifierName t o i h = bound_word t i
 operand_leaf SimpleTarget IdentifierName t o i h = bound_word t i
 operand_leaf Ident IdentifierName t o i h = ap (λ b. b || among t (codes "this" ∷ codes "null" ∷ codes "true" ∷ codes "false" ∷ [])) i
+operand_leaf (TemplatePart j) k t o i h = absurd (no_piece j o)
 operand_leaf (Pat Binds) k t o i h = cc
 operand_leaf Name k t o i h = cc
 operand_leaf StringOnly k t o i h = cc
@@ -334,11 +378,11 @@ operand_kind d o (inner i) h = absurd (no_operand d _ _ (and_left (is_operand d)
 operand_kind d o evaluation h = absurd (no_operand d _ _ (and_left (is_operand d) _ o) refl h)
 operand_kind d o labelled h = absurd (no_operand d _ _ (and_left (is_operand d) _ o) refl h)
 operand_kind d {ts = ts} o sequence h = absurd (clash _ (kind_home d (expression Seq) ts h) (is_not _ (and_left (not (lives d (expression Seq))) _ (and_right (is_operand d) _ o))))
-operand_kind d {ts = ts} o spread h = absurd (clash _ (kind_home d (expression Spread) ts h) (is_not _ (and_right (not (lives d (expression Seq))) _ (and_right (is_operand d) _ o))))
+operand_kind d {ts = ts} o spread h = absurd (clash _ (kind_home d (expression Spread) ts h) (is_not _ (and_left (not (lives d (expression Spread))) _ (and_right (not (lives d (expression Seq))) _ (and_right (is_operand d) _ o)))))
 
 -- what stands where an expression does that is no sequence
 pub value : {v : Surroundings} {d : Nonterminal} {x y : Place} (t : Tree) → is_single d ≡ true → Staged v false d x t y → Value t
-value {d = d} (leaf k t) o r = value_kind k t (operand_leaf d k t (and_left (is_operand d) _ o) (and_left (leaf_in d k t) (is_leaf k t) r.reads.is) r.staged)
+value {d = d} (leaf k t) o r = value_kind k t (operand_leaf d k t o (and_left (leaf_in d k t) (is_leaf k t) r.reads.is) r.staged)
 value {d = d} (node k ts) o r = operand_kind d o (taken_by r) (home_of r)
 value (list ts) o r = absurd (no_list r)
 

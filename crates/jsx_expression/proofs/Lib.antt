@@ -6,8 +6,11 @@ pub mod Standing
 pub mod Slashes
 pub mod Rungs
 pub mod Values
+pub mod Tags
+pub mod Growing
 pub mod Climbing
 pub mod Openings
+pub mod Links
 pub mod Shared
 pub mod Deleting
 pub mod Targets
@@ -27,5 +30,8 @@ pub mod Steps
 pub mod Trees
 pub mod Placing
 pub mod PlacedExpressions
+pub mod PlacedLinks
 pub mod Arguments
 pub mod Spanning
+pub mod Templates
+pub mod Parts

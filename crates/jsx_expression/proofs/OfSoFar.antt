@@ -13,7 +13,7 @@ use Rattle.jsx_token.specs.Stage.{has_kind, in_stage, in_stages, each_in_stage}
 use Rattle.jsx_tree.specs.Walk.{pieces, IsRead, Items, nil, last, more, sign, tree, absent, present, many, Walk, done, next}
 use Rattle.jsx_tree.specs.Stops.{going, goes, quotes, level_asked, stops}
 use Rattle.jsx_expression.specs.SoFar.{Staged, so_far}
-use Rattle.jsx_token.specs.Marks.{goes_at, goes_on_so_far, ends_so_far}
+use Rattle.jsx_token.specs.Marks.{goes_at, goes_on_so_far, ends_so_far, goes_by_mark, goes_by_quote, goers, is_mark, is_quoted}
 use Rattle.jsx_tree.proofs.Tokens.{and_left, and_right, and_both}
 use Rattle.jsx_tree.proofs.Rows.Bridge.{node_read, node_walk}
 use Rattle.jsx_tree.proofs.Rows.Stopping.{covers, is_not, not_is, not_among, subset, smaller}
@@ -100,11 +100,34 @@ no_middle true b c e = cc
 no_middle false true c e = cc
 no_middle false false c e = e
 
+middle : (a b c : Bool) → (a || (b || c)) ≡ false → b ≡ false
+middle true b c e = cc
+middle false true c e = cc
+middle false false c e = refl
+
+quote_less : (a b c : Bool) → (a && b) ≡ false → (a && (b && c)) ≡ false
+quote_less true b c e = ap (λ d. d && c) e
+quote_less false b c e = refl
+
 goes_less : (l : Option _) (e : Ending) (b : Bool) (x : Lexeme) → goes l e b x.raw ≡ false → goes_on_so_far l e b x ≡ false
 goes_less None e b x f = refl
-goes_less (Some n) AfterExpr b x f = not_one (goes_at n b x.raw) _ (no_middle (among x.raw (going n)) (quotes n && is_backquote x.raw) _ f)
+goes_less (Some n) AfterExpr b x f =
+    let mark = not_one (goes_at n b x.raw) (is_mark x goers) (no_middle (among x.raw (going n)) (quotes n && is_backquote x.raw) _ f) in
+    let quote = quote_less (quotes n) (is_backquote x.raw) (is_quoted x) (middle (among x.raw (going n)) (quotes n && is_backquote x.raw) _ f) in (λ i. mark i || quote i)
 goes_less (Some n) AfterBinding b x f = by_equals (among x.raw (going n)) x (codes "=") f
 goes_less (Some n) _ b x f = refl
+
+both_no : (p q : Bool) → p ≡ false → q ≡ false → (p || q) ≡ false
+both_no p q e g = (λ i. e i || g i)
+
+no_second : (p q : Bool) → (p || q) ≡ false → q ≡ false
+no_second true q e = cc
+no_second false q e = e
+
+narrower : (p q r : Bool) → (not p || q) ≡ true → (q && r) ≡ false → (p && r) ≡ false
+narrower true true r e g = g
+narrower true false r e g = cc
+narrower false q r e g = refl
 
 -- with the lower of two levels all goes on that goes on with the higher
 less_at : (m n : ℕ) (b : Bool) (t : Text) → covers (Some m) (Some n) ≡ true → goes_at m b t ≡ false → goes_at n b t ≡ false
@@ -113,23 +136,13 @@ less_at m n b t c f =
     let c2 = and_left (not (nat_le n 16) || nat_le m 16) _ (and_right (not (quotes n) || quotes m) _ c1) in
     both_no (among t (going n)) _ (not_among t (going n) (going m) (and_left (subset (going n) (going m)) _ c) (no_or (among t (going m)) _ f))
     (narrower (nat_le n 16) (nat_le m 16) _ c2 (no_second (among t (going m)) _ f))
-  where
-    both_no : (p q : Bool) → p ≡ false → q ≡ false → (p || q) ≡ false
-    both_no p q e g = (λ i. e i || g i)
-
-    no_second : (p q : Bool) → (p || q) ≡ false → q ≡ false
-    no_second true q e = cc
-    no_second false q e = e
-
-    narrower : (p q r : Bool) → (not p || q) ≡ true → (q && r) ≡ false → (p && r) ≡ false
-    narrower true true r e g = g
-    narrower true false r e g = cc
-    narrower false q r e g = refl
 
 goes_cover : (k l : Option _) (e : Ending) (b : Bool) (x : Lexeme) → covers k l ≡ true → goes_on_so_far k e b x ≡ false → goes_on_so_far l e b x ≡ false
 goes_cover k None e b x c f = refl
 goes_cover None (Some n) e b x c f = cc
-goes_cover (Some m) (Some n) AfterExpr b x c f = smaller (goes_at n b x.raw) (goes_at m b x.raw) _ (less_at m n b x.raw c) f
+goes_cover (Some m) (Some n) AfterExpr b x c f =
+    both_no (goes_by_mark n b x) (goes_by_quote n x) (smaller (goes_at n b x.raw) (goes_at m b x.raw) (is_mark x goers) (less_at m n b x.raw c) (no_or (goes_by_mark m b x) (goes_by_quote m x) f))
+    (narrower (quotes n) (quotes m) (is_backquote x.raw && is_quoted x) (and_left (not (quotes n) || quotes m) _ (and_right (subset (going n) (going m)) _ c)) (no_second (goes_by_mark m b x) (goes_by_quote m x) f))
 goes_cover (Some m) (Some n) AfterBinding b x c f = smaller (among x.raw (going n)) (among x.raw (going m)) _ (not_among x.raw (going n) (going m) (and_left (subset (going n) (going m)) _ c)) f
 goes_cover (Some m) (Some n) _ b x c f = refl
 

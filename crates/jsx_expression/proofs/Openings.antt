@@ -4,9 +4,9 @@ use Rattle.std.specs.Prelude.{IsTrue, ◌&&◌, ◌||◌}
 use Rattle.std.proofs.lemmas.Bool.{eqb-true}
 use Rattle.jsx_base.specs.Token.{Text, Operator, Punctuator, kind_number, token, same}
 use Rattle.jsx_tree.specs.Signs.{AfterExpr, Sign, Tok}
-use Rattle.jsx_tree.specs.Kinds.{ImportCall, ImportMeta, New, NewWithoutArguments, NewTarget, Seq, Spread, Element, Kind, expression, jsx, Tree, node, Forest}
+use Rattle.jsx_tree.specs.Kinds.{ImportCall, ImportMeta, New, NewWithoutArguments, NewTarget, Seq, Spread, Element, Kind, expression, jsx, Tree, node, Forest, PlainTemplate, SubstitutedTemplate}
 use Rattle.jsx_tree.specs.Nonterminals.{Nonterminal, Expr, homes, in_homes}
-use Rattle.jsx_tree.specs.Grammar.{Fixed, Part}
+use Rattle.jsx_tree.specs.Grammar.{Fixed, Part, Context}
 use Rattle.jsx_tree.specs.Reading.{Place, Lost, At, forth, go_if}
 use Rattle.jsx_tree.specs.StaticRules.{Surroundings}
 use Rattle.jsx_tree.specs.Walk.{is_found, Given, Past, Piece, piece, sign, tree, tail, Walk, next, steady}
@@ -27,13 +27,13 @@ use Rattle.jsx_tree.proofs.Rows.Spines.{grows}
 use Rattle.jsx_tree.proofs.Rows.Placing.{free, free_around, moved}
 use Rattle.jsx_expression.proofs.OfSoFar.{of_so_far}
 use Rattle.jsx_token.specs.Growths.{Rung, is_rung, reaches, seat, lead, settled, opening_sign, opening_signs, same_sign, has_sign, is_code, NoOpening}
-use Rattle.jsx_expression.specs.Climbing.{Begins, NoneBegins, rises}
+use Rattle.jsx_expression.specs.Climbing.{Begins, NoneBegins, rises, level}
 use Rattle.jsx_expression.specs.Openings.{opens_with, OnlyOpened, NoneOpened}
 use Rattle.jsx_token.proofs.Listed.{Listed, listed, code, is_apart, kinds, every, every_two, of_each, of_two, one_place, implies, implied}
-use Rattle.jsx_expression.proofs.Homes.{Literal, IsName, IsNumber, IsLong, IsString, token_kind, IsPattern}
-use Rattle.jsx_expression.proofs.Values.{First, name, opened, less_literal, led_sign, Opener, angle, plain, SameFirst, begun, onto, same_both, literal_sign, literal_opening, one_opening, opener_of, opened_sign, opened_led}
-use Rattle.jsx_expression.proofs.Rungs.{clear_first, leads_as, reaches_level, rises_node, rung_operand, rung_single, seat_admits}
-use Rattle.jsx_token.proofs.Levels.{grows_on, edge, at_level, is_ruled, signed}
+use Rattle.jsx_expression.proofs.Homes.{Literal, IsName, IsNumber, IsLong, IsString, token_kind, IsPattern, Value, made}
+use Rattle.jsx_expression.proofs.Values.{First, name, opened, less_literal, led_sign, Opener, angle, plain, SameFirst, begun, onto, same_both, literal_sign, literal_opening, one_opening, opener_of, opened_sign, opened_led, quoted, Quote, one_piece, whole_row, head_row, piece_row, piece_of, literal_piece, opener_piece}
+use Rattle.jsx_expression.proofs.Rungs.{clear_first, leads_as, reaches_level, rises_node, rung_operand, rung_single, seat_admits, clear}
+use Rattle.jsx_token.proofs.Levels.{grows_on, edge, at_level, is_ruled, signed, Quoted, undivided, divided, is_template}
 use Rattle.jsx_expression.proofs.Climbing.{edge_on, low, node_reaches, plain_kind, signed_node}
 
 -- ---- of each kind
@@ -95,10 +95,11 @@ sole_kind j k m h l g n e =
 
 -- ---- its row, read to the ends of its parts
 
+pub kind_whole : {v : Surroundings} (r : Rung) {d : Nonterminal} {x y z : Place} {u : Tree} {ts : Forest} (k : Kind) → is_rung r ≡ true → Listed k → guarded (edge k) (row_so_far k) ≡ true → free (row_so_far k) ≡ true → Staged v false d x (node k ts) y → Onward so_far v x (node k ts) y u z → Whole so_far v false (seat r) x u z → Walk (Whole so_far) (steady v) (row_so_far k) x ts y
+kind_whole {v} r {ts = ts} k i l c f q o w = moved (λ a h. free_around a ts v h) f (whole_walk of_so_far (edge k) (row_so_far k) c (edge_on r k (node k ts) i l refl o w) (of_so_far.from_node k q).walk)
+
 opened_whole : {v : Surroundings} (r : Rung) {d : Nonterminal} {x y z : Place} {u : Tree} {ts : Forest} (k : Kind) → is_rung r ≡ true → Listed k → grows_on k ≡ false → Staged v false d x (node k ts) y → Onward so_far v x (node k ts) y u z → Whole so_far v false (seat r) x u z → Walk (Whole so_far) (steady v) (row_so_far k) x ts y
-opened_whole {v} r {ts = ts} k i l g q o w =
-    let f = opens k l g in
-    moved (λ a h. free_around a ts v h) f.freed (whole_walk of_so_far (edge k) (row_so_far k) f.closed (edge_on r k (node k ts) i l refl o w) (of_so_far.from_node k q).walk)
+opened_whole r k i l g q o w = let f = opens k l g in kind_whole r k i l f.closed f.freed q o w
 
 -- a node, and that no other begins from there with the sign that it begins with
 record OnlyFirst (v : Surroundings) (t : Tree) (x y : Place) : Type 0 where
@@ -111,14 +112,13 @@ record OnlyFirst (v : Surroundings) (t : Tree) (x y : Place) : Type 0 where
 -- so it is what everything that is read from there begins with
 to_opened : {v : Surroundings} (r : Rung) {x y p z : Place} {f t u : Tree} → is_rung r ≡ true → OnlyFirst v t x y → First v x f p → Onward so_far v x f p u z → Whole so_far v false (seat r) x u z → SameFirst f t p y
 to_opened r {x = x} i b (name m {t = s} h q e e') o w = absurd (literal_opening m s (opening_sign b.kind) x (opener_of b.kind b.listed b.still) h (found_at e e') (led_sign (row_so_far b.kind) (opened_led b.kind b.listed b.still) b.built.row.walk))
+to_opened r {x = x} i b (quoted d q s) o w = absurd (opener_piece x (opener_of b.kind b.listed b.still) (led_sign (row_so_far b.kind) (opened_led b.kind b.listed b.still) b.built.row.walk) (piece_of q s))
 to_opened r {x = x} {p = p} i b (opened d {k = j} {ts} m h q) o w =
     let here = led_sign (row_so_far b.kind) (opened_led b.kind b.listed b.still) b.built.row.walk in
     b.alone j ts p m h (one_opening (opening_sign j) (opening_sign b.kind) x (opener_of j m h) (opener_of b.kind b.listed b.still) (opened_sign j m h q) here) (opened_whole r j i m h q o w) (of_so_far.from_node j q).keeps
 
-opened_staged : {v : Surroundings} (r : Rung) {x y : Place} {ts : Forest} (k : Kind) → is_rung r ≡ true → reaches r k ≡ true → Listed k → grows_on k ≡ false → Walk (Whole so_far) (steady v) (row_so_far k) x ts y → so_far.keeps k v ts ≡ true → Staged v false (seat r) x (node k ts) y
-opened_staged {v} r {ts = ts} k i e l g w keeps =
-    of_so_far.to_node k (seat_admits r k ts ((at_level {r = r} i k l).home ∙ reaches_level r k e) (clear_first r k ts (sym (leads_as k l) ∙ g) e))
-    (record { walk = loosen (moved (λ a h. sym (free_around a ts v h)) (opens k l g).freed w); keeps = keeps })
+staged_at : {v : Surroundings} (r : Rung) {x y : Place} {ts : Forest} (k : Kind) → is_rung r ≡ true → reaches r k ≡ true → Listed k → free (row_so_far k) ≡ true → clear r (node k ts) ≡ true → Walk (Whole so_far) (steady v) (row_so_far k) x ts y → so_far.keeps k v ts ≡ true → Staged v false (seat r) x (node k ts) y
+staged_at {v} r {ts = ts} k i e l f c w keeps = of_so_far.to_node k (seat_admits r k ts ((at_level {r = r} i k l).home ∙ reaches_level r k e) c) (record { walk = loosen (moved (λ a h. sym (free_around a ts v h)) f w); keeps = keeps })
 
 -- what stands behind its sign keeps its rules, where these ask nothing
 pub kept_behind : {v : Surroundings} {a y : Place} {t : Tree} (k : Kind) → Listed k → grows_on k ≡ false → is_ruled k ≡ false → Built so_far v (tail (row_so_far k)) k (λ ts. ts) t a y → BuiltNode so_far v (tail (row_so_far k)) k t a y
@@ -137,32 +137,42 @@ kept_whole {v} k l g n bare b =
     let f = opens k l g in
     record { parts = b.parts; is = b.is; row = b.row; keeps = and_both _ _ f.taken (plain_kind k b.parts v n f.taken f.stood (plain_row (row_so_far k) bare (to_grammar of_so_far b.row.walk))) }
 
+-- what is read from there begins with this node
+record Leads (v : Surroundings) (x : Place) (t : Tree) (y : Place) : Type 0 where
+  on : (r : Rung) {f u : Tree} {p z : Place} → is_rung r ≡ true → First v x f p → Onward so_far v x f p u z → Whole so_far v false (seat r) x u z → SameFirst f t p y
+
 -- above its level nothing is read that begins with it
-too_low : {v : Surroundings} (r : Rung) {x y : Place} {t : Tree} → is_rung r ≡ true → OnlyFirst v t x y → rises r t ≡ false → Barred so_far v (Part (seat r)) x
-too_low {v} r {x} {y} {t} i b e = record { no = at }
+too_low : {v : Surroundings} (r : Rung) {x y : Place} {t : Tree} (k : Kind) → is_rung r ≡ true → Listed k → Leads v x t y → BuiltNode so_far v (row_so_far k) k t x y → rises r t ≡ false → Barred so_far v (Part (seat r)) x
+too_low {v} r {x} {y} {t} k i l c b e = record { no = at }
   where
     at : (h : Given) (z : Place) → Past (Whole so_far) v (Part (seat r)) x h z → ⊥
     at h z (tree {t = u} q) =
         let m = begun (rung_single r i) u q.reads in
-        let o : Onward so_far v x t y u z = onto (to_opened r i b m.first m.onward q) m.onward in
-        clash (rises r t) (ap (rises r) b.built.is ∙ (rises_node r b.kind b.built.parts ∙ node_reaches r i b.listed (subst (λ w. Staged v false (seat r) x w y) b.built.is (low r i o q.reads)))) e
+        let o : Onward so_far v x t y u z = onto (c.on r i m.first m.onward q) m.onward in
+        clash (rises r t) (ap (rises r) b.is ∙ (rises_node r k b.parts ∙ node_reaches r i l (subst (λ w. Staged v false (seat r) x w y) b.is (low r i (subst Value (sym b.is) (made l)) o q.reads)))) e
 
-only_follows : {v : Surroundings} {x y : Place} {t : Tree} → OnlyFirst v t x y → settled y ≡ true → Begins v x t y
-only_follows {v} {x} {y} {t} b s = record {
+node_follows : {v : Surroundings} {x y : Place} {t : Tree} (k : Kind) → Listed k → free (row_so_far k) ≡ true → Leads v x t y → (b : BuiltNode so_far v (row_so_far k) k t x y) → ((r : Rung) → reaches r k ≡ true → clear r (node k b.parts) ≡ true) → settled y ≡ true → Begins v x t y
+node_follows {v} {x} {y} {t} k l f c b d s = record {
   on = λ r i e.
-      let reads : Staged v false (seat r) x t y = subst (λ u. Staged v false (seat r) x u y) (sym b.built.is) (opened_staged r b.kind i (sym (rises_node r b.kind b.built.parts) ∙ (sym (ap (rises r) b.built.is) ∙ e)) b.listed b.still b.built.row.walk b.built.keeps) in
+      let up : reaches r k ≡ true = sym (rises_node r k b.parts) ∙ (sym (ap (rises r) b.is) ∙ e) in
+      let reads : Staged v false (seat r) x t y = subst (λ u. Staged v false (seat r) x u y) (sym b.is) (staged_at r k i up l f (d r up) b.row.walk b.keeps) in
       record {
-        follows = record { home = seat r; operand = rung_operand r; reads = reads; all = λ u z q. let m = begun (rung_single r i) u q.reads in onto (to_opened r i b m.first m.onward q) m.onward };
+        follows = record { home = seat r; operand = rung_operand r; reads = reads; all = λ u z q. let m = begun (rung_single r i) u q.reads in onto (c.on r i m.first m.onward q) m.onward };
         reads = reads;
         ended = s;
       };
-  low = λ r i e. too_low r i b e;
+  low = λ r i e. too_low r k i l c b e;
 }
 
--- ---- a kind that no other begins as
+only_follows : {v : Surroundings} {x y : Place} {t : Tree} → OnlyFirst v t x y → settled y ≡ true → Begins v x t y
+only_follows b s = node_follows b.kind b.listed (opens b.kind b.listed b.still).freed (record { on = λ r i f o w. to_opened r i b f o w }) b.built (λ r e. clear_first r b.kind b.built.parts (sym (leads_as b.kind b.listed) ∙ ap (λ g. g && not (is_template b.kind)) b.still) e) s
+
+-- a node that was read is what is read as one of its kind
 
 same_node : {v : Surroundings} {ps : List Piece} {x y z : Place} {t : Tree} {ts : Forest} (k : Kind) → BuiltNode so_far v ps k t x y → Walk (Whole so_far) (steady v) ps x ts z → SameFirst (node k ts) t z y
 same_node {z = z} {ts = ts} k b w = let s = b.row.alone ts z w in record { tree = ap (node k) (sym s.0) ∙ sym b.is; place = sym s.1 }
+
+-- ---- a kind that no other begins as
 
 sole_first : {v : Surroundings} {x y : Place} {t : Tree} (k : Kind) → Listed k → grows_on k ≡ false → is_shared k ≡ false → BuiltNode so_far v (row_so_far k) k t x y → OnlyFirst v t x y
 sole_first {v} {x} {y} {t} k l g n b = record {
@@ -239,6 +249,43 @@ opened_first {v} {x} {a} {y} {t} k l g s o = record {
     h : grows_on o.kind ≡ false
     h = opens_still (opening_sign k) o.kind o.begins
 
+-- ---- a template
+
+pub quoted_listed : {k : Kind} → Quoted k → Listed k
+quoted_listed undivided = listed (expression (PlainTemplate false)) refl refl refl
+quoted_listed divided = listed (expression (SubstitutedTemplate false)) refl refl refl
+
+quoted_closed : {k : Kind} → Quoted k → guarded (edge k) (row_so_far k) ≡ true
+quoted_closed undivided = refl
+quoted_closed divided = refl
+
+quoted_freed : {k : Kind} → Quoted k → free (row_so_far k) ≡ true
+quoted_freed undivided = refl
+quoted_freed divided = refl
+
+-- no call stands at its left end
+clear_quoted : (r : Rung) {k : Kind} (ts : Forest) → Quoted k → reaches r k ≡ true → clear r (node k ts) ≡ true
+clear_quoted r ts undivided e = clear_first r (expression (PlainTemplate false)) ts refl e
+clear_quoted r ts divided e = clear_first r (expression (SubstitutedTemplate false)) ts refl e
+
+quoted_whole : {v : Surroundings} (r : Rung) {d : Nonterminal} {x y z : Place} {u : Tree} {k : Kind} {ts : Forest} → Quoted k → is_rung r ≡ true → Staged v false d x (node k ts) y → Onward so_far v x (node k ts) y u z → Whole so_far v false (seat r) x u z → Walk (Whole so_far) (steady v) (row_so_far k) x ts y
+quoted_whole r {k = k} q i s o w = kind_whole r k i (quoted_listed q) (quoted_closed q) (quoted_freed q) s o w
+
+-- two at one place are of one kind
+one_quoted : {v : Surroundings} {d : Nonterminal} {V : List Context → Surroundings} {x p y : Place} {j k : Kind} {ts us : Forest} → Quoted k → Quoted j → Staged v false d x (node j ts) p → Walk Staged V (row_so_far k) x us y → j ≡ k
+one_quoted undivided undivided r w = refl
+one_quoted divided divided r w = refl
+one_quoted undivided divided r w = absurd (one_piece (whole_row w) (head_row (of_so_far.from_node (expression (SubstitutedTemplate false)) r).walk))
+one_quoted divided undivided r w = absurd (one_piece (whole_row (of_so_far.from_node (expression (PlainTemplate false)) r).walk) (head_row w))
+
+to_quoted : {v : Surroundings} (r : Rung) {x y p z : Place} {f t u : Tree} {k : Kind} → Quoted k → is_rung r ≡ true → BuiltNode so_far v (row_so_far k) k t x y → First v x f p → Onward so_far v x f p u z → Whole so_far v false (seat r) x u z → SameFirst f t p y
+to_quoted r {x = x} q i b (name m {t = s} h w e e') o u = absurd (literal_piece m s x (found_at e e') (piece_row q (loosen b.row.walk)))
+to_quoted r {x = x} q i b (opened d {k = j} m h s) o u = absurd (opener_piece x (opener_of j m h) (opened_sign j m h s) (piece_row q (loosen b.row.walk)))
+to_quoted {v} r {x} {y} {p} {t = t} {k = k} q i b (quoted d {k = j} {ts} h s) o w = subst (λ c. Walk (Whole so_far) (steady v) (row_so_far c) x ts p → SameFirst (node c ts) t p y) (sym (one_quoted q h s (loosen b.row.walk))) (same_node k b) (quoted_whole r h i s o w)
+
+pub quoted_follows : {v : Surroundings} {x y : Place} {t : Tree} {k : Kind} → Quoted k → BuiltNode so_far v (row_so_far k) k t x y → settled y ≡ true → Begins v x t y
+quoted_follows {k = k} q b s = node_follows k (quoted_listed q) (quoted_freed q) (record { on = λ r i f o w. to_quoted r q i b f o w }) b (λ r e. clear_quoted r b.parts q e) s
+
 -- with the sign before it
 pub signed_follows : {v : Surroundings} {x a y : Place} {t : Tree} (k : Kind) → Listed k → grows_on k ≡ false → Moves (opening_sign k) x a → OnlyOpened v (opening_sign k) t a y → settled y ≡ true → Begins v x t y
 signed_follows k l g m o s = only_follows (opened_first k l g m o) s
@@ -281,14 +328,16 @@ opened_by {v} {s} {a} {y} {t} k e b others = record { kind = k; begins = e; buil
 
 -- ---- where no expression stands
 
--- what is read from there begins with neither a literal nor a node
+-- what is read from there begins with neither a literal nor a node, nor is it a template
 record NoFirst (v : Surroundings) (x : Place) : Type 0 where
-  literal : (l : Literal) (t : Text) → value_leaf true (token_kind l) t ≡ true → IsTrue (is_found (forth (literal_sign l t) x)) → ⊥
+  literal : (l : Literal) (t : Text) → value_leaf (token_kind l) t ≡ true → IsTrue (is_found (forth (literal_sign l t) x)) → ⊥
+  quoted : (r : Rung) {d : Nonterminal} {p : Place} {ts : Forest} {u : Tree} {z : Place} {k : Kind} → is_rung r ≡ true → Quoted k → Staged v false d x (node k ts) p → Onward so_far v x (node k ts) p u z → Whole so_far v false (seat r) x u z → ⊥
   node : (r : Rung) {d : Nonterminal} {p : Place} {ts : Forest} {u : Tree} {z : Place} (k : Kind) → is_rung r ≡ true → Listed k → grows_on k ≡ false → Staged v false d x (node k ts) p → Onward so_far v x (node k ts) p u z → Whole so_far v false (seat r) x u z → ⊥
 
 none_first : {v : Surroundings} (r : Rung) {x p z : Place} {f u : Tree} → NoFirst v x → is_rung r ≡ true → First v x f p → Onward so_far v x f p u z → Whole so_far v false (seat r) x u z → ⊥
 none_first r b i (name l {t} h q e g) o w = b.literal l t h (found_at e g)
 none_first r b i (opened d {k} l g q) o w = b.node r k i l g q o w
+none_first r b i (quoted d q s) o w = b.quoted r i q s o w
 
 none_begins : {v : Surroundings} {x : Place} → NoFirst v x → NoneBegins v x
 none_begins {v} {x} b = record { on = λ r i. record { no = at r i } }
@@ -311,18 +360,20 @@ no_angle : {v : Surroundings} {x : Place} (l : Literal) (t : Text) → IsTrue (i
 no_angle {v} {x} l t f = record { no = λ ts y w. less_literal l t x (led_sign (row_so_far (jsx Element)) refl w) f }
 
 -- the literal that stands there may not
-pub unfit_literal : {v : Surroundings} {x y : Place} (l : Literal) (t : Text) → NoOpening x → y ≡ forth (literal_sign l t) x → IsTrue (is_found y) → value_leaf true (token_kind l) t ≡ false → NoneBegins v x
+pub unfit_literal : {v : Surroundings} {x y : Place} (l : Literal) (t : Text) → NoOpening x → y ≡ forth (literal_sign l t) x → IsTrue (is_found y) → value_leaf (token_kind l) t ≡ false → NoneBegins v x
 unfit_literal {v} {x} {y} l t unopened e f n =
     let there = found_at (sym e) f in
     none_begins (record {
-      literal = λ m s h g. let q = same_both m l s t x g there in clash _ (subst (λ k. value_leaf true (token_kind k) t ≡ true) q.kinds (subst (λ r. value_leaf true (token_kind m) r ≡ true) q.texts h)) n;
+      literal = λ m s h g. let q = same_both m l s t x g there in clash _ (subst (λ k. value_leaf (token_kind k) t ≡ true) q.kinds (subst (λ r. value_leaf (token_kind m) r ≡ true) q.texts h)) n;
       node = λ r k i j g q o w. no_node r k unopened (no_angle l t there) i j g q o w;
+      quoted = λ r i q s o w. literal_piece l t x there (piece_of q s);
     })
 
-pub no_value : {v : Surroundings} {x : Place} → NoOpening x → ((t : Text) → forth (literal_sign IsName t) x ≡ Lost) → ((t : Text) → forth (literal_sign IsNumber t) x ≡ Lost) → ((t : Text) → forth (literal_sign IsLong t) x ≡ Lost) → ((t : Text) → forth (literal_sign IsString t) x ≡ Lost) → ((t : Text) → forth (literal_sign IsPattern t) x ≡ Lost) → NoRow so_far v (row_so_far (jsx Element)) x → NoneBegins v x
-no_value {v} {x} unopened a b d c p r = none_begins (record {
+pub no_value : {v : Surroundings} {x : Place} → NoOpening x → ((t : Text) → forth (literal_sign IsName t) x ≡ Lost) → ((t : Text) → forth (literal_sign IsNumber t) x ≡ Lost) → ((t : Text) → forth (literal_sign IsLong t) x ≡ Lost) → ((t : Text) → forth (literal_sign IsString t) x ≡ Lost) → ((t : Text) → forth (literal_sign IsPattern t) x ≡ Lost) → NoRow so_far v (row_so_far (jsx Element)) x → (Quote x → ⊥) → NoneBegins v x
+no_value {v} {x} unopened a b d c p r z = none_begins (record {
   literal = λ m s h g. lost_there (literal_sign m s) x (n m s) g;
   node = λ s k i j g q o w. no_node s k unopened r i j g q o w;
+  quoted = λ s i q n o w. z (piece_of q n);
 })
   where
     n : (l : Literal) (t : Text) → forth (literal_sign l t) x ≡ Lost
@@ -341,4 +392,13 @@ unread_opening {v} {x} {a} k l g m n =
       node = λ r {ts = ts} j i h f q o w.
           let e = one_opening (opening_sign j) (opening_sign k) x (opener_of j h f) (opener_of k l g) (opened_sign j h f q) there in
           (n.no j (with_sign k j h f e)).no ts _ (behind_sign j k h f l g m e (opened_whole r j i h f q o w)) (of_so_far.from_node j q).keeps;
+      quoted = λ r i q s o w. opener_piece x (opener_of k l g) there (piece_of q s);
     })
+
+-- a template begins there, and none can be read
+pub unread_quoted : {v : Surroundings} {x : Place} → Quote x → ((k : Kind) → Quoted k → NoNode so_far v (row_so_far k) k x) → NoneBegins v x
+unread_quoted {x = x} p n = none_begins (record {
+  literal = λ l t h f. literal_piece l t x f p;
+  node = λ r k i l g s o w. opener_piece x (opener_of k l g) (opened_sign k l g s) p;
+  quoted = λ r {p = q} {ts = ts} {k = k} i h s o w. (n k h).no ts q (quoted_whole r h i s o w) (of_so_far.from_node k s).keeps;
+})

@@ -11,6 +11,7 @@ use Rattle.jsx_tree.specs.Answers.{Only, Barred, NoRow, Built}
 use Rattle.jsx_tree.specs.Grows.{operator_sign}
 use Rattle.jsx_token.specs.Marks.{row_so_far}
 use Rattle.jsx_expression.specs.SoFar.{so_far}
+use Rattle.jsx_expression.specs.Climbing.{behind}
 use Rattle.jsx_tree.proofs.Rows.Steps.{bar, built_1}
 use Rattle.jsx_token.specs.Growths.{is_level, mark}
 
@@ -40,6 +41,17 @@ behind_operator Multiply = refl
 behind_operator Divide = refl
 behind_operator Remainder = refl
 behind_operator Exponentiate = refl
+
+-- no mark of theirs has to stand on the line of what is before it
+operator_behind : (o : BinaryOp) → tail (tail (row_so_far (expression (Binary o)))) ≡ behind (expression (Binary o))
+operator_behind Nullish = refl
+operator_behind _ = refl
+
+pub built_operator : {v : Surroundings} {b y : Place} {t w : Tree} (o : BinaryOp) → Built so_far v (tail (tail (row_so_far (expression (Binary o))))) (expression (Binary o)) (part t) w b y → Built so_far v (behind (expression (Binary o))) (expression (Binary o)) (part t) w b y
+built_operator {v} {b} {y} {t} {w} o n = subst (λ ps. Built so_far v ps (expression (Binary o)) (part t) w b y) (operator_behind o) n
+
+pub no_operator : {v : Surroundings} {b : Place} (o : BinaryOp) → NoRow so_far v (tail (tail (row_so_far (expression (Binary o))))) b → NoRow so_far v (behind (expression (Binary o))) b
+no_operator {v} {b} o n = subst (λ ps. NoRow so_far v ps b) (operator_behind o) n
 
 pub mark_is : (o : BinaryOp) → mark (expression (Binary o)) ≡ operator_sign o
 mark_is Nullish = refl

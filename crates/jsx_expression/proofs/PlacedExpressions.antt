@@ -2,14 +2,14 @@
 use Rattle.std.proofs.Common.{◌≡◌, nat_eq, Bool, true, false, List, [], ◌∷◌, ◌++◌, append_assoc, map, refl, sym, ◌∙◌, ap, subst, Option, Box, Vec, Global}
 use Rattle.std.specs.Prelude.{IsTrue, codes, cond, ◌||◌}
 use Rattle.std.proofs.lemmas.Bool.{eqb-true}
-use Rattle.jsx_base.specs.Token.{Text, Operator, Punctuator, JsxName, IdentifierName, StringLiteral, NumericLiteral, BigIntLiteral, Lexeme, breaks, skip, at_front, token, same, first_is, is_token}
+use Rattle.jsx_base.specs.Token.{Text, Operator, Piece, Punctuator, NoSubstitution, TemplateHead, TemplateMiddle, TemplateTail, JsxName, IdentifierName, StringLiteral, NumericLiteral, BigIntLiteral, Lexeme, breaks, skip, at_front, token, same, first_is, is_token}
 use Rattle.jsx_base.specs.declared.place.Span.{Span}
 use Rattle.jsx_tree.specs.declared.text.Text.{Text as TreeText}
 use Rattle.jsx_tree.specs.declared.tree.Jsx.{Jsx}
 use Rattle.jsx_tree.specs.Signs.{End, AfterExpr, Tok, TrailingComma, Sign}
-use Rattle.jsx_tree.specs.Kinds.{BinaryOp, Nullish, Exponentiate, UnaryOp, Delete, Void, TypeOf, Positive, Negative, Complement, Not, Assign, OpAssign, Unary, Binary, Cond, Call, Member, Index, New, NewWithoutArguments, NewTarget, ImportCall, ImportMeta, Element, expression, jsx, Tree, leaf, node, list, Forest, none, part, UpdateOp, Increment, Decrement, PrefixUpdate, PostfixUpdate, Seq, Array, Object, Property, Shorthand, Spread, ComputedKey, function}
+use Rattle.jsx_tree.specs.Kinds.{BinaryOp, Nullish, Exponentiate, UnaryOp, Delete, Void, TypeOf, Positive, Negative, Complement, Not, Assign, OpAssign, Unary, Binary, Cond, Call, Member, Index, New, NewWithoutArguments, NewTarget, ImportCall, ImportMeta, Element, expression, jsx, Tree, leaf, node, list, Forest, none, part, UpdateOp, Increment, Decrement, PrefixUpdate, PostfixUpdate, Seq, Array, Object, Property, Shorthand, Spread, ComputedKey, function, PlainTemplate, SubstitutedTemplate, TemplateSpan, Tagged}
 use Rattle.jsx_tree.specs.Nonterminals as grammar
-use Rattle.jsx_tree.specs.Grammar.{Commas, TwoOrMore, Many, Part, key, p, pun, sp, count, left_of, right_of, Elisions}
+use Rattle.jsx_tree.specs.Grammar.{Commas, TwoOrMore, Many, Part, key, p, pun, sp, count, left_of, right_of, Elisions, Adjacent}
 use Rattle.jsx_tree.specs.Grows.{operator_sign}
 use Rattle.jsx_tree.specs.Spelling.{mode_of, between, gathered, each_said, spelled}
 use Rattle.jsx_tree.specs.Reading.{Place, Lost, At, forth, scan}
@@ -21,6 +21,7 @@ use Rattle.jsx_token.specs.Here.{Here, place_of, sign_of}
 use Rattle.jsx_token.specs.declared.lexer.Fixed.TheVariants as fixed
 use Rattle.jsx_expression.specs.Spans.{Spans, is_argument, IsPlaced, IsPlacedRow, IsPlacedList}
 use Rattle.jsx_expression.specs.Members.{behind_brace}
+use Rattle.jsx_expression.specs.Templates.{rest_production}
 use Rattle.jsx_token.specs.Places.{next_of, end_of, Takes}
 use Rattle.jsx_token.specs.Marks.{assign_sign}
 use Rattle.jsx_token.specs.Growths.{mark, opening_sign}
@@ -28,7 +29,7 @@ use Rattle.jsx_base.proofs.Fronts.{other_ahead}
 use Rattle.jsx_tree.proofs.Apart.{clash}
 use Rattle.jsx_tree.proofs.Signs.{comma_too}
 use Rattle.jsx_expression.proofs.Operators.{operator_is}
-use Rattle.jsx_expression.proofs.Placing.{row_end, row_sign, row_quiet, row_part, row_part_as, row_list, list_none, node_is, leaf_is, led, row_line, row_unless}
+use Rattle.jsx_expression.proofs.Placing.{row_end, row_sign, row_quiet, row_part, row_part_as, row_list, list_none, node_is, leaf_is, led, row_line, row_unless, IsItem, bare_node, middle_item, tail_item, row_item}
 
 -- ---- a trailing comma
 
@@ -199,3 +200,22 @@ property_row l colon r s = node_is (λ c e ps. refl) (led l _) s (row_quiet (λ 
 
 pub shorthand_row : {at : Option Span} {a : TreeText} {x y : Here} → Takes (Tok Operator IdentifierName (text_of a)) x y → Comes a (next_of x) → Spans at (next_of x) (end_of y) → IsPlaced (told_node at (told_text a ∷ [])) (node (expression Shorthand) (part (leaf IdentifierName (text_of a)) none)) x y
 shorthand_row {a = a} name comes s = let l = name_placed {a = a} name comes in node_is (λ c e ps. refl) (led l []) s (row_quiet (λ q. refl) (row_part l row_end))
+
+-- ---- templates
+
+pub span_row : {b : Bool} {d : Told} {t : Tree} {p : TreeText} {x y z w : Here} → IsPlaced d t x y → Takes (sign_of fixed.CloseBrace) y z → Takes (Tok Piece TemplateMiddle (text_of p)) z w → Comes p (end_of z) → IsItem false (tells [] (tale d (tale (told_text p) no_tales))) (node (expression (TemplateSpan b)) (part t (part (leaf TemplateMiddle (text_of p)) none))) x w
+span_row l brace piece comes = bare_node (λ c e ps. refl) (row_part l (row_sign brace (row_item refl (middle_item (comes, tt) piece) row_end)))
+
+pub rest_row : {b : Bool} {es : Tales} {us : Forest} {d : Told} {t : Tree} {p : TreeText} {x y z w v : Here} → IsPlacedList Adjacent es us x y → IsPlaced d t y z → Takes (sign_of fixed.CloseBrace) z w → Takes (Tok Piece TemplateTail (text_of p)) w v → Comes p (end_of w)
+    → IsPlacedRow (rest_production b) (tale (tells [] es) (tale d (tale (told_text p) no_tales))) (part (list us) (part t (part (leaf TemplateTail (text_of p)) none))) x v
+rest_row l r brace piece comes = row_list l (row_part r (row_sign brace (row_item refl (tail_item (comes, tt) piece) row_end)))
+
+pub whole_template_row : (b : Bool) {at : Option Span} {a : TreeText} {x y : Here} → Takes (Tok Operator NoSubstitution (text_of a)) x y → Comes a (next_of x) → Spans at (next_of x) (end_of y) → IsPlaced (told_node at (told_text a ∷ [])) (node (expression (PlainTemplate b)) (part (leaf NoSubstitution (text_of a)) none)) x y
+whole_template_row b {a = a} {x} {y} piece comes s = let l : IsPlaced (told_text a) (leaf NoSubstitution (text_of a)) x y = leaf_is refl refl (comes, tt) piece in node_is (λ c e ps. refl) (λ ms text. refl) s (row_quiet (λ q. refl) (row_part l row_end))
+
+pub head_template_row : (b : Bool) {at : Option Span} {a : TreeText} {ds : Tales} {us : Forest} {x y z : Here} → Takes (Tok Operator TemplateHead (text_of a)) x y → Comes a (next_of x) → IsPlacedRow (rest_production b) ds us y z → Spans at (next_of x) (end_of z)
+    → IsPlaced (tells (spans at ∷ []) (tale (told_text a) ds)) (node (expression (SubstitutedTemplate b)) (part (leaf TemplateHead (text_of a)) us)) x z
+head_template_row b {a = a} {x = x} {y} piece comes r s = let l : IsPlaced (told_text a) (leaf TemplateHead (text_of a)) x y = leaf_is refl refl (comes, tt) piece in node_is (λ c e ps. refl) (λ ms text. refl) s (row_quiet (λ q. refl) (row_part l r))
+
+pub tagged_row : {at : Option Span} {d e : Told} {t u : Tree} {w x y : Here} → IsPlaced d t w x → IsPlaced e u x y → Spans at (next_of w) (end_of y) → IsPlaced (told_node at (d ∷ e ∷ [])) (node (expression Tagged) (part t (part u none))) w y
+tagged_row l r s = node_is (λ c e ps. refl) (led l _) s (row_part l (row_quiet (λ q. refl) (row_part r row_end)))

@@ -1,13 +1,13 @@
 -- The places of a node from those of its parts, along any row.
 use Rattle.std.proofs.Common.{◌≡◌, ◌-◌, ℕ, Bool, true, false, List, [], ◌∷◌, ◌++◌, append-nil, append_assoc, refl, sym, ◌∙◌, ap, subst, map, Option, Some, None}
 use Rattle.std.specs.Prelude.{IsTrue, cond, not}
-use Rattle.jsx_base.specs.Token.{Text, Operator, TokenKind, breaks, skip, skips, among, token, Elision}
+use Rattle.jsx_base.specs.Token.{Text, Operator, Piece, TokenKind, TemplateMiddle, TemplateTail, breaks, skip, skips, among, token, Elision}
 use Rattle.jsx_base.specs.Lines.{size}
 use Rattle.jsx_base.specs.declared.place.Span.{Span}
 use Rattle.jsx_tree.specs.Signs.{Ending, Sign, Tok, Unless, SameLine, Ends, One}
 use Rattle.jsx_tree.specs.Kinds.{Kind, Tree, leaf, node, list, Forest, none, part}
 use Rattle.jsx_tree.specs.Nonterminals.{Nonterminal}
-use Rattle.jsx_tree.specs.Grammar.{Context, ListShape, Commas, Elisions, NoTrailing, TwoOrMore, Lines, TopLines, Fixed, Part, Optional, Many, Within, Production, production}
+use Rattle.jsx_tree.specs.Grammar.{Context, ListShape, Adjacent, Commas, Elisions, NoTrailing, TwoOrMore, Lines, TopLines, Fixed, Part, Optional, Many, Within, Production, production}
 use Rattle.jsx_tree.specs.Spelling.{mode_of, leaf_signs, before, between, behind, gathered, walk, saids, each_said, spelled}
 use Rattle.jsx_tree.specs.Reading.{Place, Lost, At, forth, scan}
 use Rattle.jsx_tree.specs.Spans.{is_text, from_first, rest_at, Extent, extent, extent_of, settled, Places, node_at, starts, start, list_starts, placed, places, each_placed, within, Claim, spans, comes, Holds, AllHold, Told, tells, Tales, no_tales, tale, IsTold, AreTold}
@@ -61,8 +61,17 @@ line_stays (At q e text) f = guard (not (breaks text)) (At q e text) f
 pub row_line : {ps : Production} {ds : Tales} {ts : Forest} {x z : Here} → IsPlacedRow ps ds ts x z → IsPlacedRow (Fixed SameLine ∷ ps) ds ts x z
 row_line {x = x} r = row_step refl (line_stays (place_of x)) r
 
-pub row_part_as : {a : Bool} {c : Nonterminal} {ps : Production} {d : Told} {ds : Tales} {t : Tree} {ts : Forest} {x y z : Here} → is_argument c ≡ a → IsPlacedAs a d t x y → IsPlacedRow ps ds ts y z → IsPlacedRow (Part c ∷ ps) (tale d ds) (part t ts) x z
-row_part_as {c = c} {ps} {d} {ds} {t} {ts} {x} {y} {z} e l r =
+-- the same without the token that a tree begins with: a hole has none, and before a piece of a template no gap is skipped
+pub record IsItem (a : Bool) (d : Told) (t : Tree) (x y : Here) : Type 0 where
+  pub same : y.end ≡ x.end
+  pub leads : IsTrue (is_found (scan (place_of x) (spelled t))) → scan (place_of x) (spelled t) ≡ place_of y
+  pub told : IsTrue (is_found (scan (place_of x) (spelled t))) → (c : Nonterminal) → is_argument c ≡ a → IsTold d (placed x.end (start c false (place_of x ∷ [])) t)
+
+item : {a : Bool} {d : Told} {t : Tree} {x y : Here} → IsPlacedAs a d t x y → IsItem a d t x y
+item l = record { same = l.same; leads = l.leads; told = l.told }
+
+pub row_item : {a : Bool} {c : Nonterminal} {ps : Production} {d : Told} {ds : Tales} {t : Tree} {ts : Forest} {x y z : Here} → is_argument c ≡ a → IsItem a d t x y → IsPlacedRow ps ds ts y z → IsPlacedRow (Part c ∷ ps) (tale d ds) (part t ts) x z
+row_item {c = c} {ps} {d} {ds} {t} {ts} {x} {y} {z} e l r =
     let ms = walk ps (saids ts) in
     let behind : Place = scan (place_of x) (spelled t) in
     let a : scan (place_of x) (spelled t ++ ms) ≡ scan behind ms = scan_append (place_of x) (spelled t) ms in
@@ -78,6 +87,9 @@ row_part_as {c = c} {ps} {d} {ds} {t} {ts} {x} {y} {z} e l r =
             (subst (λ p. AreTold ds (places y.end (starts p ps (saids ts)) ts)) (sym (l.leads (here f))) (r.told (goes f))),
       );
     }
+
+pub row_part_as : {a : Bool} {c : Nonterminal} {ps : Production} {d : Told} {ds : Tales} {t : Tree} {ts : Forest} {x y z : Here} → is_argument c ≡ a → IsPlacedAs a d t x y → IsPlacedRow ps ds ts y z → IsPlacedRow (Part c ∷ ps) (tale d ds) (part t ts) x z
+row_part_as e l r = row_item e (item l) r
 
 pub row_part : {c : Nonterminal} {ps : Production} {d : Told} {ds : Tales} {t : Tree} {ts : Forest} {x y z : Here} → IsPlacedAs (is_argument c) d t x y → IsPlacedRow ps ds ts y z → IsPlacedRow (Part c ∷ ps) (tale d ds) (part t ts) x z
 row_part l r = row_part_as refl l r
@@ -193,20 +205,14 @@ plain_top_lines = record { bare = λ x ms ns. refl; code = refl }
 pub plain_elisions : IsPlain Elisions
 plain_elisions = record { bare = λ x ms ns. refl; code = refl }
 
+pub plain_adjacent : IsPlain Adjacent
+plain_adjacent = record { bare = λ x ms ns. refl; code = refl }
+
 pub plain_lines : IsPlain Lines
 plain_lines = record { bare = λ x ms ns. refl; code = refl }
 
 pub list_none : {a : Bool} {s : ListShape} {x : Here} → IsPlacedListAs a s no_tales none x x
 list_none = record { same = refl; leads = λ f. refl; told = λ f c e. tt }
-
--- a tree of a list, which may be a hole
-pub record IsItem (a : Bool) (d : Told) (t : Tree) (x y : Here) : Type 0 where
-  pub same : y.end ≡ x.end
-  pub leads : IsTrue (is_found (scan (place_of x) (spelled t))) → scan (place_of x) (spelled t) ≡ place_of y
-  pub told : IsTrue (is_found (scan (place_of x) (spelled t))) → (c : Nonterminal) → is_argument c ≡ a → IsTold d (placed x.end (start c false (place_of x ∷ [])) t)
-
-item : {a : Bool} {d : Told} {t : Tree} {x y : Here} → IsPlacedAs a d t x y → IsItem a d t x y
-item l = record { same = l.same; leads = l.leads; told = l.told }
 
 pub hole_item : {x : Here} → IsItem false (tells [] no_tales) (leaf Elision []) x x
 hole_item = record { same = refl; leads = λ f. refl; told = λ f c i. (tt, refl) }
@@ -274,6 +280,21 @@ node_is {k = k} {at} {ds} {ts} {x} {y} plain begins s r =
           (is_there (x.end - size (from_first ms x.rest)) s lo (λ i. r.same i - size (rest_at (sym (r.leads f) i))), r.told f);
       moved = λ _ f c _ lo' hi' at' h. subst (λ p. IsTold (tells (spans at' ∷ []) ds) (within (extent lo' hi') p)) (sym (plain c (extent_of x.end (place_of x) ms) (places x.end (starts (place_of x) (production k) (saids ts)) ts))) ((h, tt), r.told f);
     }
+
+-- a node that has no span of its own
+pub bare_node : {a : Bool} {k : Kind} {ds : Tales} {ts : Forest} {x y : Here} → ((c : Nonterminal) (e : Extent) (ps : Places) → settled k c e ps ≡ node_at e k ps) → IsPlacedRow (production k) ds ts x y → IsItem a (tells [] ds) (node k ts) x y
+bare_node {k = k} {ds} {ts} {x} plain r = record {
+  same = r.same;
+  leads = r.leads;
+  told = λ f c _. subst (IsTold (tells [] ds)) (sym (plain c (extent_of x.end (place_of x) (spelled (node k ts))) (places x.end (starts (place_of x) (production k) (saids ts)) ts))) (tt, r.told f);
+}
+
+-- a piece of a template, which begins where the token before it ends
+pub middle_item : {p : Text} {cs : List Claim} {x y : Here} → AllHold (extent (end_of x) (end_of y)) (end_of x) cs → Takes (Tok Piece TemplateMiddle p) x y → IsItem false (tells cs no_tales) (leaf TemplateMiddle p) x y
+middle_item {p} {cs} {x} {y} h takes = record { same = takes.same; leads = λ f. takes.leads; told = λ f c _. (subst (λ n. AllHold (extent (end_of x) n) (end_of x) cs) (λ i. takes.same i - size (rest_at (sym takes.leads i))) h, refl) }
+
+pub tail_item : {p : Text} {cs : List Claim} {x y : Here} → AllHold (extent (end_of x) (end_of y)) (end_of x) cs → Takes (Tok Piece TemplateTail p) x y → IsItem false (tells cs no_tales) (leaf TemplateTail p) x y
+tail_item {p} {cs} {x} {y} h takes = record { same = takes.same; leads = λ f. takes.leads; told = λ f c _. (subst (λ n. AllHold (extent (end_of x) n) (end_of x) cs) (λ i. takes.same i - size (rest_at (sym takes.leads i))) h, refl) }
 
 -- what is told of a leaf holds with another span, where its text begins at the same place
 claims_moved : (p q n lo hi : ℕ) (at : Option Span) (cs : List Claim) → Holds (extent lo hi) lo (spans at) → AllHold (extent p q) n cs → AllHold (extent lo hi) n (spanned_claims at cs)

@@ -14,7 +14,7 @@ use Rattle.jsx_tree.proofs.Rows.Stopping.{is_not}
 use Rattle.jsx_token.specs.Stage.{leaf_at, value_leaf}
 use Rattle.jsx_token.specs.Growths.{Rung, rung, callee, is_rung, least, level_of_kind, reaches, seat}
 use Rattle.jsx_token.proofs.Listed.{Listed, kinds, every, of_each, of_level, agree, agreed}
-use Rattle.jsx_token.proofs.Levels.{grows_on}
+use Rattle.jsx_token.proofs.Levels.{steps_on}
 use Rattle.jsx_token.proofs.Lives.{is_single}
 use Rattle.jsx_expression.specs.SoFar.{Staged}
 use Rattle.jsx_expression.specs.Climbing.{rises}
@@ -49,25 +49,25 @@ least_home callee k h = h
 
 -- ---- leaves
 
-literal_low : (n : ℕ) (l : Literal) (t : Text) → is_rung (rung n) ≡ true → value_leaf true (token_kind l) t ≡ true → leaf_in (Expr n) (token_kind l) t ≡ true
+literal_low : (n : ℕ) (l : Literal) (t : Text) → is_rung (rung n) ≡ true → value_leaf (token_kind l) t ≡ true → leaf_in (Expr n) (token_kind l) t ≡ true
 literal_low n IsName t h w = and_both _ _ (of_level (λ m. nat_le m 18) refl {n = n} h) w
 literal_low n IsNumber t h w = of_level (λ m. in_homes (Expr m) (literal_homes NumericLiteral)) refl {n = n} h
 literal_low n IsLong t h w = of_level (λ m. in_homes (Expr m) (literal_homes BigIntLiteral)) refl {n = n} h
 literal_low n IsString t h w = of_level (λ m. in_homes (Expr m) (literal_homes StringLiteral)) refl {n = n} h
 literal_low n IsPattern t h w = of_level (λ m. in_homes (Expr m) (literal_homes RegExpLiteral)) refl {n = n} h
 
-literal_called : (l : Literal) (t : Text) → value_leaf true (token_kind l) t ≡ true → leaf_in NewCallee (token_kind l) t ≡ true
+literal_called : (l : Literal) (t : Text) → value_leaf (token_kind l) t ≡ true → leaf_in NewCallee (token_kind l) t ≡ true
 literal_called IsName t w = w
 literal_called IsNumber t w = refl
 literal_called IsLong t w = refl
 literal_called IsString t w = refl
 literal_called IsPattern t w = refl
 
-pub literal_seat : (r : Rung) (l : Literal) (t : Text) → is_rung r ≡ true → value_leaf true (token_kind l) t ≡ true → leaf_in (seat r) (token_kind l) t ≡ true
+pub literal_seat : (r : Rung) (l : Literal) (t : Text) → is_rung r ≡ true → value_leaf (token_kind l) t ≡ true → leaf_in (seat r) (token_kind l) t ≡ true
 literal_seat (rung n) l t h w = literal_low n l t h w
 literal_seat callee l t h w = literal_called l t w
 
-pub leaf_seat : (r : Rung) (k : TokenKind) (t : Text) → value_leaf true k t ≡ true → leaf_at (seat r) k t ≡ true
+pub leaf_seat : (r : Rung) (k : TokenKind) (t : Text) → value_leaf k t ≡ true → leaf_at (seat r) k t ≡ true
 leaf_seat (rung n) k t w = w
 leaf_seat callee k t w = w
 
@@ -115,16 +115,16 @@ pub level_reaches : (r : Rung) (k : Kind) (ts : Forest) → nat_le (least r) (le
 level_reaches (rung n) k ts e c = e
 level_reaches callee k ts e c = and_both _ _ e (ap not (halves (calls k) _ (is_not _ c)).0)
 
--- what a row begins with is all that counts
+-- what a row begins with is all that counts; of a template that is no part in the definition
 
 abbrev led : Kind → Bool
-led k = agree (grows_on k) (leads (production k))
+led k = agree (steps_on k) (leads (production k))
 
 all_led : every led kinds ≡ true
 all_led = refl
 
-pub leads_as : (k : Kind) → Listed k → grows_on k ≡ leads (production k)
-leads_as k m = agreed (grows_on k) (leads (production k)) (of_each led all_led k m)
+pub leads_as : (k : Kind) → Listed k → steps_on k ≡ leads (production k)
+leads_as k m = agreed (steps_on k) (leads (production k)) (of_each led all_led k m)
 
 pub clear_left : (r : Rung) (k : Kind) (t : Tree) (ts : Forest) → leads (production k) ≡ true → clear r (node k (part t ts)) ≡ true → clear r t ≡ true
 clear_left (rung n) k t ts l c = refl

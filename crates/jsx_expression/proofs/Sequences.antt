@@ -23,7 +23,7 @@ use Rattle.jsx_tree.proofs.Rows.Guarded.{whole_walk, loosen, to_grammar}
 use Rattle.jsx_tree.proofs.Rows.Steps.{both}
 use Rattle.jsx_tree.proofs.Rows.Turns.{early, item_of, whole_of}
 use Rattle.jsx_expression.specs.SoFar.{so_far}
-use Rattle.jsx_token.specs.Marks.{marks, goers, goes_at, steps, is_sign, is_mark, goes_on_so_far, ends_so_far, row_so_far}
+use Rattle.jsx_token.specs.Marks.{marks, goers, goes_at, steps, is_sign, is_mark, goes_on_so_far, ends_so_far, row_so_far, goes_by_mark, goes_by_quote}
 use Rattle.jsx_token.specs.Growths.{settled}
 use Rattle.jsx_expression.proofs.OfSoFar.{of_so_far}
 use Rattle.jsx_token.proofs.Listed.{agree, agreed}
@@ -40,7 +40,7 @@ comma_goes (At q AfterExpr text) s f =
     let x = token Operator (same q []) text in
     let i : is_sign x (pun ",") ≡ true = seen_sign (pun ",") q AfterExpr text refl f in
     let raw : among x.raw (going 0) ≡ true = by_sign (λ t. among t (going 0)) (pun ",") x refl i in
-    ap (λ b. not (goes_at 0 (breaks text) (token Operator b text).raw && is_mark (token Operator b text) goers)) (sym (is_not (same q []) s)) ∙ (λ j. not ((raw j || (not (breaks text) && among x.raw steps)) && (i j || is_mark x marks)))
+    ap (λ b. not (goes_by_mark 0 (breaks text) (token Operator b text) || goes_by_quote 0 (token Operator b text))) (sym (is_not (same q []) s)) ∙ (λ j. not (((raw j || (not (breaks text) && among x.raw steps)) && (i j || is_mark x marks)) || goes_by_quote 0 x))
 comma_goes (At q _ text) s f = cc
 
 -- the other signs go on with a sequence as with an assignment
@@ -56,10 +56,10 @@ and_equal false true false f = refl
 and_equal false false false f = refl
 
 goes_equal : (b : Bool) (x : Lexeme) → is_sign x (pun ",") ≡ false → goes_on_so_far (Some 0) AfterExpr b x ≡ goes_on_so_far (Some 1) AfterExpr b x
-goes_equal b x n =
-    (λ i. goes_at 0 b x.raw && (n i || is_mark x marks))
+goes_equal b x n = ap (λ p. p || goes_by_quote 0 x)
+    ((λ i. goes_at 0 b x.raw && (n i || is_mark x marks))
     ∙ (and_equal (goes_at 0 b x.raw) (goes_at 1 b x.raw) (is_mark x marks) (λ h. ap (λ p. p || (not b && among x.raw steps)) (agreed (among x.raw (going 0)) (among x.raw (going 1)) (of_mark (λ t. agree (among t (going 0)) (among t (going 1))) all_marks x h)))
-    ∙ (λ i. goes_at 1 b x.raw && (sym n i || is_mark x marks)))
+    ∙ (λ i. goes_at 1 b x.raw && (sym n i || is_mark x marks))))
 
 not_there : (b : Bool) (y : Place) → is_found y ≡ true → cond b y Lost ≡ Lost → b ≡ false
 not_there true y f h = let bad : true ≡ false = sym f ∙ ap is_found h in cc

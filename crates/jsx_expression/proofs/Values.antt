@@ -2,43 +2,43 @@
 use Rattle.std.proofs.Common.{◌≡◌, ℕ, nat_eq, Bool, true, false, not, cond, [], ◌∷◌, refl, sym, ◌∙◌, ap, subst, List}
 use Rattle.std.proofs.lemmas.Bool.{eqb-true, eq-eqb}
 use Rattle.std.specs.Prelude.{IsTrue, codes, Option, Some, None, ◌&&◌, ◌||◌}
-use Rattle.jsx_base.specs.Token.{Text, Mode, Operand, Operator, kind_number, TokenKind, NoToken, IdentifierName, Punctuator, NumericLiteral, BigIntLiteral, StringLiteral, RegExpLiteral, Lexeme, is_kind, is_token, among, no_token, breaks, skip, first_is, at_front, token, same}
+use Rattle.jsx_base.specs.Token.{Text, Mode, Operand, Operator, kind_number, TokenKind, NoToken, IdentifierName, Punctuator, NumericLiteral, BigIntLiteral, StringLiteral, RegExpLiteral, NoSubstitution, TemplateHead, Lexeme, is_kind, is_token, among, no_token, breaks, skip, first_is, at_front, token, same}
 use Rattle.jsx_tree.specs.Signs.{Ending, AfterExpr, Sign, Tok, Unless}
-use Rattle.jsx_tree.specs.Kinds.{Label, Seq, statement, expression, Kind, Tree, leaf, node, list, Forest, part, Object}
-use Rattle.jsx_tree.specs.Nonterminals.{Nonterminal, Expr, DotObject, Argument, Name, homes, in_homes, literal_homes, leaf_in, is_value_word}
+use Rattle.jsx_tree.specs.Kinds.{Label, Seq, statement, expression, Kind, Tree, leaf, node, list, Forest, part, Object, Spread, PlainTemplate, SubstitutedTemplate}
+use Rattle.jsx_tree.specs.Nonterminals.{Nonterminal, Expr, Argument, Name, homes, in_homes, leaf_in, is_value_word, TemplatePart}
 use Rattle.jsx_tree.specs.Grammar.{ListShape, TwoOrMore, Context, Part, Fixed, heads, pun}
 use Rattle.jsx_tree.specs.Form.{admits, enough, is_leaf}
 use Rattle.jsx_tree.specs.Spelling.{mode_of}
 use Rattle.jsx_tree.specs.Reading.{Place, Lost, At, forth}
 use Rattle.jsx_tree.specs.StaticRules.{Surroundings}
-use Rattle.jsx_token.specs.Stage.{leaf_at, value_leaf}
-use Rattle.jsx_tree.specs.Walk.{is_found, is_text, Given, Items, nil, last, more, Past, one, sign, many, Relation, Piece, piece, tail, Walk, next, around}
+use Rattle.jsx_token.specs.Stage.{has_kind, leaf_at, value_leaf}
+use Rattle.jsx_tree.specs.Walk.{is_found, is_text, Given, Items, nil, last, more, Past, one, sign, tree, many, Relation, Piece, piece, tail, Walk, next, around}
 use Rattle.jsx_tree.specs.Language.{Whole}
 use Rattle.jsx_tree.specs.Answers.{Stuck, Only}
 use Rattle.jsx_tree.specs.Grows.{is_operand, Onward, starts, stay, step}
-use Rattle.jsx_expression.specs.SoFar.{Staged, is_number, so_far}
+use Rattle.jsx_expression.specs.SoFar.{Staged, so_far}
 use Rattle.jsx_token.specs.Marks.{row_so_far}
 use Rattle.jsx_tree.proofs.Tokens.{and_left, and_right, and_both, one_text, same_is}
 use Rattle.jsx_tree.proofs.Apart.{by_not, clash, one_token, less_or_other, less_first, less_other, found_token}
 use Rattle.jsx_base.proofs.Fronts.{none_ahead, other_ahead}
 use Rattle.jsx_tree.proofs.Signs.{not_first}
 use Rattle.jsx_tree.proofs.Rows.Bridge.{found_at}
-use Rattle.jsx_tree.proofs.Rows.Closers.{any_operand}
+use Rattle.jsx_tree.proofs.Rows.Firsts.{kind_home}
+use Rattle.jsx_tree.proofs.Rows.Closers.{any_operand, homes_operand}
 use Rattle.jsx_tree.proofs.Rows.Stopping.{is_not, or_cases}
 use Rattle.jsx_tree.proofs.Rows.Turns.{whole_of}
 use Rattle.jsx_tree.proofs.Rows.Spines.{grows, grown, spine}
 use Rattle.jsx_expression.proofs.OfSoFar.{of_so_far}
 use Rattle.jsx_expression.proofs.Slashes.{is_slash, regexp_slash}
-use Rattle.jsx_token.specs.Growths.{Rung, is_rung, seat, lead, opening_sign, same_sign, settled, is_level}
+use Rattle.jsx_token.specs.Growths.{Rung, is_rung, seat, lead, opening_sign, same_sign, settled}
 use Rattle.jsx_expression.specs.Climbing.{Begins, rises}
-use Rattle.jsx_token.proofs.Listed.{Listed, listed, code, kinds, every, of_each, one_place, of_level}
-use Rattle.jsx_token.specs.Headings.{heading_kind}
-use Rattle.jsx_token.proofs.Headings.{of_heading, of_begun}
+use Rattle.jsx_token.proofs.Listed.{Listed, listed, code, kinds, every, of_each, one_place, is_apart}
+use Rattle.jsx_token.proofs.Headings.{of_begun}
 use Rattle.jsx_expression.proofs.Inners.{inner_kind, of_inner}
-use Rattle.jsx_expression.proofs.Homes.{Literal, IsName, IsNumber, IsLong, IsString, IsPattern, token_kind, Value, literal, made, value, AtWhole, single, several, at_whole, Taken, module', headed, inner, evaluation, labelled, sequence, operand, staged_leaf, taken_by, home_of, no_list, no_operand, names, spread}
+use Rattle.jsx_expression.proofs.Homes.{Literal, IsName, IsNumber, IsLong, IsString, IsPattern, token_kind, Value, literal, made, value, AtWhole, single, several, at_whole, Taken, module', headed, inner, evaluation, labelled, sequence, operand, staged_leaf, taken_by, home_of, no_list, no_operand, names, spread, wholes, heads as heads_of}
 use Rattle.jsx_token.proofs.Lives.{is_single}
 use Rattle.jsx_expression.proofs.Rungs.{leaf_seat, literal_seat, rises_leaf, rung_operand, rung_single}
-use Rattle.jsx_token.proofs.Levels.{signed}
+use Rattle.jsx_token.proofs.Levels.{signed, Quoted, undivided, divided, is_template, quoted_kind}
 
 -- ---- where a token ended
 
@@ -173,7 +173,7 @@ no_literal_front l t f (c ∷ s) p e h = clash _ (subst (λ v. is_token (at_fron
     no_one IsPattern p = cc
 
 -- two kinds of token in one mode
-one_kind : (m : Mode) (k l : TokenKind) (t u : Text) (x : Place) → IsTrue (is_found (forth (Tok m k t) x)) → IsTrue (is_found (forth (Tok m l u) x)) → kind_number k ≡ kind_number l
+pub one_kind : (m : Mode) (k l : TokenKind) (t u : Text) (x : Place) → IsTrue (is_found (forth (Tok m k t) x)) → IsTrue (is_found (forth (Tok m l u) x)) → kind_number k ≡ kind_number l
 one_kind m k l t u Lost f g = cc
 one_kind m k l t u (At q e text) f g =
     let x = token m (same q []) text in
@@ -218,7 +218,9 @@ pub record IsOpener (k : TokenKind) (d : ℕ) (t : Text) : Type 0 where
   unslashed : is_slash (d ∷ t) ≡ false
   pub low : nat_eq d 60 ≡ false
   some : is_kind NoToken k ≡ false
-  other : (l : Literal) (u : Text) → value_leaf true (token_kind l) u ≡ true → (is_kind k (token_kind l) && same (d ∷ t) u) ≡ false
+  other : (l : Literal) (u : Text) → value_leaf (token_kind l) u ≡ true → (is_kind k (token_kind l) && same (d ∷ t) u) ≡ false
+  no_whole : is_kind k NoSubstitution ≡ false
+  no_head : is_kind k TemplateHead ≡ false
 
 pub data Opener : Sign → Type 0 where
   angle : Opener (Tok Operand Punctuator (60 ∷ []))
@@ -231,7 +233,7 @@ mark_other t IsLong u = refl
 mark_other t IsString u = refl
 mark_other t IsPattern u = refl
 
-word_other : (t : Text) (l : Literal) (u : Text) → is_value_word t ≡ false → value_leaf true (token_kind l) u ≡ true → (is_kind IdentifierName (token_kind l) && same t u) ≡ false
+word_other : (t : Text) (l : Literal) (u : Text) → is_value_word t ≡ false → value_leaf (token_kind l) u ≡ true → (is_kind IdentifierName (token_kind l) && same t u) ≡ false
 word_other t IsName u n h = by_not _ (λ e. clash _ h (ap is_value_word (sym (same_is t u e)) ∙ n))
 word_other t IsNumber u n h = refl
 word_other t IsLong u n h = refl
@@ -242,10 +244,10 @@ pub opener : (s : Sign) → is_opening s ≡ true → Opener s
 opener (Tok Operand Punctuator (c ∷ [])) h = subst (λ d. Opener (Tok Operand Punctuator (d ∷ []))) (sym (eqb-true c 60 h)) angle
 opener (Tok Operator Punctuator (d ∷ t)) h =
     let g = and_right (not (is_slash (d ∷ t))) _ h in
-    plain (record { unslashed = is_not _ (and_left (not (is_slash (d ∷ t))) _ h); low = is_not _ g; some = refl; other = λ l u i. mark_other (d ∷ t) l u })
+    plain (record { unslashed = is_not _ (and_left (not (is_slash (d ∷ t))) _ h); low = is_not _ g; some = refl; other = λ l u i. mark_other (d ∷ t) l u; no_whole = refl; no_head = refl })
 opener (Tok Operator IdentifierName (d ∷ t)) h =
     let g = and_right (not (is_slash (d ∷ t))) _ h in
-    plain (record { unslashed = is_not _ (and_left (not (is_slash (d ∷ t))) _ h); low = is_not _ (and_left (not (nat_eq d 60)) _ g); some = refl; other = λ l u i. word_other (d ∷ t) l u (is_not _ (and_right (not (nat_eq d 60)) _ g)) i })
+    plain (record { unslashed = is_not _ (and_left (not (is_slash (d ∷ t))) _ h); low = is_not _ (and_left (not (nat_eq d 60)) _ g); some = refl; other = λ l u i. word_other (d ∷ t) l u (is_not _ (and_right (not (nat_eq d 60)) _ g)) i; no_whole = refl; no_head = refl })
 opener _ h = cc
 
 -- one of them at one place
@@ -256,13 +258,97 @@ one_opening s u x (plain {k} {d} {t} o) angle f g = absurd (less_other k d t x o
 one_opening s u x (plain {k} {d} {t} o) (plain {k = l} {d = e} {t = w} q) f g = one_token k l (d ∷ t) (e ∷ w) x f g
 
 -- and no literal where one of them is
-pub literal_opening : (l : Literal) (t : Text) (s : Sign) (x : Place) → Opener s → value_leaf true (token_kind l) t ≡ true → IsTrue (is_found (forth (literal_sign l t) x)) → IsTrue (is_found (forth s x)) → ⊥
+pub literal_opening : (l : Literal) (t : Text) (s : Sign) (x : Place) → Opener s → value_leaf (token_kind l) t ≡ true → IsTrue (is_found (forth (literal_sign l t) x)) → IsTrue (is_found (forth s x)) → ⊥
 literal_opening l t s x angle h f g = less_literal l t x g f
 literal_opening l t s x (plain {k} {d} {t = u} o) h f g = by (is_plain l) refl
   where
     by : (c : Bool) → is_plain l ≡ c → ⊥
     by true p = clash _ (one_token k (token_kind l) (d ∷ u) t x g (plain_there l t x p f)) (o.other l t h)
     by false p = clash _ (slash_token k (d ∷ u) t x g (pattern_there t x (pattern_is l p) f)).text o.unslashed
+
+-- ---- the piece with which a template begins
+
+pub record Stands (k : TokenKind) (x : Place) : Type 0 where
+  pub text : Text
+  pub whole : is_leaf k text ≡ true
+  pub found : IsTrue (is_found (forth (Tok Operator k text) x))
+
+pub data Quote (x : Place) : Type 0 where
+  whole_there : Stands NoSubstitution x → Quote x
+  head_there : Stands TemplateHead x → Quote x
+
+-- not both of them
+pub one_piece : {x : Place} → Stands NoSubstitution x → Stands TemplateHead x → ⊥
+one_piece {x} a b = let bad : is_kind NoSubstitution TemplateHead ≡ true = and_left (is_kind NoSubstitution TemplateHead) (same a.text b.text) (one_token NoSubstitution TemplateHead a.text b.text x a.found b.found) in cc
+
+no_whole_literal : (l : Literal) → is_kind NoSubstitution (token_kind l) ≡ false
+no_whole_literal IsName = refl
+no_whole_literal IsNumber = refl
+no_whole_literal IsLong = refl
+no_whole_literal IsString = refl
+no_whole_literal IsPattern = refl
+
+no_head_literal : (l : Literal) → is_kind TemplateHead (token_kind l) ≡ false
+no_head_literal IsName = refl
+no_head_literal IsNumber = refl
+no_head_literal IsLong = refl
+no_head_literal IsString = refl
+no_head_literal IsPattern = refl
+
+-- no literal stands where it does, and none of the signs
+pub literal_piece : (l : Literal) (t : Text) (x : Place) → IsTrue (is_found (forth (literal_sign l t) x)) → Quote x → ⊥
+literal_piece l t x f (whole_there q) = by (is_plain l) refl
+  where
+    by : (c : Bool) → is_plain l ≡ c → ⊥
+    by true p = clash _ (and_left (is_kind NoSubstitution (token_kind l)) _ (one_token NoSubstitution (token_kind l) q.text t x q.found (plain_there l t x p f))) (no_whole_literal l)
+    by false p = let bad : kind_number NoSubstitution ≡ kind_number Punctuator = (slash_token NoSubstitution q.text t x q.found (pattern_there t x (pattern_is l p) f)).kind in cc
+literal_piece l t x f (head_there q) = by (is_plain l) refl
+  where
+    by : (c : Bool) → is_plain l ≡ c → ⊥
+    by true p = clash _ (and_left (is_kind TemplateHead (token_kind l)) _ (one_token TemplateHead (token_kind l) q.text t x q.found (plain_there l t x p f))) (no_head_literal l)
+    by false p = let bad : kind_number TemplateHead ≡ kind_number Punctuator = (slash_token TemplateHead q.text t x q.found (pattern_there t x (pattern_is l p) f)).kind in cc
+
+no_piece_front : (k : TokenKind) (t : Text) (f : Bool) (s : Text) → ((r : Text) → is_kind (at_front Operator f (60 ∷ r)).kind k ≡ false) → first_is (nat_eq 60) s ≡ true → is_token (at_front Operator f s) k t ≡ true → ⊥
+no_piece_front k t f [] n e h = cc
+no_piece_front k t f (c ∷ s) n e h = clash _ (subst (λ v. is_token (at_front Operator f (v ∷ s)) k t ≡ true) (sym (eqb-true 60 c e)) h) (ap (λ b. b && same (at_front Operator f (60 ∷ s)).raw t) (n s))
+
+less_piece : (k : TokenKind) (t : Text) (x : Place) → ((f : Bool) (r : Text) → is_kind (at_front Operator f (60 ∷ r)).kind k ≡ false) → IsTrue (is_found (forth (Tok Operand Punctuator (codes "<")) x)) → IsTrue (is_found (forth (Tok Operator k t) x)) → ⊥
+less_piece k t Lost n a b = cc
+less_piece k t (At q e text) n a b =
+    let first = same q [] || breaks text in
+    no_piece_front k t first (skip text) (n first) (less_first first (skip text) (found_token _ (At (codes "<") AfterExpr (token Operand (same q []) text).rest) a)) (found_token _ (At t AfterExpr (token Operator (same q []) text).rest) b)
+
+pub opener_piece : {s : Sign} (x : Place) → Opener s → IsTrue (is_found (forth s x)) → Quote x → ⊥
+opener_piece x angle f (whole_there q) = less_piece NoSubstitution q.text x (λ b r. (none_ahead NoSubstitution Operator 60 r refl refl refl).none b) f q.found
+opener_piece x angle f (head_there q) = less_piece TemplateHead q.text x (λ b r. (none_ahead TemplateHead Operator 60 r refl refl refl).none b) f q.found
+opener_piece x (plain {k} {d} {t} o) f (whole_there q) = clash _ (and_left (is_kind k NoSubstitution) _ (one_token k NoSubstitution (d ∷ t) q.text x f q.found)) o.no_whole
+opener_piece x (plain {k} {d} {t} o) f (head_there q) = clash _ (and_left (is_kind k TemplateHead) _ (one_token k TemplateHead (d ∷ t) q.text x f q.found)) o.no_head
+
+-- the row of a template reads one
+pub whole_piece : {v : Surroundings} {x y : Place} (t : Tree) → Staged v false (TemplatePart NoSubstitution) x t y → Stands NoSubstitution x
+whole_piece (leaf NoSubstitution t) r = record { text = t; whole = (and_right (leaf_in (TemplatePart NoSubstitution) NoSubstitution t) (is_leaf NoSubstitution t) r.reads.is); found = found_at r.reads.scans r.reads.found }
+whole_piece (leaf _ t) r = let bad = r.staged in cc
+whole_piece (node k ts) r = absurd (wholes.node k ts (taken_by r) (home_of r))
+whole_piece (list ts) r = absurd (no_list r)
+
+pub head_piece : {v : Surroundings} {x y : Place} (t : Tree) → Staged v false (TemplatePart TemplateHead) x t y → Stands TemplateHead x
+head_piece (leaf TemplateHead t) r = record { text = t; whole = (and_right (leaf_in (TemplatePart TemplateHead) TemplateHead t) (is_leaf TemplateHead t) r.reads.is); found = found_at r.reads.scans r.reads.found }
+head_piece (leaf _ t) r = let bad = r.staged in cc
+head_piece (node k ts) r = absurd (heads_of.node k ts (taken_by r) (home_of r))
+head_piece (list ts) r = absurd (no_list r)
+
+pub whole_row : {V : List Context → Surroundings} {x y : Place} {ts : Forest} → Walk Staged V (row_so_far (expression (PlainTemplate false))) x ts y → Stands NoSubstitution x
+whole_row (next (tree {t = t} q) w) = whole_piece t q
+
+pub head_row : {V : List Context → Surroundings} {x y : Place} {ts : Forest} → Walk Staged V (row_so_far (expression (SubstitutedTemplate false))) x ts y → Stands TemplateHead x
+head_row (next (tree {t = t} q) w) = head_piece t q
+
+pub piece_row : {V : List Context → Surroundings} {x y : Place} {k : Kind} {ts : Forest} → Quoted k → Walk Staged V (row_so_far k) x ts y → Quote x
+piece_row undivided w = whole_there (whole_row w)
+piece_row divided w = head_there (head_row w)
+
+pub piece_of : {v : Surroundings} {d : Nonterminal} {x y : Place} {k : Kind} {ts : Forest} → Quoted k → Staged v false d x (node k ts) y → Quote x
+piece_of {k = k} q r = piece_row q (of_so_far.from_node k r).walk
 
 -- ---- the sign with which the row of a kind begins, where that is no part
 
@@ -286,10 +372,11 @@ opened_sign k l g r = led_sign (row_so_far k) (opened_led k l g) (of_so_far.from
 
 -- ---- what an expression begins with
 
--- what stands there is a literal, or a node whose row begins with a sign
+-- what stands there is a literal, a node whose row begins with a sign, or a template
 pub data First (v : Surroundings) (x : Place) : Tree → Place → Type 0 where
-  name : (l : Literal) {t : Text} {p : Place} → value_leaf true (token_kind l) t ≡ true → is_leaf (token_kind l) t ≡ true → forth (literal_sign l t) x ≡ p → IsTrue (is_found p) → First v x (leaf (token_kind l) t) p
+  name : (l : Literal) {t : Text} {p : Place} → value_leaf (token_kind l) t ≡ true → is_leaf (token_kind l) t ≡ true → forth (literal_sign l t) x ≡ p → IsTrue (is_found p) → First v x (leaf (token_kind l) t) p
   opened : (d : Nonterminal) {k : Kind} {ts : Forest} {p : Place} → Listed k → grows (row_so_far k) ≡ false → Staged v false d x (node k ts) p → First v x (node k ts) p
+  quoted : (d : Nonterminal) {k : Kind} {ts : Forest} {p : Place} → Quoted k → Staged v false d x (node k ts) p → First v x (node k ts) p
 
 pub leaf_forth : {v : Surroundings} {d : Nonterminal} {x p : Place} {t : Text} (l : Literal) → Staged v false d x (leaf (token_kind l) t) p → forth (literal_sign l t) x ≡ p
 leaf_forth IsName r = r.reads.scans
@@ -311,28 +398,40 @@ pub record Begun (v : Surroundings) (x : Place) (u : Tree) (z : Place) : Type 0 
   pub first : First v x tree place
   pub onward : Onward so_far v x tree place u z
 
--- no row begins with a sequence
+-- no row begins with a sequence, and with a piece that of a template alone
 abbrev begins_single : Option Nonterminal → Bool
 begins_single None = true
 begins_single (Some c) = is_single c
 
-single_start : (d : Nonterminal) {k : Kind} (ts : Forest) → is_operand d ≡ true → Taken k → admits d (node k ts) ≡ true → begins_single (starts (row_so_far k)) ≡ true
-single_start d ts o module' h = refl
-single_start d ts o (headed b) h = of_begun (λ j. begins_single (starts (row_so_far j))) refl b
-single_start d ts o (inner i) h = absurd (no_operand d (inner_kind i) ts o (is_not _ (of_inner (λ j. not (any_operand (homes (inner_kind j)))) refl i)) h)
-single_start d ts o evaluation h = refl
-single_start d ts o labelled h = absurd (no_operand d (statement Label) ts o refl h)
-single_start d ts o sequence h = refl
-single_start d ts o spread h = refl
-single_start d ts o (operand {k} l) h = of_each (λ j. begins_single (starts (row_so_far j))) refl k l
+single_start : (d : Nonterminal) {k : Kind} (ts : Forest) → is_operand d ≡ true → Taken k → admits d (node k ts) ≡ true → is_template k ≡ false → begins_single (starts (row_so_far k)) ≡ true
+single_start d ts o module' h n = refl
+single_start d ts o (headed b) h n = of_begun (λ j. begins_single (starts (row_so_far j))) refl b
+single_start d ts o (inner i) h n = absurd (no_operand d (inner_kind i) ts o (is_not _ (of_inner (λ j. not (any_operand (homes (inner_kind j)))) refl i)) h)
+single_start d ts o evaluation h n = refl
+single_start d ts o labelled h n = absurd (no_operand d (statement Label) ts o refl h)
+single_start d ts o sequence h n = refl
+single_start d ts o spread h n = refl
+single_start d ts o (operand {k} l) h n = or_cases (is_template k) _ (of_each (λ j. is_template j || begins_single (starts (row_so_far j))) refl k l) (λ e. absurd (clash _ e n)) (λ e. e)
 
--- so what stands first where no sequence does is none
-first_value : {v : Surroundings} {c d : Nonterminal} {x p z : Place} {f u : Tree} → is_single c ≡ true → Staged v false c x u z → Staged v false d x f p → Onward so_far v x f p u z → Value f
-first_value {f = f} o r s stay = value f o r
-first_value {f = f} o r s (step k c d {ts = ts} b i w e q on) = value f (subst (λ a. begins_single a ≡ true) b (single_start d (part f ts) e (taken_by q) (home_of q))) i
+not_apart : (k : Kind) {c : Nonterminal} → starts (row_so_far k) ≡ Some c → is_apart k ≡ false
+not_apart (expression Seq) b = cc
+not_apart (expression Spread) b = cc
+not_apart _ b = refl
+
+pub listed_node : {v : Surroundings} {c d : Nonterminal} {k : Kind} {x y : Place} {ts : Forest} → is_operand c ≡ true → starts (row_so_far k) ≡ Some d → Staged v false c x (node k ts) y → Listed k
+listed_node {c = c} {k = k} {ts = ts} o b r = listed k (and_left (has_kind k) _ r.staged) (homes_operand c (homes k) o (kind_home c k ts (home_of r))) (not_apart k b)
+
+-- what stands first where no sequence does: a literal, or a node; of a template that is its piece, and the next step the template
+begun_by : {v : Surroundings} {c d : Nonterminal} {x p z : Place} {f u : Tree} → is_single c ≡ true → Staged v false c x u z → grown so_far f ≡ false → Staged v false d x f p → Onward so_far v x f p u z → Begun v x u z
+begun_by {p = p} {f = f} o r g s stay = record { tree = f; place = p; first = first_by (value f o r) g r; onward = stay }
+begun_by {v} {x = x} {p = p} {z = z} {f = f} {u = u} o r g s (step {z = y} k c d {ts = ts} b i w e q on) = by (is_template k) refl
+  where
+    by : (t : Bool) → is_template k ≡ t → Begun v x u z
+    by true h = record { tree = node k (part f ts); place = y; first = quoted d (quoted_kind k (listed_node e b q) h) q; onward = on }
+    by false h = record { tree = f; place = p; first = first_by (value f (subst (λ a. begins_single a ≡ true) b (single_start d (part f ts) e (taken_by q) (home_of q) h)) i) g i; onward = step k c d b i w e q on }
 
 pub begun : {v : Surroundings} {c : Nonterminal} {x z : Place} → is_single c ≡ true → (u : Tree) → Staged v false c x u z → Begun v x u z
-begun {c = c} o u r = let s = spine of_so_far u (and_left (is_operand c) _ o) r in record { tree = s.first; place = s.place; first = first_by (first_value o r s.reads s.onward) s.stands s.reads; onward = s.onward }
+begun {c = c} o u r = let s = spine of_so_far u (and_left (is_operand c) _ o) r in begun_by o r s.stands s.reads s.onward
 
 -- ---- where a value may stand
 
@@ -342,7 +441,7 @@ pub record Seat (c : Nonterminal) : Type 0 where
   pub long : (t : Text) → leaf_in c BigIntLiteral t ≡ true
   pub string : (t : Text) → leaf_in c StringLiteral t ≡ true
   pub pattern : (t : Text) → leaf_in c RegExpLiteral t ≡ true
-  pub at : (l : Literal) (t : Text) → value_leaf true (token_kind l) t ≡ true → leaf_at c (token_kind l) t ≡ true
+  pub at : (l : Literal) (t : Text) → value_leaf (token_kind l) t ≡ true → leaf_at c (token_kind l) t ≡ true
   pub node : (k : Kind) (ts : Forest) → Listed k → admits c (node k ts) ≡ true
 
 pub or_left : (a b : Bool) → a ≡ true → (a || b) ≡ true
@@ -362,7 +461,7 @@ at_one = record { word = λ t h. h; number = λ t. refl; long = λ t. refl; stri
 pub at_argument : Seat Argument
 at_argument = record { word = λ t h. h; number = λ t. refl; long = λ t. refl; string = λ t. refl; pattern = λ t. refl; at = λ l t h. h; node = λ k ts l. of_each (λ j. in_homes Argument (homes j)) refl k l }
 
-literal_in : {c : Nonterminal} (l : Literal) (t : Text) → Seat c → value_leaf true (token_kind l) t ≡ true → leaf_in c (token_kind l) t ≡ true
+literal_in : {c : Nonterminal} (l : Literal) (t : Text) → Seat c → value_leaf (token_kind l) t ≡ true → leaf_in c (token_kind l) t ≡ true
 literal_in IsName t s h = s.word t h
 literal_in IsNumber t s h = s.number t
 literal_in IsLong t s h = s.long t
@@ -381,15 +480,9 @@ pub move : {v : Surroundings} {c d : Nonterminal} {x y : Place} {t : Tree} → S
 move {c = c} s (literal l {t} h) r = leaf_to c l (literal_in l t s h) (s.at l t h) r
 move {c = c} s (made {k} {ts} l) r = node_to c (s.node k ts l) r
 
-pub no_dot : {v : Surroundings} {x y : Place} (t : Tree) → is_number t ≡ true → Staged v false DotObject x t y → ⊥
-no_dot (leaf NumericLiteral t) n r = let bad = r.staged in cc
-no_dot (leaf _ t) n r = cc
-no_dot (node k ts) n r = cc
-no_dot (list ts) n r = cc
-
 -- ---- what an expression that begins so is
 
-literal_staged : {v : Surroundings} (r : Rung) {x y : Place} (l : Literal) (t : Text) → is_rung r ≡ true → value_leaf true (token_kind l) t ≡ true → is_leaf (token_kind l) t ≡ true → y ≡ forth (literal_sign l t) x → IsTrue (is_found y) → Staged v false (seat r) x (leaf (token_kind l) t) y
+literal_staged : {v : Surroundings} (r : Rung) {x y : Place} (l : Literal) (t : Text) → is_rung r ≡ true → value_leaf (token_kind l) t ≡ true → is_leaf (token_kind l) t ≡ true → y ≡ forth (literal_sign l t) x → IsTrue (is_found y) → Staged v false (seat r) x (leaf (token_kind l) t) y
 literal_staged r IsName t i h w e f = staged_leaf refl (literal_seat r IsName t i h) (leaf_seat r IdentifierName t h) w e f
 literal_staged r IsNumber t i h w e f = staged_leaf refl (literal_seat r IsNumber t i h) (leaf_seat r NumericLiteral t h) w e f
 literal_staged r IsLong t i h w e f = staged_leaf refl (literal_seat r IsLong t i h) (leaf_seat r BigIntLiteral t h) w e f
@@ -412,16 +505,17 @@ same_both l m t u x f g =
     let k = same_literal l m t u x f g in
     record { kinds = k; texts = one_text (mode_of (token_kind l)) (token_kind l) t u x f (subst (λ n. IsTrue (is_found (forth (literal_sign n u) x))) (sym k) g) }
 
-to_literal : {v : Surroundings} {x y p : Place} {f : Tree} (l : Literal) (t : Text) → value_leaf true (token_kind l) t ≡ true → y ≡ forth (literal_sign l t) x → IsTrue (is_found y) → First v x f p → SameFirst f (leaf (token_kind l) t) p y
+to_literal : {v : Surroundings} {x y p : Place} {f : Tree} (l : Literal) (t : Text) → value_leaf (token_kind l) t ≡ true → y ≡ forth (literal_sign l t) x → IsTrue (is_found y) → First v x f p → SameFirst f (leaf (token_kind l) t) p y
 to_literal {x = x} l t i e g (name m {t = u} h w e' g') =
     let s = same_both m l u t x (found_at e' g') (found_at (sym e) g) in
     record { tree = leaf_is s.kinds s.texts; place = sym e' ∙ ((λ i. forth (literal_sign (s.kinds i) (s.texts i)) x) ∙ sym e) }
+to_literal {x = x} l t i e g (quoted d q r) = absurd (literal_piece l t x (found_at (sym e) g) (piece_of q r))
 to_literal {x = x} l t i e g (opened d {k} m o r) = absurd (literal_opening l t (opening_sign k) x (opener_of k m o) i (found_at (sym e) g) (opened_sign k m o r))
 
 pub onto : {v : Surroundings} {x : Place} {f t u : Tree} {p y z : Place} → SameFirst f t p y → Onward so_far v x f p u z → Onward so_far v x t y u z
 onto {v} {x} {f} {t} {u} {p} {y} {z} s o = subst (λ q. Onward so_far v x t q u z) s.place (subst (λ q. Onward so_far v x q p u z) s.tree o)
 
-pub literal_follows : {v : Surroundings} {x y : Place} (l : Literal) (t : Text) → value_leaf true (token_kind l) t ≡ true → is_leaf (token_kind l) t ≡ true → y ≡ forth (literal_sign l t) x → IsTrue (is_found y) → Begins v x (leaf (token_kind l) t) y
+pub literal_follows : {v : Surroundings} {x y : Place} (l : Literal) (t : Text) → value_leaf (token_kind l) t ≡ true → is_leaf (token_kind l) t ≡ true → y ≡ forth (literal_sign l t) x → IsTrue (is_found y) → Begins v x (leaf (token_kind l) t) y
 literal_follows {x = x} l t h w e f = record {
   on = λ r i j. record {
     follows = record { home = seat r; operand = rung_operand r; reads = literal_staged r l t i h w e f; all = λ u z q. let b = begun (rung_single r i) u q.reads in onto (to_literal l t h e f b.first) b.onward };
@@ -455,7 +549,7 @@ none_of : (t : Text) → same t (codes "{") ≡ false → same t (codes "functio
 none_of t a b c = (λ i. a i || (b i || (c i || false)))
 
 abbrev may_be : Literal → Text → Bool
-may_be l t = value_leaf true (token_kind l) t && is_leaf (token_kind l) t
+may_be l t = value_leaf (token_kind l) t && is_leaf (token_kind l) t
 
 no_head : (l : Literal) (t : Text) → may_be l t ≡ true → among t heads ≡ false
 no_head IsName t a = none_of t (not_same t (codes "{") (may_be IsName) a refl) (not_same t (codes "function") (may_be IsName) a refl) (not_same t (codes "class") (may_be IsName) a refl)
@@ -515,7 +609,7 @@ pattern_heads t (At q e text) f =
     let raw : (token Operator false text).raw ≡ m.raw = ap (λ x. x.raw) (not_first (λ x. is_slash x.raw) (λ s. refl) (same q []) text i) in
     go_on _ _ (ap (λ v. among v heads) raw ∙ slash_head m.raw i)
 
-plain_heads : (l : Literal) (t : Text) (x : Place) → (value_leaf true (token_kind l) t && is_leaf (token_kind l) t) ≡ true → IsTrue (is_found (forth (Tok Operator (token_kind l) t) x)) → forth (Unless heads) x ≡ x
+plain_heads : (l : Literal) (t : Text) (x : Place) → (value_leaf (token_kind l) t && is_leaf (token_kind l) t) ≡ true → IsTrue (is_found (forth (Tok Operator (token_kind l) t) x)) → forth (Unless heads) x ≡ x
 plain_heads l t Lost h f = refl
 plain_heads l t (At q e text) h f =
     let m = token Operator (same q []) text in
@@ -523,12 +617,28 @@ plain_heads l t (At q e text) h f =
     let raw : (token Operator false text).raw ≡ t = ap (λ x. x.raw) (not_first (λ x. is_token x (token_kind l) t) (no_literal l t) (same q []) text i) ∙ same_is m.raw t (and_right _ _ i) in
     go_on _ _ (ap (λ v. among v heads) raw ∙ no_head l t h)
 
-literal_heads : (l : Literal) (t : Text) (x : Place) → (value_leaf true (token_kind l) t && is_leaf (token_kind l) t) ≡ true → IsTrue (is_found (forth (literal_sign l t) x)) → forth (Unless heads) x ≡ x
+literal_heads : (l : Literal) (t : Text) (x : Place) → (value_leaf (token_kind l) t && is_leaf (token_kind l) t) ≡ true → IsTrue (is_found (forth (literal_sign l t) x)) → forth (Unless heads) x ≡ x
 literal_heads l t x h f = by (is_plain l) refl
   where
     by : (c : Bool) → is_plain l ≡ c → forth (Unless heads) x ≡ x
     by true p = plain_heads l t x h (plain_there l t x p f)
     by false p = pattern_heads t x (pattern_there t x (pattern_is l p) f)
+
+-- nor is a piece one of them
+no_head_piece : (k : TokenKind) (t : Text) → is_leaf k t ≡ true → is_leaf k (codes "{") ≡ false → is_leaf k (codes "function") ≡ false → is_leaf k (codes "class") ≡ false → among t heads ≡ false
+no_head_piece k t a b c d = none_of t (not_same t (codes "{") (is_leaf k) a b) (not_same t (codes "function") (is_leaf k) a c) (not_same t (codes "class") (is_leaf k) a d)
+
+token_heads : (k : TokenKind) (t : Text) (x : Place) → is_kind NoToken k ≡ false → among t heads ≡ false → IsTrue (is_found (forth (Tok Operator k t) x)) → forth (Unless heads) x ≡ x
+token_heads k t Lost n h f = refl
+token_heads k t (At q e text) n h f =
+    let m = token Operator (same q []) text in
+    let i : is_token m k t ≡ true = found_token (is_token m k t) (At t AfterExpr m.rest) f in
+    let raw : (token Operator false text).raw ≡ t = ap (λ x. x.raw) (not_first (λ x. is_token x k t) (λ s. no_token_is k t s n) (same q []) text i) ∙ same_is m.raw t (and_right _ _ i) in
+    go_on _ _ (ap (λ v. among v heads) raw ∙ h)
+
+piece_heads : (x : Place) → Quote x → forth (Unless heads) x ≡ x
+piece_heads x (whole_there q) = token_heads NoSubstitution q.text x refl (no_head_piece NoSubstitution q.text q.whole refl refl refl) q.found
+piece_heads x (head_there q) = token_heads TemplateHead q.text x refl (no_head_piece TemplateHead q.text q.whole refl refl refl) q.found
 
 -- a brace is the one of them that an expression begins with
 abbrev heads_well : Kind → Bool
@@ -539,6 +649,7 @@ all_heads_well = refl
 
 first_heads : {v : Surroundings} {x p : Place} {f : Tree} → Stuck (pun "{") x → First v x f p → forth (Unless heads) x ≡ x
 first_heads {x = x} s (name l {t = t} h w g f) = literal_heads l t x (and_both _ _ h w) (found_at g f)
+first_heads {x = x} s (quoted d q r) = piece_heads x (piece_of q r)
 first_heads {x = x} s (opened d {k} l g r) =
     or_cases (grows (row_so_far k)) _ (of_each heads_well all_heads_well k l) (λ h. absurd (clash _ h g))
     (λ e. or_cases (is_headless (opening_sign k)) (nat_eq (code k) (code (expression Object))) e (λ h. opener_heads x (opener_of k l g) h there) (λ h. absurd (braced h)))

@@ -1,18 +1,20 @@
 -- What a parser knows of an expression that it has read so far.
 use Rattle.std.specs.Prelude.{◌≡◌, ℕ, List, Bool, true, false, nat_le, cond, not, ◌&&◌}
 use Rattle.jsx_base.specs.Token.{IdentifierName}
-use Rattle.jsx_tree.specs.Kinds.{Member, Index, SuperMember, SuperIndex, Kind, expression, Tree, leaf, node, UnaryOp, Delete}
+use Rattle.jsx_tree.specs.Kinds.{Member, Index, SuperMember, SuperIndex, Kind, expression, Tree, leaf, node, Forest, part, UnaryOp, Delete}
 use Rattle.jsx_tree.specs.Nonterminals.{is_bound}
 use Rattle.jsx_tree.specs.Form.{calls}
 use Rattle.jsx_tree.specs.Grammar.{Part}
 use Rattle.jsx_tree.specs.Reading.{Place}
 use Rattle.jsx_tree.specs.StaticRules.{Surroundings, is_name}
-use Rattle.jsx_tree.specs.Answers.{Barred}
+use Rattle.jsx_tree.specs.Answers.{Moves, Barred}
 use Rattle.jsx_tree.specs.Grows.{Follows}
-use Rattle.jsx_tree.specs.Walk.{Piece, tail}
-use Rattle.jsx_expression.specs.SoFar.{Staged, is_number, so_far}
+use Rattle.jsx_tree.specs.Language.{Whole}
+use Rattle.jsx_tree.specs.Walk.{Piece, Walk, steady, tail}
+use Rattle.jsx_expression.specs.SoFar.{Staged, so_far}
 use Rattle.jsx_token.specs.Marks.{row_so_far}
-use Rattle.jsx_token.specs.Growths.{Rung, rung, callee, fits_by, is_rung, level_of_kind, past_line, seat, settled, takes_target}
+use Rattle.jsx_token.specs.Growths.{OnLine, Rung, rung, callee, fits_by, is_chain, is_rung, level_of_kind, mark, past_line, seat, settled, takes_target}
+use Rattle.jsx_expression.specs.Links.{NoLink}
 
 -- what stands behind the mark
 abbrev pub behind : Kind → List Piece
@@ -35,7 +37,7 @@ is_target (node k ts) = is_target_kind k
 is_target t = false
 
 abbrev pub fits : Kind → Tree → Bool
-fits k t = cond (takes_target k) (is_target t) (fits_by k (level t) (is_number t))
+fits k t = cond (takes_target k) (is_target t) (fits_by k (level t))
 
 abbrev pub is_call : Tree → Bool
 is_call (node k ts) = calls k
@@ -50,6 +52,21 @@ rises callee t = nat_le 17 (level t) && not (is_call t)
 abbrev pub deletes_name : UnaryOp → Tree → Bool
 deletes_name Delete t = is_name t
 deletes_name o t = false
+
+-- where a kind may end that goes on with another: behind a chain comes no link
+pub record Ended (k : Kind) (y : Place) : Type 0 where
+  pub unlinked : is_chain k ≡ true → settled y ≡ true → NoLink y
+
+-- behind its mark, the text goes on with the tree by this kind, in this way alone up to where that may end
+pub record Grown (v : Surroundings) (k : Kind) (t : Tree) (b : Place) (w : Tree) (y : Place) : Type 0 where
+  pub parts : Forest
+  pub is : w ≡ node k (part t parts)
+  pub walk : (a : Place) → OnLine k a → Moves (mark k) a b → Walk (Whole so_far) (steady v) (tail (row_so_far k)) a parts y
+  pub alone : (a : Place) → OnLine k a → Moves (mark k) a b → (us : Forest) (z : Place) → Walk (Whole so_far) (steady v) (tail (row_so_far k)) a us z → Ended k z → (parts ≡ us) × (y ≡ z)
+
+-- in none
+pub record NotGrown (v : Surroundings) (k : Kind) (b : Place) : Type 0 where
+  pub no : (a : Place) → OnLine k a → Moves (mark k) a b → (us : Forest) (z : Place) → Walk (Whole so_far) (steady v) (tail (row_so_far k)) a us z → Ended k z → ⊥
 
 -- ---- what a parser knows of an expression that it has read so far
 

@@ -1,7 +1,6 @@
 -- The language that the compiler takes so far, over the rows of the grammar.
-use Rattle.std.specs.Prelude.{◌≡◌, Bool, true, false, ◌&&◌}
-use Rattle.jsx_base.specs.Token.{NumericLiteral}
-use Rattle.jsx_tree.specs.Kinds.{Tree, leaf, none}
+use Rattle.std.specs.Prelude.{◌≡◌, Bool, true, ◌&&◌}
+use Rattle.jsx_tree.specs.Kinds.{Tree, none}
 use Rattle.jsx_tree.specs.Nonterminals.{Nonterminal}
 use Rattle.jsx_tree.specs.Grammar.{InModuleCode}
 use Rattle.jsx_tree.specs.Reading.{Place}
@@ -22,8 +21,3 @@ so_far = record { reads = Staged; ends = ends_so_far; rows = row_so_far; keeps =
 -- what the statements of a module stand in
 abbrev pub in_module : Surroundings
 in_module = enter none InModuleCode outside
-
--- which expressions are numbers, so that no `.` stands behind
-abbrev pub is_number : Tree → Bool
-is_number (leaf NumericLiteral t) = true
-is_number t = false

@@ -1,12 +1,20 @@
 //! The expressions of the grammar, with what every production has in common.
 #![tactic(auto)]
 
+mod access;
 mod argument;
 mod around;
+mod chains;
 mod error;
 pub mod expression;
+mod grammar;
+mod link;
+mod literals;
+mod operations;
 mod parser;
 mod proto;
+mod quoted;
+mod template;
 
 pub use around::{Around, Context, Labels};
 pub use error::ParseError;

@@ -72,3 +72,8 @@ state_of (state.Template b t) = template_state b t
 -- behind a digit of the fraction or not, and before its first
 abbrev pub in_fraction : Bool → Bool → ℕ → Taken
 in_fraction is_digit is_first c = digit_step InFraction is_digit c (cond ((is_digit || is_first) && is_letter 101 c) BehindE Dead)
+
+-- a token that takes nothing more
+abbrev pub is_done : Taken → Bool
+is_done (Done k) = true
+is_done s = false

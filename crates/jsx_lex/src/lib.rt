@@ -4,6 +4,7 @@
 mod automaton;
 mod characters;
 mod comment;
+mod escapes;
 mod front;
 mod gap;
 mod lexer;
@@ -19,5 +20,6 @@ mod tests;
 mod token;
 
 pub use comment::comments;
+pub use escapes::Escapes;
 pub use lexer::Lexer;
 pub use token::{Mode, Token, TokenKind};

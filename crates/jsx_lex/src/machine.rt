@@ -31,7 +31,7 @@ struct Stopped<'s> {
 }
 
 #[inline]
-fn step(state: State, c: char) -> State
+pub fn step(state: State, c: char) -> State
     ensures { state_of result ≡ step (state_of state) c }
 {
     match state {

@@ -1,11 +1,11 @@
 //! The makers of nodes. Each node is in a box: a function that holds boxes costs a check little, and one that holds a node
 //! by value much.
 
-ghost use Rattle.std.specs.Prelude.{◌≡◌, [], ◌∷◌, IfOk, map};
-ghost use Rattle.jsx_tree.specs.Kinds.{Role, Block, Var, Declarator, Empty, If, Do, While, Continue, Break, Label, Throw, Debugger, Assigns, ExprStmt, Assign, OpAssign, Unary, Binary, Cond, Call, Member, Index, ImportCall, Parenthesized, Element, statement, expression, jsx, leaf, node, list, none, part, PrefixUpdate, PostfixUpdate, Seq, For, ForDeclaration, Switch, Array, Spread, Try, Catch, Binds, Object, Property, Shorthand, ComputedKey, function, New, NewWithoutArguments, ForIn, ForOf, ForBinding};
-ghost use Rattle.jsx_tree.specs.View.{text_of, word, view_word, name_of, kind_of_literal, word_of, inside, forest, optional_name, optional_of, view_tag, view_expr, view_pattern, view_pat, view_stmt, view_jsx, optional_at_of, clause_of, view_control, view_key, view_target};
+ghost use Rattle.std.specs.Prelude.{◌≡◌, [], ◌∷◌, IfOk, map, false, true};
+ghost use Rattle.jsx_tree.specs.Kinds.{Role, Block, Var, Declarator, Empty, If, Do, While, Continue, Break, Label, Throw, Debugger, Assigns, ExprStmt, Assign, OpAssign, Unary, Binary, Cond, Call, Member, Index, ImportCall, Parenthesized, Element, statement, expression, jsx, leaf, node, list, none, part, PrefixUpdate, PostfixUpdate, Seq, For, ForDeclaration, Switch, Array, Spread, Try, Catch, Binds, Object, Property, Shorthand, ComputedKey, function, New, NewWithoutArguments, ForIn, ForOf, ForBinding, Tagged, Chain, NameLink, IndexLink, CallLink};
+ghost use Rattle.jsx_tree.specs.View.{text_of, word, view_word, name_of, kind_of_literal, word_of, inside, forest, optional_name, optional_of, view_tag, view_expr, view_pattern, view_pat, view_stmt, view_jsx, optional_at_of, clause_of, view_control, view_key, view_target, template, is_optional, view_link};
 ghost use Rattle.jsx_tree.specs.ViewOperators.{assign_of, binary_of, unary_of, step_of};
-ghost use Rattle.jsx_tree.specs.Told.{told_list, told_name, told_optional, told_text, told_leaf, told_node, told_tag, told_expr, told_pat, told_stmt, told_jsx, led_by, told_control, told_key, told_prop};
+ghost use Rattle.jsx_tree.specs.Told.{told_list, told_name, told_optional, told_text, told_leaf, told_node, told_tag, told_expr, told_pat, told_stmt, told_jsx, led_by, told_control, told_key, told_prop, told_template, told_link};
 ghost use Rattle.jsx_base.specs.Token.{Elision};
 ghost use Rattle.jsx_tree.specs.Spans.{no_tales, tells};
 ghost use Rattle.jsx_make.specs.NodeSpans.{expr_at, member_at, pat_at, stmt_at};
@@ -13,8 +13,8 @@ ghost use Rattle.jsx_make.specs.Members.{view_prop};
 
 use jsx_base::Span;
 use jsx_tree::{
-    Access, AssignOp, BinaryOp, Control, DeclareWord, Expr, Ident, Jsx, Key, LiteralKind,
-    Operation, Pat, Prop, Stmt, Tag, Text, UnaryOp, UpdateOp, UpdateSide, Word,
+    Access, AssignOp, BinaryOp, Control, DeclareWord, Expr, Ident, Jsx, Key, Link, LinkForm,
+    LiteralKind, Operation, Pat, Prop, Stmt, Tag, Text, UnaryOp, UpdateOp, UpdateSide, Word,
 };
 use std::alloc::{AllocError, Global};
 
@@ -79,6 +79,39 @@ pub fn paren<'s>(
     ensures span { IfOk result (λ e. expr_at e.value ≡ at) }
 {
     boxed(alloc, Expr::Paren(at, inner))
+}
+
+/// The pieces of a template, and the expressions between them.
+pub fn template<'s>(
+    alloc: Global,
+    at: Option<Span>,
+    pieces: Vec<Text<'s>>,
+    parts: Vec<Box<Expr<'s>>>,
+) -> Result<Box<Expr<'s>>, AllocError>
+    ensures view { IfOk result (λ e. view_expr e.value ≡ template false pieces.entry.items (map (inside view_expr) parts.entry.items)) }
+    ensures told { IfOk result (λ e. told_expr e.value ≡ told_template at pieces.entry.items (map (inside told_expr) parts.entry.items)) }
+    ensures span { IfOk result (λ e. expr_at e.value ≡ at) }
+{
+    boxed(alloc, Expr::Template(at, pieces, parts))
+}
+
+/// A tag and its template, which has a span of its own.
+pub fn tagged<'s>(
+    alloc: Global,
+    at: Option<Span>,
+    tag: Box<Expr<'s>>,
+    here: Option<Span>,
+    pieces: Vec<Text<'s>>,
+    parts: Vec<Box<Expr<'s>>>,
+) -> Result<Box<Expr<'s>>, AllocError>
+    ensures view { IfOk result (λ e. view_expr e.value ≡ node (expression Tagged) (part (view_expr tag.entry.value) (part (template true pieces.entry.items (map (inside view_expr) parts.entry.items)) none))) }
+    ensures told { IfOk result (λ e. told_expr e.value ≡ told_node at (told_expr tag.entry.value ∷ told_template here pieces.entry.items (map (inside told_expr) parts.entry.items) ∷ [])) }
+    ensures span { IfOk result (λ e. expr_at e.value ≡ at) }
+{
+    boxed(
+        alloc,
+        Expr::Access(Access::Tagged(at, tag, here, pieces, parts)),
+    )
 }
 
 /// `a, b`
@@ -341,6 +374,59 @@ pub fn index<'s>(
     ensures span { IfOk result (λ e. expr_at e.value ≡ at) }
 {
     boxed(alloc, Expr::Access(Access::Index(at, object, index)))
+}
+
+/// `a?.b.c`
+pub fn chain<'s>(
+    alloc: Global,
+    at: Option<Span>,
+    base: Box<Expr<'s>>,
+    links: Vec<Box<Link<'s>>>,
+) -> Result<Box<Expr<'s>>, AllocError>
+    ensures view { IfOk result (λ e. view_expr e.value ≡ node (expression Chain) (part (view_expr base.entry.value) (part (list (forest (map (inside view_link) links.entry.items))) none))) }
+    ensures told { IfOk result (λ e. told_expr e.value ≡ told_node at (told_expr base.entry.value ∷ told_list (map (inside told_link) links.entry.items) ∷ [])) }
+    ensures span { IfOk result (λ e. expr_at e.value ≡ at) }
+{
+    boxed(alloc, Expr::Access(Access::Chain(at, base, links)))
+}
+
+/// A link of a chain: `?.a`, `.a`
+pub fn name_link<'s>(
+    alloc: Global,
+    at: Option<Span>,
+    form: LinkForm,
+    name: Text<'s>,
+) -> Result<Box<Link<'s>>, AllocError>
+    ensures view { IfOk result (λ l. view_link l.value ≡ node (expression (NameLink (is_optional form))) (part (word name.entry) none)) }
+    ensures told { IfOk result (λ l. told_link l.value ≡ told_node at (told_text name.entry ∷ [])) }
+{
+    boxed(alloc, Link::Member(at, form, name))
+}
+
+/// A link of a chain: `?.[a]`, `[a]`
+pub fn index_link<'s>(
+    alloc: Global,
+    at: Option<Span>,
+    form: LinkForm,
+    index: Box<Expr<'s>>,
+) -> Result<Box<Link<'s>>, AllocError>
+    ensures view { IfOk result (λ l. view_link l.value ≡ node (expression (IndexLink (is_optional form))) (part (view_expr index.entry.value) none)) }
+    ensures told { IfOk result (λ l. told_link l.value ≡ told_node at (told_expr index.entry.value ∷ [])) }
+{
+    boxed(alloc, Link::Index(at, form, index))
+}
+
+/// A link of a chain: `?.(a, b)`, `(a, b)`
+pub fn call_link<'s>(
+    alloc: Global,
+    at: Option<Span>,
+    form: LinkForm,
+    arguments: Vec<Box<Expr<'s>>>,
+) -> Result<Box<Link<'s>>, AllocError>
+    ensures view { IfOk result (λ l. view_link l.value ≡ node (expression (CallLink (is_optional form))) (part (list (forest (map (inside view_expr) arguments.entry.items))) none)) }
+    ensures told { IfOk result (λ l. told_link l.value ≡ told_node at (told_list (map (inside told_expr) arguments.entry.items) ∷ [])) }
+{
+    boxed(alloc, Link::Call(at, form, arguments))
 }
 
 /// `a + b`

@@ -1,15 +1,3 @@
-pub mod Characters
-pub mod Writing
-pub mod Solid
-pub mod Gathering
-pub mod Spanning
-pub mod Printing
-pub mod Planning
+pub mod Productions
 pub mod Bodies
-pub mod Folding
-pub mod Phases
-pub mod Laid
-pub mod Marking
-pub mod Rows
-pub mod Fitting
 pub mod Prints

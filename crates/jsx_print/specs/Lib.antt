@@ -1,5 +1,2 @@
-pub mod Ascii
-pub mod Pen
-pub mod Plan
-pub mod Steps
+pub mod Members
 pub mod Printing

@@ -5,16 +5,11 @@ mod access;
 mod control;
 mod expressions;
 mod functions;
-mod lists;
 mod members;
 mod module;
-mod node;
-mod patterns;
-mod pen;
 mod printed;
-mod printer;
+mod run;
 mod statements;
-mod words;
 
 pub use printed::{Printed, print};
 

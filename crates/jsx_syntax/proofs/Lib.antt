@@ -18,3 +18,5 @@ pub mod Texts
 pub mod PlacedNodes
 pub mod Labels
 pub mod Jumps
+pub mod Staged
+pub mod Unwrapping

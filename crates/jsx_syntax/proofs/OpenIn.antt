@@ -2,9 +2,10 @@
 use Rattle.std.proofs.Common.{◌≡◌, ◌<◌, ◌≤◌, ◌+◌, ℕ, zero, suc, length, get_or, map, arith, Bool, true, false, not, cond, List, [], ◌∷◌, refl, sym, ◌∙◌, ap, subst, Option, Some, None, Box, Global}
 use Rattle.std.specs.Prelude.{◌&&◌, ◌||◌}
 use Rattle.std.proofs.lemmas.List.{get_or-map, length-map}
-use Rattle.jsx_tree.specs.Kinds.{Role, Binds, Declarator, Seq, Element, Kind, statement, expression, jsx, Tree, leaf, node, list, Forest, none, part}
-use Rattle.jsx_tree.specs.Nonterminals.{Nonterminal, Expr, Name, Pat, TagName, Attributes, Declarators}
-use Rattle.jsx_tree.specs.Grammar.{NoTrailing, Spaced, TwoOrMore}
+use Rattle.jsx_base.specs.Token.{NoSubstitution, TemplateHead, TemplateTail}
+use Rattle.jsx_tree.specs.Kinds.{Role, Binds, Declarator, Seq, Element, Kind, statement, expression, jsx, Tree, leaf, node, list, Forest, none, part, PlainTemplate, SubstitutedTemplate, NameLink, IndexLink, CallLink}
+use Rattle.jsx_tree.specs.Nonterminals.{Nonterminal, Expr, Name, Pat, TagName, Attributes, Declarators, TemplatePart, TemplateOf, ChainLink}
+use Rattle.jsx_tree.specs.Grammar.{ListShape, NoTrailing, Spaced, TwoOrMore}
 use Rattle.jsx_tree.specs.Form.{Single, Several, Position, position, positions, admits, shaped, fits_below, fit_slots, fit_each, is}
 use Rattle.jsx_tree.specs.Reading.{Place}
 use Rattle.jsx_tree.specs.StaticRules.{Surroundings, is_in_op, open_in, open_ins, any_open}
@@ -27,13 +28,17 @@ use Rattle.jsx_tree.proofs.Views.{views}
 use Rattle.jsx_tree.proofs.Rows.Stopping.{is_not, or_cases}
 use Rattle.jsx_token.specs.Stage.{has_kind, in_stage, in_stages, each_in_stage}
 use Rattle.jsx_expression.specs.SoFar.{Staged, so_far}
+use Rattle.jsx_expression.specs.Templates.{IsOf, plain, substituted}
 use Rattle.jsx_token.specs.Marks.{row_so_far}
 use Rattle.jsx_syntax.specs.OpenIn.{spreads, fronts, opens, any_of, first_of, is_several, opens_listed, opens_whole, some_of, opens_declared, any_opens}
 use Rattle.jsx_expression.proofs.OfSoFar.{of_so_far}
 use Rattle.jsx_token.proofs.Listed.{Listed, kinds, every, of_each}
-use Rattle.jsx_expression.proofs.Homes.{Value, literal, made, operand_kind, nowhere, patterns, taken, taken_by, home_of, no_list, AtWhole, single, several, at_whole}
+use Rattle.jsx_expression.proofs.Homes.{Value, literal, made, operand_kind, nowhere, patterns, wholes, heads, tails, taken, taken_by, home_of, no_list, AtWhole, single, several, at_whole}
 use Rattle.jsx_token.proofs.Lives.{is_single}
 use Rattle.jsx_expression.proofs.Values.{at_one, move}
+use Rattle.jsx_expression.proofs.Climbing.{is_link}
+use Rattle.jsx_expression.proofs.Standing.{standing}
+use Rattle.jsx_expression.proofs.Tags.{template_node}
 use Rattle.jsx_syntax.proofs.Items.{bound_kind}
 
 -- ---- the variants of the code's tree
@@ -104,15 +109,28 @@ all_plain [] = true
 all_plain (position Single c g false a ∷ ss) = is_single c && all_plain ss
 all_plain (s ∷ ss) = false
 
--- each stands in brackets, or is a name
+-- each stands in brackets, or is a name or a template's first or last piece
 abbrev all_shut : List Position → Bool
 all_shut [] = true
 all_shut (position f c g true a ∷ ss) = all_shut ss
 all_shut (position Single Name g false a ∷ ss) = all_shut ss
+all_shut (position Single (TemplatePart NoSubstitution) g false a ∷ ss) = all_shut ss
+all_shut (position Single (TemplatePart TemplateHead) g false a ∷ ss) = all_shut ss
+all_shut (position Single (TemplatePart TemplateTail) g false a ∷ ss) = all_shut ss
 all_shut (s ∷ ss) = false
 
+-- the template of a tag stands there, alone
+abbrev sole_template : List Position → Bool
+sole_template (position Single TemplateOf g false a ∷ []) = true
+sole_template ss = false
+
+-- the links of a chain
+abbrev sole_links : List Position → Bool
+sole_links (position (Several m) ChainLink g false a ∷ []) = true
+sole_links ss = false
+
 abbrev first_plain : List Position → Bool
-first_plain (position Single c g false a ∷ ss) = is_single c && all_shut ss
+first_plain (position Single c g false a ∷ ss) = is_single c && (all_shut ss || (sole_template ss || sole_links ss))
 first_plain ss = false
 
 abbrev is_element : Kind → Bool
@@ -158,18 +176,88 @@ name_shut (leaf k r) i s = refl
 name_shut (node k ts) i s = absurd (nowhere Name refl refl refl refl refl refl refl (taken k (and_left (has_kind k) _ s)) (and_left (admits Name (node k ts)) _ i))
 name_shut (list ts) i s = cc
 
+whole_shut : (t : Tree) → is (TemplatePart NoSubstitution) t ≡ true → in_stage (TemplatePart NoSubstitution) t ≡ true → open_in t ≡ false
+whole_shut (leaf k r) i s = refl
+whole_shut (node k ts) i s = absurd (wholes.node k ts (taken k (and_left (has_kind k) _ s)) (and_left (admits (TemplatePart NoSubstitution) (node k ts)) _ i))
+whole_shut (list ts) i s = cc
+
+head_shut : (t : Tree) → is (TemplatePart TemplateHead) t ≡ true → in_stage (TemplatePart TemplateHead) t ≡ true → open_in t ≡ false
+head_shut (leaf k r) i s = refl
+head_shut (node k ts) i s = absurd (heads.node k ts (taken k (and_left (has_kind k) _ s)) (and_left (admits (TemplatePart TemplateHead) (node k ts)) _ i))
+head_shut (list ts) i s = cc
+
+tail_shut : (t : Tree) → is (TemplatePart TemplateTail) t ≡ true → in_stage (TemplatePart TemplateTail) t ≡ true → open_in t ≡ false
+tail_shut (leaf k r) i s = refl
+tail_shut (node k ts) i s = absurd (tails.node k ts (taken k (and_left (has_kind k) _ s)) (and_left (admits (TemplatePart TemplateTail) (node k ts)) _ i))
+tail_shut (list ts) i s = cc
+
 shut_same : (ss : List Position) (ts : Forest) → all_shut ss ≡ true → fit_slots ss ts ≡ true → in_stages ss ts ≡ true → open_ins ss ts ≡ false
 shut_same [] ts p f s = refl
 shut_same (q ∷ ss) none p f s = cc
 shut_same (position h c g true d ∷ ss) (part t ts) p f s = shut_same ss ts p (fit_rest h c t ss ts f) (and_right (in_stage c t) _ s)
 shut_same (position Single Name g false d ∷ ss) (part t ts) p f s = ap (λ b. b || open_ins ss ts) (name_shut t (fit_here Name t ss ts f) (and_left (in_stage Name t) _ s)) ∙ shut_same ss ts p (fit_rest Single Name t ss ts f) (and_right (in_stage Name t) _ s)
+shut_same (position Single (TemplatePart NoSubstitution) g false d ∷ ss) (part t ts) p f s = ap (λ b. b || open_ins ss ts) (whole_shut t (fit_here (TemplatePart NoSubstitution) t ss ts f) (and_left (in_stage (TemplatePart NoSubstitution) t) _ s)) ∙ shut_same ss ts p (fit_rest Single (TemplatePart NoSubstitution) t ss ts f) (and_right (in_stage (TemplatePart NoSubstitution) t) _ s)
+shut_same (position Single (TemplatePart TemplateHead) g false d ∷ ss) (part t ts) p f s = ap (λ b. b || open_ins ss ts) (head_shut t (fit_here (TemplatePart TemplateHead) t ss ts f) (and_left (in_stage (TemplatePart TemplateHead) t) _ s)) ∙ shut_same ss ts p (fit_rest Single (TemplatePart TemplateHead) t ss ts f) (and_right (in_stage (TemplatePart TemplateHead) t) _ s)
+shut_same (position Single (TemplatePart TemplateTail) g false d ∷ ss) (part t ts) p f s = ap (λ b. b || open_ins ss ts) (tail_shut t (fit_here (TemplatePart TemplateTail) t ss ts f) (and_left (in_stage (TemplatePart TemplateTail) t) _ s)) ∙ shut_same ss ts p (fit_rest Single (TemplatePart TemplateTail) t ss ts f) (and_right (in_stage (TemplatePart TemplateTail) t) _ s)
 shut_same (q ∷ ss) (part t ts) p f s = cc
+
+-- in a tag's template all stands in brackets
+of_shut : {k : Kind} (ts : Forest) → IsOf true k → fit_slots (positions k) ts ≡ true → in_stages (positions k) ts ≡ true → open_in (node k ts) ≡ false
+of_shut ts plain f s = shut_same (positions (expression (PlainTemplate true))) ts refl f s
+of_shut ts substituted f s = shut_same (positions (expression (SubstitutedTemplate true))) ts refl f s
+
+template_shut : (t : Tree) → is TemplateOf t ≡ true → in_stage TemplateOf t ≡ true → open_in t ≡ false
+template_shut (leaf k r) i s = refl
+template_shut (node k ts) i s = of_shut ts (template_node k ts (taken k (and_left (has_kind k) _ s)) (and_left (admits TemplateOf (node k ts)) _ i)) (and_right (admits TemplateOf (node k ts)) _ i) (and_right (has_kind k) _ s)
+template_shut (list ts) i s = cc
+
+sole_shut : (ss : List Position) (ts : Forest) → sole_template ss ≡ true → fit_slots ss ts ≡ true → in_stages ss ts ≡ true → open_ins ss ts ≡ false
+sole_shut (position Single TemplateOf g false d ∷ []) none p f s = cc
+sole_shut (position Single TemplateOf g false d ∷ []) (part t none) p f s = ap (λ b. b || false) (template_shut t (fit_here TemplateOf t [] none f) (and_left (in_stage TemplateOf t) _ s))
+sole_shut (position Single TemplateOf g false d ∷ []) (part t (part u us)) p f s = let bad : false ≡ true = fit_rest Single TemplateOf t [] (part u us) f in cc
+sole_shut _ ts p f s = cc
+
+-- so it does in each link
+link_node : (k : Kind) (ts : Forest) → is_link k ≡ true → fit_slots (positions k) ts ≡ true → in_stages (positions k) ts ≡ true → open_in (node k ts) ≡ false
+link_node (expression (NameLink true)) ts h f s = shut_same (positions (expression (NameLink true))) ts refl f s
+link_node (expression (NameLink false)) ts h f s = shut_same (positions (expression (NameLink false))) ts refl f s
+link_node (expression (IndexLink true)) ts h f s = shut_same (positions (expression (IndexLink true))) ts refl f s
+link_node (expression (IndexLink false)) ts h f s = shut_same (positions (expression (IndexLink false))) ts refl f s
+link_node (expression (CallLink true)) ts h f s = shut_same (positions (expression (CallLink true))) ts refl f s
+link_node (expression (CallLink false)) ts h f s = shut_same (positions (expression (CallLink false))) ts refl f s
+link_node _ ts h f s = cc
+
+link_shut : (t : Tree) → is ChainLink t ≡ true → in_stage ChainLink t ≡ true → open_in t ≡ false
+link_shut (leaf k r) i s = refl
+link_shut (node k ts) i s = link_node k ts (standing ChainLink is_link refl k (taken k (and_left (has_kind k) _ s)) (and_left (admits ChainLink (node k ts)) _ i)) (and_right (admits ChainLink (node k ts)) _ i) (and_right (has_kind k) _ s)
+link_shut (list ts) i s = cc
+
+each_shut : (ts : Forest) → fit_each ChainLink ts ≡ true → each_in_stage ChainLink ts ≡ true → any_open ts ≡ false
+each_shut none f s = refl
+each_shut (part t ts) f s =
+    ap (λ b. b || any_open ts) (link_shut t (first_two (admits ChainLink t) (fits_below ChainLink t) (fit_each ChainLink ts) f) (and_left (in_stage ChainLink t) _ s))
+    ∙ each_shut ts (and_right (fits_below ChainLink t) _ (and_right (admits ChainLink t) _ f)) (and_right (in_stage ChainLink t) _ s)
+
+link_list : (m : ListShape) (t : Tree) → shaped (Several m) ChainLink t ≡ true → fits_below ChainLink t ≡ true → in_stage ChainLink t ≡ true → open_in t ≡ false
+link_list m (leaf k r) h f s = refl
+link_list m (node k ts) h f s = cc
+link_list m (list ts) h f s = each_shut ts f s
+
+links_shut : (ss : List Position) (ts : Forest) → sole_links ss ≡ true → fit_slots ss ts ≡ true → in_stages ss ts ≡ true → open_ins ss ts ≡ false
+links_shut (position (Several m) ChainLink g false d ∷ []) none p f s = cc
+links_shut (position (Several m) ChainLink g false d ∷ []) (part t none) p f s =
+    let below = and_right (shaped (Several m) ChainLink t) _ f in
+    ap (λ b. b || false) (link_list m t (and_left (shaped (Several m) ChainLink t) _ f) (and_left (fits_below ChainLink t) _ below) (and_left (in_stage ChainLink t) _ s))
+links_shut (position (Several m) ChainLink g false d ∷ []) (part t (part u us)) p f s = let bad : false ≡ true = fit_rest (Several m) ChainLink t [] (part u us) f in cc
+links_shut _ ts p f s = cc
 
 first_same : (ss : List Position) (ts : Forest) → first_plain ss ≡ true → AllOpened ts → fit_slots ss ts ≡ true → in_stages ss ts ≡ true → first_of ts ≡ open_ins ss ts
 first_same (position Single c g false d ∷ ss) none p a f s = cc
 first_same (position Single c g false d ∷ ss) (part t ts) p a f s =
     let here = here_opened c t ss ts (head_opened a) (and_left (is_single c) _ p) f s in
-    let rest = shut_same ss ts (and_right (is_single c) _ p) (fit_rest Single c t ss ts f) (and_right (in_stage c t) _ s) in
+    let fit = fit_rest Single c t ss ts f in
+    let staged = and_right (in_stage c t) _ s in
+    let rest = or_cases (all_shut ss) _ (and_right (is_single c) _ p) (λ h. shut_same ss ts h fit staged) (λ o. or_cases (sole_template ss) (sole_links ss) o (λ h. sole_shut ss ts h fit staged) (λ h. links_shut ss ts h fit staged)) in
     sym ((λ i. sym here i || rest i) ∙ or_false (opens t))
 first_same _ ts p a f s = cc
 

@@ -3,7 +3,7 @@ use Rattle.std.proofs.Common.{◌≡◌, ◌<◌, nat_le, Bool, true, false, not
 use Rattle.std.specs.Prelude.{IsTrue, codes, ◌&&◌, ◌||◌}
 use Rattle.std.proofs.lemmas.Bool.{lt-leb}
 use Rattle.jsx_base.specs.Token.{Operator, IdentifierName, Punctuator, same}
-use Rattle.jsx_tree.specs.Kinds.{Seq, Kind, expression, Tree, node, list, Forest, none, part}
+use Rattle.jsx_tree.specs.Kinds.{Seq, Kind, expression, Tree, node, list, Forest, none, part, Tagged}
 use Rattle.jsx_tree.specs.Nonterminals.{Expr}
 use Rattle.jsx_tree.specs.Grammar.{NoTrailing, TwoOrMore, Part, key, pun}
 use Rattle.jsx_tree.specs.Grammar as symbol
@@ -23,15 +23,18 @@ use Rattle.jsx_token.specs.Here.{Here, place_of}
 use Rattle.jsx_token.specs.Marks.{ends_so_far, row_so_far}
 use Rattle.jsx_token.specs.Growths.{rung, Rung, OnLine, level_of_kind, mark, same_sign, settled}
 use Rattle.jsx_token.proofs.Listed.{Listed, kinds, every, of_each, implies, implied}
-use Rattle.jsx_token.proofs.Levels.{formed, grows_on}
+use Rattle.jsx_token.proofs.Levels.{grows_on, marked, marks_on}
 use Rattle.jsx_token.proofs.Marks.{one_sign}
 use Rattle.jsx_expression.specs.SoFar.{so_far}
-use Rattle.jsx_expression.specs.Climbing.{Begins, Climbs, NoneBegins, behind, fits, is_target, level}
+use Rattle.jsx_expression.specs.Climbing.{Begins, Climbs, Grown, NoneBegins, NotGrown, fits, is_target, level}
 use Rattle.jsx_expression.specs.Gathering.{NotGathered}
+use Rattle.jsx_expression.specs.Templates.{NotTagged}
 use Rattle.jsx_expression.proofs.OfSoFar.{of_so_far}
 use Rattle.jsx_expression.proofs.Homes.{AtWhole, single, several, Value, at_whole, value}
-use Rattle.jsx_expression.proofs.Values.{at_one, move}
-use Rattle.jsx_expression.proofs.Climbing.{begins_grows, climb_barred, climb_on, climb_only, climb_unfit, listed_node, mark_found, mark_goes}
+use Rattle.jsx_expression.proofs.Rungs.{rung_single}
+use Rattle.jsx_expression.proofs.Values.{at_one, listed_node, move, Quote}
+use Rattle.jsx_expression.proofs.Tags.{sign_piece}
+use Rattle.jsx_expression.proofs.Climbing.{begins_grows, climb_barred, climb_on, climb_only, climb_tagged, climb_unfit, climbs_to, next_mark, mark_goes, tagged_unread, Going, by_mark, by_piece, goes_next}
 use Rattle.jsx_expression.proofs.Sequences.{several_of, whole_barred, whole_only}
 use Rattle.jsx_syntax.proofs.Statements.{lost_if}
 use Rattle.jsx_syntax.specs.Heads.{IsInitial, IsItems, IsKeys, IsStem, Near, near, far, NoDeclaring, NoHead, NoHeads, NoInitial, NoStem, NotOver, Stopped, at_in, at_end, is_async}
@@ -66,15 +69,19 @@ onward_opens : {v : Surroundings} {x y z : Place} {t u : Tree} → Onward so_far
 onward_opens stay h = h
 onward_opens (step {t = t} k c d {ts = ts} b i r o q on) h = onward_opens on (node_opens k t ts (listed_node o b q) (begins_grows (row_so_far k) b) h)
 
-in_or_stay : {v : Surroundings} {x y z : Place} {t u : Tree} {A : Type 0} → IsTrue (is_found (forth (key "in") y)) → Onward so_far v x t y u z → (t ≡ u → y ≡ z → A) → (open_in u ≡ true → A) → A
-in_or_stay f stay g h = g refl refl
-in_or_stay {y = y} f (step {t = t} k c d {ts = ts} b i r o q on) g h =
-    let l = listed_node o b q in
-    let e = begins_grows (row_so_far k) b in
-    let m = formed k l e in
-    let there = one_sign (mark k) (key "in") y m.coded refl (mark_found (tail (row_so_far k)) m.led r) f in
-    let j = and_right (first_open (positions k)) _ (implied (grows_on k) _ (of_each leads_open all_lead_open k l) e) in
-    h (onward_opens on (ap (λ b. b || open_ins (positions k) (part t ts)) (implied (same_sign (mark k) (key "in")) (is_in_op k) j there)))
+in_or_stay : {v : Surroundings} {x y z : Place} {t u : Tree} {A : Type 0} → Value t → IsTrue (is_found (forth (key "in") y)) → Onward so_far v x t y u z → (t ≡ u → y ≡ z → A) → (open_in u ≡ true → A) → A
+in_or_stay w f stay g h = g refl refl
+in_or_stay {y = y} {A = A} w f (step {t = t} k c d {ts = ts} b i r o q on) g h = by (goes_next k listed b w i r)
+  where
+    listed : Listed k
+    listed = listed_node o b q
+
+    by : Going y k → A
+    by (by_mark m) =
+        let there = one_sign (mark k) (key "in") y (marked k listed m).coded refl (next_mark k (marked k listed m) q r) f in
+        let j = and_right (first_open (positions k)) _ (implied (grows_on k) _ (of_each leads_open all_lead_open k listed) (begins_grows (row_so_far k) b)) in
+        h (onward_opens on (ap (λ b. b || open_ins (positions k) (part t ts)) (implied (same_sign (mark k) (key "in")) (is_in_op k) j there)))
+    by (by_piece e p) = absurd (sign_piece (key "in") y refl refl f p)
 
 ends_one : (z : Place) → ends_so_far (Expr 0) z ≡ true → ends_so_far (Expr 1) z ≡ true
 ends_one z e = of_so_far.covered (Expr 0) (Expr 1) z refl e
@@ -83,17 +90,20 @@ ends_one z e = of_so_far.covered (Expr 0) (Expr 1) z refl e
 in_head : {v : Surroundings} {x y : Place} {t : Tree} → NoDeclaring x → Climbs v (rung 1) x t y → IsTrue (is_found (forth (key "in") y)) → NoHead v x
 in_head {v} {x} {y} {t} n c f = record { no = λ u z w m o. by u z (at_whole u (whole_value n w).reads) (whole_value n w) m o }
   where
+    first : Value t
+    first = value t (rung_single (rung 1) refl) c.reads
+
     items_open : {z : Place} (ts : Forest) → enough TwoOrMore ts ≡ true → Items (Whole so_far) v NoTrailing (Expr 1) x ts z → any_open ts ≡ true
     items_open ts e (nil g) = cc
     items_open ts e (last r g h) = cc
     items_open ts e (more {y = p} {t = u} {u = q} {us = us} m r g all) =
-        in_or_stay f (c.follows.all u p r)
+        in_or_stay first f (c.follows.all u p r)
         (λ a b. absurd (never_both Punctuator IdentifierName (codes ",") (codes "in") y refl (subst (λ h. IsTrue (is_found (forth (pun ",") h))) (sym b) (found_at g (whole_items_found of_so_far all))) f))
         (λ o. ap (λ b. b || any_open (part q us)) o)
 
     by : (u : Tree) (z : Place) → AtWhole u → Whole so_far v false (Expr 0) x u z → IsTrue (is_found (forth (pun ";") z)) → open_in u ≡ false → ⊥
     by u z (single a) w m o =
-        in_or_stay f (c.follows.all u z (record { reads = move at_one a w.reads; ends_there = ends_one z w.ends_there }))
+        in_or_stay first f (c.follows.all u z (record { reads = move at_one a w.reads; ends_there = ends_one z w.ends_there }))
         (λ a b. never_both Punctuator IdentifierName (codes ";") (codes "in") y refl (subst (λ p. IsTrue (is_found (forth (pun ";") p))) (sym b) m) f)
         (λ i. clash _ i o)
     by u z (several {ts = vs}) w m o =
@@ -110,17 +120,17 @@ of_head {v} {x} {y} {t} n o s f = record {
 
 -- ---- the loop
 
-of_kind : (k : Kind) → Listed k → same_sign (mark k) (key "of") ≡ true → grows_on k ≡ true → ⊥
-of_kind k l e g = clash _ e (is_not _ (implied (grows_on k) _ (of_each (λ j. implies (grows_on j) (not (same_sign (mark j) (key "of")))) refl k l) g))
+of_kind : (k : Kind) → Listed k → same_sign (mark k) (key "of") ≡ true → marks_on k ≡ true → ⊥
+of_kind k l e g = clash _ e (is_not _ (implied (marks_on k) _ (of_each (λ j. implies (marks_on j) (not (same_sign (mark j) (key "of")))) refl k l) g))
 
 -- where a mark other than `in` comes next, it goes on before an `in`, or no target ends there
-on_or_over : {v : Surroundings} {x y : Place} {t : Tree} {A : Type 0} (k : Kind) → NoDeclaring x → Near v x t y → Listed k → grows_on k ≡ true → OnLine k y → IsTrue (is_found (forth (mark k) y)) → (IsTrue (is_found (forth (key "in") y)) → ⊥) → (nat_le 11 (level_of_kind k) ≡ true → Climbs v (rung 11) x t y → A) → (NotOver v x → A) → A
+on_or_over : {v : Surroundings} {x y : Place} {t : Tree} {A : Type 0} (k : Kind) → NoDeclaring x → Near v x t y → Listed k → marks_on k ≡ true → OnLine k y → IsTrue (is_found (forth (mark k) y)) → (IsTrue (is_found (forth (key "in") y)) → ⊥) → (nat_le 11 (level_of_kind k) ≡ true → Climbs v (rung 11) x t y → A) → (NotOver v x → A) → A
 on_or_over k n (far o) l g i f a on over = over o
 on_or_over {v} {x} {y} {t} {A} k n (near c) l g i f a on over = by (nat_le 11 (level_of_kind k)) refl
   where
     by : (b : Bool) → nat_le 11 (level_of_kind k) ≡ b → A
     by true e = on e c
-    by false e = over (passed_over n (climb_only (rung 11) refl c (mark_goes (rung 11) k y refl l g c.ended i f ∙ ap not e)) a (λ h. of_kind k l (one_sign (mark k) (key "of") y (formed k l g).coded refl f h) g))
+    by false e = over (passed_over n (climb_only (rung 11) refl c (mark_goes (rung 11) k y refl l g c.ended i f ∙ ap not e)) a (λ h. of_kind k l (one_sign (mark k) (key "of") y (marked k l g).coded refl f h) g))
 
 pub stem_begun : {v : Surroundings} {x y : Place} {t : Tree} → NoDeclaring x → Begins v x t y → Near v x t y
 stem_begun {v} {x} {y} {t} n b = by (nat_le 11 (level t)) refl
@@ -135,19 +145,28 @@ stem_low {t = t} n b l = record { barred = b.low (rung 1) refl (lt-leb 1 (level 
 pub stem_unbegun : {v : Surroundings} {x : Place} → NoDeclaring x → NoneBegins v x → NoStem v x
 stem_unbegun n b = record { barred = b.on (rung 1) refl; over = none_over n (b.on (rung 11) refl) }
 
-pub near_more : {v : Surroundings} {x a b y : Place} {t w : Tree} (k : Kind) → NoDeclaring x → Near v x t a → Listed k → grows_on k ≡ true → OnLine k a → Moves (mark k) a b → (IsTrue (is_found (forth (key "in") a)) → ⊥) → fits k t ≡ true → Built so_far v (behind k) k (part t) w b y → settled y ≡ true → Near v x w y
+pub near_more : {v : Surroundings} {x a b y : Place} {t w : Tree} (k : Kind) → NoDeclaring x → Near v x t a → Listed k → marks_on k ≡ true → OnLine k a → Moves (mark k) a b → (IsTrue (is_found (forth (key "in") a)) → ⊥) → fits k t ≡ true → Grown v k t b w y → settled y ≡ true → Near v x w y
 near_more k n c l g o m i f built s = on_or_over k n c l g o (found_at (sym m.is) m.found) i (λ e d. near (climb_on (rung 11) k refl l g d o m e f built s)) (λ d. far d)
 
-pub stem_unfit : {v : Surroundings} {x a b : Place} {t : Tree} (k : Kind) → NoDeclaring x → Climbs v (rung 1) x t a → Near v x t a → Listed k → grows_on k ≡ true → OnLine k a → Moves (mark k) a b → nat_le 1 (level_of_kind k) ≡ true → (IsTrue (is_found (forth (key "in") a)) → ⊥) → fits k t ≡ false → NoStem v x
+-- a template goes on with it as all marks but `in` do
+pub near_tagged : {v : Surroundings} {x a y : Place} {t w : Tree} → Near v x t a → Quote a → fits (expression Tagged) t ≡ true → Built so_far v (tail (row_so_far (expression Tagged))) (expression Tagged) (part t) w a y → settled y ≡ true → Near v x w y
+near_tagged (near c) q f built s = near (climb_tagged (rung 11) refl c q f built s)
+near_tagged (far o) q f built s = far o
+
+pub stem_untagged : {v : Surroundings} {x a : Place} {t : Tree} → NoDeclaring x → Climbs v (rung 1) x t a → Near v x t a → Quote a → NotTagged v t a → NoStem v x
+stem_untagged {v} {x} {a} {t} n c d q u = record { barred = tagged_unread (rung 1) refl c q u; over = by d }
+  where
+    by : Near v x t a → NotOver v x
+    by (near e) = none_over n (tagged_unread (rung 11) refl e q u)
+    by (far o) = o
+
+pub stem_unfit : {v : Surroundings} {x a b : Place} {t : Tree} (k : Kind) → NoDeclaring x → Climbs v (rung 1) x t a → Near v x t a → Listed k → marks_on k ≡ true → OnLine k a → Moves (mark k) a b → nat_le 1 (level_of_kind k) ≡ true → (IsTrue (is_found (forth (key "in") a)) → ⊥) → fits k t ≡ false → NoStem v x
 stem_unfit k n c d l g o m e i f = record { barred = climb_unfit (rung 1) k refl l g c o m e f; over = on_or_over k n d l g o (found_at (sym m.is) m.found) i (λ h q. none_over n (climb_unfit (rung 11) k refl l g q o m h f)) (λ q. q) }
 
-pub stem_barred : {v : Surroundings} {x a b : Place} {t : Tree} (k : Kind) → NoDeclaring x → Climbs v (rung 1) x t a → Near v x t a → Listed k → grows_on k ≡ true → OnLine k a → Moves (mark k) a b → nat_le 1 (level_of_kind k) ≡ true → (IsTrue (is_found (forth (key "in") a)) → ⊥) → NoRow so_far v (behind k) b → NoStem v x
+pub stem_barred : {v : Surroundings} {x a b : Place} {t : Tree} (k : Kind) → NoDeclaring x → Climbs v (rung 1) x t a → Near v x t a → Listed k → marks_on k ≡ true → OnLine k a → Moves (mark k) a b → nat_le 1 (level_of_kind k) ≡ true → (IsTrue (is_found (forth (key "in") a)) → ⊥) → NotGrown v k b → NoStem v x
 stem_barred k n c d l g o m e i r = record { barred = climb_barred (rung 1) k refl l g c o m e r; over = on_or_over k n d l g o (found_at (sym m.is) m.found) i (λ h q. none_over n (climb_barred (rung 11) k refl l g q o m h r)) (λ q. q) }
 
 -- ---- where the lexer stands
-
-pub climbs_to : {v : Surroundings} {r : Rung} {x : Place} {t : Tree} {y z : Here} → z ≡ y → Climbs v r x t (place_of y) → Climbs v r x t (place_of z)
-climbs_to {v} {r} {x} {t} e c = subst (λ h. Climbs v r x t (place_of h)) (sym e) c
 
 pub near_to : {v : Surroundings} {x : Place} {t : Tree} {y z : Here} → z ≡ y → Near v x t (place_of y) → Near v x t (place_of z)
 near_to {v} {x} {t} e c = subst (λ h. Near v x t (place_of h)) (sym e) c

@@ -1,7 +1,10 @@
 pub mod Statements
+pub mod Seats
+pub mod Within
 pub mod Heads
 pub mod Cases
 pub mod Modules
 pub mod Labels
 pub mod Tries
 pub mod OpenIn
+pub mod Parsed

@@ -1,6 +1,6 @@
 -- An `in` that no bracket encloses, in the trees that the compiler takes so far.
 use Rattle.std.specs.Prelude.{Bool, true, false, cond, ◌||◌}
-use Rattle.jsx_tree.specs.Kinds.{Declarator, Seq, Assign, OpAssign, Cond, Binary, Unary, PrefixUpdate, PostfixUpdate, Call, Member, Index, New, NewWithoutArguments, Kind, statement, expression, Tree, leaf, node, list, Forest, none, part}
+use Rattle.jsx_tree.specs.Kinds.{Declarator, Seq, Assign, OpAssign, Cond, Binary, Unary, PrefixUpdate, PostfixUpdate, Call, Member, Index, New, NewWithoutArguments, Kind, statement, expression, Tree, leaf, node, list, Forest, none, part, Tagged, Chain}
 use Rattle.jsx_tree.specs.StaticRules.{is_in_op}
 
 -- brackets of its own enclose no part, or all but the first; of the other kinds they enclose all
@@ -18,6 +18,8 @@ abbrev pub fronts : Kind → Bool
 fronts (expression Call) = true
 fronts (expression Member) = true
 fronts (expression Index) = true
+fronts (expression Tagged) = true
+fronts (expression Chain) = true
 fronts (expression New) = true
 fronts (expression NewWithoutArguments) = true
 fronts k = false

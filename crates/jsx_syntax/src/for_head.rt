@@ -20,7 +20,7 @@ ghost use Rattle.jsx_token.specs.Places.{Takes, begin_of, end_of, next_of};
 use crate::open_in::{any_has_open_in, head_has_open_in};
 use crate::statement::{initialized, more_declarators};
 use jsx_expression::expression::{
-    ASSIGNMENT, beginning, fits, grow, is_target, level, more_items, sequence, target_of,
+    ASSIGNMENT, beginning, fits, grow, is_target, level, more_items, sequence, tagged, target_of,
 };
 use jsx_expression::{Context, ParseError, binding_identifier, expect, give_up, span_to};
 use jsx_make::make;
@@ -103,13 +103,17 @@ fn stem<'s>(context: Context, lexer: &mut Lexer<'s>) -> Result<Box<Expr<'s>>, Pa
         return Err(give_up(lexer));
     }
     'steps: while !lexer.is_before(Fixed::Word(Word::In)) {
-        let Some(growth) = lexer.growth(ASSIGNMENT) else {
-            return Ok(expr);
-        };
-        if !fits(growth, &expr) {
-            return Err(give_up(lexer));
+        if lexer.is_before_template() {
+            expr = tagged(context, lexer, expr)?;
+        } else {
+            let Some(growth) = lexer.growth(ASSIGNMENT) else {
+                return Ok(expr);
+            };
+            if !fits(growth, &expr) {
+                return Err(give_up(lexer));
+            }
+            expr = grow(context, lexer, growth, expr)?;
         }
-        expr = grow(context, lexer, growth, expr)?;
     }
     Ok(expr)
 }

@@ -13,8 +13,10 @@ ghost use Rattle.jsx_expression.specs.Around.{around_of};
 ghost use Rattle.jsx_expression.specs.Answers.{Refused, NoTree, IsWithin};
 ghost use Rattle.jsx_expression.specs.Spans.{IsPlacedRow, Spans, program_at};
 ghost use Rattle.jsx_syntax.specs.Modules.{IsString, NoModule, OnlyModule, module_parts, module_symbols, module_tales};
+ghost use Rattle.jsx_syntax.specs.Parsed.{IsParsed};
 
-use crate::statement::statement;
+use crate::bare::bare;
+use crate::statement::{Seat, statement};
 use jsx_base::{BytePos, Span};
 use jsx_expression::{Around, Context, Labels, ParseError};
 use jsx_token::Lexer;
@@ -47,7 +49,7 @@ fn module<'s>(context: Context, lexer: &mut Lexer<'s>, span: Span) -> Result<Mod
     let mut directives = Vec::new(context.alloc);
     let mut body = Vec::new(context.alloc);
     'statements: while !lexer.is_at_end() {
-        let mut next = statement(context, lexer)?;
+        let mut next = statement(context, lexer, Seat::Listed)?;
         if body.is_empty() {
             if let Some(text) = take_string(&mut next) {
                 directives.push(text)?;
@@ -63,16 +65,13 @@ fn module<'s>(context: Context, lexer: &mut Lexer<'s>, span: Span) -> Result<Mod
     })
 }
 
-/// The module that a text is.
-pub fn parse<'s>(alloc: Global, text: &'s str) -> Result<Program<'s>, ParseError>
+/// The module that a text is, with the parentheses that are written in it.
+fn written<'s>(alloc: Global, text: &'s str) -> Result<Program<'s>, ParseError>
     requires { length text.now < 0xFFFF_0000 }
-    // What was read is what the text says.
     ensures read { IfOk result (λ program. ReadsSoFar (chars text.now) (view program)) }
-    // A syntax error comes only where no tree reads the text.
     ensures refused { Refused result (NoTree (chars text.now)) }
     ensures place { IfErr result (IsWithin (length text.now)) }
     ensures span { IfOk result (λ program. Spans (Some (program_at program)) 0 (length text.now)) }
-    // Each text is the piece of the source at its place, and each node below the module runs from its first token to its last.
     ensures placed { IfOk result (λ program. IsTold (told program) (placed_in (chars text.now) (view program))) }
 {
     let end = BytePos(text.len() as u32);
@@ -90,13 +89,29 @@ pub fn parse<'s>(alloc: Global, text: &'s str) -> Result<Program<'s>, ParseError
     }
 }
 
+/// The module that a text is: the tree that is written, without its parentheses.
+pub fn parse<'s>(alloc: Global, text: &'s str) -> Result<Program<'s>, ParseError>
+    requires { length text.now < 0xFFFF_0000 }
+    // What was read is the one tree that the text says, with its parentheses off. Each text is the piece of the source at its
+    // place, and each node below the module runs from its first token to its last.
+    ensures read { IfOk result (λ program. IsParsed (chars text.now) program) }
+    // A syntax error comes only where no tree reads the text.
+    ensures refused { Refused result (NoTree (chars text.now)) }
+    ensures place { IfErr result (IsWithin (length text.now)) }
+    ensures span { IfOk result (λ program. Spans (Some (program_at program)) 0 (length text.now)) }
+{
+    let mut program = written(alloc, text)?;
+    bare(alloc, &mut program)?;
+    Ok(program)
+}
+
 #[cfg(test)]
 mod tests {
     use super::parse;
     use crate::ParseError;
     use jsx_base::BytePos;
     use jsx_expression::expression::level;
-    use jsx_tree::{Expr, Item, Operation, Program, Stmt};
+    use jsx_tree::{Access, Expr, Item, Operation, Program, Stmt};
     use std::alloc::Global;
 
     /// The number of statements, or the place of the error.
@@ -173,6 +188,8 @@ mod tests {
                 "-new a + b ** new c;typeof new a();new a().b = 1;new a()[b]++;delete new a;",
                 5,
             ),
+            ("5..a;1 .b;1.5.c[2];0x1f.d;1e3\n.f();1n.g;a?.5.b():c;", 7),
+            ("new 5..a;-5 .b * 2;5..a = 6..b++;", 3),
             ("new this;new 5;new (5).a;new [a]();new {}.b();new <a/>;", 6),
             ("a = b = c ? d : e;a.b += c;a[b] ??= c || d;", 3),
             ("(a + b) * c;f((a), ((b)), (c = d));(<a/>);((a)).b[(c)];", 4),
@@ -292,8 +309,41 @@ mod tests {
                 "if (a) throw {b: c};for ({a}.b;;) c[{d}];-{}.e;[{}, ...{}];",
                 4,
             ),
+            ("`a`;`${a}`;`${`b`}`;`a${b}c${d}e`;", 4),
+            ("`${a, b}`;`${{}}${[`c`]}`;`}` + `$a$`;-`b`;", 4),
+            ("`\\`${a}\\`b`.c = `$${d}`;`a\n$`\n", 2),
+            ("f(`a`, ...`b`);const c = `d`.e[`f`](`g`);", 2),
+            ("`\\x41\\u{41}\\0`;`\\u0041${a}\\\n`", 2),
+            ("a`b`;a.b`c`.d`${e}`;a()`b`()[c]`d`;-a`b`;", 4),
+            ("new a`b`;new a.b`c`(d)`e`;`a``b`;(a, b)`c`;", 4),
+            ("a`\\u{}`;a`\\x${b}\\u{`;a`\\8`", 3),
+            ("a ? `b` : `c`;a\n`b`\n`c`;1`a` + import.meta`b`;", 3),
+            ("for (a`b`.c in d) e;for (a`${b in c}`.d of e) f;", 2),
+            ("for (a`${b in c}`;;) d;a\n`b`", 2),
+            (
+                "a?.b;a?.[b];a?.(b, ...c,);a?.b.c[d, e](f)?.g;a?.if.class;",
+                5,
+            ),
+            ("a.b?.c.d;a()?.b;a[b]?.[c]?.(d);(a?.b).c;(a?.b)(c)?.d;", 5),
+            ("a?.b ** -c;delete a?.b;a?.b ? .5 : c;a?.5:b;a\n?.b\n.c", 5),
+            (
+                "new a()?.b;new (a?.b)(c);`a`?.b;a`b`?.c;import(a)?.b;this?.a;",
+                6,
+            ),
+            (
+                "for ((a?.b).c in d) e;for (a?.[b in c];;) d;f(a?.b, ...c?.d) + [e?.()];",
+                3,
+            ),
         ] {
             assert!(rt; read(rt.alloc(), text) == Ok(*want), "at {text}");
+        }
+    }
+
+    /// The levels of the first and of the last of a list.
+    fn ends(items: &[Box<Expr>]) -> (u8, u8) {
+        match (items.first(), items.last()) {
+            (Some(first), Some(last)) => (level(first), level(last)),
+            _ => (0, 0),
         }
     }
 
@@ -302,6 +352,17 @@ mod tests {
             Operation::Binary(_, _, left, right) => (level(left), level(right)),
             Operation::Cond(_, test, _, other) => (level(test), level(other)),
             Operation::OpAssign(_, _, target, value) => (level(target), level(value)),
+            Operation::Unary(_, _, operand) => (level(operand), 0),
+            Operation::Seq(_, items) => ends(items),
+            _ => (0, 0),
+        }
+    }
+
+    fn sides_of_access(access: &Access) -> (u8, u8) {
+        match access {
+            Access::Call(_, _, arguments) => ends(arguments),
+            Access::Member(_, object, _) => (level(object), 0),
+            Access::New(_, callee, _) => (level(callee), 0),
             _ => (0, 0),
         }
     }
@@ -315,6 +376,7 @@ mod tests {
         };
         match &**expr {
             Expr::Operation(operation) => sides_of(operation),
+            Expr::Access(access) => sides_of_access(access),
             _ => (0, 0),
         }
     }
@@ -342,9 +404,27 @@ mod tests {
             ("a in b < c;", (10, 18)),
             ("-a + typeof b;", (15, 15)),
             ("a + b ? c : d ? e : f;", (12, 2)),
-            ("(a + b) * (c = d);", (18, 18)),
+            ("(a + b) * (c = d);", (12, 1)),
             ("new a ** new a().b;", (17, 18)),
+            ("a?.b ** (a?.b).c;", (17, 18)),
             ("a.b += c ? d : e = f;", (18, 2)),
+        ] {
+            assert!(rt; sides(rt.alloc(), text) == *want, "at {text}");
+        }
+    }
+
+    #[test]
+    fn takes_parentheses_off(rt: HostRuntime) {
+        for (text, want) in &[
+            ("(a + b);", (18, 18)),
+            ("((a ? b : c)).d;", (2, 0)),
+            ("f((a), (b + c));", (18, 12)),
+            ("f(((a, b)), c);", (0, 18)),
+            ("(a, b);", (18, 18)),
+            ("(a, b ? c : d);", (18, 2)),
+            ("-(a + b);", (12, 0)),
+            ("new (a().b)(c);", (18, 0)),
+            ("(((a ?? b)) || (c, d));", (3, 0)),
         ] {
             assert!(rt; sides(rt.alloc(), text) == *want, "at {text}");
         }
@@ -362,13 +442,26 @@ mod tests {
             ("const a = b, c + d;", 13),
             ("a ? b, c : d;", 4),
             ("import(a, b);", 7),
-            ("1 .a;", 2),
             ("new;", 0),
             ("new a = b;", 6),
             ("new a++;", 5),
             ("++new a();", 8),
             ("new import(a);", 12),
-            ("new a?.b;", 4),
+            ("new a?.b;", 5),
+            ("new a.b?.();", 7),
+            ("a?.b = c;", 5),
+            ("a?.b++;", 4),
+            ("++a?.b;", 5),
+            ("a?.b`c`;", 3),
+            ("a?.b.c`d`;", 5),
+            ("a?.`b`;", 1),
+            ("a?.;", 1),
+            ("a?.[b;", 4),
+            ("a?.(b;", 4),
+            ("a?.b.;", 4),
+            ("a?.[];", 3),
+            ("for (a?.b in c) d;", 10),
+            ("for (a?.b of c) d;", 10),
             ("new -a;", 5),
             ("new 5.a;", 0),
             ("new.target;", 4),
@@ -395,9 +488,24 @@ mod tests {
             ("a b", 0),
             ("a /* b */ c", 0),
             ("const a = b const c = d", 10),
-            ("a\n?.b", 0),
-            ("a\n`b`", 0),
+            ("a`b` = c;", 5),
+            ("a`b`++;", 4),
+            ("a++`b`;", 1),
+            ("for (a`b` of c) d;", 10),
+            ("a`${b}c", 5),
             ("a\n\"b", 0),
+            ("`a", 0),
+            ("`\\u{}`;", 0),
+            ("`${}`;", 0),
+            ("`${a", 3),
+            ("`${a}b", 4),
+            ("`${a b}`;", 3),
+            ("`${a,}`;", 4),
+            ("`${a}\\x4`;", 5),
+            ("`\\8${a}`;", 0),
+            ("`${a}\\u${b}`;", 5),
+            ("`a` = b;", 4),
+            ("`a`++;", 3),
             ("a /* \n", 0),
             ("import a;", 0),
             ("import();", 6),

@@ -74,12 +74,12 @@ fn of_access(access: &Access) -> bool
         Access::Index(_, object, _) => has_open_in(object),
         Access::New(_, callee, _) => has_open_in(callee),
         Access::NewWithoutArguments(_, callee) => has_open_in(callee),
-        Access::Tagged(..)
-        | Access::SuperCall(..)
+        Access::Tagged(_, tag, _, _, _) => has_open_in(tag),
+        Access::Chain(_, base, _) => has_open_in(base),
+        Access::SuperCall(..)
         | Access::SuperMember(..)
         | Access::SuperIndex(..)
-        | Access::ImportCall(..)
-        | Access::Chain(..) => false,
+        | Access::ImportCall(..) => false,
     }
 }
 

@@ -229,3 +229,26 @@ unless_html m k f c text false g q n p o h =
 pub alone : (m : Mode) (k : TokenKind) (f : Bool) (text : Text) → skips m ≡ true → is_kind NoToken k ≡ false → is_kind Punctuator k ≡ false → IsBehind text → is_kind (at_front m f text).kind k ≡ true → IsAlone m k (at_front m f text).raw
 alone m k f [] q n p o h = absurd (false≢true (sym n ∙ h))
 alone m k f (c ∷ text) q n p o h = unless_html m k f c text (is_html m f c text) refl q n p o h
+
+-- ---- the same of a template's piece, before which no gap is skipped
+
+piece_made : (k : TokenKind) (c : ℕ) (text : Text) → is_kind NoToken k ≡ false → is_dead (state Piece c text) ≡ false → is_kind (made (state Piece c text) c text).kind k ≡ true → IsAlone Piece k (made (state Piece c text) c text).raw
+piece_made k c text n d h =
+    let s : State = state Piece c text in
+    let raw : Text = taken s text in
+    let a : TakesAll s raw (last_state s text) = again s text in
+    let x : EndsAlone k (accepts (last_state s text)) (c ∷ raw) (left s text) = ends_alone k (accepts (last_state s text)) (c ∷ raw) (left s text) n h in
+    let e : token Piece false (c ∷ raw) ≡ record { kind = accepts (last_state s text); raw = c ∷ raw; rest = [] } =
+    alive Piece s c raw d
+    ∙ ap (λ y. ended (accepts y) (c ∷ taken s raw) (left s raw)) a.ends
+    ∙ ap (λ y. ended (accepts (last_state s text)) (c ∷ y) (left s raw)) a.takes
+    ∙ ap (λ y. ended (accepts (last_state s text)) (c ∷ raw) y) a.leaves
+    ∙ x.alone in
+    subst (IsAlone Piece k) (sym x.raw_is)
+    (record { it = ap (λ y. is_token y k (c ∷ raw)) e ∙ and_from _ _ x.kind (same_self (c ∷ raw)); ends = ap (λ y. same y.rest []) e })
+
+pub piece_alone : (k : TokenKind) (text : Text) → is_kind NoToken k ≡ false → is_kind (at_front Piece false text).kind k ≡ true → IsAlone Piece k (at_front Piece false text).raw
+piece_alone k [] n h = absurd (false≢true (sym n ∙ h))
+piece_alone k (c ∷ text) n h =
+    lexed_by (λ x. is_kind x.kind k ≡ true → IsAlone Piece k x.raw) Piece (state Piece c text) c text
+    (λ _ i. absurd (false≢true (sym n ∙ i))) (piece_made k c text n) h

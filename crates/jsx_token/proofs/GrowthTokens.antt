@@ -45,6 +45,7 @@ pub growth_mark : (k : TokenKind) (t r : Text) (g : Growth) → (is_punctuator k
 growth_mark token.Dot t r g s e = by token.Dot (spelling token.Dot) r (growth.Member) g t e (s refl) refl
 growth_mark token.LeftParen t r g s e = by token.LeftParen (spelling token.LeftParen) r (growth.Call) g t e (s refl) refl
 growth_mark token.LeftBracket t r g s e = by token.LeftBracket (spelling token.LeftBracket) r (growth.Index) g t e (s refl) refl
+growth_mark token.QuestionDot t r g s e = by token.QuestionDot (spelling token.QuestionDot) r (growth.Chain) g t e (s refl) refl
 growth_mark token.Question t r g s e = by token.Question (spelling token.Question) r (growth.Cond) g t e (s refl) refl
 growth_mark token.QuestionQuestion t r g s e = by token.QuestionQuestion (spelling token.QuestionQuestion) r (growth.Binary binary.Nullish) g t e (s refl) refl
 growth_mark token.OrOr t r g s e = by token.OrOr (spelling token.OrOr) r (growth.Binary binary.Or) g t e (s refl) refl
@@ -134,7 +135,7 @@ no_mark token.PlusPlus r p e = some_none e
 no_mark token.MinusMinus r p e = some_none e
 no_mark token.Not r p e = refl
 no_mark token.Tilde r p e = refl
-no_mark token.QuestionDot r p e = refl
+no_mark token.QuestionDot r p e = some_none e
 no_mark token.Colon r p e = refl
 no_mark token.Equal r p e = some_none e
 no_mark token.PlusEqual r p e = some_none e
@@ -205,16 +206,17 @@ mark_left token.Percent n0 n1 n2 n3 n4 n5 n6 n7 n8 n9 n10 n11 n12 n13 n14 n15 n1
 mark_left token.StarStar n0 n1 n2 n3 n4 n5 n6 n7 n8 n9 n10 n11 n12 n13 n14 n15 n16 n17 n18 n19 n20 n21 n22 = absurd (n22 refl)
 mark_left _ n0 n1 n2 n3 n4 n5 n6 n7 n8 n9 n10 n11 n12 n13 n14 n15 n16 n17 n18 n19 n20 n21 n22 = refl
 
-pub growth_left : (k : TokenKind) (t : Text) → (k ≡ token.Dot → ⊥) → (k ≡ token.LeftParen → ⊥) → (k ≡ token.LeftBracket → ⊥) → (k ≡ token.Question → ⊥) → (k ≡ token.Equal → ⊥) → (k ≡ token.PlusPlus → ⊥) → (k ≡ token.MinusMinus → ⊥) → (k ≡ token.IdentifierName → ⊥) → growth_by k t ≡ with_operator (binary_by k) (assign_by k)
-growth_left token.Dot t n0 n1 n2 n3 n4 n5 n6 n7 = absurd (n0 refl)
-growth_left token.LeftParen t n0 n1 n2 n3 n4 n5 n6 n7 = absurd (n1 refl)
-growth_left token.LeftBracket t n0 n1 n2 n3 n4 n5 n6 n7 = absurd (n2 refl)
-growth_left token.Question t n0 n1 n2 n3 n4 n5 n6 n7 = absurd (n3 refl)
-growth_left token.Equal t n0 n1 n2 n3 n4 n5 n6 n7 = absurd (n4 refl)
-growth_left token.PlusPlus t n0 n1 n2 n3 n4 n5 n6 n7 = absurd (n5 refl)
-growth_left token.MinusMinus t n0 n1 n2 n3 n4 n5 n6 n7 = absurd (n6 refl)
-growth_left token.IdentifierName t n0 n1 n2 n3 n4 n5 n6 n7 = absurd (n7 refl)
-growth_left _ t n0 n1 n2 n3 n4 n5 n6 n7 = refl
+pub growth_left : (k : TokenKind) (t : Text) → (k ≡ token.Dot → ⊥) → (k ≡ token.LeftParen → ⊥) → (k ≡ token.LeftBracket → ⊥) → (k ≡ token.QuestionDot → ⊥) → (k ≡ token.Question → ⊥) → (k ≡ token.Equal → ⊥) → (k ≡ token.PlusPlus → ⊥) → (k ≡ token.MinusMinus → ⊥) → (k ≡ token.IdentifierName → ⊥) → growth_by k t ≡ with_operator (binary_by k) (assign_by k)
+growth_left token.Dot t n0 n1 n2 n3 n4 n5 n6 n7 n8 = absurd (n0 refl)
+growth_left token.LeftParen t n0 n1 n2 n3 n4 n5 n6 n7 n8 = absurd (n1 refl)
+growth_left token.LeftBracket t n0 n1 n2 n3 n4 n5 n6 n7 n8 = absurd (n2 refl)
+growth_left token.QuestionDot t n0 n1 n2 n3 n4 n5 n6 n7 n8 = absurd (n3 refl)
+growth_left token.Question t n0 n1 n2 n3 n4 n5 n6 n7 n8 = absurd (n4 refl)
+growth_left token.Equal t n0 n1 n2 n3 n4 n5 n6 n7 n8 = absurd (n5 refl)
+growth_left token.PlusPlus t n0 n1 n2 n3 n4 n5 n6 n7 n8 = absurd (n6 refl)
+growth_left token.MinusMinus t n0 n1 n2 n3 n4 n5 n6 n7 n8 = absurd (n7 refl)
+growth_left token.IdentifierName t n0 n1 n2 n3 n4 n5 n6 n7 n8 = absurd (n8 refl)
+growth_left _ t n0 n1 n2 n3 n4 n5 n6 n7 n8 = refl
 
 pub assign_left : (k : TokenKind) → (k ≡ token.QuestionQuestionEqual → ⊥) → (k ≡ token.OrOrEqual → ⊥) → (k ≡ token.AndAndEqual → ⊥) → (k ≡ token.OrEqual → ⊥) → (k ≡ token.CaretEqual → ⊥) → (k ≡ token.AndEqual → ⊥) → (k ≡ token.LessLessEqual → ⊥) → (k ≡ token.GreaterGreaterEqual → ⊥) → (k ≡ token.GreaterGreaterGreaterEqual → ⊥) → (k ≡ token.PlusEqual → ⊥) → (k ≡ token.MinusEqual → ⊥) → (k ≡ token.StarEqual → ⊥) → (k ≡ token.SlashEqual → ⊥) → (k ≡ token.PercentEqual → ⊥) → (k ≡ token.StarStarEqual → ⊥) → assign_by k ≡ None
 assign_left token.QuestionQuestionEqual n0 n1 n2 n3 n4 n5 n6 n7 n8 n9 n10 n11 n12 n13 n14 = absurd (n0 refl)

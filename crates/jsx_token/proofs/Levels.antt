@@ -2,9 +2,10 @@
 use Rattle.std.proofs.Common.{Bool, true, false, [], ◌∷◌, List, ◌≡◌, nat_le, not, cond, refl, ◌∙◌}
 use Rattle.jsx_tree.specs.Grammar.{Fixed, right_of}
 use Rattle.jsx_tree.specs.Walk.{Piece, piece, tail}
-use Rattle.std.specs.Prelude.{Option, Some, None, ◌&&◌}
-use Rattle.jsx_base.specs.Token.{Lexeme, NumericLiteral, BigIntLiteral, StringLiteral, RegExpLiteral}
-use Rattle.jsx_tree.specs.Kinds.{Assigns, Assign, OpAssign, Delete, Unary, Binary, Cond, Kind, expression, PrefixUpdate, Call, Member, Index, NewWithoutArguments, NewTarget, ImportMeta, Object, PostfixUpdate, Increment, Decrement}
+use Rattle.std.specs.Prelude.{Option, Some, None, ◌&&◌, ◌||◌}
+use Rattle.jsx_base.specs.Token.{Lexeme, NumericLiteral, BigIntLiteral, StringLiteral, RegExpLiteral, NoSubstitution, TemplateHead, is_kind}
+use Rattle.jsx_tree.specs.Kinds.{Assigns, Assign, OpAssign, Delete, Unary, Binary, Cond, Kind, expression, PrefixUpdate, Call, Member, Index, NewWithoutArguments, NewTarget, ImportMeta, Object, PostfixUpdate, Increment, Decrement, PlainTemplate, SubstitutedTemplate, Tagged, Chain}
+use Rattle.jsx_tree.specs.Signs.{Sign, Tok}
 use Rattle.jsx_tree.specs.Nonterminals.{Nonterminal, Expr, NullishLeft, MemberObject, DotObject, SimpleTarget, Pat, TagName, NewCallee, homes, in_homes, literal_homes}
 use Rattle.jsx_token.specs.Stage.{has_kind}
 use Rattle.jsx_tree.specs.Stops.{level_asked}
@@ -17,7 +18,7 @@ use Rattle.jsx_tree.proofs.Rows.Bodies.{bodiless}
 use Rattle.jsx_tree.proofs.Rows.Closers.{any_operand}
 use Rattle.jsx_tree.proofs.Rows.Placing.{free}
 use Rattle.jsx_tree.proofs.Rows.Spines.{grows}
-use Rattle.jsx_token.specs.Growths.{Rung, rung, callee, asked, is_rung, least, reaches, seat, mark, on_line, past_line, has_sign, is_code, levels, level_of_kind, fits_by, takes_target, growth_kind}
+use Rattle.jsx_token.specs.Growths.{Rung, rung, callee, asked, is_chain, is_rung, least, reaches, seat, mark, on_line, past_line, has_sign, is_code, levels, level_of_kind, fits_by, takes_target, growth_kind}
 use Rattle.jsx_token.proofs.Listed.{Listed, kinds, every, of_each, every_level, of_level_kind, implies, implied, agree, agreed, listed, listed_binary}
 use Rattle.jsx_token.proofs.Marks.{text_of_sign, by_sign}
 use Rattle.jsx_token.proofs.Lives.{is_single}
@@ -44,10 +45,48 @@ is_ruled (expression (Unary Delete)) = true
 is_ruled (expression Object) = true
 is_ruled (expression ImportMeta) = true
 is_ruled (expression NewTarget) = true
+is_ruled (expression (PlainTemplate b)) = true
+is_ruled (expression (SubstitutedTemplate b)) = true
+is_ruled (expression Chain) = true
 is_ruled k = false
 
 abbrev pub grows_on : Kind → Bool
 grows_on k = grows (row_so_far k)
+
+-- a template, whose row begins with its first piece
+abbrev pub is_template : Kind → Bool
+is_template (expression (PlainTemplate b)) = true
+is_template (expression (SubstitutedTemplate b)) = true
+is_template k = false
+
+-- the others of them go on with an expression
+abbrev pub steps_on : Kind → Bool
+steps_on k = grows_on k && not (is_template k)
+
+-- a tag with its template, which goes on by a piece
+abbrev pub is_tagged : Kind → Bool
+is_tagged (expression Tagged) = true
+is_tagged k = false
+
+-- the others of these by a sign, their mark
+abbrev pub marks_on : Kind → Bool
+marks_on k = steps_on k && not (is_tagged k)
+
+pub tagged_kind : (k : Kind) → is_tagged k ≡ true → k ≡ expression Tagged
+tagged_kind (expression Tagged) h = refl
+tagged_kind _ h = cc
+
+-- those that stand where an expression does
+pub data Quoted : Kind → Type 0 where
+  undivided : Quoted (expression (PlainTemplate false))
+  divided : Quoted (expression (SubstitutedTemplate false))
+
+pub quoted_kind : (k : Kind) → Listed k → is_template k ≡ true → Quoted k
+quoted_kind (expression (PlainTemplate false)) l h = undivided
+quoted_kind (expression (SubstitutedTemplate false)) l h = divided
+quoted_kind (expression (PlainTemplate true)) l h = let bad = l.is in cc
+quoted_kind (expression (SubstitutedTemplate true)) l h = let bad = l.is in cc
+quoted_kind _ l h = cc
 
 -- what stands at its left, and what its row ends with where no bracket does
 abbrev pub side_of : Option Nonterminal → Nonterminal
@@ -65,6 +104,7 @@ edge (expression (OpAssign o)) = Expr 1
 edge (expression (Unary o)) = Expr 15
 edge (expression (PrefixUpdate o)) = Expr 17
 edge (expression NewWithoutArguments) = NewCallee
+edge (expression Chain) = Expr 17
 edge k = TagName
 
 -- the places at the left of a step
@@ -83,27 +123,35 @@ is_left SimpleTarget = true
 is_left (Pat Assigns) = true
 is_left c = false
 
-abbrev pub takes_number : Nonterminal → Bool
-takes_number DotObject = false
-takes_number c = true
-
 abbrev pub taken_literals : Nonterminal → Bool
 taken_literals c = in_homes c (literal_homes NumericLiteral) && (in_homes c (literal_homes BigIntLiteral) && (in_homes c (literal_homes StringLiteral) && in_homes c (literal_homes RegExpLiteral)))
 
 -- which leaves stand at the left
 abbrev pub leaves_fit : Kind → Bool
-leaves_fit k = cond (takes_target k) (is_left (side k)) (not (is_left (side k)) && (taken_literals (side k) && (fits_by k 18 false && agree (fits_by k 18 true) (takes_number (side k)))))
+leaves_fit k = cond (takes_target k) (is_left (side k)) (not (is_left (side k)) && (taken_literals (side k) && fits_by k 18))
 
--- its row begins with a part at such a place, goes on by a mark, and each part of the rest is ended by what stands behind it
+-- its row begins with a part at such a place, and each part of the rest is ended by what stands behind it
 abbrev pub well_formed : Kind → Bool
 well_formed k =
-    implies (grows_on k)
-    ((is_side (side k) && (not (is_ruled k) && leaves_fit k))
-    && ((is_code (mark k) && (signed (past_line (tail (row_so_far k))) && has_sign (mark k) marks)) && ((guarded (edge k) (tail (row_so_far k)) && free (tail (row_so_far k))) && (bodiless (row_so_far k) && (has_kind k && any_operand (homes k))))))
+    implies (steps_on k)
+    ((is_side (side k) && (agree (is_ruled k) (is_chain k) && leaves_fit k))
+    && ((guarded (edge k) (tail (row_so_far k)) && free (tail (row_so_far k))) && (bodiless (row_so_far k) && (has_kind k && any_operand (homes k)))))
 
 pub all_well_formed : every well_formed kinds ≡ true
-unfolding marks
 all_well_formed = refl
+
+-- no piece of a template
+abbrev pub is_unquoted : Sign → Bool
+is_unquoted (Tok m k t) = not (is_kind k NoSubstitution || is_kind k TemplateHead)
+is_unquoted s = false
+
+-- it goes on by a mark, with which a chain's links begin and the rest of all other rows
+abbrev pub well_marked : Kind → Bool
+well_marked k = implies (marks_on k) ((is_code (mark k) && is_unquoted (mark k)) && (agree (signed (past_line (tail (row_so_far k)))) (not (is_chain k)) && has_sign (mark k) marks))
+
+pub all_well_marked : every well_marked kinds ≡ true
+unfolding marks
+all_well_marked = refl
 
 -- of a place and a kind, with a line end before the mark or without: whether the mark goes on there
 abbrev pub goes_as : Rung → Kind → Bool → Bool
@@ -111,7 +159,7 @@ goes_as r k b = agree (goes_at (asked r) b (text_of_sign (mark k))) (reaches r k
 
 -- whether the kind is at home there is told by its level
 abbrev pub placed : Rung → Kind → Bool
-placed r k = agree (in_homes (seat r) (homes k)) (nat_le (least r) (level_of_kind k)) && (implies (grows_on k) (goes_as r k true && goes_as r k false) && implies (reaches r k) (covers (level_asked (seat r)) (level_asked (edge k))))
+placed r k = agree (in_homes (seat r) (homes k)) (nat_le (least r) (level_of_kind k)) && (implies (marks_on k) (goes_as r k true && goes_as r k false) && implies (reaches r k) (covers (level_asked (seat r)) (level_asked (edge k))))
 
 pub all_placed : every_level (λ n. every (placed (rung n)) kinds) levels ≡ true
 all_placed = refl
@@ -132,19 +180,17 @@ pub record Fitting (k : Kind) : Type 0 where
   pub longs : in_homes (side k) (literal_homes BigIntLiteral) ≡ true
   pub strings : in_homes (side k) (literal_homes StringLiteral) ≡ true
   pub patterns : in_homes (side k) (literal_homes RegExpLiteral) ≡ true
-  pub leaves : fits_by k 18 false ≡ true
-  pub number : fits_by k 18 true ≡ takes_number (side k)
+  pub leaves : fits_by k 18 ≡ true
 
 pub data Leaves (k : Kind) : Type 0 where
   assigned : takes_target k ≡ true → is_left (side k) ≡ true → Leaves k
   fitting_in : takes_target k ≡ false → Fitting k → Leaves k
 
-pub leaves_of : (k : Kind) (b : Bool) → takes_target k ≡ b → cond b (is_left (side k)) (not (is_left (side k)) && (taken_literals (side k) && (fits_by k 18 false && agree (fits_by k 18 true) (takes_number (side k))))) ≡ true → Leaves k
+pub leaves_of : (k : Kind) (b : Bool) → takes_target k ≡ b → cond b (is_left (side k)) (not (is_left (side k)) && (taken_literals (side k) && fits_by k 18)) ≡ true → Leaves k
 leaves_of k true e h = assigned e h
 leaves_of k false e h =
     let a = and_right (not (is_left (side k))) _ h in
     let b = and_left (taken_literals (side k)) _ a in
-    let c = and_right (taken_literals (side k)) _ a in
     let d = and_right (in_homes (side k) (literal_homes NumericLiteral)) _ b in
     let e' = and_right (in_homes (side k) (literal_homes BigIntLiteral)) _ d in
     fitting_in e (record {
@@ -153,41 +199,32 @@ leaves_of k false e h =
       longs = and_left (in_homes (side k) (literal_homes BigIntLiteral)) _ d;
       strings = and_left (in_homes (side k) (literal_homes StringLiteral)) _ e';
       patterns = and_right (in_homes (side k) (literal_homes StringLiteral)) _ e';
-      leaves = and_left (fits_by k 18 false) _ c;
-      number = agreed (fits_by k 18 true) (takes_number (side k)) (and_right (fits_by k 18 false) _ c);
+      leaves = and_right (taken_literals (side k)) _ a;
     })
 
 pub record Formed (k : Kind) : Type 0 where
   pub sided : is_side (side k) ≡ true
-  pub unruled : is_ruled k ≡ false
+  pub unruled : is_ruled k ≡ is_chain k
   pub leaves : Leaves k
-  pub coded : is_code (mark k) ≡ true
-  pub led : signed (past_line (tail (row_so_far k))) ≡ true
-  pub marked : has_sign (mark k) marks ≡ true
   pub closed : guarded (edge k) (tail (row_so_far k)) ≡ true
   pub freed : free (tail (row_so_far k)) ≡ true
   pub bare : bodiless (row_so_far k) ≡ true
   pub taken : has_kind k ≡ true
   pub stood : any_operand (homes k) ≡ true
 
-pub formed : (k : Kind) → Listed k → grows_on k ≡ true → Formed k
+pub formed : (k : Kind) → Listed k → steps_on k ≡ true → Formed k
 formed k m g =
-    let a = implied (grows_on k) _ (of_each well_formed all_well_formed k m) g in
-    let b = and_left (is_side (side k) && (not (is_ruled k) && leaves_fit k)) _ a in
-    let c = and_right (is_side (side k) && (not (is_ruled k) && leaves_fit k)) _ a in
-    let c1 = and_left (is_code (mark k) && (signed (past_line (tail (row_so_far k))) && has_sign (mark k) marks)) _ c in
-    let c2 = and_right (is_code (mark k) && (signed (past_line (tail (row_so_far k))) && has_sign (mark k) marks)) _ c in
-    let c3 = and_right (is_code (mark k)) _ c1 in
-    let c4 = and_left (guarded (edge k) (tail (row_so_far k)) && free (tail (row_so_far k))) _ c2 in
-    let c5 = and_right (guarded (edge k) (tail (row_so_far k)) && free (tail (row_so_far k))) _ c2 in
+    let a = implied (steps_on k) _ (of_each well_formed all_well_formed k m) g in
+    let ruled = agree (is_ruled k) (is_chain k) in
+    let b = and_left (is_side (side k) && (ruled && leaves_fit k)) _ a in
+    let c = and_right (is_side (side k) && (ruled && leaves_fit k)) _ a in
+    let c4 = and_left (guarded (edge k) (tail (row_so_far k)) && free (tail (row_so_far k))) _ c in
+    let c5 = and_right (guarded (edge k) (tail (row_so_far k)) && free (tail (row_so_far k))) _ c in
     let c6 = and_right (bodiless (row_so_far k)) _ c5 in
     record {
       sided = and_left (is_side (side k)) _ b;
-      unruled = is_not _ (and_left (not (is_ruled k)) _ (and_right (is_side (side k)) _ b));
-      leaves = leaves_of k (takes_target k) refl (and_right (not (is_ruled k)) _ (and_right (is_side (side k)) _ b));
-      coded = and_left (is_code (mark k)) _ c1;
-      led = and_left (signed (past_line (tail (row_so_far k)))) _ c3;
-      marked = and_right (signed (past_line (tail (row_so_far k)))) _ c3;
+      unruled = agreed (is_ruled k) (is_chain k) (and_left ruled _ (and_right (is_side (side k)) _ b));
+      leaves = leaves_of k (takes_target k) refl (and_right ruled _ (and_right (is_side (side k)) _ b));
       closed = and_left (guarded (edge k) (tail (row_so_far k))) _ c4;
       freed = and_right (guarded (edge k) (tail (row_so_far k))) _ c4;
       bare = and_left (bodiless (row_so_far k)) _ c5;
@@ -195,9 +232,27 @@ formed k m g =
       stood = and_right (has_kind k) _ c6;
     }
 
+pub record Marked (k : Kind) : Type 0 where
+  pub coded : is_code (mark k) ≡ true
+  pub unquoted : is_unquoted (mark k) ≡ true
+  pub led : signed (past_line (tail (row_so_far k))) ≡ not (is_chain k)
+  pub listed_mark : has_sign (mark k) marks ≡ true
+
+pub marked : (k : Kind) → Listed k → marks_on k ≡ true → Marked k
+marked k m g =
+    let a = implied (marks_on k) _ (of_each well_marked all_well_marked k m) g in
+    let b = and_left (is_code (mark k) && is_unquoted (mark k)) _ a in
+    let c = and_right (is_code (mark k) && is_unquoted (mark k)) _ a in
+    record {
+      coded = and_left (is_code (mark k)) _ b;
+      unquoted = and_right (is_code (mark k)) _ b;
+      led = agreed (signed (past_line (tail (row_so_far k)))) (not (is_chain k)) (and_left (agree (signed (past_line (tail (row_so_far k)))) (not (is_chain k))) _ c);
+      listed_mark = and_right (agree (signed (past_line (tail (row_so_far k)))) (not (is_chain k))) _ c;
+    }
+
 pub record Level (r : Rung) (k : Kind) : Type 0 where
   pub home : in_homes (seat r) (homes k) ≡ nat_le (least r) (level_of_kind k)
-  pub goes : grows_on k ≡ true → (b : Bool) → goes_at (asked r) b (text_of_sign (mark k)) ≡ (reaches r k && not (on_line k && b))
+  pub goes : marks_on k ≡ true → (b : Bool) → goes_at (asked r) b (text_of_sign (mark k)) ≡ (reaches r k && not (on_line k && b))
   pub covered : reaches r k ≡ true → covers (level_asked (seat r)) (level_asked (edge k)) ≡ true
 
 pub either_way : (p : Bool → Bool) → (p true && p false) ≡ true → (b : Bool) → p b ≡ true
@@ -208,11 +263,11 @@ pub at_level : {r : Rung} → is_rung r ≡ true → (k : Kind) → Listed k →
 at_level {r} h k m =
     let a = placed_at r h k m in
     let p = agree (in_homes (seat r) (homes k)) (nat_le (least r) (level_of_kind k)) in
-    let q = implies (grows_on k) (goes_as r k true && goes_as r k false) in
+    let q = implies (marks_on k) (goes_as r k true && goes_as r k false) in
     let b = and_right p _ a in
     record {
       home = agreed (in_homes (seat r) (homes k)) (nat_le (least r) (level_of_kind k)) (and_left p _ a);
-      goes = λ g c. agreed (goes_at (asked r) c (text_of_sign (mark k))) (reaches r k && not (on_line k && c)) (either_way (goes_as r k) (implied (grows_on k) _ (and_left q _ b) g) c);
+      goes = λ g c. agreed (goes_at (asked r) c (text_of_sign (mark k))) (reaches r k && not (on_line k && c)) (either_way (goes_as r k) (implied (marks_on k) _ (and_left q _ b) g) c);
       covered = λ e. implied (reaches r k) _ (and_right q _ b) e;
     }
 
@@ -222,25 +277,25 @@ seat_asks callee = refl
 
 -- what goes on with what `new` stands before may stand on a new line
 abbrev called_anywhere : Kind → Bool
-called_anywhere k = implies (grows_on k && reaches callee k) (not (on_line k))
+called_anywhere k = implies (marks_on k && reaches callee k) (not (on_line k))
 
 all_called_anywhere : every called_anywhere kinds ≡ true
 all_called_anywhere = refl
 
-pub called_line : (k : Kind) → Listed k → grows_on k ≡ true → reaches callee k ≡ true → on_line k ≡ false
-called_line k m g e = is_not _ (implied (grows_on k && reaches callee k) _ (of_each called_anywhere all_called_anywhere k m) (and_both _ _ g e))
+pub called_line : (k : Kind) → Listed k → marks_on k ≡ true → reaches callee k ≡ true → on_line k ≡ false
+called_line k m g e = is_not _ (implied (marks_on k && reaches callee k) _ (of_each called_anywhere all_called_anywhere k m) (and_both _ _ g e))
 
 pub agree_self : (b : Bool) → agree b b ≡ true
 agree_self true = refl
 agree_self false = refl
 
-pub mark_among : (r : Rung) (k : Kind) → is_rung r ≡ true → Listed k → grows_on k ≡ true → (b : Bool) (x : Lexeme) → is_sign x (mark k) ≡ true → goes_at (asked r) b x.raw ≡ (reaches r k && not (on_line k && b))
+pub mark_among : (r : Rung) (k : Kind) → is_rung r ≡ true → Listed k → marks_on k ≡ true → (b : Bool) (x : Lexeme) → is_sign x (mark k) ≡ true → goes_at (asked r) b x.raw ≡ (reaches r k && not (on_line k && b))
 mark_among r k h m g b x e =
     let u = goes_at (asked r) b (text_of_sign (mark k)) in
     agreed (goes_at (asked r) b x.raw) u (by_sign (λ t. agree (goes_at (asked r) b t) u) (mark k) x (agree_self u) e) ∙ (at_level {r = r} h k m).goes g b
 
-pub mark_is_code : (k : Kind) → Listed k → grows_on k ≡ true → is_code (mark k) ≡ true
-mark_is_code k m g = (formed k m g).coded
+pub mark_is_code : (k : Kind) → Listed k → marks_on k ≡ true → is_code (mark k) ≡ true
+mark_is_code k m g = (marked k m g).coded
 
 assign_listed : (o : AssignOp) → Listed (expression (OpAssign (assign_of o)))
 assign_listed assign.Nullish = listed (expression (OpAssign (assign_of assign.Nullish))) refl refl refl
@@ -259,7 +314,7 @@ assign_listed (assign.Product product.Divide) = listed (expression (OpAssign (as
 assign_listed (assign.Product product.Remainder) = listed (expression (OpAssign (assign_of (assign.Product product.Remainder)))) refl refl refl
 assign_listed assign.Exponentiate = listed (expression (OpAssign (assign_of assign.Exponentiate))) refl refl refl
 
--- each of them is in the list, and goes on
+-- each of them is in the list, and goes on by a mark
 pub growth_listed : (g : Growth) → Listed (growth_kind g)
 growth_listed (growth.Binary o) = listed_binary (binary_of o)
 growth_listed growth.Assign = listed (expression Assign) refl refl refl
@@ -268,15 +323,17 @@ growth_listed growth.Cond = listed (expression Cond) refl refl refl
 growth_listed growth.Call = listed (expression Call) refl refl refl
 growth_listed growth.Member = listed (expression Member) refl refl refl
 growth_listed growth.Index = listed (expression Index) refl refl refl
+growth_listed growth.Chain = listed (expression Chain) refl refl refl
 growth_listed (growth.Update update.Increment) = listed (expression (PostfixUpdate Increment)) refl refl refl
 growth_listed (growth.Update update.Decrement) = listed (expression (PostfixUpdate Decrement)) refl refl refl
 
-pub growth_grows : (g : Growth) → grows_on (growth_kind g) ≡ true
-growth_grows (growth.Binary o) = refl
-growth_grows growth.Assign = refl
-growth_grows (growth.OpAssign o) = refl
-growth_grows growth.Cond = refl
-growth_grows growth.Call = refl
-growth_grows growth.Member = refl
-growth_grows growth.Index = refl
-growth_grows (growth.Update o) = refl
+pub growth_marks : (g : Growth) → marks_on (growth_kind g) ≡ true
+growth_marks (growth.Binary o) = refl
+growth_marks growth.Assign = refl
+growth_marks (growth.OpAssign o) = refl
+growth_marks growth.Cond = refl
+growth_marks growth.Call = refl
+growth_marks growth.Member = refl
+growth_marks growth.Index = refl
+growth_marks growth.Chain = refl
+growth_marks (growth.Update o) = refl

@@ -18,3 +18,4 @@ pub mod TakingHeadings
 pub mod TakingGrowths
 pub mod Ahead
 pub mod Semicolons
+pub mod Escaping

@@ -1,13 +1,13 @@
 -- From the token that comes next to the place behind it.
 use Rattle.std.proofs.Common.{◌≡◌, ◌<◌, ◌-◌, ◌++◌, [], ◌∷◌, Bool, true, false, cond, ◌&&◌, ◌||◌, length, length-append, refl, sym, ap, ◌∙◌, subst, arith}
-use Rattle.std.specs.Prelude.{nat_eq}
+use Rattle.std.specs.Prelude.{IsTrue, nat_eq}
 use Rattle.std.specs.Str.{chars}
 use Rattle.std.specs.Bool.{Decides}
 use Rattle.std.proofs.lemmas.Bool.{false≢true, and_parts, eqb-true}
-use Rattle.jsx_base.specs.Token.{Text, Mode, TokenKind as Kind, NoToken, Blank, same, is_kind, kind_number, is_token, skips, skip, breaks, at_front, Punctuator, Operand, Operator, Tag, NumericLiteral, BigIntLiteral, StringLiteral, RegExpLiteral, JsxName, IdentifierName}
+use Rattle.jsx_base.specs.Token.{Text, Mode, TokenKind as Kind, NoToken, Blank, same, is_kind, kind_number, is_token, skips, skip, breaks, at_front, Punctuator, Operand, Operator, Piece, Tag, NumericLiteral, BigIntLiteral, StringLiteral, RegExpLiteral, NoSubstitution, TemplateHead, TemplateMiddle, TemplateTail, JsxName, IdentifierName}
 use Rattle.jsx_base.specs.Lines.{size}
 use Rattle.jsx_tree.specs.Signs.{Ending, Tok, AfterExpr}
-use Rattle.jsx_tree.specs.Reading.{Lost, At, forth, go_if}
+use Rattle.jsx_tree.specs.Reading.{Place, Lost, At, forth, go_if}
 use Rattle.jsx_tree.specs.Form.{is_leaf}
 use Rattle.jsx_tree.specs.Walk.{is_found}
 use Rattle.jsx_lex.specs.declared.lexer.Lexer.{Lexer as Tokens}
@@ -17,9 +17,9 @@ use Rattle.jsx_lex.specs.Kinds.{kind_of, is_punctuator, spelling}
 use Rattle.jsx_lex.specs.Stand.{rest_of}
 use Rattle.jsx_lex.proofs.Raws.{whole}
 use Rattle.jsx_lex.proofs.Spellings.{one_kind}
-use Rattle.jsx_token.specs.Here.{Here, place_of, left, leaf_kind, sign_of}
+use Rattle.jsx_token.specs.Here.{Here, place_of, left, leaf_kind, piece_kind, sign_of}
 use Rattle.jsx_token.specs.Seen.{IsNext, NoNext, here_of, next_token, is_it}
-use Rattle.jsx_token.specs.Places.{begin_of, next_of}
+use Rattle.jsx_token.specs.Places.{Takes, begin_of, end_of, next_of}
 use Rattle.jsx_token.specs.Spelled.{IsMarkOf, fixed_mode, fixed_kind, fixed_text, leaf_mode}
 use Rattle.jsx_token.specs.declared.lexer.Ending.TheVariants as ending
 use Rattle.jsx_token.specs.declared.lexer.Fixed.{Fixed}
@@ -29,12 +29,14 @@ use Rattle.jsx_token.specs.WordTexts.{word_text}
 use Rattle.jsx_token.specs.declared.lexer.Fixed.TheVariants as fixed
 use Rattle.jsx_token.specs.declared.lexer.Leaf.{Leaf}
 use Rattle.jsx_token.specs.declared.lexer.Leaf.TheVariants as leaf
+use Rattle.jsx_token.specs.declared.lexer.Piece.{Piece as Piece'}
+use Rattle.jsx_token.specs.declared.lexer.Piece.TheVariants as piece
 use Rattle.jsx_tree.proofs.Tokens.{and_both, same_is, same_self}
 use Rattle.jsx_token.proofs.Spellings.{by_both}
 use Rattle.jsx_token.proofs.Gaps.{is_behind}
 use Rattle.jsx_token.proofs.Takes.{skip_within}
 use Rattle.jsx_base.proofs.Fronts.{turned}
-use Rattle.jsx_token.proofs.Alone.{IsAlone, alone}
+use Rattle.jsx_token.proofs.Alone.{IsAlone, alone, piece_alone}
 
 -- what the token is, by the definitions
 token_is : {m : Mode} {h : Here} {t : Token} {b : Tokens} (k : Kind) (text : Text) → IsNext m h t b → is_token (next_token m h) k text ≡ is_it t k text
@@ -104,6 +106,7 @@ fixed_some fixed.Comma = refl
 fixed_some fixed.Colon = refl
 fixed_some fixed.Dot = refl
 fixed_some fixed.Dots = refl
+fixed_some fixed.QuestionDot = refl
 fixed_some fixed.Less = refl
 fixed_some fixed.TagSlash = refl
 fixed_some fixed.TagGreater = refl
@@ -122,6 +125,7 @@ fixed_skips fixed.Comma = refl
 fixed_skips fixed.Colon = refl
 fixed_skips fixed.Dot = refl
 fixed_skips fixed.Dots = refl
+fixed_skips fixed.QuestionDot = refl
 fixed_skips fixed.Less = refl
 fixed_skips fixed.TagSlash = refl
 fixed_skips fixed.TagGreater = refl
@@ -140,6 +144,7 @@ sign_is fixed.Comma = refl
 sign_is fixed.Colon = refl
 sign_is fixed.Dot = refl
 sign_is fixed.Dots = refl
+sign_is fixed.QuestionDot = refl
 sign_is fixed.Less = refl
 sign_is fixed.TagSlash = refl
 sign_is fixed.TagGreater = refl
@@ -186,6 +191,7 @@ fixed_full fixed.Comma = refl
 fixed_full fixed.Colon = refl
 fixed_full fixed.Dot = refl
 fixed_full fixed.Dots = refl
+fixed_full fixed.QuestionDot = refl
 fixed_full fixed.Less = refl
 fixed_full fixed.TagSlash = refl
 fixed_full fixed.TagGreater = refl
@@ -216,6 +222,8 @@ leaf_some leaf.Num = refl
 leaf_some leaf.BigInt = refl
 leaf_some leaf.Str = refl
 leaf_some leaf.RegExp = refl
+leaf_some leaf.NoSubstitution = refl
+leaf_some leaf.TemplateHead = refl
 leaf_some leaf.JsxName = refl
 
 pub leaf_skips : (l : Leaf) → skips (leaf_mode l) ≡ true
@@ -224,6 +232,8 @@ leaf_skips leaf.Num = refl
 leaf_skips leaf.BigInt = refl
 leaf_skips leaf.Str = refl
 leaf_skips leaf.RegExp = refl
+leaf_skips leaf.NoSubstitution = refl
+leaf_skips leaf.TemplateHead = refl
 leaf_skips leaf.JsxName = refl
 
 whole_leaf : (m : Mode) (k : Kind) (h : Here) → skips m ≡ true → is_kind NoToken k ≡ false → is_kind Punctuator k ≡ false → is_kind (at_front m (same h.last [] || breaks h.rest) (skip h.rest)).kind k ≡ true → IsAlone m k (at_front m (same h.last [] || breaks h.rest) (skip h.rest)).raw
@@ -234,6 +244,8 @@ leaf_whole leaf.Name h e = let w = whole_leaf Operator IdentifierName h refl ref
 leaf_whole leaf.Num h e = let w = whole_leaf Operator NumericLiteral h refl refl refl e in and_both _ _ w.it w.ends
 leaf_whole leaf.BigInt h e = let w = whole_leaf Operator BigIntLiteral h refl refl refl e in and_both _ _ w.it w.ends
 leaf_whole leaf.Str h e = let w = whole_leaf Operator StringLiteral h refl refl refl e in and_both _ _ w.it w.ends
+leaf_whole leaf.NoSubstitution h e = let w = whole_leaf Operator NoSubstitution h refl refl refl e in and_both _ _ w.it w.ends
+leaf_whole leaf.TemplateHead h e = let w = whole_leaf Operator TemplateHead h refl refl refl e in and_both _ _ w.it w.ends
 leaf_whole leaf.RegExp h e = let w = whole_leaf Operand RegExpLiteral h refl refl refl e in and_both _ _ w.it w.ends
 leaf_whole leaf.JsxName h e = let w = whole_leaf Tag JsxName h refl refl refl e in and_both _ _ w.it w.ends
 
@@ -247,6 +259,8 @@ leaf_full leaf.Num [] e = absurd (false≢true e)
 leaf_full leaf.BigInt [] e = absurd (false≢true e)
 leaf_full leaf.Str [] e = absurd (false≢true e)
 leaf_full leaf.RegExp [] e = absurd (false≢true e)
+leaf_full leaf.NoSubstitution [] e = absurd (false≢true e)
+leaf_full leaf.TemplateHead [] e = absurd (false≢true e)
 leaf_full leaf.JsxName [] e = absurd (false≢true e)
 
 pub leaf_it : (l : Leaf) (t : Token) → is_kind (kind_of t.kind) (leaf_kind l) ≡ true → is_it t (leaf_kind l) (chars t.raw.now) ≡ true
@@ -255,7 +269,68 @@ leaf_it l t e = and_both _ _ e (same_self (chars t.raw.now))
 pub leaf_not : (l : Leaf) (t : Token) (text : Text) → is_kind (kind_of t.kind) (leaf_kind l) ≡ false → is_it t (leaf_kind l) text ≡ false
 leaf_not l t text e = ap (λ x. x && same (chars t.raw.now) text) e
 
+-- ---- the pieces of a template behind a `}`, before which no gap is skipped
+
+pub piece_some : (p : Piece') → is_kind NoToken (piece_kind p) ≡ false
+piece_some piece.Middle = refl
+piece_some piece.Tail = refl
+
+pub piece_by : (p : Piece') {h : Here} {t : Token} {b : Tokens} → IsNext Piece h t b → is_kind (kind_of t.kind) (piece_kind p) ≡ true → is_leaf (piece_kind p) (chars t.raw.now) ≡ true
+piece_by p {h} n e = subst (λ x. is_leaf (piece_kind p) x ≡ true) (sym n.raw) (by p (ap (λ k. is_kind k (piece_kind p)) (sym n.kind) ∙ e))
+  where
+    by : (q : Piece') → is_kind (next_token Piece h).kind (piece_kind q) ≡ true → is_leaf (piece_kind q) (next_token Piece h).raw ≡ true
+    by piece.Middle i = let w = piece_alone TemplateMiddle h.rest refl i in and_both _ _ w.it w.ends
+    by piece.Tail i = let w = piece_alone TemplateTail h.rest refl i in and_both _ _ w.it w.ends
+
+pub piece_full : (p : Piece') (raw : Text) → is_leaf (piece_kind p) raw ≡ true → same raw [] ≡ false
+piece_full p (c ∷ raw) e = refl
+piece_full piece.Middle [] e = absurd (false≢true e)
+piece_full piece.Tail [] e = absurd (false≢true e)
+
+pub piece_it : (p : Piece') (t : Token) → is_kind (kind_of t.kind) (piece_kind p) ≡ true → is_it t (piece_kind p) (chars t.raw.now) ≡ true
+piece_it p t e = and_both _ _ e (same_self (chars t.raw.now))
+
+pub piece_not : (p : Piece') (t : Token) (text : Text) → is_kind (kind_of t.kind) (piece_kind p) ≡ false → is_it t (piece_kind p) text ≡ false
+piece_not p t text e = ap (λ x. x && same (chars t.raw.now) text) e
+
+piece_parted : {h : Here} {t : Token} {b : Tokens} → IsNext Piece h t b → is_kind (kind_of t.kind) NoToken ≡ false → h.rest ≡ chars t.raw.now ++ rest_of b
+piece_parted {h} n e = sym (whole Piece false h.rest (ap (λ k. is_kind k NoToken) (sym n.kind) ∙ e)) ∙ (λ i. (sym n.raw i) ++ (sym n.rest i))
+
+pub piece_begins : {h : Here} {t : Token} {b : Tokens} → IsNext Piece h t b → is_kind (kind_of t.kind) NoToken ≡ false → begin_of (here_of t.raw.now ending.Expr b) ≡ end_of h
+piece_begins n e = (λ i. n.whole i - size (sym (piece_parted n e) i))
+
+pub piece_shorter : {h : Here} {t : Token} {b : Tokens} → IsNext Piece h t b → is_kind (kind_of t.kind) NoToken ≡ false → same (chars t.raw.now) [] ≡ false → left (here_of t.raw.now ending.Expr b) < left h
+piece_shorter {h} {t} {b} n e f = omega (arith, full (chars t.raw.now) f, ap length (piece_parted n e), length-append (chars t.raw.now) (rest_of b))
+
 -- ---- what a missing semicolon would stand behind is nothing to the next token
 
 pub ends_on : {m : Mode} {h : Here} {t : Token} {b : Tokens} (e : Ending) → IsNext m h t b → IsNext m (record h { ending = e }) t b
 ends_on e n = record { kind = n.kind; raw = n.raw; spelled = n.spelled; rest = n.rest; line = n.line; end = n.end; whole = n.whole; read = n.read; unsettled = n.unsettled }
+
+-- ---- where a token begins that a sign leads behind
+
+last_at : Place → Text
+last_at Lost = []
+last_at (At q e text) = q
+
+rest_at : Place → Text
+rest_at Lost = []
+rest_at (At q e text) = text
+
+there_by : (b : Bool) (y : Place) {q r : Text} {e : Ending} → go_if b y ≡ At q e r → b ≡ true
+there_by true y e = refl
+there_by false y e = let bad : IsTrue (is_found Lost) = subst (λ p. IsTrue (is_found p)) (sym e) refl in cc
+
+pub takes_begins : {k : Kind} {t : Text} {x y : Here} → is_kind NoToken k ≡ false → Takes (Tok Operator k t) x y → begin_of y ≡ next_of x
+unfolding last_at rest_at
+takes_begins {k} {t} {x} {y} n takes =
+    let m = next_token Operator x in
+    let first = same x.last [] || breaks x.rest in
+    let i : is_token m k t ≡ true = there_by (is_token m k t) (At t AfterExpr m.rest) takes.leads in
+    let e : At t AfterExpr m.rest ≡ place_of y = ap (λ b. go_if b (At t AfterExpr m.rest)) (sym i) ∙ takes.leads in
+    let is = and_parts (is_kind m.kind k) _ i in
+    let raw : t ≡ m.raw = sym (same_is m.raw t is.1) in
+    let front = skipped Operator x refl in
+    let kind = ap (λ z. is_kind z.kind NoToken) (sym front) ∙ kind_some m.kind k n is.0 in
+    (λ j. takes.same j - size (sym (ap last_at e) j ++ sym (ap rest_at e) j))
+    ∙ ap (λ w. x.end - size w) (ap (λ w. w ++ m.rest) raw ∙ (ap (λ z. z.raw ++ z.rest) front ∙ whole Operator first (skip x.rest) kind))

@@ -4,10 +4,10 @@ use Rattle.std.specs.Prelude.{Some, None, ◌&&◌, ◌||◌, codes}
 use Rattle.std.specs.Str.{chars}
 use Rattle.jsx_base.specs.Token.{Text, Operator, Lexeme, NoToken, among, breaks, is_kind, token, same}
 use Rattle.jsx_tree.specs.Signs.{Ending, AfterExpr, Sign, Tok}
-use Rattle.jsx_tree.specs.Reading.{Place, At, forth, go_if}
-use Rattle.jsx_token.specs.Marks.{marks, is_sign, is_mark, goes_at, steps, goes_on_so_far, ends_so_far, goers}
+use Rattle.jsx_tree.specs.Reading.{Place, At, forth, go_if, is_backquote}
+use Rattle.jsx_token.specs.Marks.{marks, is_sign, is_mark, goes_at, steps, goes_on_so_far, ends_so_far, goers, goes_by_mark, is_quoted}
 use Rattle.jsx_tree.specs.Grammar.{pun}
-use Rattle.jsx_tree.specs.Stops.{going}
+use Rattle.jsx_tree.specs.Stops.{going, quotes}
 use Rattle.jsx_tree.proofs.Tokens.{and_left, and_right, same_is}
 use Rattle.jsx_tree.proofs.Apart.{clash}
 use Rattle.jsx_tree.proofs.Rows.Stopping.{is_not, not_is}
@@ -24,7 +24,7 @@ use Rattle.jsx_token.specs.GrowthTokens.{growth_by}
 use Rattle.jsx_token.proofs.GrowthTokens.{lexeme, growth_mark, growth_none}
 use Rattle.jsx_token.proofs.Listed.{of_level}
 use Rattle.jsx_token.proofs.Marks.{by_sign}
-use Rattle.jsx_token.proofs.Levels.{called_line, seat_asks, mark_among, mark_is_code, growth_listed, growth_grows}
+use Rattle.jsx_token.proofs.Levels.{called_line, seat_asks, mark_among, mark_is_code, growth_listed, growth_marks}
 use Rattle.jsx_token.proofs.Taking.{taken_by, begins_by, shorter_by, kind_some}
 
 and_false : (a : Bool) → (a && false) ≡ false
@@ -49,7 +49,7 @@ pub no_marks : (x : Lexeme) (ss : List Sign) → every_code ss ≡ true → x.ki
 no_marks x [] c e = refl
 no_marks x (s ∷ ss) c e = (λ i. no_sign x s (and_left (is_code s) _ c) e i || no_marks x ss (and_right (is_code s) _ c) e i)
 
-pub none_goes : {h : Here} (n : ℕ) → NoNext Operator h → goes_on_so_far (Some n) AfterExpr (breaks h.rest) (next_token Operator h) ≡ false
+pub none_goes : {h : Here} (n : ℕ) → NoNext Operator h → goes_by_mark n (breaks h.rest) (next_token Operator h) ≡ false
 none_goes {h} n e = ap (λ b. goes_at n (breaks h.rest) (next_token Operator h).raw && b) (no_marks (next_token Operator h) goers all_code e.none) ∙ and_false (goes_at n (breaks h.rest) (next_token Operator h).raw)
 
 -- ---- where one comes
@@ -75,20 +75,20 @@ off_list : (r : Rung) (b : Bool) (x : Lexeme) (c : Bool) → is_rung r ≡ true 
 off_list r b x true l e m = ap (λ c. c && is_mark x goers) (comma_goes_on r b x l e)
 off_list r b x false l e m = (λ i. goes_at (asked r) b x.raw && (e i || m i)) ∙ and_false (goes_at (asked r) b x.raw)
 
-pub other_goes : {h : Here} {t : Token} {b : Tokens} (r : Rung) → is_rung r ≡ true → IsNext Operator h t b → growth_by t.kind (chars t.raw.now) ≡ None → goes_on_so_far (Some (asked r)) AfterExpr (breaks h.rest) (next_token Operator h) ≡ false
+pub other_goes : {h : Here} {t : Token} {b : Tokens} (r : Rung) → is_rung r ≡ true → IsNext Operator h t b → growth_by t.kind (chars t.raw.now) ≡ None → goes_by_mark (asked r) (breaks h.rest) (next_token Operator h) ≡ false
 other_goes {h} {t} {b} r l e g = off_list r (breaks h.rest) (next_token Operator h) _ l refl (subst (λ x. is_mark x marks ≡ false) (lexeme_is e) (growth_none t.kind (chars t.raw.now) (next_token Operator h).rest e.spelled g))
 
 sign_there : {h : Here} {t : Token} {b : Tokens} (g : Growth) → IsNext Operator h t b → growth_by t.kind (chars t.raw.now) ≡ Some g → is_sign (next_token Operator h) (mark (growth_kind g)) ≡ true
 sign_there {h} {t} g e is = subst (λ x. is_sign x (mark (growth_kind g)) ≡ true) (lexeme_is e) (growth_mark t.kind (chars t.raw.now) (next_token Operator h).rest g e.spelled is)
 
-pub below_goes : {h : Here} {t : Token} {b : Tokens} (r : Rung) (g : Growth) → is_rung r ≡ true → IsNext Operator h t b → growth_by t.kind (chars t.raw.now) ≡ Some g → reaches r (growth_kind g) ≡ false → goes_on_so_far (Some (asked r)) AfterExpr (breaks h.rest) (next_token Operator h) ≡ false
+pub below_goes : {h : Here} {t : Token} {b : Tokens} (r : Rung) (g : Growth) → is_rung r ≡ true → IsNext Operator h t b → growth_by t.kind (chars t.raw.now) ≡ Some g → reaches r (growth_kind g) ≡ false → goes_by_mark (asked r) (breaks h.rest) (next_token Operator h) ≡ false
 below_goes {h} r g l e is below =
-    ap (λ c. c && is_mark (next_token Operator h) goers) (mark_among r (growth_kind g) l (growth_listed g) (growth_grows g) (breaks h.rest) (next_token Operator h) (sign_there g e is) ∙ ap (λ c. c && not (on_line (growth_kind g) && breaks h.rest)) below)
+    ap (λ c. c && is_mark (next_token Operator h) goers) (mark_among r (growth_kind g) l (growth_listed g) (growth_marks g) (breaks h.rest) (next_token Operator h) (sign_there g e is) ∙ ap (λ c. c && not (on_line (growth_kind g) && breaks h.rest)) below)
 
 -- on a new line
-pub line_goes : {h : Here} {t : Token} {b : Tokens} (r : Rung) (g : Growth) → is_rung r ≡ true → IsNext Operator h t b → growth_by t.kind (chars t.raw.now) ≡ Some g → (on_line (growth_kind g) && t.new_line) ≡ true → goes_on_so_far (Some (asked r)) AfterExpr (breaks h.rest) (next_token Operator h) ≡ false
+pub line_goes : {h : Here} {t : Token} {b : Tokens} (r : Rung) (g : Growth) → is_rung r ≡ true → IsNext Operator h t b → growth_by t.kind (chars t.raw.now) ≡ Some g → (on_line (growth_kind g) && t.new_line) ≡ true → goes_by_mark (asked r) (breaks h.rest) (next_token Operator h) ≡ false
 line_goes {h} {t} r g l e is late =
-    ap (λ c. c && is_mark (next_token Operator h) goers) (mark_among r (growth_kind g) l (growth_listed g) (growth_grows g) (breaks h.rest) (next_token Operator h) (sign_there g e is)
+    ap (λ c. c && is_mark (next_token Operator h) goers) (mark_among r (growth_kind g) l (growth_listed g) (growth_marks g) (breaks h.rest) (next_token Operator h) (sign_there g e is)
     ∙ ((λ i. reaches r (growth_kind g) && not (on_line (growth_kind g) && sym (e.line refl) i)) ∙ (λ i. reaches r (growth_kind g) && not (late i)) ∙ and_false (reaches r (growth_kind g))))
 
 -- on the line
@@ -101,7 +101,7 @@ line_stays {h} g e n = record { stays = λ on. ap (λ b. go_if (not b) (place_of
 
 -- what goes on anywhere does so there
 pub called_stays : {x : Place} (g : Growth) → reaches callee (growth_kind g) ≡ true → OnLine (growth_kind g) x
-called_stays g e = record { stays = λ on. absurd (clash _ on (called_line (growth_kind g) (growth_listed g) (growth_grows g) e)) }
+called_stays g e = record { stays = λ on. absurd (clash _ on (called_line (growth_kind g) (growth_listed g) (growth_marks g) e)) }
 
 pub record Took (h : Here) (s : Sign) (t : Token) (b : Tokens) : Type 0 where
   pub full : same (chars t.raw.now) [] ≡ false
@@ -117,13 +117,16 @@ took {h} {t} {b} r (Tok Operator k (d ∷ u)) c e i =
 took r _ c e i = cc
 
 pub growth_took : {h : Here} {t : Token} {b : Tokens} (g : Growth) → IsNext Operator h t b → growth_by t.kind (chars t.raw.now) ≡ Some g → Took h (mark (growth_kind g)) t b
-growth_took {h} {t} g e is = took (next_token Operator h).rest (mark (growth_kind g)) (mark_is_code (growth_kind g) (growth_listed g) (growth_grows g)) e (growth_mark t.kind (chars t.raw.now) (next_token Operator h).rest g e.spelled is)
+growth_took {h} {t} g e is = took (next_token Operator h).rest (mark (growth_kind g)) (mark_is_code (growth_kind g) (growth_listed g) (growth_marks g)) e (growth_mark t.kind (chars t.raw.now) (next_token Operator h).rest g e.spelled is)
 
 -- ---- where none goes on, an expression has come to its end
 
-pub ended : (r : Rung) (h : Here) → settled (place_of h) ≡ true → goes_on_so_far (Some (asked r)) AfterExpr (breaks h.rest) (next_token Operator h) ≡ false → ends_so_far (seat r) (place_of h) ≡ true
-ended r h s g = at h.last h.ending h.rest s g
+pub ended : (r : Rung) (h : Here) → settled (place_of h) ≡ true → goes_by_mark (asked r) (breaks h.rest) (next_token Operator h) ≡ false → is_quoted (next_token Operator h) ≡ false → ends_so_far (seat r) (place_of h) ≡ true
+ended r h s g u = at h.last h.ending h.rest s g u
   where
-    at : (q : Text) (e : Ending) (text : Text) → settled (At q e text) ≡ true → goes_on_so_far (Some (asked r)) AfterExpr (breaks text) (token Operator (same q []) text) ≡ false → ends_so_far (seat r) (At q e text) ≡ true
-    at q AfterExpr text s g = not_is _ (ap (λ l. goes_on_so_far l AfterExpr (breaks text) (token Operator false text)) (seat_asks r) ∙ (ap (λ b. goes_on_so_far (Some (asked r)) AfterExpr (breaks text) (token Operator b text)) (sym (is_not (same q []) s)) ∙ g))
-    at q _ text s g = cc
+    at : (q : Text) (e : Ending) (text : Text) → settled (At q e text) ≡ true → goes_by_mark (asked r) (breaks text) (token Operator (same q []) text) ≡ false → is_quoted (token Operator (same q []) text) ≡ false → ends_so_far (seat r) (At q e text) ≡ true
+    at q AfterExpr text s g u =
+        let x = token Operator (same q []) text in
+        not_is _ (ap (λ l. goes_on_so_far l AfterExpr (breaks text) (token Operator false text)) (seat_asks r) ∙ (ap (λ b. goes_on_so_far (Some (asked r)) AfterExpr (breaks text) (token Operator b text)) (sym (is_not (same q []) s))
+        ∙ ((λ i. g i || (quotes (asked r) && (is_backquote x.raw && u i))) ∙ ((λ i. quotes (asked r) && and_false (is_backquote x.raw) i) ∙ and_false (quotes (asked r))))))
+    at q _ text s g u = cc

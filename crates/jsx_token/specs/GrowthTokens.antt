@@ -76,6 +76,7 @@ abbrev pub growth_by : TokenKind → Text → Option Growth
 growth_by token.Dot t = Some growth.Member
 growth_by token.LeftParen t = Some growth.Call
 growth_by token.LeftBracket t = Some growth.Index
+growth_by token.QuestionDot t = Some growth.Chain
 growth_by token.Question t = Some growth.Cond
 growth_by token.Equal t = Some growth.Assign
 growth_by token.PlusPlus t = Some (growth.Update update.Increment)

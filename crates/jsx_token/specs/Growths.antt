@@ -2,10 +2,10 @@
 use Rattle.std.specs.Prelude.{◌≡◌, ℕ, List, [], ◌∷◌, Bool, true, false, not, nat_le, nat_eq, IsTrue, ◌&&◌, ◌||◌}
 use Rattle.jsx_base.specs.Token.{Operator, NoToken, is_kind, same, kind_number}
 use Rattle.jsx_tree.specs.Signs.{AfterExpr, Sign, Semicolon, Tok, SameLine}
-use Rattle.jsx_tree.specs.Kinds.{BinaryOp, Nullish, Exponentiate, ExpressionKind, Seq, Assign, OpAssign, Arrow, ArrowBlock, BareArrow, BareArrowBlock, Cond, Binary, Unary, PrefixUpdate, PostfixUpdate, Call, Member, Index, New, NewWithoutArguments, ImportCall, Array, Object, Parenthesized, Kind, expression}
-use Rattle.jsx_tree.specs.Nonterminals.{Nonterminal, Expr, NewCallee, level_of}
+use Rattle.jsx_tree.specs.Kinds.{BinaryOp, Nullish, Exponentiate, ExpressionKind, Seq, Assign, OpAssign, Arrow, ArrowBlock, BareArrow, BareArrowBlock, Cond, Binary, Unary, PrefixUpdate, PostfixUpdate, Call, Member, Index, Chain, New, NewWithoutArguments, ImportCall, Array, Object, Parenthesized, Kind, expression}
+use Rattle.jsx_tree.specs.Nonterminals.{Nonterminal, Expr, NewCallee, ChainLink, level_of}
 use Rattle.jsx_tree.specs.Form.{calls}
-use Rattle.jsx_tree.specs.Grammar.{Fixed, key, pun}
+use Rattle.jsx_tree.specs.Grammar.{OneOrMore, Fixed, Many, key, pun}
 use Rattle.jsx_tree.specs.Reading.{Place, Lost, At, forth}
 use Rattle.jsx_tree.specs.Walk.{Piece, piece, tail}
 use Rattle.jsx_token.specs.Marks.{row_so_far}
@@ -23,11 +23,13 @@ growth_kind growth.Cond = expression Cond
 growth_kind growth.Call = expression Call
 growth_kind growth.Member = expression Member
 growth_kind growth.Index = expression Index
+growth_kind growth.Chain = expression Chain
 growth_kind (growth.Update o) = expression (PostfixUpdate (step_of o))
 
--- the sign that a row begins with, and the one with which a kind goes on behind its first part
+-- the sign that a row begins with, and the one with which a kind goes on behind its first part; the first link of a chain begins with `?.`
 abbrev pub lead : List Piece → Sign
 lead (piece a (Fixed s) ∷ ps) = s
+lead (piece a (Many OneOrMore ChainLink) ∷ ps) = pun "?."
 lead ps = Semicolon
 
 -- whether it stands on the line of that part
@@ -90,6 +92,7 @@ level_of_expression (Unary o) = 15
 level_of_expression (PrefixUpdate o) = 16
 level_of_expression (PostfixUpdate o) = 16
 level_of_expression NewWithoutArguments = 17
+level_of_expression Chain = 17
 level_of_expression k = 18
 
 abbrev pub level_of_kind : Kind → ℕ
@@ -102,12 +105,11 @@ left_level Nullish = 6
 left_level Exponentiate = 16
 left_level o = level_of o
 
--- whether an expression of this level, or a number, may stand at the left of what goes on with it: level 3 is another `??`
-abbrev pub fits_by : Kind → ℕ → Bool → Bool
-fits_by (expression (Binary o)) n m = nat_le (left_level o) n || (nat_eq n 3 && nat_eq (level_of o) 3)
-fits_by (expression Cond) n m = nat_le 3 n
-fits_by (expression Member) n m = nat_le 18 n && not m
-fits_by k n m = nat_le 18 n
+-- whether an expression of this level may stand at the left of what goes on with it: level 3 is another `??`
+abbrev pub fits_by : Kind → ℕ → Bool
+fits_by (expression (Binary o)) n = nat_le (left_level o) n || (nat_eq n 3 && nat_eq (level_of o) 3)
+fits_by (expression Cond) n = nat_le 3 n
+fits_by k n = nat_le 18 n
 
 -- what these stand behind is a name that may be bound, or a member
 abbrev pub takes_target : Kind → Bool
@@ -115,6 +117,11 @@ takes_target (expression Assign) = true
 takes_target (expression (OpAssign o)) = true
 takes_target (expression (PostfixUpdate o)) = true
 takes_target k = false
+
+-- what goes on by links, the first of which begins with its mark
+abbrev pub is_chain : Kind → Bool
+is_chain (expression Chain) = true
+is_chain k = false
 
 -- ---- where an expression is read that is no sequence
 

@@ -1,6 +1,6 @@
 -- Where the lexer stands, and the tokens that the parser asks it for.
 use Rattle.std.specs.Prelude.{ℕ, codes, length}
-use Rattle.jsx_base.specs.Token.{Text, Operand, Operator, Tag, TokenKind, IdentifierName, Punctuator, NumericLiteral, BigIntLiteral, StringLiteral, RegExpLiteral, JsxName}
+use Rattle.jsx_base.specs.Token.{Text, Operand, Operator, Piece as PieceMode, Tag, TokenKind, IdentifierName, Punctuator, NumericLiteral, BigIntLiteral, StringLiteral, RegExpLiteral, NoSubstitution, TemplateHead, TemplateMiddle, TemplateTail, JsxName}
 use Rattle.jsx_tree.specs.Signs.{Sign, Tok, Ending, AfterExpr, AfterWord, AfterBinding, AfterDo}
 use Rattle.jsx_tree.specs.Spelling.{mode_of}
 use Rattle.jsx_tree.specs.Reading.{Place, At}
@@ -11,6 +11,8 @@ use Rattle.jsx_token.specs.declared.lexer.Fixed.{Fixed}
 use Rattle.jsx_token.specs.declared.lexer.Fixed.TheVariants as fixed
 use Rattle.jsx_token.specs.declared.lexer.Leaf.{Leaf}
 use Rattle.jsx_token.specs.declared.lexer.Leaf.TheVariants as leaf
+use Rattle.jsx_token.specs.declared.lexer.Piece.{Piece}
+use Rattle.jsx_token.specs.declared.lexer.Piece.TheVariants as piece
 
 -- behind a token, none at the text's begin, with what a missing semicolon would stand behind, before the rest of the text; the whole text has so many bytes
 pub record Here : Type 0 where
@@ -46,6 +48,7 @@ sign_of fixed.Comma = Tok Operator Punctuator (codes ",")
 sign_of fixed.Colon = Tok Operator Punctuator (codes ":")
 sign_of fixed.Dot = Tok Operator Punctuator (codes ".")
 sign_of fixed.Dots = Tok Operator Punctuator (codes "...")
+sign_of fixed.QuestionDot = Tok Operator Punctuator (codes "?.")
 sign_of fixed.Less = Tok Operand Punctuator (codes "<")
 sign_of fixed.TagSlash = Tok Tag Punctuator (codes "/")
 sign_of fixed.TagGreater = Tok Tag Punctuator (codes ">")
@@ -56,7 +59,17 @@ leaf_kind leaf.Num = NumericLiteral
 leaf_kind leaf.BigInt = BigIntLiteral
 leaf_kind leaf.Str = StringLiteral
 leaf_kind leaf.RegExp = RegExpLiteral
+leaf_kind leaf.NoSubstitution = NoSubstitution
+leaf_kind leaf.TemplateHead = TemplateHead
 leaf_kind leaf.JsxName = JsxName
 
 abbrev pub leaf_sign : Leaf → Text → Sign
 leaf_sign l t = Tok (mode_of (leaf_kind l)) (leaf_kind l) t
+
+-- a piece of a template behind a `}`
+abbrev pub piece_kind : Piece → TokenKind
+piece_kind piece.Middle = TemplateMiddle
+piece_kind piece.Tail = TemplateTail
+
+abbrev pub piece_sign : Piece → Text → Sign
+piece_sign p t = Tok PieceMode (piece_kind p) t

@@ -11,3 +11,4 @@ pub mod CaseEnds
 pub mod Growths
 pub mod GrowthTokens
 pub mod Semicolons
+pub mod Cooked

@@ -1,11 +1,10 @@
 -- What of the language the compiler takes so far: a table over kinds and leaves. Widening the language widens this table.
 use Rattle.std.specs.Prelude.{List, [], ◌∷◌, codes, Bool, true, false, IsTrue, not, ◌&&◌}
 use Rattle.std.specs.Char.{is_ascii_alphabetic}
-use Rattle.jsx_base.specs.Token.{Text, TokenKind, IdentifierName, NumericLiteral, BigIntLiteral, StringLiteral, RegExpLiteral, JsxName, Elision, same, first_is}
+use Rattle.jsx_base.specs.Token.{Text, TokenKind, IdentifierName, NumericLiteral, BigIntLiteral, StringLiteral, RegExpLiteral, NoSubstitution, TemplateHead, TemplateMiddle, TemplateTail, JsxName, Elision, same, first_is}
 use Rattle.jsx_tree.specs.declared.text.Goal.TheVariants as goals
-use Rattle.jsx_tree.specs.Kinds.{Module, Directive, Block, Var, Declarator, Empty, ExprStmt, If, Do, While, Continue, Break, Throw, Debugger, Assign, OpAssign, Void, TypeOf, Positive, Negative, Complement, Not, Unary, Binary, Cond, Call, Member, Index, ImportCall, Parenthesized, Element, Kind, program, statement, expression, jsx, Tree, leaf, node, list, Forest, none, part, Delete, PrefixUpdate, PostfixUpdate, Seq, For, ForDeclaration, Switch, Case, Default, Array, Spread, Try, Catch, Object, Property, Shorthand, ComputedKey, function, Label, New, NewWithoutArguments, NewTarget, ImportMeta, ForIn, ForOf, ForBinding}
-use Rattle.jsx_tree.specs.Nonterminals.{Nonterminal, Expr, MemberObject, NullishLeft, Name, StringOnly, Pat, SimpleTarget, Argument, TagName, WholeProgram, DotObject, assigns, is_value_word, has_dash, ForInit, ArrayItem, Ident, Key, NewCallee, ForHead, ForOfHead}
-use Rattle.jsx_tree.specs.StaticRules.{is_here}
+use Rattle.jsx_tree.specs.Kinds.{Module, Directive, Block, Var, Declarator, Empty, ExprStmt, If, Do, While, Continue, Break, Throw, Debugger, Assign, OpAssign, Void, TypeOf, Positive, Negative, Complement, Not, Unary, Binary, Cond, Call, Member, Index, Chain, NameLink, IndexLink, CallLink, ImportCall, Parenthesized, Element, Kind, program, statement, expression, jsx, Tree, leaf, node, list, Forest, none, part, Delete, PrefixUpdate, PostfixUpdate, Seq, For, ForDeclaration, Switch, Case, Default, Array, Spread, Try, Catch, Object, Property, Shorthand, ComputedKey, function, Label, New, NewWithoutArguments, NewTarget, ImportMeta, ForIn, ForOf, ForBinding, PlainTemplate, SubstitutedTemplate, TemplateSpan, Tagged}
+use Rattle.jsx_tree.specs.Nonterminals.{Nonterminal, Expr, MemberObject, NullishLeft, Name, StringOnly, Pat, SimpleTarget, Argument, TagName, WholeProgram, DotObject, assigns, is_value_word, has_dash, ForInit, ArrayItem, Ident, Key, NewCallee, ForHead, ForOfHead, TemplatePart}
 use Rattle.jsx_tree.specs.Form.{Position, position, positions}
 use Rattle.jsx_tree.specs.Program.{Reads}
 
@@ -61,9 +60,17 @@ has_kind (expression Property) = true
 has_kind (expression Shorthand) = true
 has_kind (expression Spread) = true
 has_kind (expression Parenthesized) = true
+has_kind (expression (PlainTemplate b)) = true
+has_kind (expression (SubstitutedTemplate b)) = true
+has_kind (expression (TemplateSpan b)) = true
 has_kind (expression Call) = true
 has_kind (expression Member) = true
 has_kind (expression Index) = true
+has_kind (expression Chain) = true
+has_kind (expression (NameLink q)) = true
+has_kind (expression (IndexLink q)) = true
+has_kind (expression (CallLink q)) = true
+has_kind (expression Tagged) = true
 has_kind (jsx Element) = true
 has_kind k = false
 
@@ -71,14 +78,14 @@ has_kind k = false
 abbrev pub is_plain_tag : Text → Bool
 is_plain_tag t = first_is is_ascii_alphabetic t && (not (has_dash t) && not (same t (codes "this")))
 
--- an expression that is one token: a name or `this`, `null`, `true` and `false`, a number where one may stand, a long number, a string, or a regular expression
-abbrev pub value_leaf : Bool → TokenKind → Text → Bool
-value_leaf n IdentifierName t = is_value_word t
-value_leaf n NumericLiteral t = n
-value_leaf n BigIntLiteral t = true
-value_leaf n StringLiteral t = true
-value_leaf n RegExpLiteral t = true
-value_leaf n k t = false
+-- an expression that is one token: a name or `this`, `null`, `true` and `false`, a number, a long number, a string, or a regular expression
+abbrev pub value_leaf : TokenKind → Text → Bool
+value_leaf IdentifierName t = is_value_word t
+value_leaf NumericLiteral t = true
+value_leaf BigIntLiteral t = true
+value_leaf StringLiteral t = true
+value_leaf RegExpLiteral t = true
+value_leaf k t = false
 
 -- a key that is one token
 abbrev pub key_leaf : TokenKind → Bool
@@ -88,7 +95,7 @@ key_leaf BigIntLiteral = true
 key_leaf StringLiteral = true
 key_leaf k = false
 
--- which leaves may stand at a place; no number stands before a `.`
+-- which leaves may stand at a place
 abbrev pub leaf_at : Nonterminal → TokenKind → Text → Bool
 leaf_at (Pat r) IdentifierName t = true
 leaf_at SimpleTarget IdentifierName t = true
@@ -97,17 +104,21 @@ leaf_at Name IdentifierName t = true
 leaf_at StringOnly StringLiteral t = true
 leaf_at Key k t = key_leaf k
 leaf_at TagName JsxName t = is_plain_tag t
-leaf_at (Expr n) k t = value_leaf true k t
-leaf_at NullishLeft k t = value_leaf true k t
-leaf_at MemberObject k t = value_leaf true k t
-leaf_at NewCallee k t = value_leaf true k t
-leaf_at DotObject k t = value_leaf false k t
-leaf_at Argument k t = value_leaf true k t
-leaf_at ForInit k t = value_leaf true k t
+leaf_at (TemplatePart NoSubstitution) NoSubstitution t = true
+leaf_at (TemplatePart TemplateHead) TemplateHead t = true
+leaf_at (TemplatePart TemplateMiddle) TemplateMiddle t = true
+leaf_at (TemplatePart TemplateTail) TemplateTail t = true
+leaf_at (Expr n) k t = value_leaf k t
+leaf_at NullishLeft k t = value_leaf k t
+leaf_at MemberObject k t = value_leaf k t
+leaf_at NewCallee k t = value_leaf k t
+leaf_at DotObject k t = value_leaf k t
+leaf_at Argument k t = value_leaf k t
+leaf_at ForInit k t = value_leaf k t
 leaf_at ForHead IdentifierName t = true
 leaf_at ForOfHead IdentifierName t = true
 leaf_at ArrayItem Elision t = true
-leaf_at ArrayItem k t = value_leaf true k t
+leaf_at ArrayItem k t = value_leaf k t
 leaf_at c k t = false
 
 abbrev mutual

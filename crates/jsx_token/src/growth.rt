@@ -32,6 +32,8 @@ pub enum Growth {
     Member,
     /// `a[b]`
     Index,
+    /// `a?.b`
+    Chain,
     /// `a++`
     Update(UpdateOp),
 }
@@ -49,6 +51,7 @@ impl Growth {
             Growth::Call => 18,
             Growth::Member => 18,
             Growth::Index => 18,
+            Growth::Chain => 17,
             Growth::Update(_) => 16,
         }
     }
@@ -225,6 +228,7 @@ pub fn growth_of(token: &Token) -> Option<Growth>
         TokenKind::Dot => Some(Growth::Member),
         TokenKind::LeftParen => Some(Growth::Call),
         TokenKind::LeftBracket => Some(Growth::Index),
+        TokenKind::QuestionDot => Some(Growth::Chain),
         TokenKind::Question => Some(Growth::Cond),
         TokenKind::Equal => Some(Growth::Assign),
         TokenKind::PlusPlus => Some(Growth::Update(UpdateOp::Increment)),

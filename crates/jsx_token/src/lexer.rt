@@ -1,16 +1,16 @@
 //! The tokens that the grammar so far asks for, one at a time from the front of the text.
 
-ghost use Rattle.std.specs.Prelude.{◌≡◌, ◌<◌, ◌≤◌, ◌^◌, ◌&&◌, IsTrue, IsFalse, IfSome, IfNone, MatchOption, Some, false, true, length, not, nat_le, [], codes};
+ghost use Rattle.std.specs.Prelude.{◌≡◌, ◌<◌, ◌≤◌, ◌^◌, ◌&&◌, ◌||◌, IsTrue, IsFalse, IfSome, IfNone, MatchOption, Some, false, true, length, not, nat_le, [], codes};
 ghost use Rattle.std.specs.Str.{chars};
-ghost use Rattle.jsx_base.specs.Token.{Text, IdentifierName, Operator, breaks, same, is_kind};
+ghost use Rattle.jsx_base.specs.Token.{Text, IdentifierName, NoSubstitution, TemplateHead, Operator, breaks, same, is_kind};
 ghost use Rattle.jsx_tree.specs.Signs.{AfterExpr, Semicolon};
 ghost use Rattle.jsx_tree.specs.Reading.{Lost, forth, go_if, ended_at};
 ghost use Rattle.jsx_tree.specs.Form.{is_leaf};
-ghost use Rattle.jsx_token.specs.Marks.{goes_on_so_far};
+ghost use Rattle.jsx_token.specs.Marks.{goes_by_mark, is_quoted};
 ghost use Rattle.jsx_token.specs.Stage.{has_kind};
 ghost use Rattle.jsx_lex.specs.Kinds.{is_punctuator, mode_of as mode_read, kind_of, spelling};
 ghost use Rattle.jsx_token.specs.declared.lexer.Fixed.TheVariants as fixed;
-ghost use Rattle.jsx_token.specs.Here.{Here, place_of, ending_of, left, sign_of, leaf_kind, leaf_sign};
+ghost use Rattle.jsx_token.specs.Here.{Here, place_of, ending_of, left, sign_of, leaf_kind, leaf_sign, piece_kind, piece_sign};
 ghost use Rattle.jsx_token.specs.Growths.{NoOpening, callee, growth_kind, is_level, level_of_kind, mark, opening_kind, opening_sign, reaches, OnLine, settled};
 ghost use Rattle.jsx_tree.specs.Walk.{is_found};
 ghost use Rattle.jsx_token.specs.CaseEnds.{ends_case};
@@ -64,6 +64,8 @@ pub enum Fixed {
     Dot,
     /// `...`
     Dots,
+    /// `?.`
+    QuestionDot,
     /// `<` where an expression may begin.
     Less,
     /// `/` in a tag.
@@ -81,7 +83,20 @@ pub enum Leaf {
     BigInt,
     Str,
     RegExp,
+    /// A template without substitutions.
+    NoSubstitution,
+    /// A template up to its first `${`.
+    TemplateHead,
     JsxName,
+}
+
+/// A piece of a template behind a `}`. It begins there: no blank is skipped before it.
+#[derive(Clone, Copy, Debug, PartialEq, Eq)]
+pub enum Piece {
+    /// Up to the next `${`.
+    Middle,
+    /// Up to the backquote.
+    Tail,
 }
 
 impl Fixed {
@@ -116,6 +131,7 @@ impl Fixed {
             Fixed::Colon => TokenKind::Colon,
             Fixed::Dot => TokenKind::Dot,
             Fixed::Dots => TokenKind::Ellipsis,
+            Fixed::QuestionDot => TokenKind::QuestionDot,
             Fixed::Less => TokenKind::Less,
             Fixed::TagSlash => TokenKind::Slash,
             Fixed::TagGreater => TokenKind::Greater,
@@ -147,7 +163,12 @@ impl Leaf {
         match self {
             Leaf::JsxName => Mode::Tag,
             Leaf::RegExp => Mode::Operand,
-            Leaf::Name | Leaf::Num | Leaf::BigInt | Leaf::Str => Mode::Operator,
+            Leaf::Name
+            | Leaf::Num
+            | Leaf::BigInt
+            | Leaf::Str
+            | Leaf::NoSubstitution
+            | Leaf::TemplateHead => Mode::Operator,
         }
     }
 
@@ -162,10 +183,34 @@ impl Leaf {
             Leaf::BigInt => TokenKind::BigIntLiteral,
             Leaf::Str => TokenKind::StringLiteral,
             Leaf::RegExp => TokenKind::RegExpLiteral,
+            Leaf::NoSubstitution => TokenKind::NoSubstitution,
+            Leaf::TemplateHead => TokenKind::TemplateHead,
             Leaf::JsxName => TokenKind::JsxName,
         };
         token.kind == kind
     }
+}
+
+impl Piece {
+    /// Whether the token is of this kind.
+    #[inline(always)]
+    fn is(self, token: &Token) -> bool
+        ensures { result ≡ is_kind (kind_of token.now.kind) (piece_kind self) }
+    {
+        let kind = match self {
+            Piece::Middle => TokenKind::TemplateMiddle,
+            Piece::Tail => TokenKind::TemplateTail,
+        };
+        token.kind == kind
+    }
+}
+
+/// Whether a template begins with the token.
+#[inline(always)]
+fn begins_template(token: &Token) -> bool
+    ensures { result ≡ (is_kind (kind_of token.now.kind) NoSubstitution || is_kind (kind_of token.now.kind) TemplateHead) }
+{
+    token.kind == TokenKind::NoSubstitution || token.kind == TokenKind::TemplateHead
 }
 
 /// Stands before the rest of a text, and keeps the token that was looked at.
@@ -305,6 +350,17 @@ impl<'s> Lexer<'s> {
         is_arrow(seen.token.raw)
     }
 
+    /// Whether a template comes next.
+    pub fn is_before_template(&mut self) -> bool
+        ensures ahead { result ≡ is_quoted (next_token Operator self.old) }
+        ensures stays { self.new ≡ self.old }
+    {
+        let Some(seen) = self.look(Mode::Operator) else {
+            return false;
+        };
+        begins_template(&seen.token)
+    }
+
     /// Whether the next token is this one.
     pub fn is_before(&mut self, fixed: Fixed) -> bool
         ensures ahead { result ≡ is_found (forth (sign_of fixed) (place_of self.old)) }
@@ -403,7 +459,27 @@ impl<'s> Lexer<'s> {
         Some(seen.token.raw)
     }
 
-    /// Takes the next token if it goes on with an expression of this level or more.
+    /// Takes this piece of a template if it stands directly behind the token that was taken last, and gives its text.
+    pub fn piece(&mut self, piece: Piece) -> Option<&'s str>
+        ensures taken { IfSome result (λ raw. place_of self.new ≡ forth (piece_sign piece (chars raw.now)) (place_of self.old)) }
+        ensures takes { IfSome result (λ raw. Takes (piece_sign piece (chars raw.now)) self.old self.new) }
+        ensures begins { IfSome result (λ raw. begin_of self.new ≡ end_of self.old) }
+        ensures shorter { IfSome result (λ raw. left self.new < left self.old) }
+        ensures whole { IfSome result (λ raw. IsTrue (is_leaf (piece_kind piece) (chars raw.now))) }
+        ensures missing { IfNone result ((t : Text) → forth (piece_sign piece t) (place_of self.old) ≡ Lost) }
+        ensures stays { IfNone result (self.new ≡ self.old) }
+    {
+        let Some(seen) = self.look(Mode::Piece) else {
+            return None;
+        };
+        if !piece.is(&seen.token) {
+            return None;
+        }
+        self.step(&seen);
+        Some(seen.token.raw)
+    }
+
+    /// Takes the next token if it is a sign that goes on with an expression of this level or more.
     pub fn growth(&mut self, level: u8) -> Option<Growth>
         requires { IsTrue (is_level level) }
         ensures taken { IfSome result (λ g. place_of self.new ≡ forth (mark (growth_kind g)) (place_of self.old)) }
@@ -412,7 +488,7 @@ impl<'s> Lexer<'s> {
         ensures ended { IfSome result (λ _. IsTrue (settled (place_of self.new))) }
         ensures reaches { IfSome result (λ g. IsTrue (nat_le level (level_of_kind (growth_kind g)))) }
         ensures shorter { IfSome result (λ g. left self.new < left self.old) }
-        ensures missing { IfNone result (goes_on_so_far (Some level) AfterExpr (breaks self.old.rest) (next_token Operator self.old) ≡ false) }
+        ensures missing { IfNone result (goes_by_mark level (breaks self.old.rest) (next_token Operator self.old) ≡ false) }
         ensures stays { IfNone result (self.new ≡ self.old) }
     {
         let Some(seen) = self.look(Mode::Operator) else {
@@ -431,7 +507,7 @@ impl<'s> Lexer<'s> {
         Some(growth)
     }
 
-    /// Takes the next token if it goes on with what `new` stands before.
+    /// Takes the next token if it is a sign that goes on with what `new` stands before.
     pub fn member_growth(&mut self) -> Option<Growth>
         ensures taken { IfSome result (λ g. place_of self.new ≡ forth (mark (growth_kind g)) (place_of self.old)) }
         ensures takes { IfSome result (λ g. Takes (mark (growth_kind g)) self.old self.new) }
@@ -439,7 +515,7 @@ impl<'s> Lexer<'s> {
         ensures ended { IfSome result (λ _. IsTrue (settled (place_of self.new))) }
         ensures reaches { IfSome result (λ g. IsTrue (reaches callee (growth_kind g))) }
         ensures shorter { IfSome result (λ g. left self.new < left self.old) }
-        ensures missing { IfNone result (goes_on_so_far (Some 100) AfterExpr (breaks self.old.rest) (next_token Operator self.old) ≡ false) }
+        ensures missing { IfNone result (goes_by_mark 100 (breaks self.old.rest) (next_token Operator self.old) ≡ false) }
         ensures stays { IfNone result (self.new ≡ self.old) }
     {
         let Some(seen) = self.look(Mode::Operator) else {

@@ -2,6 +2,7 @@
 #![tactic(auto)]
 
 mod characters;
+mod cooked;
 mod gap;
 pub mod growth;
 mod heading;
@@ -12,8 +13,9 @@ mod seen;
 mod semicolon;
 mod word;
 
+pub use cooked::is_cooked;
 pub use heading::Heading;
 pub use identifiers::{is_bound, is_plain_tag, is_proto, is_proto_string, is_reserved, value_word};
-pub use lexer::{Ending, Fixed, Leaf, Lexer};
+pub use lexer::{Ending, Fixed, Leaf, Lexer, Piece};
 pub use opening::Opening;
 pub use word::Word;

@@ -1,6 +1,7 @@
 pub mod Halves
 pub mod Layers
 pub mod Lists
+pub mod Keeping
 pub mod Outcomes
 pub mod Remade
 pub mod Visits

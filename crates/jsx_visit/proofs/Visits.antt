@@ -21,6 +21,7 @@ use Rattle.jsx_tree.specs.declared.program.ImportClause.TheVariants as import_cl
 use Rattle.jsx_tree.specs.declared.program.ImportNames.{ImportNames}
 use Rattle.jsx_tree.specs.declared.program.ImportNames.TheVariants as import_names
 use Rattle.jsx_tree.proofs.Views as all
+use Rattle.jsx_tree.proofs.Telling.{telling}
 use Rattle.jsx_visit.specs.Visit.{visited, visiteds, within, changed}
 use Rattle.jsx_visit.specs.Parts.{seen_at, member_at, but_code, but_half, with_second, but_export, with_export}
 use Rattle.jsx_visit.proofs.Layers.{codes_of, expr_root, root_first, is_statement, stmt_root}
@@ -111,7 +112,7 @@ pub clause_second : (f : Kind → Forest → Tree) (e : Option (Box Expr Global)
 clause_second f None us = ap (λ ts. node (statement Default) (part (list ts) none)) (visiteds_forest f us)
 clause_second f (Some e) us = ap (λ ts. node (statement Case) (part (view_expr e.value) (part (list ts) none))) (visiteds_forest f us)
 
-pub ruleset visits = (all.views, codes_of, visiteds_forest, changed_within, forest_roles, object_members, class_members, name_stays, optional_name_stays, body_visit, template_but, tagged_visit, target_first)
+pub ruleset visits = (all.views, telling, codes_of, visiteds_forest, changed_within, forest_roles, object_members, class_members, name_stays, optional_name_stays, body_visit, template_but, tagged_visit, target_first)
 
 -- ---- items
 
@@ -186,4 +187,4 @@ names_but f i at ss is = subst (λ j. view_item j ≡ but_export f (view_item j)
 pub from_but : (f : Kind → Forest → Tree) (i : Item) (at : Option Span) (ss : Vec declared.Specifier Global) (a : Text) → i ≡ item.ExportFrom at ss a → view_item i ≡ but_export f (view_item i)
 from_but f i at ss a is = subst (λ j. view_item j ≡ but_export f (view_item j)) (sym is) (sym (ap (λ (us : Forest). node (program ExportFrom) (part (list us) (part (source_of a) none))) (specifiers_stay f From ss.items)))
 
-pub ruleset items = (all.views, visiteds_forest, forest_roles, optional_name_stays, directives_stay, body_visit, specifiers_stay, clause_stays, stmt_but, stmt_with)
+pub ruleset items = (all.views, telling, visiteds_forest, forest_roles, optional_name_stays, directives_stay, body_visit, specifiers_stay, clause_stays, stmt_but, stmt_with)

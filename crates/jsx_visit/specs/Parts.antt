@@ -1,7 +1,9 @@
 -- One part of a node visited after the other: what each function of the walk does.
-use Rattle.std.specs.Prelude.{ℕ, zero, suc, Bool, true, false, cond, Box}
+use Rattle.std.specs.Prelude.{ℕ, zero, suc, List, [], map, Bool, true, false, cond, Box}
 use Rattle.std.specs.Global.{Global}
 use Rattle.jsx_tree.specs.Kinds.{Declarator, Default, FunctionDecl, ClassDecl, Role, FunctionExpr, ClassExpr, PropertyPat, ShorthandInit, WithInit, ExportDefaultFn, Kind, program, statement, function, Tree, leaf, node, list, Forest, none, part}
+use Rattle.jsx_tree.specs.Spans.{Told, tells, Tales, no_tales, tale}
+use Rattle.jsx_tree.specs.Told.{tales}
 use Rattle.jsx_tree.specs.View.{Owner, view_pattern, view_member}
 use Rattle.jsx_tree.specs.declared.tree.Pat.{Pat}
 use Rattle.jsx_tree.specs.declared.tree.Prop.{Prop}
@@ -96,3 +98,20 @@ seen_at r b = view_pattern b.value r
 
 abbrev pub member_at : Owner → Box Prop Global → Tree
 member_at o b = view_member b.value o
+
+-- ---- places
+
+abbrev pub nothing : Told
+nothing = tells [] no_tales
+
+-- what is told of places, part by part, where a visitor keeps it, and else nothing
+abbrev mutual
+  pub kept : Bool → Told → Told
+  kept b (tells cs ds) = cond b (tells cs (kepts b ds)) nothing
+
+  pub kepts : Bool → Tales → Tales
+  kepts b no_tales = no_tales
+  kepts b (tale d ds) = tale (kept b d) (kepts b ds)
+
+abbrev pub kept_each : {A : Type 0} → Bool → (A → Told) → List A → Tales
+kept_each b f xs = kepts b (tales (map f xs))

@@ -1,5 +1,8 @@
 -- A tree that is visited: each expression is made anew, after its parts (ECMA-262 section 13). What stands in JSX isn't entered.
 use Rattle.std.specs.Prelude.{Bool, true, false, cond, not}
+use Rattle.jsx_base.specs.declared.place.Span.{Span}
+use Rattle.jsx_tree.specs.declared.program.Program.{Program}
+use Rattle.jsx_tree.specs.declared.program.Program.TheVariants as programs
 use Rattle.jsx_tree.specs.Kinds.{ExpressionKind, Property, Shorthand, Spread, NameLink, IndexLink, CallLink, PlainTemplate, SubstitutedTemplate, TemplateSpan, FunctionKind, FunctionExpr, ClassExpr, Kind, program, statement, function, expression, jsx, Tree, leaf, node, list, Forest, none, part}
 
 -- what stands as an expression by itself, and not as a property, a spread, a link of a chain or a piece of a template
@@ -53,6 +56,11 @@ abbrev mutual
   pub visiteds : (Kind → Forest → Tree) → Forest → Forest
   visiteds f none = none
   visiteds f (part t ts) = part (visited f t) (visiteds f ts)
+
+-- the span of a whole program
+abbrev pub span_of : Program → Span
+span_of (programs.Module m) = m.span
+span_of (programs.Script m) = m.span
 
 -- a tree whose parts are visited, and that isn't made anew itself
 abbrev pub within : (Kind → Forest → Tree) → Tree → Tree

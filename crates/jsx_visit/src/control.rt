@@ -2,8 +2,9 @@
 
 ghost use Rattle.std.specs.Prelude.{◌≡◌, OnOk, map};
 ghost use Rattle.jsx_tree.specs.View.{inside, optional_of, view_control};
+ghost use Rattle.jsx_tree.specs.Told.{told_control, told_optional};
 ghost use Rattle.jsx_visit.specs.Visit.{visited};
-ghost use Rattle.jsx_visit.specs.Parts.{with_part, with_test, with_second};
+ghost use Rattle.jsx_visit.specs.Parts.{with_part, with_test, with_second, kept, kept_each};
 
 use crate::visitor::Visitor;
 use crate::walk::Walker;
@@ -17,7 +18,8 @@ impl Walker {
         visitor: &mut V,
         control: &mut Control<'_>,
     ) -> Result<(), AllocError>
-        ensures { OnOk result (view_control control.new ≡ visited V.made (view_control control.old)) }
+        ensures seen { OnOk result (view_control control.new ≡ visited V.made (view_control control.old)) }
+        ensures places { OnOk result (kept V.keeps (told_control control.new) ≡ kept V.keeps (told_control control.old)) }
     {
         let below = self.below()?;
         below.first_of_control(visitor, control)?;
@@ -33,7 +35,8 @@ impl Walker {
         visitor: &mut V,
         control: &mut Control<'_>,
     ) -> Result<(), AllocError>
-        ensures { OnOk result (view_control control.new ≡ with_test V.made (view_control control.old)) }
+        ensures seen { OnOk result (view_control control.new ≡ with_test V.made (view_control control.old)) }
+        ensures places { OnOk result (kept V.keeps (told_control control.new) ≡ kept V.keeps (told_control control.old)) }
     {
         match control {
             Control::If(_, test, _, _) => self.expr(visitor, test),
@@ -57,7 +60,8 @@ impl Walker {
         visitor: &mut V,
         control: &mut Control<'_>,
     ) -> Result<(), AllocError>
-        ensures { OnOk result (view_control control.new ≡ with_second V.made (view_control control.old)) }
+        ensures seen { OnOk result (view_control control.new ≡ with_second V.made (view_control control.old)) }
+        ensures places { OnOk result (kept V.keeps (told_control control.new) ≡ kept V.keeps (told_control control.old)) }
     {
         match control {
             Control::If(_, _, body, _) => self.stmt(visitor, body),
@@ -81,7 +85,8 @@ impl Walker {
         visitor: &mut V,
         control: &mut Control<'_>,
     ) -> Result<(), AllocError>
-        ensures { OnOk result (view_control control.new ≡ with_part 2 V.made (view_control control.old)) }
+        ensures seen { OnOk result (view_control control.new ≡ with_part 2 V.made (view_control control.old)) }
+        ensures places { OnOk result (kept V.keeps (told_control control.new) ≡ kept V.keeps (told_control control.old)) }
     {
         match control {
             Control::If(_, _, _, other) => self.optional_stmt(visitor, other),
@@ -100,7 +105,8 @@ impl Walker {
         visitor: &mut V,
         control: &mut Control<'_>,
     ) -> Result<(), AllocError>
-        ensures { OnOk result (view_control control.new ≡ with_part 3 V.made (view_control control.old)) }
+        ensures seen { OnOk result (view_control control.new ≡ with_part 3 V.made (view_control control.old)) }
+        ensures places { OnOk result (kept V.keeps (told_control control.new) ≡ kept V.keeps (told_control control.old)) }
     {
         match control {
             Control::For(_, _, _, _, body) => self.stmt(visitor, body),
@@ -114,7 +120,8 @@ impl Walker {
         visitor: &mut V,
         controls: &mut Vec<Box<Control<'_>>>,
     ) -> Result<(), AllocError>
-        ensures { OnOk result (map (inside view_control) controls.new.items ≡ map (visited V.made) (map (inside view_control) controls.old.items)) }
+        ensures seen { OnOk result (map (inside view_control) controls.new.items ≡ map (visited V.made) (map (inside view_control) controls.old.items)) }
+        ensures places { OnOk result (kept_each V.keeps (inside told_control) controls.new.items ≡ kept_each V.keeps (inside told_control) controls.old.items) }
     {
         for control in controls.iter_mut() {
             self.control(visitor, control)?;
@@ -129,7 +136,8 @@ impl Walker {
         visitor: &mut V,
         control: &mut Option<Box<Control<'_>>>,
     ) -> Result<(), AllocError>
-        ensures { OnOk result (optional_of view_control control.new ≡ visited V.made (optional_of view_control control.old)) }
+        ensures seen { OnOk result (optional_of view_control control.new ≡ visited V.made (optional_of view_control control.old)) }
+        ensures places { OnOk result (kept V.keeps (told_optional told_control control.new) ≡ kept V.keeps (told_optional told_control control.old)) }
     {
         match control {
             Some(control) => self.control(visitor, control),

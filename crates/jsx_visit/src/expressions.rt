@@ -5,8 +5,9 @@
 
 ghost use Rattle.std.specs.Prelude.{◌≡◌, OnOk, map};
 ghost use Rattle.jsx_tree.specs.View.{inside, view_expr, optional_of};
+ghost use Rattle.jsx_tree.specs.Told.{told_expr, told_optional};
 ghost use Rattle.jsx_visit.specs.Visit.{visited, within};
-ghost use Rattle.jsx_visit.specs.Parts.{but_code, front_of_code, rest_of_code};
+ghost use Rattle.jsx_visit.specs.Parts.{but_code, front_of_code, rest_of_code, kept, kept_each};
 
 use crate::visitor::Visitor;
 use crate::walk::Walker;
@@ -22,7 +23,8 @@ impl Walker {
         visitor: &mut V,
         expr: &mut Box<Expr<'_>>,
     ) -> Result<(), AllocError>
-        ensures { OnOk result (view_expr expr.new.value ≡ visited V.made (view_expr expr.old.value)) }
+        ensures seen { OnOk result (view_expr expr.new.value ≡ visited V.made (view_expr expr.old.value)) }
+        ensures places { OnOk result (kept V.keeps (told_expr expr.new.value) ≡ kept V.keeps (told_expr expr.old.value)) }
     {
         let below = self.below()?;
         below.parts(visitor, expr)?;
@@ -32,7 +34,8 @@ impl Walker {
     #[cycle(walk)]
     #[tactic(auto, using(crate::proofs::Visits::visits))]
     fn parts<V: Visitor>(self, visitor: &mut V, expr: &mut Expr<'_>) -> Result<(), AllocError>
-        ensures { OnOk result (view_expr expr.new ≡ within V.made (view_expr expr.old)) }
+        ensures seen { OnOk result (view_expr expr.new ≡ within V.made (view_expr expr.old)) }
+        ensures places { OnOk result (kept V.keeps (told_expr expr.new) ≡ kept V.keeps (told_expr expr.old)) }
     {
         self.first_of_expr(visitor, expr)?;
         self.second_of_expr(visitor, expr)?;
@@ -46,7 +49,8 @@ impl Walker {
         visitor: &mut V,
         expr: &mut Expr<'_>,
     ) -> Result<(), AllocError>
-        ensures { OnOk result (view_expr expr.new ≡ but_code V.made (view_expr expr.old)) }
+        ensures seen { OnOk result (view_expr expr.new ≡ but_code V.made (view_expr expr.old)) }
+        ensures places { OnOk result (kept V.keeps (told_expr expr.new) ≡ kept V.keeps (told_expr expr.old)) }
     {
         match expr {
             Expr::Operation(operation) => self.operation(visitor, operation),
@@ -71,7 +75,8 @@ impl Walker {
         visitor: &mut V,
         expr: &mut Expr<'_>,
     ) -> Result<(), AllocError>
-        ensures { OnOk result (view_expr expr.new ≡ front_of_code V.made (view_expr expr.old)) }
+        ensures seen { OnOk result (view_expr expr.new ≡ front_of_code V.made (view_expr expr.old)) }
+        ensures places { OnOk result (kept V.keeps (told_expr expr.new) ≡ kept V.keeps (told_expr expr.old)) }
     {
         match expr {
             Expr::Function(_, _, parameters, _, _) => self.patterns(visitor, parameters),
@@ -87,7 +92,8 @@ impl Walker {
         visitor: &mut V,
         expr: &mut Expr<'_>,
     ) -> Result<(), AllocError>
-        ensures { OnOk result (view_expr expr.new ≡ rest_of_code V.made (view_expr expr.old)) }
+        ensures seen { OnOk result (view_expr expr.new ≡ rest_of_code V.made (view_expr expr.old)) }
+        ensures places { OnOk result (kept V.keeps (told_expr expr.new) ≡ kept V.keeps (told_expr expr.old)) }
     {
         match expr {
             Expr::Function(_, _, _, _, body) => self.stmts(visitor, body),
@@ -102,7 +108,8 @@ impl Walker {
         visitor: &mut V,
         exprs: &mut Vec<Box<Expr<'_>>>,
     ) -> Result<(), AllocError>
-        ensures { OnOk result (map (inside view_expr) exprs.new.items ≡ map (visited V.made) (map (inside view_expr) exprs.old.items)) }
+        ensures seen { OnOk result (map (inside view_expr) exprs.new.items ≡ map (visited V.made) (map (inside view_expr) exprs.old.items)) }
+        ensures places { OnOk result (kept_each V.keeps (inside told_expr) exprs.new.items ≡ kept_each V.keeps (inside told_expr) exprs.old.items) }
     {
         for expr in exprs.iter_mut() {
             self.expr(visitor, expr)?;
@@ -117,7 +124,8 @@ impl Walker {
         visitor: &mut V,
         expr: &mut Option<Box<Expr<'_>>>,
     ) -> Result<(), AllocError>
-        ensures { OnOk result (optional_of view_expr expr.new ≡ visited V.made (optional_of view_expr expr.old)) }
+        ensures seen { OnOk result (optional_of view_expr expr.new ≡ visited V.made (optional_of view_expr expr.old)) }
+        ensures places { OnOk result (kept V.keeps (told_optional told_expr expr.new) ≡ kept V.keeps (told_optional told_expr expr.old)) }
     {
         match expr {
             Some(expr) => self.expr(visitor, expr),

@@ -1,9 +1,10 @@
 //! Members of objects and classes.
 
 ghost use Rattle.std.specs.Prelude.{◌≡◌, OnOk, map};
-ghost use Rattle.jsx_tree.specs.View.{view_member, OfObject, OfClass};
+ghost use Rattle.jsx_tree.specs.View.{inside, view_member, OfObject, OfClass};
+ghost use Rattle.jsx_tree.specs.Told.{told_prop};
 ghost use Rattle.jsx_visit.specs.Visit.{visited};
-ghost use Rattle.jsx_visit.specs.Parts.{with_part, member_at};
+ghost use Rattle.jsx_visit.specs.Parts.{with_part, member_at, kept, kept_each};
 
 use crate::visitor::Visitor;
 use crate::walk::Walker;
@@ -19,6 +20,7 @@ impl Walker {
     ) -> Result<(), AllocError>
         ensures of_object { OnOk result (view_member member.new OfObject ≡ visited V.made (view_member member.old OfObject)) }
         ensures of_class { OnOk result (view_member member.new OfClass ≡ visited V.made (view_member member.old OfClass)) }
+        ensures places { OnOk result (kept V.keeps (told_prop member.new) ≡ kept V.keeps (told_prop member.old)) }
     {
         self.first_of_member(visitor, member)?;
         self.second_of_member(visitor, member)?;
@@ -34,6 +36,7 @@ impl Walker {
     ) -> Result<(), AllocError>
         ensures of_object { OnOk result (view_member member.new OfObject ≡ with_part 0 V.made (view_member member.old OfObject)) }
         ensures of_class { OnOk result (view_member member.new OfClass ≡ with_part 0 V.made (view_member member.old OfClass)) }
+        ensures places { OnOk result (kept V.keeps (told_prop member.new) ≡ kept V.keeps (told_prop member.old)) }
     {
         match member {
             Prop::Pair(_, key, _) => self.key(visitor, key),
@@ -55,6 +58,7 @@ impl Walker {
     ) -> Result<(), AllocError>
         ensures of_object { OnOk result (view_member member.new OfObject ≡ with_part 1 V.made (view_member member.old OfObject)) }
         ensures of_class { OnOk result (view_member member.new OfClass ≡ with_part 1 V.made (view_member member.old OfClass)) }
+        ensures places { OnOk result (kept V.keeps (told_prop member.new) ≡ kept V.keeps (told_prop member.old)) }
     {
         match member {
             Prop::Pair(_, _, value) => self.expr(visitor, value),
@@ -75,6 +79,7 @@ impl Walker {
     ) -> Result<(), AllocError>
         ensures of_object { OnOk result (view_member member.new OfObject ≡ with_part 2 V.made (view_member member.old OfObject)) }
         ensures of_class { OnOk result (view_member member.new OfClass ≡ with_part 2 V.made (view_member member.old OfClass)) }
+        ensures places { OnOk result (kept V.keeps (told_prop member.new) ≡ kept V.keeps (told_prop member.old)) }
     {
         match member {
             Prop::Method(_, _, _, _, _, body) => self.stmts(visitor, body),
@@ -91,6 +96,7 @@ impl Walker {
     ) -> Result<(), AllocError>
         ensures of_object { OnOk result (map (member_at OfObject) members.new.items ≡ map (visited V.made) (map (member_at OfObject) members.old.items)) }
         ensures of_class { OnOk result (map (member_at OfClass) members.new.items ≡ map (visited V.made) (map (member_at OfClass) members.old.items)) }
+        ensures places { OnOk result (kept_each V.keeps (inside told_prop) members.new.items ≡ kept_each V.keeps (inside told_prop) members.old.items) }
     {
         for member in members.iter_mut() {
             self.member(visitor, member)?;

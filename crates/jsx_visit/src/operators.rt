@@ -2,8 +2,9 @@
 
 ghost use Rattle.std.specs.Prelude.{◌≡◌, OnOk, map};
 ghost use Rattle.jsx_tree.specs.View.{inside, view_operation, view_access, view_link};
+ghost use Rattle.jsx_tree.specs.Told.{told_operation, told_access, told_link};
 ghost use Rattle.jsx_visit.specs.Visit.{visited, within};
-ghost use Rattle.jsx_visit.specs.Parts.{with_part};
+ghost use Rattle.jsx_visit.specs.Parts.{with_part, kept, kept_each};
 
 use crate::visitor::Visitor;
 use crate::walk::Walker;
@@ -17,7 +18,8 @@ impl Walker {
         visitor: &mut V,
         operation: &mut Operation<'_>,
     ) -> Result<(), AllocError>
-        ensures { OnOk result (view_operation operation.new ≡ within V.made (view_operation operation.old)) }
+        ensures seen { OnOk result (view_operation operation.new ≡ within V.made (view_operation operation.old)) }
+        ensures places { OnOk result (kept V.keeps (told_operation operation.new) ≡ kept V.keeps (told_operation operation.old)) }
     {
         self.first_of_operation(visitor, operation)?;
         self.second_of_operation(visitor, operation)?;
@@ -31,7 +33,8 @@ impl Walker {
         visitor: &mut V,
         operation: &mut Operation<'_>,
     ) -> Result<(), AllocError>
-        ensures { OnOk result (view_operation operation.new ≡ with_part 0 V.made (view_operation operation.old)) }
+        ensures seen { OnOk result (view_operation operation.new ≡ with_part 0 V.made (view_operation operation.old)) }
+        ensures places { OnOk result (kept V.keeps (told_operation operation.new) ≡ kept V.keeps (told_operation operation.old)) }
     {
         match operation {
             Operation::Seq(_, items) => self.exprs(visitor, items),
@@ -55,7 +58,8 @@ impl Walker {
         visitor: &mut V,
         operation: &mut Operation<'_>,
     ) -> Result<(), AllocError>
-        ensures { OnOk result (view_operation operation.new ≡ with_part 1 V.made (view_operation operation.old)) }
+        ensures seen { OnOk result (view_operation operation.new ≡ with_part 1 V.made (view_operation operation.old)) }
+        ensures places { OnOk result (kept V.keeps (told_operation operation.new) ≡ kept V.keeps (told_operation operation.old)) }
     {
         match operation {
             Operation::Assign(_, _, value) => self.expr(visitor, value),
@@ -81,7 +85,8 @@ impl Walker {
         visitor: &mut V,
         operation: &mut Operation<'_>,
     ) -> Result<(), AllocError>
-        ensures { OnOk result (view_operation operation.new ≡ with_part 2 V.made (view_operation operation.old)) }
+        ensures seen { OnOk result (view_operation operation.new ≡ with_part 2 V.made (view_operation operation.old)) }
+        ensures places { OnOk result (kept V.keeps (told_operation operation.new) ≡ kept V.keeps (told_operation operation.old)) }
     {
         match operation {
             Operation::Cond(_, _, _, other) => self.expr(visitor, other),
@@ -95,7 +100,8 @@ impl Walker {
         visitor: &mut V,
         access: &mut Access<'_>,
     ) -> Result<(), AllocError>
-        ensures { OnOk result (view_access access.new ≡ within V.made (view_access access.old)) }
+        ensures seen { OnOk result (view_access access.new ≡ within V.made (view_access access.old)) }
+        ensures places { OnOk result (kept V.keeps (told_access access.new) ≡ kept V.keeps (told_access access.old)) }
     {
         self.first_of_access(visitor, access)?;
         self.second_of_access(visitor, access)
@@ -108,7 +114,8 @@ impl Walker {
         visitor: &mut V,
         access: &mut Access<'_>,
     ) -> Result<(), AllocError>
-        ensures { OnOk result (view_access access.new ≡ with_part 0 V.made (view_access access.old)) }
+        ensures seen { OnOk result (view_access access.new ≡ with_part 0 V.made (view_access access.old)) }
+        ensures places { OnOk result (kept V.keeps (told_access access.new) ≡ kept V.keeps (told_access access.old)) }
     {
         match access {
             Access::Call(_, callee, _) => self.expr(visitor, callee),
@@ -132,7 +139,8 @@ impl Walker {
         visitor: &mut V,
         access: &mut Access<'_>,
     ) -> Result<(), AllocError>
-        ensures { OnOk result (view_access access.new ≡ with_part 1 V.made (view_access access.old)) }
+        ensures seen { OnOk result (view_access access.new ≡ with_part 1 V.made (view_access access.old)) }
+        ensures places { OnOk result (kept V.keeps (told_access access.new) ≡ kept V.keeps (told_access access.old)) }
     {
         match access {
             Access::Call(_, _, arguments) => self.exprs(visitor, arguments),
@@ -155,7 +163,8 @@ impl Walker {
         visitor: &mut V,
         links: &mut Vec<Box<Link<'_>>>,
     ) -> Result<(), AllocError>
-        ensures { OnOk result (map (inside view_link) links.new.items ≡ map (visited V.made) (map (inside view_link) links.old.items)) }
+        ensures seen { OnOk result (map (inside view_link) links.new.items ≡ map (visited V.made) (map (inside view_link) links.old.items)) }
+        ensures places { OnOk result (kept_each V.keeps (inside told_link) links.new.items ≡ kept_each V.keeps (inside told_link) links.old.items) }
     {
         for link in links.iter_mut() {
             self.link(visitor, link)?;
@@ -166,7 +175,8 @@ impl Walker {
     #[cycle(walk)]
     #[tactic(auto, using(crate::proofs::Visits::visits))]
     fn link<V: Visitor>(self, visitor: &mut V, link: &mut Link<'_>) -> Result<(), AllocError>
-        ensures { OnOk result (view_link link.new ≡ visited V.made (view_link link.old)) }
+        ensures seen { OnOk result (view_link link.new ≡ visited V.made (view_link link.old)) }
+        ensures places { OnOk result (kept V.keeps (told_link link.new) ≡ kept V.keeps (told_link link.old)) }
     {
         match link {
             Link::Member(..) => Ok(()),

@@ -2,9 +2,10 @@
 
 ghost use Rattle.std.specs.Prelude.{◌≡◌, OnOk, map};
 ghost use Rattle.jsx_tree.specs.Kinds.{Binds, Assigns};
-ghost use Rattle.jsx_tree.specs.View.{view_pattern, view_key, optional_at_of};
+ghost use Rattle.jsx_tree.specs.View.{inside, view_pattern, view_key, optional_at_of};
+ghost use Rattle.jsx_tree.specs.Told.{told_pat, told_key, told_optional};
 ghost use Rattle.jsx_visit.specs.Visit.{visited};
-ghost use Rattle.jsx_visit.specs.Parts.{but_half, with_half, seen_at};
+ghost use Rattle.jsx_visit.specs.Parts.{but_half, with_half, seen_at, kept, kept_each};
 
 use crate::visitor::Visitor;
 use crate::walk::Walker;
@@ -20,6 +21,7 @@ impl Walker {
     ) -> Result<(), AllocError>
         ensures binds { OnOk result (view_pattern pattern.new.value Binds ≡ visited V.made (view_pattern pattern.old.value Binds)) }
         ensures assigns { OnOk result (view_pattern pattern.new.value Assigns ≡ visited V.made (view_pattern pattern.old.value Assigns)) }
+        ensures places { OnOk result (kept V.keeps (told_pat pattern.new.value) ≡ kept V.keeps (told_pat pattern.old.value)) }
     {
         let below = self.below()?;
         below.parts_of_pattern(visitor, pattern)
@@ -33,6 +35,7 @@ impl Walker {
     ) -> Result<(), AllocError>
         ensures binds { OnOk result (view_pattern pattern.new Binds ≡ visited V.made (view_pattern pattern.old Binds)) }
         ensures assigns { OnOk result (view_pattern pattern.new Assigns ≡ visited V.made (view_pattern pattern.old Assigns)) }
+        ensures places { OnOk result (kept V.keeps (told_pat pattern.new) ≡ kept V.keeps (told_pat pattern.old)) }
     {
         self.second_of_pattern(visitor, pattern)?;
         self.first_of_pattern(visitor, pattern)
@@ -47,6 +50,7 @@ impl Walker {
     ) -> Result<(), AllocError>
         ensures binds { OnOk result (view_pattern pattern.new Binds ≡ but_half V.made (view_pattern pattern.old Binds)) }
         ensures assigns { OnOk result (view_pattern pattern.new Assigns ≡ but_half V.made (view_pattern pattern.old Assigns)) }
+        ensures places { OnOk result (kept V.keeps (told_pat pattern.new) ≡ kept V.keeps (told_pat pattern.old)) }
     {
         match pattern {
             Pat::Array(_, items) => self.patterns(visitor, items),
@@ -72,6 +76,7 @@ impl Walker {
     ) -> Result<(), AllocError>
         ensures binds { OnOk result (view_pattern pattern.new Binds ≡ with_half V.made (view_pattern pattern.old Binds)) }
         ensures assigns { OnOk result (view_pattern pattern.new Assigns ≡ with_half V.made (view_pattern pattern.old Assigns)) }
+        ensures places { OnOk result (kept V.keeps (told_pat pattern.new) ≡ kept V.keeps (told_pat pattern.old)) }
     {
         match pattern {
             Pat::Binding(_, _, value) => self.optional(visitor, value),
@@ -90,6 +95,7 @@ impl Walker {
     ) -> Result<(), AllocError>
         ensures binds { OnOk result (map (seen_at Binds) patterns.new.items ≡ map (visited V.made) (map (seen_at Binds) patterns.old.items)) }
         ensures assigns { OnOk result (map (seen_at Assigns) patterns.new.items ≡ map (visited V.made) (map (seen_at Assigns) patterns.old.items)) }
+        ensures places { OnOk result (kept_each V.keeps (inside told_pat) patterns.new.items ≡ kept_each V.keeps (inside told_pat) patterns.old.items) }
     {
         for pattern in patterns.iter_mut() {
             self.pattern(visitor, pattern)?;
@@ -104,7 +110,8 @@ impl Walker {
         visitor: &mut V,
         key: &mut Key<'_>,
     ) -> Result<(), AllocError>
-        ensures { OnOk result (view_key key.new ≡ visited V.made (view_key key.old)) }
+        ensures seen { OnOk result (view_key key.new ≡ visited V.made (view_key key.old)) }
+        ensures places { OnOk result (kept V.keeps (told_key key.new) ≡ kept V.keeps (told_key key.old)) }
     {
         match key {
             Key::Computed(_, expr) => self.expr(visitor, expr),
@@ -121,6 +128,7 @@ impl Walker {
     ) -> Result<(), AllocError>
         ensures binds { OnOk result (optional_at_of Binds view_pattern pattern.new ≡ visited V.made (optional_at_of Binds view_pattern pattern.old)) }
         ensures assigns { OnOk result (optional_at_of Assigns view_pattern pattern.new ≡ visited V.made (optional_at_of Assigns view_pattern pattern.old)) }
+        ensures places { OnOk result (kept V.keeps (told_optional told_pat pattern.new) ≡ kept V.keeps (told_optional told_pat pattern.old)) }
     {
         match pattern {
             Some(pattern) => self.pattern(visitor, pattern),

@@ -1,9 +1,10 @@
 //! Programs, and the items of a module.
 
-ghost use Rattle.std.specs.Prelude.{◌≡◌, OnOk, map};
+ghost use Rattle.std.specs.Prelude.{◌≡◌, OnOk, IsTrue, map};
 ghost use Rattle.jsx_tree.specs.ViewProgram.{view, view_item};
-ghost use Rattle.jsx_visit.specs.Visit.{visited};
-ghost use Rattle.jsx_visit.specs.Parts.{but_export, with_export};
+ghost use Rattle.jsx_tree.specs.Told.{told, told_item};
+ghost use Rattle.jsx_visit.specs.Visit.{visited, span_of};
+ghost use Rattle.jsx_visit.specs.Parts.{but_export, with_export, kept, kept_each};
 
 use crate::visitor::Visitor;
 use crate::walk::Walker;
@@ -12,7 +13,8 @@ use std::alloc::{AllocError, Global};
 
 impl Walker {
     fn item<V: Visitor>(self, visitor: &mut V, item: &mut Item<'_>) -> Result<(), AllocError>
-        ensures { OnOk result (view_item item.new ≡ visited V.made (view_item item.old)) }
+        ensures seen { OnOk result (view_item item.new ≡ visited V.made (view_item item.old)) }
+        ensures places { OnOk result (kept V.keeps (told_item item.new) ≡ kept V.keeps (told_item item.old)) }
     {
         self.first_of_item(visitor, item)?;
         self.second_of_item(visitor, item)
@@ -24,7 +26,8 @@ impl Walker {
         visitor: &mut V,
         item: &mut Item<'_>,
     ) -> Result<(), AllocError>
-        ensures { OnOk result (view_item item.new ≡ but_export V.made (view_item item.old)) }
+        ensures seen { OnOk result (view_item item.new ≡ but_export V.made (view_item item.old)) }
+        ensures places { OnOk result (kept V.keeps (told_item item.new) ≡ kept V.keeps (told_item item.old)) }
     {
         match item {
             Item::Stmt(stmt) => self.stmt(visitor, stmt),
@@ -47,7 +50,8 @@ impl Walker {
         visitor: &mut V,
         item: &mut Item<'_>,
     ) -> Result<(), AllocError>
-        ensures { OnOk result (view_item item.new ≡ with_export V.made (view_item item.old)) }
+        ensures seen { OnOk result (view_item item.new ≡ with_export V.made (view_item item.old)) }
+        ensures places { OnOk result (kept V.keeps (told_item item.new) ≡ kept V.keeps (told_item item.old)) }
     {
         match item {
             Item::ExportDefaultFn(_, _, _, _, body) => self.stmts(visitor, body),
@@ -65,7 +69,8 @@ impl Walker {
     }
 
     fn items<V: Visitor>(self, visitor: &mut V, items: &mut Vec<Item<'_>>) -> Result<(), AllocError>
-        ensures { OnOk result (map view_item items.new.items ≡ map (visited V.made) (map view_item items.old.items)) }
+        ensures seen { OnOk result (map view_item items.new.items ≡ map (visited V.made) (map view_item items.old.items)) }
+        ensures places { OnOk result (kept_each V.keeps told_item items.new.items ≡ kept_each V.keeps told_item items.old.items) }
     {
         for item in items.iter_mut() {
             self.item(visitor, item)?;
@@ -79,7 +84,9 @@ impl Walker {
         visitor: &mut V,
         program: &mut Program<'_>,
     ) -> Result<(), AllocError>
-        ensures { OnOk result (view program.new ≡ visited V.made (view program.old)) }
+        ensures seen { OnOk result (view program.new ≡ visited V.made (view program.old)) }
+        ensures places { OnOk result (kept V.keeps (told program.new) ≡ kept V.keeps (told program.old)) }
+        ensures whole { OnOk result (span_of program.new ≡ span_of program.old) }
     {
         match program {
             Program::Module(module) => self.items(visitor, &mut module.body),
@@ -89,7 +96,7 @@ impl Walker {
 }
 
 /// Visits each expression of a program after its parts, in the order of the text. What stands in JSX isn't entered: an element
-/// is handed to the visitor as it is.
+/// is handed to the visitor as it is. A visitor that keeps what an expression tells of places keeps what the program tells.
 ///
 /// # Errors
 ///
@@ -99,7 +106,9 @@ pub fn visit<V: Visitor>(
     visitor: &mut V,
     program: &mut Program<'_>,
 ) -> Result<(), AllocError>
-    ensures { OnOk result (view program.new ≡ visited V.made (view program.old)) }
+    ensures seen { OnOk result (view program.new ≡ visited V.made (view program.old)) }
+    ensures places { IsTrue V.keeps → OnOk result (told program.new ≡ told program.old) }
+    ensures whole { OnOk result (span_of program.new ≡ span_of program.old) }
 {
     let walker = Walker {
         alloc,

@@ -2,8 +2,9 @@
 
 ghost use Rattle.std.specs.Prelude.{◌≡◌, OnOk, map};
 ghost use Rattle.jsx_tree.specs.View.{inside, optional_of, view_stmt};
+ghost use Rattle.jsx_tree.specs.Told.{told_stmt, told_optional};
 ghost use Rattle.jsx_visit.specs.Visit.{visited, within};
-ghost use Rattle.jsx_visit.specs.Parts.{but_code, front_of_code, rest_of_code};
+ghost use Rattle.jsx_visit.specs.Parts.{but_code, front_of_code, rest_of_code, kept, kept_each};
 
 use crate::visitor::Visitor;
 use crate::walk::Walker;
@@ -17,7 +18,8 @@ impl Walker {
         visitor: &mut V,
         stmt: &mut Box<Stmt<'_>>,
     ) -> Result<(), AllocError>
-        ensures { OnOk result (view_stmt stmt.new.value ≡ visited V.made (view_stmt stmt.old.value)) }
+        ensures seen { OnOk result (view_stmt stmt.new.value ≡ visited V.made (view_stmt stmt.old.value)) }
+        ensures places { OnOk result (kept V.keeps (told_stmt stmt.new.value) ≡ kept V.keeps (told_stmt stmt.old.value)) }
     {
         let below = self.below()?;
         below.parts_of_stmt(visitor, stmt)
@@ -29,7 +31,8 @@ impl Walker {
         visitor: &mut V,
         stmt: &mut Stmt<'_>,
     ) -> Result<(), AllocError>
-        ensures { OnOk result (view_stmt stmt.new ≡ within V.made (view_stmt stmt.old)) }
+        ensures seen { OnOk result (view_stmt stmt.new ≡ within V.made (view_stmt stmt.old)) }
+        ensures places { OnOk result (kept V.keeps (told_stmt stmt.new) ≡ kept V.keeps (told_stmt stmt.old)) }
     {
         self.first_of_stmt(visitor, stmt)?;
         self.second_of_stmt(visitor, stmt)?;
@@ -43,7 +46,8 @@ impl Walker {
         visitor: &mut V,
         stmt: &mut Stmt<'_>,
     ) -> Result<(), AllocError>
-        ensures { OnOk result (view_stmt stmt.new ≡ but_code V.made (view_stmt stmt.old)) }
+        ensures seen { OnOk result (view_stmt stmt.new ≡ but_code V.made (view_stmt stmt.old)) }
+        ensures places { OnOk result (kept V.keeps (told_stmt stmt.new) ≡ kept V.keeps (told_stmt stmt.old)) }
     {
         match stmt {
             Stmt::Block(_, body) => self.stmts(visitor, body),
@@ -68,7 +72,8 @@ impl Walker {
         visitor: &mut V,
         stmt: &mut Stmt<'_>,
     ) -> Result<(), AllocError>
-        ensures { OnOk result (view_stmt stmt.new ≡ front_of_code V.made (view_stmt stmt.old)) }
+        ensures seen { OnOk result (view_stmt stmt.new ≡ front_of_code V.made (view_stmt stmt.old)) }
+        ensures places { OnOk result (kept V.keeps (told_stmt stmt.new) ≡ kept V.keeps (told_stmt stmt.old)) }
     {
         match stmt {
             Stmt::Function(_, _, parameters, _, _) => self.patterns(visitor, parameters),
@@ -84,7 +89,8 @@ impl Walker {
         visitor: &mut V,
         stmt: &mut Stmt<'_>,
     ) -> Result<(), AllocError>
-        ensures { OnOk result (view_stmt stmt.new ≡ rest_of_code V.made (view_stmt stmt.old)) }
+        ensures seen { OnOk result (view_stmt stmt.new ≡ rest_of_code V.made (view_stmt stmt.old)) }
+        ensures places { OnOk result (kept V.keeps (told_stmt stmt.new) ≡ kept V.keeps (told_stmt stmt.old)) }
     {
         match stmt {
             Stmt::Function(_, _, _, _, body) => self.stmts(visitor, body),
@@ -99,7 +105,8 @@ impl Walker {
         visitor: &mut V,
         stmts: &mut Vec<Box<Stmt<'_>>>,
     ) -> Result<(), AllocError>
-        ensures { OnOk result (map (inside view_stmt) stmts.new.items ≡ map (visited V.made) (map (inside view_stmt) stmts.old.items)) }
+        ensures seen { OnOk result (map (inside view_stmt) stmts.new.items ≡ map (visited V.made) (map (inside view_stmt) stmts.old.items)) }
+        ensures places { OnOk result (kept_each V.keeps (inside told_stmt) stmts.new.items ≡ kept_each V.keeps (inside told_stmt) stmts.old.items) }
     {
         for stmt in stmts.iter_mut() {
             self.stmt(visitor, stmt)?;
@@ -114,7 +121,8 @@ impl Walker {
         visitor: &mut V,
         stmt: &mut Option<Box<Stmt<'_>>>,
     ) -> Result<(), AllocError>
-        ensures { OnOk result (optional_of view_stmt stmt.new ≡ visited V.made (optional_of view_stmt stmt.old)) }
+        ensures seen { OnOk result (optional_of view_stmt stmt.new ≡ visited V.made (optional_of view_stmt stmt.old)) }
+        ensures places { OnOk result (kept V.keeps (told_optional told_stmt stmt.new) ≡ kept V.keeps (told_optional told_stmt stmt.old)) }
     {
         match stmt {
             Some(stmt) => self.stmt(visitor, stmt),

@@ -3,6 +3,5 @@ pub mod Types
 pub mod Calls
 pub mod Free
 pub mod Standing
-pub mod Staged
 pub mod Visiting
 pub mod Programs

@@ -2,7 +2,7 @@
 use Rattle.std.specs.Prelude.{[], codes, Bool, true, false, cond, not, ◌&&◌, ◌||◌, IsTrue, IsFalse}
 use Rattle.jsx_base.specs.Token.{Text, IdentifierName, StringLiteral, JsxName, same, first_is}
 use Rattle.jsx_tree.specs.declared.text.Goal.{Goal}
-use Rattle.jsx_tree.specs.Kinds.{ParenTarget, Call, Member, Parenthesized, Element, Kind, function, expression, jsx, Tree, leaf, node, list, Forest, none, part}
+use Rattle.jsx_tree.specs.Kinds.{Call, Member, Element, Kind, expression, jsx, Tree, leaf, node, list, Forest, none, part}
 use Rattle.jsx_tree.specs.Nonterminals.{has_dash}
 use Rattle.jsx_tree.specs.Normal.{remade, without_parentheses, nf, laid_tree}
 use Rattle.jsx_tree.specs.Parentheses.{parenthesise}
@@ -36,19 +36,6 @@ lower_node k cs = node k cs
 
 abbrev pub lower : Tree → Tree
 lower t = remade lower_node t
-
--- the same in one step where parentheses are taken off too: what an expression in parentheses is, stands in their place
-abbrev pub bare_node : Kind → Forest → Tree
-bare_node (expression Parenthesized) (part e none) = e
-bare_node k cs = lower_node k cs
-
--- no target in parentheses
-abbrev pub is_bare_target : Kind → Forest → Bool
-is_bare_target (function ParenTarget) cs = false
-is_bare_target k cs = true
-
-abbrev pub has_bare_targets : Tree → Bool
-has_bare_targets t = each_node is_bare_target t
 
 -- a node that isn't JSX, or an element that is lowered so far: its tag is one name, and it has no attributes
 abbrev pub is_lowerable : Kind → Forest → Bool

@@ -1,20 +1,19 @@
 //! The calls that make elements: `<div/>` is `React.createElement("div", null)` (React's `createElement`).
 
-ghost use Rattle.std.specs.Prelude.{◌≡◌, ◌++◌, IfOk, OnOk, IfNone, MatchOption, IsTrue, [], ◌∷◌, codes, map};
+ghost use Rattle.std.specs.Prelude.{◌≡◌, ◌++◌, IfOk, OnOk, MatchOption, IsTrue, [], ◌∷◌, codes, map};
 ghost use Rattle.jsx_base.specs.Token.{StringLiteral};
 ghost use Rattle.jsx_tree.specs.Kinds.{leaf};
 ghost use Rattle.react_compile.specs.Made.{is_ascii, quoted};
 ghost use Rattle.std.specs.Str.{chars};
 ghost use Rattle.jsx_tree.specs.View.{text_of, inside, view_expr, view_jsx};
 ghost use Rattle.jsx_visit.specs.Visit.{changed};
-ghost use Rattle.react_compile.specs.Lowering.{name, tag_type, pragma, element_call, lower_node, bare_node};
+ghost use Rattle.react_compile.specs.Lowering.{name, tag_type, pragma, element_call, lower_node};
 
 use crate::literal::quoted;
 use crate::tag::is_string_tag;
 use jsx_base::{BytePos, Span};
 use jsx_tree::{Access, Expr, Ident, Jsx, LiteralKind, Tag, Text, Word};
 use std::alloc::{AllocError, Global};
-use std::mem;
 
 /// A value in a box.
 fn boxed<T: Drop>(alloc: Global, value: T) -> Result<Box<T>, AllocError>
@@ -141,7 +140,7 @@ fn call<'s>(alloc: Global, at: Option<Span>, tag: &Text<'s>) -> Result<Box<Expr<
 
 #[tactic(auto, using(crate::proofs::Views::views))]
 fn call_of_jsx<'s>(alloc: Global, jsx: &Jsx<'s>) -> Result<Option<Box<Expr<'s>>>, AllocError>
-    ensures { IfOk result (λ o. MatchOption o (changed lower_node (view_jsx jsx.now) ≡ view_jsx jsx.now) (λ e. view_expr e.value ≡ changed bare_node (view_jsx jsx.now))) }
+    ensures { IfOk result (λ o. MatchOption o (changed lower_node (view_jsx jsx.now) ≡ view_jsx jsx.now) (λ e. view_expr e.value ≡ changed lower_node (view_jsx jsx.now))) }
 {
     match jsx {
         Jsx::Element(at, Tag::Name(tag), _) => Ok(Some(call(alloc, *at, tag)?)),
@@ -155,34 +154,10 @@ pub(crate) fn call_of<'s>(
     alloc: Global,
     expr: &Expr<'s>,
 ) -> Result<Option<Box<Expr<'s>>>, AllocError>
-    ensures { IfOk result (λ o. MatchOption o (changed lower_node (view_expr expr.now) ≡ view_expr expr.now) (λ e. view_expr e.value ≡ changed bare_node (view_expr expr.now))) }
+    ensures { IfOk result (λ o. MatchOption o (changed lower_node (view_expr expr.now) ≡ view_expr expr.now) (λ e. view_expr e.value ≡ changed lower_node (view_expr expr.now))) }
 {
     match expr {
         Expr::Jsx(jsx) => call_of_jsx(alloc, jsx),
-        _ => Ok(None),
-    }
-}
-
-/// Takes an expression out of its place.
-fn take<'s>(alloc: Global, expr: &mut Box<Expr<'s>>) -> Result<Box<Expr<'s>>, AllocError>
-    ensures { IfOk result (λ taken. taken.value ≡ expr.old.value) }
-{
-    let mut hole = boxed(alloc, Expr::Word(None, Word::This))?;
-    mem::swap(expr, &mut hole);
-    Ok(hole)
-}
-
-/// What stands in an expression's parentheses, where it has some, taken out of them.
-#[tactic(auto, using(crate::proofs::Views::views))]
-pub(crate) fn take_out<'s>(
-    alloc: Global,
-    expr: &mut Expr<'s>,
-) -> Result<Option<Box<Expr<'s>>>, AllocError>
-    ensures becomes { IfOk result (λ o. MatchOption o (changed bare_node (view_expr expr.old) ≡ changed lower_node (view_expr expr.old)) (λ e. view_expr e.value ≡ changed bare_node (view_expr expr.old))) }
-    ensures stays { IfOk result (λ o. IfNone o (expr.new ≡ expr.old)) }
-{
-    match expr {
-        Expr::Paren(_, inner) => Ok(Some(take(alloc, inner)?)),
         _ => Ok(None),
     }
 }

@@ -1,12 +1,13 @@
 //! A source's bytes to its code.
 
-ghost use Rattle.std.specs.Prelude.{◌≡◌, ◌<◌, ◌≤◌, ℕ, IfOk, IfErr, OnErr, IsOkUnless, length, string_bytes};
+ghost use Rattle.std.specs.Prelude.{◌≡◌, ◌<◌, ◌≤◌, ℕ, IfOk, IfErr, OnOk, OnErr, IsOkUnless, length, string_bytes};
 ghost use Rattle.std.specs.Str.{IsUtf8};
 ghost use Rattle.react_compile.specs.ParseErrors.{SyntaxWithin};
 ghost use Rattle.jsx_tree.specs.Kinds.{Tree};
 ghost use Rattle.jsx_base.specs.Token as token;
 ghost use Rattle.jsx_token.specs.Stage.{ReadsSoFar};
 ghost use Rattle.jsx_tree.specs.ViewProgram.{view};
+ghost use Rattle.jsx_tree.specs.Normal.{without_parentheses};
 ghost use Rattle.react_compile.specs.Compiles.{Compiles, IsCodeFor, IsSource};
 
 use crate::lower::lower;
@@ -61,6 +62,7 @@ impl From<ParseError> for CompileError {
 fn text_of(source: &[u8]) -> Result<&str, CompileError>
     requires { length source.now < 4294901760 }
     ensures same { IfOk result (λ text. text.now ≡ source.now) }
+    ensures utf8 { OnOk result (IsUtf8 source.now) }
     ensures refused { OnErr result (IsUtf8 source.now → ⊥) }
     ensures place { IfErr result (λ e. SyntaxWithin e (length source.now)) }
 {
@@ -70,9 +72,10 @@ fn text_of(source: &[u8]) -> Result<&str, CompileError>
     }
 }
 
-/// The code of a program: its elements are lowered, pairs of parentheses put where they are needed, and the whole printed.
+/// The code of a program that was read: its elements are lowered, pairs of parentheses put where they are needed, and the whole
+/// printed.
 fn code_of(alloc: Global, program: &mut Program<'_>) -> Result<String, AllocError>
-    ensures { IfOk result (λ code. (source : token.Text) → ReadsSoFar source (view program.old) → IsCodeFor (view program.old) (string_bytes code)) }
+    ensures { IfOk result (λ code. (source : token.Text) (written : Tree) → ReadsSoFar source written → view program.old ≡ without_parentheses written → IsCodeFor written (string_bytes code)) }
 {
     let comments = lower(alloc, program)?;
     parenthesise(alloc, program)?;

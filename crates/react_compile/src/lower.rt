@@ -1,17 +1,16 @@
-//! JSX lowered to calls: each element becomes the call that makes it. Parentheses go with it.
+//! JSX lowered to calls: each element becomes the call that makes it.
 
 ghost use Rattle.std.specs.Prelude.{◌≡◌, OnOk, IfOk, IsTrue};
 ghost use Rattle.jsx_tree.specs.ViewProgram.{view};
-ghost use Rattle.jsx_tree.specs.Normal.{without_parentheses};
-ghost use Rattle.react_compile.specs.Lowering.{can_lower, has_bare_targets, lower};
+ghost use Rattle.react_compile.specs.Lowering.{can_lower, lower};
 
-use crate::calls::{call_of, take_out};
+use crate::calls::call_of;
 use jsx_base::{Comments, SingleThreadedComments};
 use jsx_tree::{Access, Expr, Program};
 use jsx_visit::{Visitor, visit};
 use std::alloc::{AllocError, Global};
 
-/// A pass that makes calls of elements, and marks each as free of effects, and takes off parentheses.
+/// A pass that makes calls of elements, and marks each as free of effects.
 #[derive(Drop)]
 struct Lowering {
     comments: SingleThreadedComments,
@@ -30,23 +29,24 @@ impl Lowering {
 }
 
 impl Visitor for Lowering {
-    ghost use Rattle.react_compile.specs.Lowering.{bare_node};
+    ghost use Rattle.std.specs.Prelude.{false};
+    ghost use Rattle.react_compile.specs.Lowering.{lower_node};
 
-    ghost made = { bare_node };
+    ghost made = { lower_node };
+
+    ghost keeps = { false };
 
     fn expr(&mut self, alloc: Global, expr: &mut Box<Expr<'_>>) -> Result<(), AllocError> {
         if let Some(call) = call_of(alloc, expr)? {
             self.mark(&call)?;
             *expr = call;
-        } else if let Some(inner) = take_out(alloc, expr)? {
-            *expr = inner;
         }
         Ok(())
     }
 }
 
-/// Makes a call of each element of a program whose elements have no attributes and no children, takes off the parentheses round
-/// expressions, and answers the marks of the calls.
+/// Makes a call of each element of a program whose elements have no attributes and no children, and answers the marks of the
+/// calls.
 ///
 /// # Errors
 ///
@@ -55,7 +55,7 @@ pub(crate) fn lower(
     alloc: Global,
     program: &mut Program<'_>,
 ) -> Result<SingleThreadedComments, AllocError>
-    ensures { IsTrue (can_lower (view program.old)) → IsTrue (has_bare_targets (view program.old)) → OnOk result (view program.new ≡ lower (without_parentheses (view program.old))) }
+    ensures { IsTrue (can_lower (view program.old)) → OnOk result (view program.new ≡ lower (view program.old)) }
 {
     let mut lowering = Lowering {
         comments: SingleThreadedComments::new(alloc),

@@ -25,11 +25,11 @@ use Rattle.jsx_print.specs.Printing.{IsPrinted}
 use Rattle.react_compile.specs.Element.{default_settings}
 use Rattle.react_compile.specs.StandsFor.{StandsFor}
 use Rattle.react_compile.specs.Compiles.{IsCodeFor}
-use Rattle.react_compile.specs.Lowering.{lower, has_bare_targets, can_lower, prepared, IsPrepared}
+use Rattle.react_compile.specs.Lowering.{lower, can_lower, prepared, IsPrepared}
 use Rattle.react_compile.proofs.Lowering.Calls.{lowered_sound, lowered_goal}
 use Rattle.react_compile.proofs.Lowering.Free.{fits_free}
 use Rattle.react_compile.proofs.Lowering.Standing.{lowered_stands}
-use Rattle.react_compile.proofs.Lowering.Staged.{so_far_lowers, so_far_bare}
+use Rattle.react_compile.proofs.Lowering.Visiting.{so_far_lowers, bare_lowers}
 
 pub is_prepared : (goal : Goal) (text : Text) (t : Tree) → IsTrue (can_lower t) → Reads goal text t → IsPrepared goal t
 is_prepared goal text t o h =
@@ -54,13 +54,13 @@ is_code_for source t bytes at h u w e =
       stands_for = p.stands_for;
     }
 
--- the passes, one after the other: what was lowered, parenthesised and printed
-pub passes_code : (source : Text) (t lowered paired : Tree) (bytes : List ℕ) → ReadsSoFar source t → (IsTrue (can_lower t) → IsTrue (has_bare_targets t) → lowered ≡ lower (without_parentheses t)) → (IsTrue (formed lowered) → paired ≡ parenthesise lowered)
+-- the passes, one after the other: what was read without its parentheses, and then lowered, parenthesised and printed
+pub passes_code : (source : Text) (t bare lowered paired : Tree) (bytes : List ℕ) → ReadsSoFar source t → bare ≡ without_parentheses t → (IsTrue (can_lower bare) → lowered ≡ lower bare) → (IsTrue (formed lowered) → paired ≡ parenthesise lowered)
     → (IsTrue (fits paired) → IsPrinted paired (chars bytes)) → IsUtf8 bytes → IsCodeFor t bytes
-passes_code source t lowered paired bytes h lowers pairs prints u =
+passes_code source t bare lowered paired bytes h off lowers pairs prints u =
     let o : can_lower t ≡ true = so_far_lowers source t h in
-    let bare : lowered ≡ lower (without_parentheses t) = lowers o (so_far_bare source t h) in
-    let s : is_sound lowered ≡ true = ap is_sound bare ∙ lowered_sound goals.Module source t o h.reads in
-    let p : paired ≡ prepared t = pairs (and_parts (formed lowered) (lawful outside (laid_tree lowered)) s).0 ∙ ap parenthesise bare in
+    let low : lowered ≡ lower (without_parentheses t) = lowers (ap can_lower off ∙ bare_lowers t o) ∙ ap lower off in
+    let s : is_sound lowered ≡ true = ap is_sound low ∙ lowered_sound goals.Module source t o h.reads in
+    let p : paired ≡ prepared t = pairs (and_parts (formed lowered) (lawful outside (laid_tree lowered)) s).0 ∙ ap parenthesise low in
     let k : IsPrinted (prepared t) (chars bytes) = subst (λ x. IsPrinted x (chars bytes)) p (prints (ap fits p ∙ (is_prepared goals.Module source t o h.reads).can_print)) in
     is_code_for source t bytes k.marked h u k.in_code k.is_layout

@@ -126,10 +126,21 @@ fn code_of_sources(rt: HostRuntime) -> Result<(), Fail> {
             "(new a).b;(new a)();new(a)(b);new(a.b());-new a",
             "new a().b;\nnew a()();\nnew a(b);\nnew (a.b())();\n-new a();\n",
         ),
+        (
+            "5..a;1 .b=2. .c;(3).d();4[5];-6e1.f;7n.g",
+            "(5.).a;\n(1).b = (2.).c;\n(3).d();\n4[5];\n-(6e1).f;\n7n.g;\n",
+        ),
+        (
+            "a?.b.c;a?.[b]?.(c,<d/>);(a?.b).c;(a?.b)();x=a?.5:-b",
+            "a?.b.c;\na?.[b]?.(c, /*#__PURE__*/ React.createElement(\"d\", null));\n(a?.b).c;\n(a?.b)();\nx = a ? .5 : -b;\n",
+        ),
         ("x = a / b / /[/]\\/c/g", "x = a / b / /[/]\\/c/g;\n"),
         ("1.5;0x1;null;f(this);", "1.5;\n0x1;\nnull;\nf(this);\n"),
         ("a=b=c in d instanceof e;", "a = b = c in d instanceof e;\n"),
         ("x = a ?? (b || c)", "x = a ?? (b || c);\n"),
+        ("if (a) b; else { c }", "if (a) b; else {\n    c;\n}\n"),
+        ("a\n++b", "a;\n++b;\n"),
+        ("(a?.b).c", "(a?.b).c;\n"),
         ("(\"use x\"); y", "(\"use x\");\ny;\n"),
         (
             "'use client'\n\"use strict\";<a/>",
@@ -194,6 +205,14 @@ fn code_of_sources(rt: HostRuntime) -> Result<(), Fail> {
             "x={a:<b/>,...{c:[(<D/>)]}}",
             "x = { a: /*#__PURE__*/ React.createElement(\"b\", null), ...{ c: [/*#__PURE__*/ React.createElement(D, null)] } };\n",
         ),
+        (
+            "x=`a\n$`;f(`${<b/>} ${(c,d)}`,-`e`.g);`${`${{}}`}`",
+            "x = `a\n$`;\nf(`${/*#__PURE__*/ React.createElement(\"b\", null)} ${c, d}`, -`e`.g);\n`${`${{}}`}`;\n",
+        ),
+        (
+            "x=a`\\u{${<b/>}`.c`d`;new e`f`(g)\n`h`;(i,j)``",
+            "x = a`\\u{${/*#__PURE__*/ React.createElement(\"b\", null)}`.c`d`;\nnew e`f`(g)`h`;\n(i, j)``;\n",
+        ),
     ] {
         assert_runs(&rt, &plain(source.as_bytes()), (Status::Done, code, ""))?;
         // Code without marks, which are comments, is its own code.
@@ -228,7 +247,6 @@ fn sources_that_do_not_read(rt: HostRuntime) -> Result<(), Fail> {
         b"++a();",
         b"-x ** y;",
         b"1.x;",
-        b"1 .x;",
         b"01;",
         b"a.;",
         b"a..b;",
@@ -248,6 +266,9 @@ fn sources_that_do_not_read(rt: HostRuntime) -> Result<(), Fail> {
         b"new import(a);",
         b"new.target;",
         b"new a = b;",
+        b"new a?.b;",
+        b"a?.b = c;",
+        b"a?.b`c`;",
         b"import.metas;",
         b"delete a;",
         b"delete (a);",

@@ -18,6 +18,7 @@ use Rattle.jsx_token.proofs.Listed.{listed}
 use Rattle.jsx_expression.proofs.Values.{literal_follows, or_left}
 use Rattle.jsx_expression.proofs.Openings.{kept_whole, opened_follows, unfit_literal, no_value}
 use Rattle.jsx_expression.proofs.Steps.{passed}
+use Rattle.jsx_expression.proofs.Templates.{unquoted}
 use Rattle.jsx_expression.proofs.expression.primary.Goals as goal
 
 -- the same tree in the code
@@ -31,7 +32,7 @@ returns-in-Some-value_word-clause-read c = seen (c.in_ok-constant.ensures.view �
 pub returns-then-is_reserved-clause-refused : goal.returns-then-is_reserved-clause-refused
 returns-then-is_reserved-clause-refused c =
     let a = ap not (sym c.is_reserved.ensures ∙ c.if-is_reserved.true) in
-    record { bars = λ _ _. unfit_literal IsName (chars c.in-Some.raw.now) c.requires c.in-Some.ensures.taken refl (λ i. a i || c.in_default-value_word.ensures.none i) }
+    record { bars = λ _ _. unfit_literal IsName (chars c.in-Some.raw.now) c.requires.opening c.in-Some.ensures.taken refl (λ i. a i || c.in_default-value_word.ensures.none i) }
 
 pub returns-in-Some-clause-read : goal.returns-in-Some-clause-read
 returns-in-Some-clause-read c = seen c.in_ok-name.ensures.view
@@ -74,9 +75,10 @@ returns-in_err-element-clause-refused c =
     let stays''' : place_of c.leaf-4.new.self ≡ place_of c.args.lexer.now = ap place_of c.in_default-leaf-3.ensures.stays ∙ stays'' in
     let stays'''' : place_of c.leaf-5.new.self ≡ place_of c.args.lexer.now = ap place_of c.in_default-leaf-4.ensures.stays ∙ stays''' in
     passed _ c.in_err-element.ensures.refused c.from_residual-in_err-element.ensures.1
-    (λ n. no_value c.requires c.in_default.ensures.missing
+    (λ n. no_value c.requires.opening c.in_default.ensures.missing
     (λ t. ap (forth (Tok Operator NumericLiteral t)) (sym stays') ∙ c.in_default-leaf-2.ensures.missing t)
     (λ t. ap (forth (Tok Operator BigIntLiteral t)) (sym stays'') ∙ c.in_default-leaf-3.ensures.missing t)
     (λ t. ap (forth (Tok Operator StringLiteral t)) (sym stays) ∙ c.in_default-leaf.ensures.missing t)
     (λ t. ap (forth (Tok Operand RegExpLiteral t)) (sym stays''') ∙ c.in_default-leaf-4.ensures.missing t)
-    (subst (NoRow so_far (around_of c.args.context.around) (row_so_far (jsx Element))) stays'''' n))
+    (subst (NoRow so_far (around_of c.args.context.around) (row_so_far (jsx Element))) stays'''' n)
+    (unquoted c.args.lexer.now c.requires.template))

@@ -4,15 +4,16 @@ use Rattle.jsx_tree.specs.View.{view_expr}
 use Rattle.jsx_token.specs.Here.{place_of, left}
 use Rattle.jsx_token.specs.Growths.{rung, growth_kind}
 use Rattle.jsx_token.specs.Places.{end_of}
-use Rattle.jsx_token.proofs.Levels.{growth_grows, growth_listed}
+use Rattle.jsx_token.proofs.Levels.{growth_marks, growth_listed}
 use Rattle.jsx_token.proofs.TakingGrowths.{ended}
 use Rattle.jsx_expression.specs.Climbing.{fits, level}
-use Rattle.jsx_expression.proofs.Climbing.{climb_on}
+use Rattle.jsx_expression.proofs.Climbing.{climb_on, climb_tagged, climbs_to}
+use Rattle.jsx_expression.proofs.Templates.{quoted_to, unquoted_to}
 use Rattle.jsx_expression.proofs.Places.{spans_from}
 use Rattle.jsx_expression.proofs.Placing.{placed_to}
 use Rattle.jsx_expression.proofs.Steps.{passed}
 use Rattle.jsx_syntax.specs.Heads.{at_in, at_end}
-use Rattle.jsx_syntax.proofs.Stems.{climbs_to, near_more, near_to, not_before, stem_barred, stem_begun, stem_low, stem_to, stem_unbegun, stem_unfit}
+use Rattle.jsx_syntax.proofs.Stems.{near_more, near_tagged, near_to, not_before, stem_barred, stem_begun, stem_low, stem_to, stem_unbegun, stem_unfit, stem_untagged}
 use Rattle.jsx_syntax.proofs.for_head.stem.Goals as goal
 
 pub steps-init : goal.steps-init
@@ -32,42 +33,65 @@ returns-then-level-lt-ASSIGNMENT-clause-refused c = record { bars = λ _ _. stem
 
 pub returns-in_default-clause-read : goal.returns-in_default-clause-read
 returns-in_default-clause-read c =
-    let e = c.in_default.ensures.stays ∙ c.is_before.ensures.stays in
-    stem_to e c.steps.invariant.climbs c.steps.invariant.targets (at_end (ended (rung 1) c.is_before.new.self (climbs_to c.is_before.ensures.stays c.steps.invariant.climbs).ended c.in_default.ensures.missing)) (ap place_of c.in_default.ensures.stays)
+    let here = c.is_before_template.ensures.stays in
+    let e = here ∙ c.is_before.ensures.stays in
+    stem_to (c.in_default.ensures.stays ∙ e) c.steps.invariant.climbs c.steps.invariant.targets
+    (at_end (ended (rung 1) c.is_before_template.new.self (climbs_to e c.steps.invariant.climbs).ended c.in_default.ensures.missing (unquoted_to here c.is_before_template.ensures.ahead c.if-is_before_template.false))) (ap place_of c.in_default.ensures.stays)
 
 pub returns-in_default-clause-span : goal.returns-in_default-clause-span
-returns-in_default-clause-span c = spans_from c.steps.invariant.span refl refl (sym (ap end_of (c.in_default.ensures.stays ∙ c.is_before.ensures.stays)))
+returns-in_default-clause-span c = spans_from c.steps.invariant.span refl refl (sym (ap end_of (c.in_default.ensures.stays ∙ (c.is_before_template.ensures.stays ∙ c.is_before.ensures.stays))))
 
 pub returns-in_default-clause-placed : goal.returns-in_default-clause-placed
-returns-in_default-clause-placed c = placed_to (c.in_default.ensures.stays ∙ c.is_before.ensures.stays) c.steps.invariant.placed
+returns-in_default-clause-placed c = placed_to (c.in_default.ensures.stays ∙ (c.is_before_template.ensures.stays ∙ c.is_before.ensures.stays)) c.steps.invariant.placed
+
+pub returns-in_err-expr-2-clause-refused : goal.returns-in_err-expr-2-clause-refused
+returns-in_err-expr-2-clause-refused c =
+    let here = c.is_before_template.ensures.stays in
+    let e = here ∙ c.is_before.ensures.stays in
+    passed _ c.in_err-expr-2.ensures.refused c.from_residual-in_err-expr-2.ensures.1
+    (λ n. stem_untagged c.requires (climbs_to e c.steps.invariant.climbs) (near_to e c.steps.invariant.targets) (quoted_to here c.is_before_template.ensures.ahead c.if-is_before_template.true) n)
+
+pub steps-preserved-then-is_before_template : goal.steps-preserved-then-is_before_template
+steps-preserved-then-is_before_template c =
+    let here = c.is_before_template.ensures.stays in
+    let e = here ∙ c.is_before.ensures.stays in
+    let q = quoted_to here c.is_before_template.ensures.ahead c.if-is_before_template.true in
+    let span = spans_from c.steps.invariant.span refl refl (sym (ap end_of e)) in
+    record {
+      climbs = climb_tagged (rung 1) refl (climbs_to e c.steps.invariant.climbs) q c.in_ok-expr-2.ensures.fits c.in_ok-expr-2.ensures.read c.in_ok-expr-2.ensures.ended;
+      targets = near_tagged (near_to e c.steps.invariant.targets) q c.in_ok-expr-2.ensures.fits c.in_ok-expr-2.ensures.read c.in_ok-expr-2.ensures.ended;
+      span = c.in_ok-expr-2.ensures.span.on _ _ span;
+      placed = c.in_ok-expr-2.ensures.placed.on _ span (placed_to e c.steps.invariant.placed);
+      within = omega (arith, c.in_ok-expr-2.ensures.shorter, ap left e, c.steps.invariant.within);
+    }
 
 pub returns-then-not-fits-clause-refused : goal.returns-then-not-fits-clause-refused
 returns-then-not-fits-clause-refused c = record {
   bars = λ _ _.
       let g = c.in-Some.growth in
-      let e = c.is_before.ensures.stays in
-      stem_unfit (growth_kind g) c.requires (climbs_to e c.steps.invariant.climbs) (near_to e c.steps.invariant.targets) (growth_listed g) (growth_grows g) c.in-Some.ensures.on_line (record { is = c.in-Some.ensures.taken; found = refl }) c.in-Some.ensures.reaches
-      (not_before e c.is_before.ensures.ahead c.steps-test.true) (ap (λ e. fits (growth_kind g) (view_expr e)) (sym c.deref-in-steps.ensures) ∙ (sym c.fits.ensures ∙ c.if-not-fits.true));
+      let e = c.is_before_template.ensures.stays ∙ c.is_before.ensures.stays in
+      stem_unfit (growth_kind g) c.requires (climbs_to e c.steps.invariant.climbs) (near_to e c.steps.invariant.targets) (growth_listed g) (growth_marks g) c.in-Some.ensures.on_line (record { is = c.in-Some.ensures.taken; found = refl }) c.in-Some.ensures.reaches
+      (not_before e c.is_before.ensures.ahead c.steps-test.true) (ap (λ e. fits (growth_kind g) (view_expr e)) (sym c.deref-else-is_before_template.ensures) ∙ (sym c.fits.ensures ∙ c.if-not-fits.true));
 }
 
-pub returns-in_err-expr-2-clause-refused : goal.returns-in_err-expr-2-clause-refused
-returns-in_err-expr-2-clause-refused c =
+pub returns-in_err-expr-3-clause-refused : goal.returns-in_err-expr-3-clause-refused
+returns-in_err-expr-3-clause-refused c =
     let g = c.in-Some.growth in
-    let e = c.is_before.ensures.stays in
-    passed _ c.in_err-expr-2.ensures.refused c.from_residual-in_err-expr-2.ensures.1
-    (λ n. stem_barred (growth_kind g) c.requires (climbs_to e c.steps.invariant.climbs) (near_to e c.steps.invariant.targets) (growth_listed g) (growth_grows g) c.in-Some.ensures.on_line (record { is = c.in-Some.ensures.taken; found = refl }) c.in-Some.ensures.reaches (not_before e c.is_before.ensures.ahead c.steps-test.true) n)
+    let e = c.is_before_template.ensures.stays ∙ c.is_before.ensures.stays in
+    passed _ c.in_err-expr-3.ensures.refused c.from_residual-in_err-expr-3.ensures.1
+    (λ n. stem_barred (growth_kind g) c.requires (climbs_to e c.steps.invariant.climbs) (near_to e c.steps.invariant.targets) (growth_listed g) (growth_marks g) c.in-Some.ensures.on_line (record { is = c.in-Some.ensures.taken; found = refl }) c.in-Some.ensures.reaches (not_before e c.is_before.ensures.ahead c.steps-test.true) n)
 
 pub steps-preserved : goal.steps-preserved
 steps-preserved c =
     let g = c.in-Some.growth in
-    let e = c.is_before.ensures.stays in
-    let f = ap (λ e. fits (growth_kind g) (view_expr e)) (sym c.deref-in-steps.ensures) ∙ (sym c.fits.ensures ∙ c.if-not-fits.false) in
+    let e = c.is_before_template.ensures.stays ∙ c.is_before.ensures.stays in
+    let f = ap (λ e. fits (growth_kind g) (view_expr e)) (sym c.deref-else-is_before_template.ensures) ∙ (sym c.fits.ensures ∙ c.if-not-fits.false) in
     record {
-      climbs = climb_on (rung 1) (growth_kind g) refl (growth_listed g) (growth_grows g) (climbs_to e c.steps.invariant.climbs) c.in-Some.ensures.on_line (record { is = c.in-Some.ensures.taken; found = refl }) c.in-Some.ensures.reaches f c.in_ok-expr-2.ensures.read c.in_ok-expr-2.ensures.ended;
-      targets = near_more (growth_kind g) c.requires (near_to e c.steps.invariant.targets) (growth_listed g) (growth_grows g) c.in-Some.ensures.on_line (record { is = c.in-Some.ensures.taken; found = refl }) (not_before e c.is_before.ensures.ahead c.steps-test.true) f c.in_ok-expr-2.ensures.read c.in_ok-expr-2.ensures.ended;
-      span = c.in_ok-expr-2.ensures.span.on _ _ c.steps.invariant.span;
-      placed = c.in_ok-expr-2.ensures.placed.on _ _ (spans_from c.steps.invariant.span refl refl (sym (ap end_of e))) (placed_to e c.steps.invariant.placed) c.in-Some.ensures.takes;
-      within = omega (arith, c.in_ok-expr-2.ensures.within, c.in-Some.ensures.shorter, ap left e, c.steps.invariant.within);
+      climbs = climb_on (rung 1) (growth_kind g) refl (growth_listed g) (growth_marks g) (climbs_to e c.steps.invariant.climbs) c.in-Some.ensures.on_line (record { is = c.in-Some.ensures.taken; found = refl }) c.in-Some.ensures.reaches f c.in_ok-expr-3.ensures.read c.in_ok-expr-3.ensures.ended;
+      targets = near_more (growth_kind g) c.requires (near_to e c.steps.invariant.targets) (growth_listed g) (growth_marks g) c.in-Some.ensures.on_line (record { is = c.in-Some.ensures.taken; found = refl }) (not_before e c.is_before.ensures.ahead c.steps-test.true) f c.in_ok-expr-3.ensures.read c.in_ok-expr-3.ensures.ended;
+      span = c.in_ok-expr-3.ensures.span.on _ _ c.steps.invariant.span;
+      placed = c.in_ok-expr-3.ensures.placed.on _ _ (spans_from c.steps.invariant.span refl refl (sym (ap end_of e))) (placed_to e c.steps.invariant.placed) c.in-Some.ensures.takes;
+      within = omega (arith, c.in_ok-expr-3.ensures.within, c.in-Some.ensures.shorter, ap left e, c.steps.invariant.within);
     }
 
 pub returns-clause-read : goal.returns-clause-read

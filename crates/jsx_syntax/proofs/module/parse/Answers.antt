@@ -1,24 +1,29 @@
-use Rattle.std.proofs.Common.{ap, sym, ◌∙◌}
+use Rattle.std.proofs.Common.{sym, ◌∙◌, ap, length, subst}
+use Rattle.std.specs.Prelude.{Some}
 use Rattle.std.specs.Str.{chars}
-use Rattle.std.specs.Prelude.{Err}
-use Rattle.jsx_tree.specs.Reading.{At}
-use Rattle.jsx_syntax.proofs.Texts.{whole, unread}
-use Rattle.jsx_base.proofs.FirstLine.{size-chars}
-use Rattle.jsx_tree.proofs.Rows.Lines.{found_end}
-use Rattle.jsx_tree.proofs.Tokens.{and_right}
-use Rattle.jsx_syntax.proofs.PlacedNodes.{module_placed}
+use Rattle.jsx_tree.specs.declared.text.Goal.TheVariants as goals
+use Rattle.jsx_tree.specs.Spans.{IsTold, placed_in}
+use Rattle.jsx_tree.specs.ViewProgram.{view}
+use Rattle.jsx_expression.specs.Spans.{Spans, program_at}
+use Rattle.jsx_tree.proofs.OneTree.Whole.{one_tree}
+use Rattle.jsx_expression.proofs.Steps.{passed}
+use Rattle.jsx_syntax.proofs.Unwrapping.{same_span}
 use Rattle.jsx_syntax.proofs.module.parse.Goals as goal
 
-pub returns-in-Ok-clause-read : goal.returns-in-Ok-clause-read
-returns-in-Ok-clause-read c = whole c.of_module-around.ensures (λ i. At (c.new-lexer.ensures.last i) (c.new-lexer.ensures.ending i) (c.new-lexer.ensures.rest i)) c.in-Ok.ensures.read
+pub returns-in_err-program-clause-refused : goal.returns-in_err-program-clause-refused
+returns-in_err-program-clause-refused c = passed _ c.in_err-program.ensures.refused c.from_residual.ensures.1 (λ n. n)
 
-pub returns-in-Err-Syntax-clause-refused : goal.returns-in-Err-Syntax-clause-refused
-returns-in-Err-Syntax-clause-refused c = record {
-  bars = λ at e.
-      unread c.of_module-around.ensures (λ i. At (c.new-lexer.ensures.last i) (c.new-lexer.ensures.ending i) (c.new-lexer.ensures.rest i)) (c.in-Err-Syntax.ensures.refused.bars c.in-Err-Syntax.at (ap Err c.in-Err-Syntax.field-0-is));
-}
+pub returns-clause-read : goal.returns-clause-read
+returns-clause-read c =
+    let r = c.in_ok-program.ensures.read in
+    record {
+      written = view c.in_ok-program.program;
+      reads = r;
+      alone = λ t s. one_tree goals.Module (chars c.args.text.now) t (view c.in_ok-program.program) s.reads r.reads;
+      bare = c.in_ok-bare.ensures.seen (chars c.args.text.now) r;
+      placed = subst (λ d. IsTold d (placed_in (chars c.args.text.now) (view c.in_ok-program.program))) (sym c.in_ok-bare.ensures.places) c.in_ok-program.ensures.placed;
+    }
 
-pub returns-in-Ok-clause-placed : goal.returns-in-Ok-clause-placed
-returns-in-Ok-clause-placed c =
-    module_placed (chars c.args.text.now) (λ i. At (c.new-lexer.ensures.last i) (c.new-lexer.ensures.ending i) (c.new-lexer.ensures.rest i)) (c.new-lexer.ensures.end ∙ sym (size-chars c.args.text.now c.utf8.text)) c.in-Ok.ensures.placed
-    (found_end _ (and_right _ _ (returns-in-Ok-clause-read c).reads.read))
+pub returns-clause-span : goal.returns-clause-span
+returns-clause-span c =
+    subst (λ s. Spans (Some s) 0 (length c.args.text.now)) (sym (same_span c.bare.new.program ∙ (c.in_ok-bare.ensures.whole ∙ sym (same_span c.in_ok-program.program)))) c.in_ok-program.ensures.span

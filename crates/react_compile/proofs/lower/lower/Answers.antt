@@ -4,4 +4,4 @@ use Rattle.react_compile.proofs.Lowering.Visiting.{visited_lower}
 use Rattle.react_compile.proofs.lower.lower.Goals as goal
 
 pub returns : goal.returns
-returns c = λ o b. c.in_ok-visit.ensures ∙ visited_lower (view c.args.program.now) o b
+returns c = λ o. c.in_ok-visit.ensures.seen ∙ visited_lower (view c.args.program.now) o

@@ -1,34 +1,49 @@
 use Rattle.std.proofs.Common.{◌+◌, ◌*◌}
-use Rattle.std.proofs.Common.{map}
+use Rattle.std.proofs.Common.{◌≡◌, map}
 use Rattle.jsx_tree.specs.Kinds.{Binds, Assigns}
 use Rattle.jsx_tree.specs.View.{OfObject, OfClass, inside, view_expr, view_stmt, view_control, view_link}
+use Rattle.jsx_tree.specs.Told.{told_expr, told_stmt, told_link, told_control, told_prop, told_pat}
 use Rattle.jsx_visit.specs.Visit.{visited}
-use Rattle.jsx_visit.specs.Parts.{seen_at, member_at}
+use Rattle.jsx_visit.specs.Parts.{seen_at, member_at, kept_each}
 use Rattle.jsx_base.proofs.Spans.{MappedTo}
 use Rattle.jsx_visit.proofs.walk.Walker.+walk.Given as goal
 
 abbrev pub invariant-controls-loop-control : goal.invariant-controls-loop-control
-invariant-controls-loop-control g l = MappedTo (visited g.V.Visitor.made) l.control-index (map (inside view_control) l.initial.control-items) (map (inside view_control) l.control-items)
+invariant-controls-loop-control g l = record {
+  seen : MappedTo (visited g.V.Visitor.made) l.control-index (map (inside view_control) l.initial.control-items) (map (inside view_control) l.control-items);
+  places : kept_each g.V.Visitor.keeps (inside told_control) l.control-items ≡ kept_each g.V.Visitor.keeps (inside told_control) l.initial.control-items;
+}
 
 abbrev pub invariant-exprs-loop-expr : goal.invariant-exprs-loop-expr
-invariant-exprs-loop-expr g l = MappedTo (visited g.V.Visitor.made) l.expr-index (map (inside view_expr) l.initial.expr-items) (map (inside view_expr) l.expr-items)
+invariant-exprs-loop-expr g l = record {
+  seen : MappedTo (visited g.V.Visitor.made) l.expr-index (map (inside view_expr) l.initial.expr-items) (map (inside view_expr) l.expr-items);
+  places : kept_each g.V.Visitor.keeps (inside told_expr) l.expr-items ≡ kept_each g.V.Visitor.keeps (inside told_expr) l.initial.expr-items;
+}
 
 abbrev pub invariant-links-loop-link : goal.invariant-links-loop-link
-invariant-links-loop-link g l = MappedTo (visited g.V.Visitor.made) l.link-index (map (inside view_link) l.initial.link-items) (map (inside view_link) l.link-items)
+invariant-links-loop-link g l = record {
+  seen : MappedTo (visited g.V.Visitor.made) l.link-index (map (inside view_link) l.initial.link-items) (map (inside view_link) l.link-items);
+  places : kept_each g.V.Visitor.keeps (inside told_link) l.link-items ≡ kept_each g.V.Visitor.keeps (inside told_link) l.initial.link-items;
+}
 
 abbrev pub invariant-stmts-loop-stmt : goal.invariant-stmts-loop-stmt
-invariant-stmts-loop-stmt g l = MappedTo (visited g.V.Visitor.made) l.stmt-index (map (inside view_stmt) l.initial.stmt-items) (map (inside view_stmt) l.stmt-items)
+invariant-stmts-loop-stmt g l = record {
+  seen : MappedTo (visited g.V.Visitor.made) l.stmt-index (map (inside view_stmt) l.initial.stmt-items) (map (inside view_stmt) l.stmt-items);
+  places : kept_each g.V.Visitor.keeps (inside told_stmt) l.stmt-items ≡ kept_each g.V.Visitor.keeps (inside told_stmt) l.initial.stmt-items;
+}
 
 abbrev pub invariant-members-loop-member : goal.invariant-members-loop-member
 invariant-members-loop-member g l = record {
   of_object : MappedTo (visited g.V.Visitor.made) l.member-index (map (member_at OfObject) l.initial.member-items) (map (member_at OfObject) l.member-items);
   of_class : MappedTo (visited g.V.Visitor.made) l.member-index (map (member_at OfClass) l.initial.member-items) (map (member_at OfClass) l.member-items);
+  places : kept_each g.V.Visitor.keeps (inside told_prop) l.member-items ≡ kept_each g.V.Visitor.keeps (inside told_prop) l.initial.member-items;
 }
 
 abbrev pub invariant-patterns-loop-pattern : goal.invariant-patterns-loop-pattern
 invariant-patterns-loop-pattern g l = record {
   binds : MappedTo (visited g.V.Visitor.made) l.pattern-index (map (seen_at Binds) l.initial.pattern-items) (map (seen_at Binds) l.pattern-items);
   assigns : MappedTo (visited g.V.Visitor.made) l.pattern-index (map (seen_at Assigns) l.initial.pattern-items) (map (seen_at Assigns) l.pattern-items);
+  places : kept_each g.V.Visitor.keeps (inside told_pat) l.pattern-items ≡ kept_each g.V.Visitor.keeps (inside told_pat) l.initial.pattern-items;
 }
 
 abbrev pub decreases-expr : goal.decreases-expr

@@ -1,0 +1,163 @@
+//! Operators and assignments (ECMA-262 sections 13.4 to 13.15).
+
+ghost use Rattle.std.specs.Prelude.{◌<◌, IfOk, OnOk, IsTrue, suc};
+ghost use Rattle.jsx_tree.specs.Kinds.{Assign, OpAssign, Unary, Binary, Cond, expression, part, PrefixUpdate};
+ghost use Rattle.jsx_tree.specs.View.{view_expr};
+ghost use Rattle.jsx_tree.specs.ViewOperators.{assign_of, binary_of, unary_of, step_of};
+ghost use Rattle.jsx_tree.specs.Told.{told_expr};
+ghost use Rattle.jsx_tree.specs.Walk.{tail};
+ghost use Rattle.jsx_tree.specs.Answers.{NoRow, Built, NoNode, BuiltNode};
+ghost use Rattle.jsx_expression.specs.Around.{around_of};
+ghost use Rattle.jsx_expression.specs.SoFar.{so_far};
+ghost use Rattle.jsx_token.specs.Marks.{row_so_far};
+ghost use Rattle.jsx_token.specs.Here.{place_of, left};
+ghost use Rattle.jsx_expression.specs.Answers.{Refused};
+ghost use Rattle.jsx_token.specs.Growths.{mark, opening_sign, settled};
+ghost use Rattle.jsx_make.specs.NodeSpans.{expr_at};
+ghost use Rattle.jsx_expression.specs.Spans.{Extends, IsPlacedBehind, IsPlacedOn, Spans};
+ghost use Rattle.jsx_token.specs.Places.{begin_of, end_of};
+ghost use Rattle.jsx_expression.specs.Within.{ReadsWithin};
+
+use crate::around::Context;
+use crate::error::ParseError;
+use crate::expression::{ASSIGNMENT, MEMBER, UNARY, deletes_name, is_target, start_of, target_of};
+use crate::grammar::Expressions;
+use crate::parser::{expect, give_up, span_to};
+use jsx_make::make;
+use jsx_token::{Fixed, Lexer, growth};
+use jsx_tree::{AssignOp, BinaryOp, Expr, UnaryOp, UpdateOp};
+
+impl<
+    F: for<'c, 's> Fn(Context<'c>, &mut Lexer<'s>, u8) -> Result<Box<Expr<'s>>, ParseError>,
+> Expressions<F> {
+    /// A conditional expression behind its `?`: `a ? b : c` (ECMA-262 section 13.14).
+    pub(crate) fn conditional<'s>(
+        &self,
+        context: Context,
+        lexer: &mut Lexer<'s>,
+        test: Box<Expr<'s>>,
+    ) -> Result<Box<Expr<'s>>, ParseError>
+        requires nests { ReadsWithin (suc (left lexer.old)) (F.pre self.now.inner) (F.post self.now.inner) }
+        ensures read { IfOk result (λ e. Built so_far (around_of context.entry.around) (tail (tail (row_so_far (expression Cond)))) (expression Cond) (part (view_expr test.entry.value)) (view_expr e.value) (place_of lexer.old) (place_of lexer.new)) }
+        ensures span { IfOk result (λ e. Extends (expr_at test.entry.value) (expr_at e.value) (end_of lexer.new)) }
+        ensures placed { IfOk result (λ e. IsPlacedOn (mark (expression Cond)) test.entry.value lexer.old e.value lexer.new) }
+        ensures shorter { OnOk result (left lexer.new < left lexer.old) }
+        ensures ended { OnOk result (IsTrue (settled (place_of lexer.new))) }
+        ensures refused { Refused result (NoRow so_far (around_of context.entry.around) (tail (tail (row_so_far (expression Cond)))) (place_of lexer.old)) }
+    {
+        let then = self.inner(context, lexer, ASSIGNMENT)?;
+        expect(context, lexer, Fixed::Colon)?;
+        let other = self.inner(context, lexer, ASSIGNMENT)?;
+        let span = span_to(start_of(&test), lexer);
+        Ok(make::conditional(context.alloc, span, test, then, other)?)
+    }
+
+    /// A binary expression behind its operator: `a + b` (ECMA-262 sections 13.6 to 13.13).
+    pub(crate) fn binary<'s>(
+        &self,
+        context: Context,
+        lexer: &mut Lexer<'s>,
+        operator: BinaryOp,
+        first: Box<Expr<'s>>,
+    ) -> Result<Box<Expr<'s>>, ParseError>
+        requires nests { ReadsWithin (suc (left lexer.old)) (F.pre self.now.inner) (F.post self.now.inner) }
+        ensures read { IfOk result (λ e. Built so_far (around_of context.entry.around) (tail (tail (row_so_far (expression (Binary (binary_of operator)))))) (expression (Binary (binary_of operator))) (part (view_expr first.entry.value)) (view_expr e.value) (place_of lexer.old) (place_of lexer.new)) }
+        ensures span { IfOk result (λ e. Extends (expr_at first.entry.value) (expr_at e.value) (end_of lexer.new)) }
+        ensures placed { IfOk result (λ e. IsPlacedOn (mark (expression (Binary (binary_of operator)))) first.entry.value lexer.old e.value lexer.new) }
+        ensures shorter { OnOk result (left lexer.new < left lexer.old) }
+        ensures ended { OnOk result (IsTrue (settled (place_of lexer.new))) }
+        ensures refused { Refused result (NoRow so_far (around_of context.entry.around) (tail (tail (row_so_far (expression (Binary (binary_of operator)))))) (place_of lexer.old)) }
+    {
+        let right = self.inner(context, lexer, growth::right_level(operator))?;
+        let span = span_to(start_of(&first), lexer);
+        Ok(make::binary(context.alloc, span, operator, first, right)?)
+    }
+
+    /// An assignment behind its `=`: `a = b` (ECMA-262 section 13.15).
+    pub(crate) fn assignment<'s>(
+        &self,
+        context: Context,
+        lexer: &mut Lexer<'s>,
+        first: Box<Expr<'s>>,
+    ) -> Result<Box<Expr<'s>>, ParseError>
+        requires nests { ReadsWithin (suc (left lexer.old)) (F.pre self.now.inner) (F.post self.now.inner) }
+        ensures read { IfOk result (λ e. Built so_far (around_of context.entry.around) (tail (tail (row_so_far (expression Assign)))) (expression Assign) (part (view_expr first.entry.value)) (view_expr e.value) (place_of lexer.old) (place_of lexer.new)) }
+        ensures span { IfOk result (λ e. Extends (expr_at first.entry.value) (expr_at e.value) (end_of lexer.new)) }
+        ensures placed { IfOk result (λ e. IsPlacedOn (mark (expression Assign)) first.entry.value lexer.old e.value lexer.new) }
+        ensures shorter { OnOk result (left lexer.new < left lexer.old) }
+        ensures ended { OnOk result (IsTrue (settled (place_of lexer.new))) }
+        ensures refused { Refused result (NoRow so_far (around_of context.entry.around) (tail (tail (row_so_far (expression Assign)))) (place_of lexer.old)) }
+    {
+        let value = self.inner(context, lexer, ASSIGNMENT)?;
+        let span = span_to(start_of(&first), lexer);
+        let target = target_of(context.alloc, first)?;
+        Ok(make::assign(context.alloc, span, target, value)?)
+    }
+
+    /// An assignment with an operator, behind that: `a += b` (ECMA-262 section 13.15).
+    pub(crate) fn operator_assignment<'s>(
+        &self,
+        context: Context,
+        lexer: &mut Lexer<'s>,
+        operator: AssignOp,
+        first: Box<Expr<'s>>,
+    ) -> Result<Box<Expr<'s>>, ParseError>
+        requires nests { ReadsWithin (suc (left lexer.old)) (F.pre self.now.inner) (F.post self.now.inner) }
+        ensures read { IfOk result (λ e. Built so_far (around_of context.entry.around) (tail (tail (row_so_far (expression (OpAssign (assign_of operator)))))) (expression (OpAssign (assign_of operator))) (part (view_expr first.entry.value)) (view_expr e.value) (place_of lexer.old) (place_of lexer.new)) }
+        ensures span { IfOk result (λ e. Extends (expr_at first.entry.value) (expr_at e.value) (end_of lexer.new)) }
+        ensures placed { IfOk result (λ e. IsPlacedOn (mark (expression (OpAssign (assign_of operator)))) first.entry.value lexer.old e.value lexer.new) }
+        ensures shorter { OnOk result (left lexer.new < left lexer.old) }
+        ensures ended { OnOk result (IsTrue (settled (place_of lexer.new))) }
+        ensures refused { Refused result (NoRow so_far (around_of context.entry.around) (tail (tail (row_so_far (expression (OpAssign (assign_of operator)))))) (place_of lexer.old)) }
+    {
+        let value = self.inner(context, lexer, ASSIGNMENT)?;
+        let span = span_to(start_of(&first), lexer);
+        Ok(make::op_assign(context.alloc, span, operator, first, value)?)
+    }
+
+    /// A unary expression behind its operator: `-a` (ECMA-262 section 13.5). A name alone isn't deleted.
+    pub(crate) fn unary<'s>(
+        &self,
+        context: Context,
+        lexer: &mut Lexer<'s>,
+        operator: UnaryOp,
+    ) -> Result<Box<Expr<'s>>, ParseError>
+        requires nests { ReadsWithin (suc (left lexer.old)) (F.pre self.now.inner) (F.post self.now.inner) }
+        ensures read { IfOk result (λ e. BuiltNode so_far (around_of context.entry.around) (tail (row_so_far (expression (Unary (unary_of operator))))) (expression (Unary (unary_of operator))) (view_expr e.value) (place_of lexer.old) (place_of lexer.new)) }
+        ensures span { IfOk result (λ e. Spans (expr_at e.value) (begin_of lexer.old) (end_of lexer.new)) }
+        ensures placed { IfOk result (λ e. IsPlacedBehind (opening_sign (expression (Unary (unary_of operator)))) lexer.old (told_expr e.value) (view_expr e.value) lexer.new) }
+        ensures shorter { OnOk result (left lexer.new < left lexer.old) }
+        ensures ended { OnOk result (IsTrue (settled (place_of lexer.new))) }
+        ensures refused { Refused result (NoNode so_far (around_of context.entry.around) (tail (row_so_far (expression (Unary (unary_of operator))))) (expression (Unary (unary_of operator))) (place_of lexer.old)) }
+    {
+        let lo = lexer.last_place();
+        let operand = self.inner(context, lexer, UNARY)?;
+        if deletes_name(operator, &operand) {
+            return Err(give_up(lexer));
+        }
+        Ok(make::unary(context.alloc, span_to(lo, lexer), operator, operand)?)
+    }
+
+    /// An update expression behind its operator: `++a` (ECMA-262 section 13.4).
+    pub(crate) fn prefix_update<'s>(
+        &self,
+        context: Context,
+        lexer: &mut Lexer<'s>,
+        operator: UpdateOp,
+    ) -> Result<Box<Expr<'s>>, ParseError>
+        requires nests { ReadsWithin (suc (left lexer.old)) (F.pre self.now.inner) (F.post self.now.inner) }
+        ensures read { IfOk result (λ e. Built so_far (around_of context.entry.around) (tail (row_so_far (expression (PrefixUpdate (step_of operator))))) (expression (PrefixUpdate (step_of operator))) (λ ts. ts) (view_expr e.value) (place_of lexer.old) (place_of lexer.new)) }
+        ensures span { IfOk result (λ e. Spans (expr_at e.value) (begin_of lexer.old) (end_of lexer.new)) }
+        ensures placed { IfOk result (λ e. IsPlacedBehind (opening_sign (expression (PrefixUpdate (step_of operator)))) lexer.old (told_expr e.value) (view_expr e.value) lexer.new) }
+        ensures shorter { OnOk result (left lexer.new < left lexer.old) }
+        ensures ended { OnOk result (IsTrue (settled (place_of lexer.new))) }
+        ensures refused { Refused result (NoRow so_far (around_of context.entry.around) (tail (row_so_far (expression (PrefixUpdate (step_of operator))))) (place_of lexer.old)) }
+    {
+        let lo = lexer.last_place();
+        let operand = self.inner(context, lexer, MEMBER)?;
+        if !is_target(&operand) {
+            return Err(give_up(lexer));
+        }
+        Ok(make::prefix_update(context.alloc, span_to(lo, lexer), operator, operand)?)
+    }
+}

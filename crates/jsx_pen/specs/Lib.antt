@@ -1,0 +1,4 @@
+pub mod Ascii
+pub mod Calls
+pub mod Pen
+pub mod Steps

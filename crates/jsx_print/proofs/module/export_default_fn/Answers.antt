@@ -1,0 +1,11 @@
+use Rattle.std.proofs.Common.{ap, map}
+use Rattle.jsx_tree.specs.Kinds.{Binds}
+use Rattle.jsx_tree.specs.View.{forest_at, inside}
+use Rattle.jsx_plan.specs.Noted.{noted_pattern, noted_stmt}
+use Rattle.jsx_plan.specs.Plan.{behind, job_of, pen_of}
+use Rattle.jsx_print.proofs.Bodies.{export_default_fn_is}
+use Rattle.jsx_plan.proofs.Planning.{behind_may_name, behind_pushed, pen_may_name, pen_pushed, planned}
+use Rattle.jsx_print.proofs.module.export_default_fn.Goals as goal
+
+pub returns : goal.returns
+returns c = planned c.sign-3.result _ _ c.sign-3.ensures (rw (c.in_ok-may_name.ensures, c.in_ok-sign-2.ensures, c.in_ok-pats.ensures, c.in_ok-sign.ensures, c.in_ok-body.ensures) (simp (behind_pushed, pen_pushed, behind_may_name, pen_may_name) (ap (behind (job_of c.args.printer.now)) (export_default_fn_is (pen_of (job_of c.args.printer.now)) c.args.name.now (forest_at Binds (map (inside noted_pattern) c.args.params.now)) c.args.directives.now (map (inside noted_stmt) c.args.stmts.now)))))

@@ -1,6 +1,0 @@
-use Rattle.std.proofs.Common.{◌≡◌, ◌∷◌}
-use Rattle.jsx_print.specs.Pen.{margin, raw}
-use Rattle.jsx_print.proofs.pen.Pen.line.Given as goal
-
-abbrev pub invariant-loop-level : goal.invariant-loop-level
-invariant-loop-level l = l.self ≡ raw l.fn.self (10 ∷ margin l._level)

@@ -1,5 +1,0 @@
-use Rattle.jsx_print.proofs.Planning.{planned, planning}
-use Rattle.jsx_print.proofs.printer.Printer.export_all_as.Goals as goal
-
-pub returns : goal.returns
-returns c = planned c.sign-2.result _ _ c.sign-2.ensures (rw (c.in_ok-word-2.ensures, c.in_ok-raw.ensures, c.in_ok-word.ensures, c.in_ok-sign.ensures) (simp planning))

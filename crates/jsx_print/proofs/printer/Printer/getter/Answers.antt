@@ -1,9 +1,0 @@
-use Rattle.std.proofs.Common.{ap, map}
-use Rattle.jsx_tree.specs.View.{inside, view_key, view_stmt}
-use Rattle.jsx_print.specs.Plan.{behind, holder_in, job_of, pen_of}
-use Rattle.jsx_print.proofs.Bodies.{getter_is}
-use Rattle.jsx_print.proofs.Planning.{behind_keyed, behind_pushed, pen_keyed, pen_pushed, planned_on}
-use Rattle.jsx_print.proofs.printer.Printer.getter.Goals as goal
-
-pub returns : goal.returns
-returns c = planned_on c.mark.result _ _ c.mark.ensures (rw (c.in_ok-name.ensures, c.in_ok-key.ensures, c.in_ok-sign.ensures, c.in_ok-body.ensures) (simp (behind_pushed, pen_pushed, behind_keyed, pen_keyed) (ap (behind (job_of c.args.self.now)) (getter_is (pen_of (job_of c.args.self.now)) (holder_in c.args.holder) (view_key c.args.key.now) c.args.directives.now (map (inside view_stmt) c.args.stmts.now)))))

@@ -1,5 +1,0 @@
-use Rattle.jsx_print.proofs.Planning.{planned, plain}
-use Rattle.jsx_print.proofs.printer.Printer.new_target.Goals as goal
-
-pub returns : goal.returns
-returns c = planned c.sign.result _ _ c.sign.ensures (simp plain)

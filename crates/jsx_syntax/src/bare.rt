@@ -1,0 +1,83 @@
+//! Parentheses off. While a text is read they are nodes, since the levels of the grammar ask for them (ECMA-262 section 13.2.9).
+//! They tell no place of their own.
+
+ghost use Rattle.std.specs.Prelude.{◌≡◌, IfOk, IfNone, IfSome, OnOk, MatchOption};
+ghost use Rattle.jsx_base.specs.Token as token;
+ghost use Rattle.jsx_tree.specs.Normal.{without_parentheses};
+ghost use Rattle.jsx_tree.specs.Told.{told, told_expr};
+ghost use Rattle.jsx_tree.specs.View.{view_expr};
+ghost use Rattle.jsx_tree.specs.ViewProgram.{view};
+ghost use Rattle.jsx_token.specs.Stage.{ReadsSoFar};
+ghost use Rattle.jsx_visit.specs.Visit.{changed, span_of};
+ghost use Rattle.jsx_syntax.specs.Parsed.{bare_node};
+
+use jsx_tree::{Expr, Program, Word};
+use jsx_visit::{Visitor, visit};
+use std::alloc::{AllocError, Global};
+use std::mem;
+
+/// A value in a box.
+fn boxed<T: Drop>(alloc: Global, value: T) -> Result<Box<T>, AllocError>
+    ensures { IfOk result (λ b. b.value ≡ value) }
+{
+    match Box::new(alloc, value) {
+        Ok(made) => Ok(made),
+        Err(_) => Err(AllocError),
+    }
+}
+
+/// Takes an expression out of its place, and leaves a word there.
+fn take<'s>(alloc: Global, expr: &mut Box<Expr<'s>>) -> Result<Box<Expr<'s>>, AllocError>
+    ensures { IfOk result (λ taken. taken.value ≡ expr.old.value) }
+{
+    let mut hole = boxed(alloc, Expr::Word(None, Word::This))?;
+    mem::swap(expr, &mut hole);
+    Ok(hole)
+}
+
+/// What stands in an expression's parentheses, where it has some, taken out of them.
+#[tactic(auto, using(crate::proofs::Unwrapping::nodes))]
+fn take_out<'s>(alloc: Global, expr: &mut Expr<'s>) -> Result<Option<Box<Expr<'s>>>, AllocError>
+    ensures seen { IfOk result (λ o. MatchOption o (changed bare_node (view_expr expr.old) ≡ view_expr expr.old) (λ e. view_expr e.value ≡ changed bare_node (view_expr expr.old))) }
+    ensures places { IfOk result (λ o. IfSome o (λ e. told_expr e.value ≡ told_expr expr.old)) }
+    ensures stays { IfOk result (λ o. IfNone o (expr.new ≡ expr.old)) }
+{
+    match expr {
+        Expr::Paren(_, inner) => Ok(Some(take(alloc, inner)?)),
+        _ => Ok(None),
+    }
+}
+
+/// A pass that takes off the parentheses round each expression.
+#[derive(Drop)]
+struct PairsOff;
+
+impl Visitor for PairsOff {
+    ghost use Rattle.std.specs.Prelude.{true};
+    ghost use Rattle.jsx_syntax.specs.Parsed.{bare_node};
+
+    ghost made = { bare_node };
+
+    ghost keeps = { true };
+
+    fn expr(&mut self, alloc: Global, expr: &mut Box<Expr<'_>>) -> Result<(), AllocError> {
+        if let Some(inner) = take_out(alloc, expr)? {
+            *expr = inner;
+        }
+        Ok(())
+    }
+}
+
+/// Takes off the parentheses of a program that was read. Each pair takes room for one expression while it goes.
+///
+/// # Errors
+///
+/// `AllocError` for want of memory. Then the program may be changed in part.
+pub(crate) fn bare(alloc: Global, program: &mut Program<'_>) -> Result<(), AllocError>
+    ensures seen { (text : token.Text) → ReadsSoFar text (view program.old) → OnOk result (view program.new ≡ without_parentheses (view program.old)) }
+    ensures places { OnOk result (told program.new ≡ told program.old) }
+    ensures whole { OnOk result (span_of program.new ≡ span_of program.old) }
+{
+    let mut pairs_off = PairsOff;
+    visit(alloc, &mut pairs_off, program)
+}
