@@ -1,5 +1,5 @@
 #!/usr/bin/env bash
-# Measures the program, and esbuild and babeljs where they are installed, on inputs made by repeating statements.
+# Measures the program, and esbuild and babeljs where they are installed, on elements alone and on copies of realistic.jsx.
 # Prints for each size: seconds (the least of a few runs), MB per second, and the peak of memory in bytes per source byte.
 set -u
 top=$(cd "$(dirname "${BASH_SOURCE[0]}")/.." && pwd)
@@ -7,8 +7,8 @@ work=$(mktemp -d)
 trap 'rm -rf "$work"' EXIT
 RUNS=${RUNS:-5}
 
-# a text of at most $1 bytes
-make_input() {
+# a text of at most $1 bytes, of elements alone
+make_elements() {
     python3 - "$1" >"$2" <<'PY'
 import sys
 room = int(sys.argv[1])
@@ -22,6 +22,23 @@ while True:
     room -= len(line)
     i += 1
 sys.stdout.write("".join(parts))
+PY
+}
+
+# a text of at most $1 bytes, of copies of realistic.jsx with other names in each
+make_copies() {
+    python3 - "$1" "$top/bench/realistic.jsx" >"$2" <<'PY'
+import re, sys
+room, text = int(sys.argv[1]), open(sys.argv[2], encoding="utf-8").read()
+parts = re.split(r"(?<=[a-z])0\b", text)
+i = 0
+while True:
+    copy = str(i).join(parts)
+    if room < len(copy):
+        break
+    sys.stdout.write(copy)
+    room -= len(copy)
+    i += 1
 PY
 }
 
@@ -41,10 +58,15 @@ measure() {
 }
 
 "$top/bin/jsxc" </dev/null || exit 1
-for size in 1024 1048576 16777216; do
-    make_input "$size" "$work/input.jsx"
-    measure jsxc "$work/input.jsx" "$top/crates/jsxc/out/jsxc"
-    command -v esbuild >/dev/null 2>&1 && measure esbuild "$work/input.jsx" esbuild --loader=jsx
-    command -v babeljs >/dev/null 2>&1 && measure babeljs "$work/input.jsx" babeljs --presets @babel/preset-react --filename input.jsx
+# what Debian's babeljs finds its presets by
+export NODE_PATH=${NODE_PATH:-/usr/share/nodejs}
+for size in 1048576 16777216; do
+    for kind in elements copies; do
+        echo "$kind"
+        "make_$kind" "$size" "$work/input.jsx"
+        measure jsxc "$work/input.jsx" "$top/crates/jsxc/out/jsxc"
+        command -v esbuild >/dev/null 2>&1 && measure esbuild "$work/input.jsx" esbuild --loader=jsx
+        command -v babeljs >/dev/null 2>&1 && measure babeljs "$work/input.jsx" babeljs --presets @babel/preset-react --filename input.jsx
+    done
 done
 exit 0

@@ -15,9 +15,9 @@ use Rattle.jsx_tree.proofs.Laws.{scan_append}
 use Rattle.jsx_tree.proofs.Tokens.{found_first}
 use Rattle.jsx_token.specs.Here.{Here, place_of, sign_of}
 use Rattle.jsx_token.specs.declared.lexer.Fixed.TheVariants as fixed
-use Rattle.jsx_expression.specs.Spans.{Spans, is_argument, is_parens, spanned, as_argument, IsPlaced, IsPlacedAs, IsPlacedRow}
+use Rattle.jsx_operand.specs.Spans.{Spans, is_argument, is_parens, spanned, as_argument, IsPlaced, IsPlacedAs, IsPlacedRow}
 use Rattle.jsx_token.specs.Places.{next_of, end_of, Takes}
-use Rattle.jsx_expression.proofs.Placing.{row_end, row_sign, row_quiet, row_unless, row_part, first_is, is_there}
+use Rattle.jsx_operand.proofs.Placing.{row_end, row_sign, row_quiet, row_unless, row_part, first_is, is_there}
 
 -- ---- parentheses
 

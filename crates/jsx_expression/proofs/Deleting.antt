@@ -14,11 +14,11 @@ use Rattle.jsx_tree.proofs.Apart.{clash}
 use Rattle.jsx_tree.proofs.Rows.Stopping.{is_not}
 use Rattle.jsx_tree.proofs.Rows.Steps.{then', end}
 use Rattle.jsx_token.specs.Marks.{row_so_far}
-use Rattle.jsx_expression.specs.SoFar.{so_far}
-use Rattle.jsx_expression.specs.Climbing.{deletes_name}
+use Rattle.jsx_operand.specs.SoFar.{so_far}
+use Rattle.jsx_operand.specs.Climbing.{deletes_name}
 use Rattle.jsx_token.proofs.Listed.{listed}
-use Rattle.jsx_expression.proofs.Operators.{unary_built}
-use Rattle.jsx_expression.proofs.Openings.{kept_behind}
+use Rattle.jsx_operand.proofs.Operators.{unary_built}
+use Rattle.jsx_operand.proofs.Openings.{kept_behind}
 
 pub unary_node : (o : UnaryOp) {v : Surroundings} {x z : Place} {u w : Tree} → deletes_name o u ≡ false → Only so_far v (Part (Expr 15)) x (one u) z → IsTrue (is_found z) → w ≡ node (expression (Unary o)) (part u none) → BuiltNode so_far v (tail (row_so_far (expression (Unary o)))) (expression (Unary o)) w x z
 unary_node Delete {u = u} n q f is = record { parts = part u none; is = is; row = then' q (end f); keeps = and_both _ _ (ap not n) refl }

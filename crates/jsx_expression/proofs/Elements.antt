@@ -3,7 +3,7 @@ use Rattle.std.proofs.Common.{◌≡◌, Bool, true, false, not, refl, sym, ◌�
 use Rattle.std.specs.Prelude.{IsTrue, ◌&&◌, ◌||◌}
 use Rattle.jsx_base.specs.Token.{Text, TokenKind, IdentifierName, NumericLiteral, BigIntLiteral, StringLiteral, RegExpLiteral, Elision}
 use Rattle.jsx_tree.specs.Signs.{Sign}
-use Rattle.jsx_tree.specs.Kinds.{Kind, Module, ExprStmt, Label, Seq, Spread, program, statement, expression, Tree, leaf, node, list, Forest}
+use Rattle.jsx_tree.specs.Kinds.{Kind, Module, ExprStmt, Label, Seq, Spread, ParenTarget, program, statement, function, expression, Tree, leaf, node, list, Forest}
 use Rattle.jsx_tree.specs.Nonterminals.{Nonterminal, Expr, Argument, ArrayItem, homes, in_homes}
 use Rattle.jsx_tree.specs.Grammar.{Part, pun}
 use Rattle.jsx_tree.specs.Form.{admits}
@@ -21,7 +21,7 @@ use Rattle.jsx_tree.proofs.Rows.Guarded.{whole_walk, loosen, to_grammar}
 use Rattle.jsx_tree.proofs.Rows.Bodies.{plain as plain_row}
 use Rattle.jsx_tree.proofs.Rows.Placing.{free_around, moved}
 use Rattle.jsx_tree.proofs.Rows.Turns.{item_of, whole_of}
-use Rattle.jsx_expression.specs.SoFar.{Staged, so_far}
+use Rattle.jsx_operand.specs.SoFar.{Staged, so_far}
 use Rattle.jsx_expression.specs.Elements.{OnlyItem, NoItem, is_hole}
 use Rattle.jsx_token.specs.Stage.{leaf_at, value_leaf}
 use Rattle.jsx_token.specs.Marks.{ends_so_far, row_so_far}
@@ -30,12 +30,12 @@ use Rattle.jsx_token.proofs.Headings.{every_begun, of_begun}
 use Rattle.jsx_token.proofs.Levels.{grows_on}
 use Rattle.jsx_token.proofs.Listed.{kinds, every, of_each}
 use Rattle.jsx_token.proofs.Lives.{lives}
-use Rattle.jsx_expression.proofs.OfSoFar.{of_so_far}
-use Rattle.jsx_expression.proofs.Inners.{inner_kind, every_inner, of_inner}
-use Rattle.jsx_expression.proofs.Homes.{Literal, IsName, IsNumber, IsLong, IsString, IsPattern, token_kind, Taken, module', headed, inner, evaluation, labelled, sequence, operand, Value, literal, made, value_kind, value, taken_by, home_of, no_list}
-use Rattle.jsx_expression.proofs.Homes as home
-use Rattle.jsx_expression.proofs.Values.{is_opening, opener, one_opening, literal_opening, opener_of, opened_sign, led_sign, First, name, opened, quoted, piece_of, opener_piece, begun, Seat, at_one, at_argument, move}
-use Rattle.jsx_expression.proofs.Climbing.{plain_kind, signed_built, signed_none}
+use Rattle.jsx_operand.proofs.OfSoFar.{of_so_far}
+use Rattle.jsx_operand.proofs.Inners.{inner_kind, every_inner, of_inner}
+use Rattle.jsx_operand.proofs.Homes.{Literal, IsName, IsNumber, IsLong, IsString, IsPattern, token_kind, Taken, module', headed, inner, evaluation, labelled, sequence, aimed, operand, Value, literal, made, value_kind, value, taken_by, home_of, no_list}
+use Rattle.jsx_operand.proofs.Homes as home
+use Rattle.jsx_operand.proofs.Values.{is_opening, opener, one_opening, literal_opening, opener_of, opened_sign, led_sign, First, name, opened, quoted, piece_of, opener_piece, begun, Seat, at_one, at_argument, move}
+use Rattle.jsx_operand.proofs.Climbing.{plain_kind, signed_built, signed_none}
 
 -- ---- what stands there
 
@@ -53,7 +53,7 @@ item_leaf StringLiteral t h = valued (literal IsString h)
 item_leaf RegExpLiteral t h = valued (literal IsPattern h)
 item_leaf _ t h = cc
 
--- a place of items: where every expression but a sequence stands, and a spread
+-- a place of items: where every expression but a sequence stands, and a spread, but no target in parentheses
 pub record Slot (c : Nonterminal) : Type 0 where
   pub seat : Seat c
   pub ends : (y : Place) → ends_so_far c y ≡ ends_so_far (Expr 1) y
@@ -64,6 +64,7 @@ pub record Slot (c : Nonterminal) : Type 0 where
   pub no_inner : every_inner (λ i. not (lives c (inner_kind i))) ≡ true
   pub no_evaluation : (not (lives c (statement ExprStmt)) && not (lives c (statement Label))) ≡ true
   pub no_sequence : lives c (expression Seq) ≡ false
+  pub no_target : lives c (function ParenTarget) ≡ false
 
 argument_ends : (y : Place) → ends_so_far Argument y ≡ ends_so_far (Expr 1) y
 argument_ends Lost = refl
@@ -94,6 +95,7 @@ arguments = record {
   no_inner = refl;
   no_evaluation = refl;
   no_sequence = refl;
+  no_target = refl;
 }
 
 pub items : Slot ArrayItem
@@ -107,6 +109,7 @@ items = record {
   no_inner = refl;
   no_evaluation = refl;
   no_sequence = refl;
+  no_target = refl;
 }
 
 elsewhere : (c : Nonterminal) (k : Kind) (ts : Forest) {A : Type 0} → lives c k ≡ false → admits c (node k ts) ≡ true → A
@@ -121,6 +124,7 @@ item_kind {c} {ts = ts} s (inner i) h = elsewhere c (inner_kind i) ts (is_not _ 
 item_kind {c} {ts = ts} s evaluation h = elsewhere c (statement ExprStmt) ts (is_not _ (and_left (not (lives c (statement ExprStmt))) _ s.no_evaluation)) h
 item_kind {c} {ts = ts} s labelled h = elsewhere c (statement Label) ts (is_not _ (and_right (not (lives c (statement ExprStmt))) _ s.no_evaluation)) h
 item_kind {c} {ts = ts} s sequence h = elsewhere c (expression Seq) ts s.no_sequence h
+item_kind {c} {ts = ts} s aimed h = elsewhere c (function ParenTarget) ts s.no_target h
 
 at_slot : {v : Surroundings} {c : Nonterminal} {x y : Place} → Slot c → (t : Tree) → Staged v false c x t y → AtItem t
 at_slot s (leaf k t) r = s.leaves k t r.staged

@@ -17,13 +17,13 @@ use Rattle.jsx_token.specs.Here.{Here, place_of}
 use Rattle.jsx_token.specs.Growths.{settled}
 use Rattle.jsx_token.specs.Places.{Takes, end_of, next_of}
 use Rattle.jsx_make.specs.NodeSpans.{At, expr_at}
-use Rattle.jsx_expression.specs.SoFar.{so_far}
-use Rattle.jsx_expression.specs.Spans.{IsPlaced, Spans}
+use Rattle.jsx_operand.specs.SoFar.{so_far}
+use Rattle.jsx_operand.specs.Spans.{IsPlaced, Spans}
 use Rattle.jsx_expression.specs.Gathering.{IsGathered, NotGathered}
-use Rattle.jsx_expression.proofs.Placing.{PlacedFront, plain_two, front_last, front_more, front_none, map_pushed, placed_as, placed_to}
-use Rattle.jsx_expression.proofs.PlacedExpressions.{sequence_row}
-use Rattle.jsx_expression.proofs.Places.{spans_from}
-use Rattle.jsx_expression.proofs.Trees.{pushed}
+use Rattle.jsx_operand.proofs.Placing.{PlacedFront, plain_two, front_last, front_more, front_none, map_pushed, placed_as, placed_to}
+use Rattle.jsx_operand.proofs.PlacedExpressions.{sequence_row}
+use Rattle.jsx_operand.proofs.Places.{spans_from}
+use Rattle.jsx_operand.proofs.Trees.{pushed}
 use Rattle.jsx_expression.proofs.Sequences.{Listing, whole_only, listing_one, listing_more, sequence_only, sequence_barred}
 
 abbrev Boxes : Type 0

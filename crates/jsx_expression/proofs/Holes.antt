@@ -22,10 +22,10 @@ use Rattle.jsx_tree.proofs.Rows.Lists.{closed, ended_sign}
 use Rattle.jsx_tree.proofs.Rows.Steps.{bar, both}
 use Rattle.jsx_tree.proofs.Rows.Stopping.{token_stops}
 use Rattle.jsx_tree.proofs.Rows.Turns.{From, Turn, turn_only, turn_none, turn_as, turn_both, cons, early, comma_trails, nothing_trails, prepend, prepend_cons}
-use Rattle.jsx_expression.specs.SoFar.{Staged, so_far}
+use Rattle.jsx_operand.specs.SoFar.{Staged, so_far}
 use Rattle.jsx_expression.specs.Elements.{OnlyItem, NoItem, is_hole}
-use Rattle.jsx_expression.proofs.OfSoFar.{of_so_far}
-use Rattle.jsx_expression.proofs.Homes.{no_list}
+use Rattle.jsx_operand.proofs.OfSoFar.{of_so_far}
+use Rattle.jsx_operand.proofs.Homes.{no_list}
 use Rattle.jsx_expression.proofs.Elements.{comma_no_item, close_no_item}
 
 abbrev pub hole : Tree

@@ -1,20 +1,18 @@
 -- The links of optional chains: which stands at a place, told by its first tokens, and all links of a chain, as a loop of the parser reads them.
-use Rattle.std.proofs.Common.{◌≡◌, ℕ, nat_eq, Bool, true, false, not, List, [], ◌∷◌, ◌++◌, map, refl, sym, ◌∙◌, ap, subst, Box, Global, cond}
-use Rattle.std.specs.Prelude.{IsTrue, codes, ◌&&◌, ◌||◌}
+use Rattle.std.proofs.Common.{◌≡◌, ℕ, nat_eq, Bool, true, false, List, [], refl, sym, ◌∙◌, ap, subst, cond}
+use Rattle.std.specs.Prelude.{IsTrue, codes}
 use Rattle.jsx_base.specs.Token.{Text, Operator, Punctuator, IdentifierName, TokenKind, kind_number, same}
-use Rattle.jsx_tree.specs.declared.tree.Link.{Link}
 use Rattle.std.proofs.lemmas.Bool.{eqb-true, false≢true}
 use Rattle.jsx_tree.specs.Signs.{Sign, Tok}
 use Rattle.jsx_tree.specs.Kinds.{Chain, NameLink, IndexLink, CallLink, Kind, expression, Tree, leaf, node, list, Forest, none, part}
-use Rattle.jsx_tree.specs.Nonterminals.{ChainLink, Name, homes, in_homes}
-use Rattle.jsx_tree.specs.Grammar.{Context, Fixed, OneOrMore, Part, pun}
-use Rattle.jsx_tree.specs.Form.{admits, enough, is_last}
+use Rattle.jsx_tree.specs.Nonterminals.{ChainLink, Name}
+use Rattle.jsx_tree.specs.Grammar.{Context, OneOrMore, Part, pun}
+use Rattle.jsx_tree.specs.Form.{admits, enough}
 use Rattle.jsx_tree.specs.Reading.{Place, Lost, forth}
-use Rattle.jsx_tree.specs.StaticRules.{Surroundings, first_of_list, is_optional, has_plain_params}
-use Rattle.jsx_tree.specs.View.{forest, inside, view_link}
-use Rattle.jsx_tree.specs.Walk.{is_found, Given, one, Piece, piece, Items, nil, last, more, Past, sign, tree, many, Walk, done, next, steady, tail, around}
+use Rattle.jsx_tree.specs.StaticRules.{Surroundings, has_plain_params}
+use Rattle.jsx_tree.specs.Walk.{is_found, Given, one, Items, nil, last, more, Past, sign, tree, many, Walk, done, next, steady, tail, around}
 use Rattle.jsx_tree.specs.Language.{Whole}
-use Rattle.jsx_tree.specs.Answers.{Moves, Stuck, Only, Barred, OnlyRow, NoRow, Built}
+use Rattle.jsx_tree.specs.Answers.{Moves, Only, Barred, NoRow, Built}
 use Rattle.jsx_tree.proofs.Tokens.{and_left, and_right, and_both, same_is}
 use Rattle.jsx_tree.proofs.Apart.{clash, one_token}
 use Rattle.jsx_tree.proofs.Rows.Bridge.{found_at}
@@ -22,24 +20,23 @@ use Rattle.jsx_tree.proofs.Rows.Bodies.{plain, bodiless}
 use Rattle.jsx_tree.proofs.Rows.Guarded.{guarded, to_grammar}
 use Rattle.jsx_tree.proofs.Rows.Laws.{end_found}
 use Rattle.jsx_tree.proofs.Rows.Placing.{Chosen, barred_node, free, no_node, only_node}
-use Rattle.jsx_tree.proofs.Rows.Steps.{bar, both, built_sign, no_sign, on, only_sign, then'}
-use Rattle.jsx_tree.proofs.Rows.Stopping.{is_not, never_stops, or_cases}
+use Rattle.jsx_tree.proofs.Rows.Steps.{bar, both, built_sign, on, only_sign}
+use Rattle.jsx_tree.proofs.Rows.Stopping.{never_stops}
 use Rattle.jsx_tree.proofs.Rows.Turns.{early, item_of, whole_of}
 use Rattle.jsx_tree.specs.Spans.{Told}
 use Rattle.jsx_token.specs.Here.{Here}
-use Rattle.jsx_expression.specs.Spans.{IsPlacedBehind}
-use Rattle.jsx_token.specs.Growths.{OnLine, lead, mark, same_sign, settled}
+use Rattle.jsx_operand.specs.Spans.{IsPlacedBehind}
+use Rattle.jsx_token.specs.Growths.{OnLine, mark, settled}
 use Rattle.jsx_token.specs.Marks.{row_so_far}
-use Rattle.jsx_token.proofs.Marks.{one_sign}
-use Rattle.jsx_expression.specs.SoFar.{Staged, so_far}
-use Rattle.jsx_expression.specs.Climbing.{Ended, Grown, NotGrown}
-use Rattle.jsx_expression.specs.declared.link.Linking.{Linking}
-use Rattle.jsx_expression.specs.declared.link.Linking.TheVariants as linking
-use Rattle.jsx_expression.specs.Links.{NoLink, NoneLinked, OnlyLink, link_sign, link_text}
-use Rattle.jsx_expression.proofs.OfSoFar.{of_so_far}
-use Rattle.jsx_expression.proofs.Homes.{name_there, names, no_list, NameThere}
-use Rattle.jsx_expression.proofs.Values.{led_sign}
-use Rattle.jsx_expression.proofs.Climbing.{is_link, link_kind}
+use Rattle.jsx_operand.specs.SoFar.{Staged, so_far}
+use Rattle.jsx_operand.specs.Climbing.{Ended, Grown, NotGrown}
+use Rattle.jsx_operand.specs.declared.link.Linking.{Linking}
+use Rattle.jsx_operand.specs.declared.link.Linking.TheVariants as linking
+use Rattle.jsx_operand.specs.Links.{NoLink, NoneLinked, OnlyLink, link_sign, link_text}
+use Rattle.jsx_operand.proofs.OfSoFar.{of_so_far}
+use Rattle.jsx_operand.proofs.Homes.{name_there, no_list, NameThere}
+use Rattle.jsx_operand.proofs.Values.{led_sign}
+use Rattle.jsx_operand.proofs.Climbing.{is_link, link_kind}
 
 -- ---- one link
 

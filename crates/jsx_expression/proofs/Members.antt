@@ -23,18 +23,18 @@ use Rattle.jsx_tree.proofs.Rows.Lists.{closed, ended_sign}
 use Rattle.jsx_tree.proofs.Rows.Placing.{free_around, moved}
 use Rattle.jsx_tree.proofs.Rows.Steps.{bar, both}
 use Rattle.jsx_tree.proofs.Rows.Turns.{From, Turn, turn_symbol, turn_only, turn_none, turn_as, turn_both, cons, early, item_of, whole_of, comma_trails, nothing_trails, prepend, prepend_cons}
-use Rattle.jsx_expression.specs.SoFar.{Staged, so_far}
-use Rattle.jsx_expression.specs.Members.{OnlyMember, NoMember, is_word}
+use Rattle.jsx_operand.specs.SoFar.{Staged, so_far}
+use Rattle.jsx_operand.specs.Members.{OnlyMember, NoMember, is_word}
 use Rattle.jsx_token.specs.Marks.{ends_so_far, row_so_far}
-use Rattle.jsx_expression.proofs.OfSoFar.{of_so_far}
-use Rattle.jsx_expression.proofs.Inners.{property}
+use Rattle.jsx_operand.proofs.OfSoFar.{of_so_far}
+use Rattle.jsx_operand.proofs.Inners.{property}
 use Rattle.jsx_tree.proofs.Rows.Firsts.{kind_home}
-use Rattle.jsx_expression.proofs.Standing.{standing}
-use Rattle.jsx_expression.proofs.Homes.{IsName, Taken, inner, spread, taken_by, home_of, no_list, idents, only_leaf}
-use Rattle.jsx_expression.proofs.Values.{leaf_to, led_sign}
-use Rattle.jsx_expression.proofs.Climbing.{signed_built, signed_none}
+use Rattle.jsx_operand.proofs.Standing.{standing}
+use Rattle.jsx_operand.proofs.Homes.{IsName, Taken, inner, spread, taken_by, home_of, no_list, idents, only_leaf}
+use Rattle.jsx_operand.proofs.Values.{leaf_to, led_sign}
+use Rattle.jsx_operand.proofs.Climbing.{signed_built, signed_none}
 use Rattle.jsx_expression.proofs.Elements.{dots_led, spread_whole}
-use Rattle.jsx_expression.proofs.Keys.{key_unmarked, literal_key, mark_none}
+use Rattle.jsx_operand.proofs.Keys.{key_unmarked, literal_key, mark_none}
 
 stuck_not : {s : Sign} {x : Place} → Stuck s x → IsTrue (is_found (forth s x)) → ⊥
 stuck_not k f = let bad : IsTrue (is_found Lost) = subst (λ p. IsTrue (is_found p)) k.is f in cc

@@ -5,7 +5,7 @@ use Rattle.jsx_base.specs.Token.{Text, Operator, Piece, NoSubstitution, Template
 use Rattle.jsx_tree.specs.declared.text.Text.{Text as TreeText}
 use Rattle.jsx_tree.specs.declared.tree.Expr.{Expr}
 use Rattle.jsx_tree.specs.Signs.{Tok}
-use Rattle.jsx_tree.specs.Kinds.{TemplateSpan, expression, leaf, node, list, none, part}
+use Rattle.jsx_tree.specs.Kinds.{expression, leaf, none}
 use Rattle.jsx_tree.specs.Nonterminals as grammar
 use Rattle.jsx_tree.specs.Grammar.{Adjacent, Fixed, Part}
 use Rattle.jsx_tree.specs.Form.{is_leaf}
@@ -20,12 +20,12 @@ use Rattle.jsx_tree.proofs.Rows.Turns.{Turn, prepend, prepend_none, turn_as, tur
 use Rattle.jsx_token.specs.Here.{Here, place_of, sign_of}
 use Rattle.jsx_token.specs.declared.lexer.Fixed.TheVariants as fixed
 use Rattle.jsx_token.specs.Places.{Takes, end_of, next_of}
-use Rattle.jsx_expression.specs.SoFar.{so_far}
-use Rattle.jsx_expression.specs.Spans.{IsPlaced, IsPlacedListAs, IsPlacedRow}
-use Rattle.jsx_expression.specs.Templates.{IsDivided, IsPiece, IsPlacedTemplate, IsRest, NoMiddle, NoRest, behind_first, behind_head, fits_tag, rest_of, rest_production, told_rest}
-use Rattle.jsx_expression.proofs.Placing.{PlacedFront, front_none, laid_last, laid_more, list_none, map_pushed, placed_as, plain_adjacent}
-use Rattle.jsx_expression.proofs.PlacedExpressions.{head_template_row, rest_row, span_row, whole_template_row}
-use Rattle.jsx_expression.proofs.Templates.{Even, even_none, even_more, even_map, spans, spans_more, told_spans, told_more, told_end, rest_end, forest_more, behind_pushed, is_divided, span_more, rest_only, no_part, no_brace, no_piece, unfit_tail}
+use Rattle.jsx_operand.specs.SoFar.{so_far}
+use Rattle.jsx_operand.specs.Spans.{IsPlaced, IsPlacedListAs, IsPlacedRow}
+use Rattle.jsx_operand.specs.Templates.{IsDivided, IsPiece, IsPlacedTemplate, IsRest, NoMiddle, NoRest, behind_first, behind_head, fits_tag, rest_of, rest_production, told_rest}
+use Rattle.jsx_operand.proofs.Placing.{PlacedFront, front_none, laid_last, laid_more, list_none, map_pushed, placed_as, plain_adjacent}
+use Rattle.jsx_operand.proofs.PlacedExpressions.{head_template_row, rest_row, span_row, whole_template_row}
+use Rattle.jsx_operand.proofs.Templates.{Even, even_none, even_more, even_map, spans, spans_more, told_spans, told_more, told_end, rest_end, forest_more, behind_pushed, is_divided, span_more, rest_only, no_part, no_brace, no_piece, unfit_tail}
 
 -- these pieces, of which the first stands before x, and these expressions are read from there up to y
 pub record Reads (v : Surroundings) (b : Bool) (head : TreeText) (ps : List TreeText) (xs : List (Box Expr Global)) (x y : Here) : Type 0 where

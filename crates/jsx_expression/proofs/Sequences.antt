@@ -22,14 +22,14 @@ use Rattle.jsx_tree.proofs.Rows.Bodies.{plain}
 use Rattle.jsx_tree.proofs.Rows.Guarded.{whole_walk, loosen, to_grammar}
 use Rattle.jsx_tree.proofs.Rows.Steps.{both}
 use Rattle.jsx_tree.proofs.Rows.Turns.{early, item_of, whole_of}
-use Rattle.jsx_expression.specs.SoFar.{so_far}
-use Rattle.jsx_token.specs.Marks.{marks, goers, goes_at, steps, is_sign, is_mark, goes_on_so_far, ends_so_far, row_so_far, goes_by_mark, goes_by_quote}
+use Rattle.jsx_operand.specs.SoFar.{so_far}
+use Rattle.jsx_token.specs.Marks.{marks, goes_at, steps, is_sign, is_mark, goes_on_so_far, ends_so_far, row_so_far, goes_by_mark, goes_by_quote}
 use Rattle.jsx_token.specs.Growths.{settled}
-use Rattle.jsx_expression.proofs.OfSoFar.{of_so_far}
+use Rattle.jsx_operand.proofs.OfSoFar.{of_so_far}
 use Rattle.jsx_token.proofs.Listed.{agree, agreed}
 use Rattle.jsx_token.proofs.Marks.{every_text, of_mark, by_sign, seen_sign}
-use Rattle.jsx_expression.proofs.Homes.{value, AtWhole, single, several, at_whole}
-use Rattle.jsx_expression.proofs.Values.{at_any, at_one, move}
+use Rattle.jsx_operand.proofs.Homes.{value, AtWhole, single, several, at_whole}
+use Rattle.jsx_operand.proofs.Values.{at_any, at_one, move}
 
 -- ---- whether a comma comes next
 

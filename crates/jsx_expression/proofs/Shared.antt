@@ -24,12 +24,12 @@ use Rattle.jsx_tree.proofs.Rows.Turns.{whole_of}
 use Rattle.jsx_token.specs.Marks.{row_so_far}
 use Rattle.jsx_token.specs.Growths.{opening_sign, same_sign}
 use Rattle.jsx_token.proofs.Listed.{listed, code, kinds, every, of_each, one_place, implies, implied}
-use Rattle.jsx_expression.specs.SoFar.{so_far}
-use Rattle.jsx_expression.specs.Openings.{opens_with, OnlyOpened, NoneOpened}
-use Rattle.jsx_expression.proofs.OfSoFar.{of_so_far}
+use Rattle.jsx_operand.specs.SoFar.{so_far}
+use Rattle.jsx_operand.specs.Openings.{opens_with, OnlyOpened, NoneOpened}
+use Rattle.jsx_operand.proofs.OfSoFar.{of_so_far}
 use Rattle.jsx_token.proofs.Levels.{grows_on}
-use Rattle.jsx_expression.proofs.Values.{First, name, opened, begun, led_sign, literal_opening, one_opening, opened_sign, opener, opener_of, quoted, piece_of, opener_piece}
-use Rattle.jsx_expression.proofs.Openings.{Other, itself, barred, kept_behind, opened_by, opens_listed}
+use Rattle.jsx_operand.proofs.Values.{First, name, opened, begun, led_sign, literal_opening, one_opening, opened_sign, opener, opener_of, quoted, piece_of, opener_piece}
+use Rattle.jsx_operand.proofs.Openings.{Other, itself, barred, kept_behind, opened_by, opens_listed}
 
 -- ---- which kinds begin so
 

@@ -6,7 +6,7 @@ use Rattle.jsx_tree.specs.Nonterminals.{Nonterminal}
 use Rattle.jsx_tree.specs.Reading.{Place}
 use Rattle.jsx_tree.specs.StaticRules.{Surroundings}
 use Rattle.jsx_tree.specs.Language.{Whole}
-use Rattle.jsx_expression.specs.SoFar.{so_far}
+use Rattle.jsx_operand.specs.SoFar.{so_far}
 
 abbrev pub is_hole : Tree → Bool
 is_hole (leaf Elision t) = true

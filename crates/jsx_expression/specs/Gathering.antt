@@ -13,8 +13,8 @@ use Rattle.jsx_tree.specs.declared.tree.Expr.{Expr as Code}
 use Rattle.jsx_token.specs.Here.{Here, place_of}
 use Rattle.jsx_token.specs.Places.{end_of, next_of}
 use Rattle.jsx_make.specs.NodeSpans.{expr_at}
-use Rattle.jsx_expression.specs.SoFar.{so_far}
-use Rattle.jsx_expression.specs.Spans.{IsPlaced, Spans}
+use Rattle.jsx_operand.specs.SoFar.{so_far}
+use Rattle.jsx_operand.specs.Spans.{IsPlaced, Spans}
 
 -- wherever the first one was read from, all of it is read from there too
 pub record IsGathered (v : Surroundings) (first : Code) (y : Here) (whole : Code) (z : Here) : Type 0 where

@@ -1,12 +1,3 @@
-pub mod SoFar
-pub mod Around
-pub mod Spans
-pub mod Answers
 pub mod Within
 pub mod Elements
-pub mod Members
-pub mod Links
-pub mod Climbing
-pub mod Openings
 pub mod Gathering
-pub mod Templates

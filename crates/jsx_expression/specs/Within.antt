@@ -13,12 +13,12 @@ use Rattle.jsx_token.specs.Here.{Here, left, place_of}
 use Rattle.jsx_token.specs.Growths.{is_level, settled}
 use Rattle.jsx_token.specs.Places.{end_of, next_of}
 use Rattle.jsx_make.specs.NodeSpans.{expr_at}
-use Rattle.jsx_expression.specs.declared.around.Context.{Context}
-use Rattle.jsx_expression.specs.declared.error.ParseError.{ParseError}
-use Rattle.jsx_expression.specs.Answers.{Refused}
-use Rattle.jsx_expression.specs.Around.{around_of}
-use Rattle.jsx_expression.specs.SoFar.{so_far}
-use Rattle.jsx_expression.specs.Spans.{IsPlaced, Spans}
+use Rattle.jsx_operand.specs.declared.around.Context.{Context}
+use Rattle.jsx_operand.specs.declared.error.ParseError.{ParseError}
+use Rattle.jsx_operand.specs.Answers.{Refused}
+use Rattle.jsx_operand.specs.Around.{around_of}
+use Rattle.jsx_operand.specs.SoFar.{so_far}
+use Rattle.jsx_operand.specs.Spans.{IsPlaced, Spans}
 
 pub record ReadsWithin (bound : ℕ) (pre : Context → MutBor Here → ℕ → Type 0)
     (post : Context → MutBor Here → ℕ → Result (Box Code Global) ParseError → MutBor Here → Type 0) : Type 0 where

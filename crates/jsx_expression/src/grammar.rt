@@ -8,27 +8,26 @@ ghost use Rattle.jsx_tree.specs.View.{view_expr};
 ghost use Rattle.jsx_tree.specs.Told.{told_expr};
 ghost use Rattle.jsx_tree.specs.Walk.{one, tail};
 ghost use Rattle.jsx_tree.specs.Answers.{Only, Barred, NoRow, Built};
-ghost use Rattle.jsx_expression.specs.Openings.{OnlyOpened, NoneOpened};
-ghost use Rattle.jsx_expression.specs.Around.{around_of};
-ghost use Rattle.jsx_expression.specs.SoFar.{so_far};
+ghost use Rattle.jsx_operand.specs.Openings.{OnlyOpened, NoneOpened};
+ghost use Rattle.jsx_operand.specs.Around.{around_of};
+ghost use Rattle.jsx_operand.specs.SoFar.{so_far};
 ghost use Rattle.jsx_token.specs.Marks.{row_so_far};
 ghost use Rattle.jsx_token.specs.Here.{place_of, left};
-ghost use Rattle.jsx_expression.specs.Answers.{Refused};
-ghost use Rattle.jsx_expression.specs.Climbing.{Begins, NoneBegins, Grown, NotGrown};
+ghost use Rattle.jsx_operand.specs.Answers.{Refused};
+ghost use Rattle.jsx_operand.specs.Climbing.{Begins, NoneBegins, Grown, NotGrown};
 ghost use Rattle.jsx_token.specs.Growths.{growth_kind, is_level, mark, opening_kind, opening_sign, settled};
 ghost use Rattle.jsx_expression.specs.Gathering.{IsGathered, NotGathered};
 ghost use Rattle.jsx_make.specs.NodeSpans.{expr_at};
-ghost use Rattle.jsx_expression.specs.Spans.{Extends, IsPlaced, IsPlacedBehind, IsPlacedOn, Spans};
+ghost use Rattle.jsx_operand.specs.Spans.{Extends, IsPlaced, IsPlacedBehind, IsPlacedOn, Spans};
 ghost use Rattle.jsx_token.specs.Places.{begin_of, end_of, next_of};
 ghost use Rattle.jsx_expression.specs.Within.{ReadsWithin};
 
-use crate::around::Context;
-use crate::error::ParseError;
-use crate::expression::{
-    self, ASSIGNMENT, fits, is_callee, member, postfix_update, primary, start_of,
-};
-use crate::parser::{expect, give_up, span_to};
 use jsx_make::make;
+use jsx_operand::operand::{
+    ASSIGNMENT, fits, is_callee, member, postfix_update, primary, start_of,
+};
+use jsx_operand::parser::{expect, give_up, span_to};
+use jsx_operand::{Context, ParseError, operand};
 use jsx_token::growth::Growth;
 use jsx_token::{Fixed, Lexer, Opening, Word};
 use jsx_tree::{Expr, Word as Constant};
@@ -79,7 +78,7 @@ impl<
         ensures refused { Refused result (Barred so_far (around_of context.entry.around) (Part (grammar.Expr level)) (place_of lexer.old)) }
     {
         let mut expr = self.beginning(context, lexer)?;
-        if expression::level(&expr) < level {
+        if operand::level(&expr) < level {
             return Err(give_up(lexer));
         }
         'steps: loop {

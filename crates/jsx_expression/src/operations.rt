@@ -7,25 +7,31 @@ ghost use Rattle.jsx_tree.specs.ViewOperators.{assign_of, binary_of, unary_of, s
 ghost use Rattle.jsx_tree.specs.Told.{told_expr};
 ghost use Rattle.jsx_tree.specs.Walk.{tail};
 ghost use Rattle.jsx_tree.specs.Answers.{NoRow, Built, NoNode, BuiltNode};
-ghost use Rattle.jsx_expression.specs.Around.{around_of};
-ghost use Rattle.jsx_expression.specs.SoFar.{so_far};
+ghost use Rattle.jsx_tree.specs.Grows.{as_target};
+ghost use Rattle.jsx_operand.specs.Around.{around_of};
+ghost use Rattle.jsx_operand.specs.SoFar.{so_far};
 ghost use Rattle.jsx_token.specs.Marks.{row_so_far};
 ghost use Rattle.jsx_token.specs.Here.{place_of, left};
-ghost use Rattle.jsx_expression.specs.Answers.{Refused};
+ghost use Rattle.jsx_operand.specs.Answers.{Refused};
 ghost use Rattle.jsx_token.specs.Growths.{mark, opening_sign, settled};
 ghost use Rattle.jsx_make.specs.NodeSpans.{expr_at};
-ghost use Rattle.jsx_expression.specs.Spans.{Extends, IsPlacedBehind, IsPlacedOn, Spans};
+ghost use Rattle.jsx_operand.specs.Spans.{Extends, IsPlacedBehind, IsPlacedOn, Spans};
 ghost use Rattle.jsx_token.specs.Places.{begin_of, end_of};
 ghost use Rattle.jsx_expression.specs.Within.{ReadsWithin};
 
-use crate::around::Context;
-use crate::error::ParseError;
-use crate::expression::{ASSIGNMENT, MEMBER, UNARY, deletes_name, is_target, start_of, target_of};
 use crate::grammar::Expressions;
-use crate::parser::{expect, give_up, span_to};
 use jsx_make::make;
+use jsx_operand::operand::{ASSIGNMENT, deletes_name, is_target, start_of, target_of};
+use jsx_operand::parser::{expect, give_up, span_to};
+use jsx_operand::{Context, ParseError};
 use jsx_token::{Fixed, Lexer, growth};
 use jsx_tree::{AssignOp, BinaryOp, Expr, UnaryOp, UpdateOp};
+
+/// The level of a unary expression.
+const UNARY: u8 = 15;
+
+/// The level of calls and members, and of what may be assigned to.
+const MEMBER: u8 = 17;
 
 impl<
     F: for<'c, 's> Fn(Context<'c>, &mut Lexer<'s>, u8) -> Result<Box<Expr<'s>>, ParseError>,
@@ -81,7 +87,7 @@ impl<
         first: Box<Expr<'s>>,
     ) -> Result<Box<Expr<'s>>, ParseError>
         requires nests { ReadsWithin (suc (left lexer.old)) (F.pre self.now.inner) (F.post self.now.inner) }
-        ensures read { IfOk result (λ e. Built so_far (around_of context.entry.around) (tail (tail (row_so_far (expression Assign)))) (expression Assign) (part (view_expr first.entry.value)) (view_expr e.value) (place_of lexer.old) (place_of lexer.new)) }
+        ensures read { IfOk result (λ e. Built so_far (around_of context.entry.around) (tail (tail (row_so_far (expression Assign)))) (expression Assign) (part (as_target (view_expr first.entry.value))) (view_expr e.value) (place_of lexer.old) (place_of lexer.new)) }
         ensures span { IfOk result (λ e. Extends (expr_at first.entry.value) (expr_at e.value) (end_of lexer.new)) }
         ensures placed { IfOk result (λ e. IsPlacedOn (mark (expression Assign)) first.entry.value lexer.old e.value lexer.new) }
         ensures shorter { OnOk result (left lexer.new < left lexer.old) }
@@ -103,7 +109,7 @@ impl<
         first: Box<Expr<'s>>,
     ) -> Result<Box<Expr<'s>>, ParseError>
         requires nests { ReadsWithin (suc (left lexer.old)) (F.pre self.now.inner) (F.post self.now.inner) }
-        ensures read { IfOk result (λ e. Built so_far (around_of context.entry.around) (tail (tail (row_so_far (expression (OpAssign (assign_of operator)))))) (expression (OpAssign (assign_of operator))) (part (view_expr first.entry.value)) (view_expr e.value) (place_of lexer.old) (place_of lexer.new)) }
+        ensures read { IfOk result (λ e. Built so_far (around_of context.entry.around) (tail (tail (row_so_far (expression (OpAssign (assign_of operator)))))) (expression (OpAssign (assign_of operator))) (part (as_target (view_expr first.entry.value))) (view_expr e.value) (place_of lexer.old) (place_of lexer.new)) }
         ensures span { IfOk result (λ e. Extends (expr_at first.entry.value) (expr_at e.value) (end_of lexer.new)) }
         ensures placed { IfOk result (λ e. IsPlacedOn (mark (expression (OpAssign (assign_of operator)))) first.entry.value lexer.old e.value lexer.new) }
         ensures shorter { OnOk result (left lexer.new < left lexer.old) }
@@ -112,7 +118,8 @@ impl<
     {
         let value = self.inner(context, lexer, ASSIGNMENT)?;
         let span = span_to(start_of(&first), lexer);
-        Ok(make::op_assign(context.alloc, span, operator, first, value)?)
+        let target = target_of(context.alloc, first)?;
+        Ok(make::op_assign(context.alloc, span, operator, target, value)?)
     }
 
     /// A unary expression behind its operator: `-a` (ECMA-262 section 13.5). A name alone isn't deleted.
@@ -158,6 +165,8 @@ impl<
         if !is_target(&operand) {
             return Err(give_up(lexer));
         }
-        Ok(make::prefix_update(context.alloc, span_to(lo, lexer), operator, operand)?)
+        let span = span_to(lo, lexer);
+        let target = target_of(context.alloc, operand)?;
+        Ok(make::prefix_update(context.alloc, span, operator, target)?)
     }
 }

@@ -82,10 +82,10 @@ at-Operation-Assign at p a = ap operation_at (sym (operation.rolls-Assign at p a
 pub at-Expr-Operation-Assign : (at : Option Span) (p : Box Pat Global) (a : Box Expr Global) → expr_at (expr.Operation (operation.Assign at p a)) ≡ at
 at-Expr-Operation-Assign at p a = at-Expr-Operation (operation.Assign at p a) ∙ at-Operation-Assign at p a
 
-pub at-Operation-OpAssign : (at : Option Span) (o : AssignOp) (a : Box Expr Global) (b : Box Expr Global) → operation_at (operation.OpAssign at o a b) ≡ at
+pub at-Operation-OpAssign : (at : Option Span) (o : AssignOp) (a : Box Pat Global) (b : Box Expr Global) → operation_at (operation.OpAssign at o a b) ≡ at
 at-Operation-OpAssign at o a b = ap operation_at (sym (operation.rolls-OpAssign at o a b)) ∙ fold-roll-Operation At At At At At At At At At At access_at_step control_at_step expr_at_step jsx_at_step key_at_step link_at_step operation_at_step pat_at_step member_at_step stmt_at_step (Operation-F.OpAssign at o a b)
 
-pub at-Expr-Operation-OpAssign : (at : Option Span) (o : AssignOp) (a : Box Expr Global) (b : Box Expr Global) → expr_at (expr.Operation (operation.OpAssign at o a b)) ≡ at
+pub at-Expr-Operation-OpAssign : (at : Option Span) (o : AssignOp) (a : Box Pat Global) (b : Box Expr Global) → expr_at (expr.Operation (operation.OpAssign at o a b)) ≡ at
 at-Expr-Operation-OpAssign at o a b = at-Expr-Operation (operation.OpAssign at o a b) ∙ at-Operation-OpAssign at o a b
 
 pub at-Operation-Arrow : (at : Option Span) (ps : Vec (Box Pat Global) Global) (b : Box Expr Global) → operation_at (operation.Arrow at ps b) ≡ at
@@ -130,10 +130,10 @@ at-Operation-Unary at o a = ap operation_at (sym (operation.rolls-Unary at o a))
 pub at-Expr-Operation-Unary : (at : Option Span) (o : code_unary.UnaryOp) (a : Box Expr Global) → expr_at (expr.Operation (operation.Unary at o a)) ≡ at
 at-Expr-Operation-Unary at o a = at-Expr-Operation (operation.Unary at o a) ∙ at-Operation-Unary at o a
 
-pub at-Operation-Update : (at : Option Span) (o : code_update.UpdateOp) (s : UpdateSide) (a : Box Expr Global) → operation_at (operation.Update at o s a) ≡ at
+pub at-Operation-Update : (at : Option Span) (o : code_update.UpdateOp) (s : UpdateSide) (a : Box Pat Global) → operation_at (operation.Update at o s a) ≡ at
 at-Operation-Update at o s a = ap operation_at (sym (operation.rolls-Update at o s a)) ∙ fold-roll-Operation At At At At At At At At At At access_at_step control_at_step expr_at_step jsx_at_step key_at_step link_at_step operation_at_step pat_at_step member_at_step stmt_at_step (Operation-F.Update at o s a)
 
-pub at-Expr-Operation-Update : (at : Option Span) (o : code_update.UpdateOp) (s : UpdateSide) (a : Box Expr Global) → expr_at (expr.Operation (operation.Update at o s a)) ≡ at
+pub at-Expr-Operation-Update : (at : Option Span) (o : code_update.UpdateOp) (s : UpdateSide) (a : Box Pat Global) → expr_at (expr.Operation (operation.Update at o s a)) ≡ at
 at-Expr-Operation-Update at o s a = at-Expr-Operation (operation.Update at o s a) ∙ at-Operation-Update at o s a
 
 pub at-Operation-Spread : (at : Option Span) (a : Box Expr Global) → operation_at (operation.Spread at a) ≡ at

@@ -1,25 +1,31 @@
-//! The makers of nodes. Each node is in a box: a function that holds boxes costs a check little, and one that holds a node
+//! The makers of nodes, those of statements by name. Each node is in a box: a function that holds boxes costs a check little, and one that holds a node
 //! by value much.
 
 ghost use Rattle.std.specs.Prelude.{◌≡◌, [], ◌∷◌, IfOk, map, false, true};
-ghost use Rattle.jsx_tree.specs.Kinds.{Role, Block, Var, Declarator, Empty, If, Do, While, Continue, Break, Label, Throw, Debugger, Assigns, ExprStmt, Assign, OpAssign, Unary, Binary, Cond, Call, Member, Index, ImportCall, Parenthesized, Element, statement, expression, jsx, leaf, node, list, none, part, PrefixUpdate, PostfixUpdate, Seq, For, ForDeclaration, Switch, Array, Spread, Try, Catch, Binds, Object, Property, Shorthand, ComputedKey, function, New, NewWithoutArguments, ForIn, ForOf, ForBinding, Tagged, Chain, NameLink, IndexLink, CallLink};
-ghost use Rattle.jsx_tree.specs.View.{text_of, word, view_word, name_of, kind_of_literal, word_of, inside, forest, optional_name, optional_of, view_tag, view_expr, view_pattern, view_pat, view_stmt, view_jsx, optional_at_of, clause_of, view_control, view_key, view_target, template, is_optional, view_link};
+ghost use Rattle.jsx_tree.specs.Kinds.{Role, Assigns, Assign, OpAssign, Unary, Binary, Cond, Call, Member, Index, ImportCall, Parenthesized, Element, expression, jsx, leaf, node, list, none, part, PrefixUpdate, PostfixUpdate, Seq, Array, Spread, Object, Property, Shorthand, ComputedKey, ParenTarget, function, New, NewWithoutArguments, Tagged, Chain, NameLink, IndexLink, CallLink};
+ghost use Rattle.jsx_tree.specs.View.{text_of, word, view_word, name_of, kind_of_literal, inside, forest, view_tag, view_expr, view_pattern, view_jsx, view_key, template, is_optional, view_link};
 ghost use Rattle.jsx_tree.specs.ViewOperators.{assign_of, binary_of, unary_of, step_of};
-ghost use Rattle.jsx_tree.specs.Told.{told_list, told_name, told_optional, told_text, told_leaf, told_node, told_tag, told_expr, told_pat, told_stmt, told_jsx, led_by, told_control, told_key, told_prop, told_template, told_link};
+ghost use Rattle.jsx_tree.specs.Told.{told_list, told_text, told_leaf, told_node, told_tag, told_expr, told_pat, told_jsx, told_key, told_prop, told_template, told_link};
 ghost use Rattle.jsx_base.specs.Token.{Elision};
 ghost use Rattle.jsx_tree.specs.Spans.{no_tales, tells};
-ghost use Rattle.jsx_make.specs.NodeSpans.{expr_at, member_at, pat_at, stmt_at};
+ghost use Rattle.jsx_make.specs.NodeSpans.{expr_at, member_at, pat_at};
 ghost use Rattle.jsx_make.specs.Members.{view_prop};
 
+pub use crate::statements::{
+    block, break_statement, case_clause, catch_clause, continue_statement, debugger_statement,
+    declarator, do_statement, empty_statement, expression_statement, for_in, for_of, for_statement,
+    head, head_declaration, if_statement, label_statement, switch_statement, throw_statement,
+    try_statement, variables, while_statement,
+};
 use jsx_base::Span;
 use jsx_tree::{
-    Access, AssignOp, BinaryOp, Control, DeclareWord, Expr, Ident, Jsx, Key, Link, LinkForm,
-    LiteralKind, Operation, Pat, Prop, Stmt, Tag, Text, UnaryOp, UpdateOp, UpdateSide, Word,
+    Access, AssignOp, BinaryOp, Expr, Ident, Jsx, Key, Link, LinkForm, LiteralKind, Operation, Pat,
+    Prop, Tag, Text, UnaryOp, UpdateOp, UpdateSide, Word,
 };
 use std::alloc::{AllocError, Global};
 
 /// A value in a box.
-fn boxed<T: Drop>(alloc: Global, value: T) -> Result<Box<T>, AllocError>
+pub(crate) fn boxed<T: Drop>(alloc: Global, value: T) -> Result<Box<T>, AllocError>
     ensures { IfOk result (λ b. b.value ≡ value) }
 {
     match Box::new(alloc, value) {
@@ -321,47 +327,6 @@ pub fn bound_name<'s>(
     boxed(alloc, Pat::Ident(at, name))
 }
 
-/// A declarator: `a`, or `a = 1`.
-pub fn declarator<'s>(
-    alloc: Global,
-    at: Option<Span>,
-    pattern: Box<Pat<'s>>,
-    value: Option<Box<Expr<'s>>>,
-) -> Result<Box<Pat<'s>>, AllocError>
-    ensures view { IfOk result (λ p. (r : Role) → view_pattern p.value r ≡ node (statement Declarator) (part (view_pattern pattern.entry.value r) (part (optional_of view_expr value.entry) none))) }
-    ensures told { IfOk result (λ p. told_pat p.value ≡ told_node at (told_pat pattern.entry.value ∷ told_optional told_expr value.entry ∷ [])) }
-    ensures span { IfOk result (λ p. pat_at p.value ≡ at) }
-{
-    boxed(alloc, Pat::Binding(at, pattern, value))
-}
-
-/// `const a = 1, b = 2;`, each declarator a `Pat::Binding`.
-pub fn variables<'s>(
-    alloc: Global,
-    at: Option<Span>,
-    word: DeclareWord,
-    declarators: Vec<Box<Pat<'s>>>,
-) -> Result<Box<Stmt<'s>>, AllocError>
-    ensures view { IfOk result (λ s. view_stmt s.value ≡ node (statement (Var (word_of word))) (part (list (forest (map (inside view_pat) declarators.entry.items))) none)) }
-    ensures told { IfOk result (λ s. told_stmt s.value ≡ told_node at (told_list (map (inside told_pat) declarators.entry.items) ∷ [])) }
-    ensures span { IfOk result (λ s. stmt_at s.value ≡ at) }
-{
-    boxed(alloc, Stmt::Var(at, word, declarators))
-}
-
-/// `a;`
-pub fn expression_statement<'s>(
-    alloc: Global,
-    at: Option<Span>,
-    expression: Box<Expr<'s>>,
-) -> Result<Box<Stmt<'s>>, AllocError>
-    ensures view { IfOk result (λ s. view_stmt s.value ≡ node (statement ExprStmt) (part (view_expr expression.entry.value) none)) }
-    ensures told { IfOk result (λ s. told_stmt s.value ≡ told_node at (told_expr expression.entry.value ∷ [])) }
-    ensures span { IfOk result (λ s. stmt_at s.value ≡ at) }
-{
-    boxed(alloc, Stmt::Expr(at, expression))
-}
-
 /// `a[b]`
 pub fn index<'s>(
     alloc: Global,
@@ -487,15 +452,15 @@ pub fn postfix_update<'s>(
     alloc: Global,
     at: Option<Span>,
     operator: UpdateOp,
-    operand: Box<Expr<'s>>,
+    target: Box<Pat<'s>>,
 ) -> Result<Box<Expr<'s>>, AllocError>
-    ensures view { IfOk result (λ e. view_expr e.value ≡ node (expression (PostfixUpdate (step_of operator))) (part (view_expr operand.entry.value) none)) }
-    ensures told { IfOk result (λ e. told_expr e.value ≡ told_node at (told_expr operand.entry.value ∷ [])) }
+    ensures view { IfOk result (λ e. view_expr e.value ≡ node (expression (PostfixUpdate (step_of operator))) (part (view_pattern target.entry.value Assigns) none)) }
+    ensures told { IfOk result (λ e. told_expr e.value ≡ told_node at (told_pat target.entry.value ∷ [])) }
     ensures span { IfOk result (λ e. expr_at e.value ≡ at) }
 {
     boxed(
         alloc,
-        Expr::Operation(Operation::Update(at, operator, UpdateSide::After, operand)),
+        Expr::Operation(Operation::Update(at, operator, UpdateSide::After, target)),
     )
 }
 
@@ -504,15 +469,15 @@ pub fn prefix_update<'s>(
     alloc: Global,
     at: Option<Span>,
     operator: UpdateOp,
-    operand: Box<Expr<'s>>,
+    target: Box<Pat<'s>>,
 ) -> Result<Box<Expr<'s>>, AllocError>
-    ensures view { IfOk result (λ e. view_expr e.value ≡ node (expression (PrefixUpdate (step_of operator))) (part (view_expr operand.entry.value) none)) }
-    ensures told { IfOk result (λ e. told_expr e.value ≡ told_node at (told_expr operand.entry.value ∷ [])) }
+    ensures view { IfOk result (λ e. view_expr e.value ≡ node (expression (PrefixUpdate (step_of operator))) (part (view_pattern target.entry.value Assigns) none)) }
+    ensures told { IfOk result (λ e. told_expr e.value ≡ told_node at (told_pat target.entry.value ∷ [])) }
     ensures span { IfOk result (λ e. expr_at e.value ≡ at) }
 {
     boxed(
         alloc,
-        Expr::Operation(Operation::Update(at, operator, UpdateSide::Before, operand)),
+        Expr::Operation(Operation::Update(at, operator, UpdateSide::Before, target)),
     )
 }
 
@@ -534,11 +499,11 @@ pub fn op_assign<'s>(
     alloc: Global,
     at: Option<Span>,
     operator: AssignOp,
-    target: Box<Expr<'s>>,
+    target: Box<Pat<'s>>,
     value: Box<Expr<'s>>,
 ) -> Result<Box<Expr<'s>>, AllocError>
-    ensures view { IfOk result (λ e. view_expr e.value ≡ node (expression (OpAssign (assign_of operator))) (part (view_expr target.entry.value) (part (view_expr value.entry.value) none))) }
-    ensures told { IfOk result (λ e. told_expr e.value ≡ told_node at (told_expr target.entry.value ∷ told_expr value.entry.value ∷ [])) }
+    ensures view { IfOk result (λ e. view_expr e.value ≡ node (expression (OpAssign (assign_of operator))) (part (view_pattern target.entry.value Assigns) (part (view_expr value.entry.value) none))) }
+    ensures told { IfOk result (λ e. told_expr e.value ≡ told_node at (told_pat target.entry.value ∷ told_expr value.entry.value ∷ [])) }
     ensures span { IfOk result (λ e. expr_at e.value ≡ at) }
 {
     boxed(
@@ -569,262 +534,14 @@ pub fn target<'s>(alloc: Global, expr: Box<Expr<'s>>) -> Result<Box<Pat<'s>>, Al
     boxed(alloc, Pat::Target(expr))
 }
 
-/// `;`
-pub fn empty_statement<'s>(alloc: Global, at: Option<Span>) -> Result<Box<Stmt<'s>>, AllocError>
-    ensures view { IfOk result (λ s. view_stmt s.value ≡ node (statement Empty) none) }
-    ensures told { IfOk result (λ s. told_stmt s.value ≡ told_node at []) }
-    ensures span { IfOk result (λ s. stmt_at s.value ≡ at) }
-{
-    boxed(alloc, Stmt::Empty(at))
-}
-
-/// `{ a; }`
-pub fn block<'s>(
+/// A target in parentheses: `(a)`
+pub fn paren_target<'s>(
     alloc: Global,
     at: Option<Span>,
-    body: Vec<Box<Stmt<'s>>>,
-) -> Result<Box<Stmt<'s>>, AllocError>
-    ensures view { IfOk result (λ s. view_stmt s.value ≡ node (statement Block) (part (list (forest (map (inside view_stmt) body.entry.items))) none)) }
-    ensures told { IfOk result (λ s. told_stmt s.value ≡ told_node at (told_list (map (inside told_stmt) body.entry.items) ∷ [])) }
-    ensures span { IfOk result (λ s. stmt_at s.value ≡ at) }
-{
-    boxed(alloc, Stmt::Block(at, body))
-}
-
-/// `continue a;`
-pub fn continue_statement<'s>(
-    alloc: Global,
-    at: Option<Span>,
-    label: Option<Ident<'s>>,
-) -> Result<Box<Stmt<'s>>, AllocError>
-    ensures view { IfOk result (λ s. view_stmt s.value ≡ node (statement Continue) (part (optional_name label.entry) none)) }
-    ensures told { IfOk result (λ s. told_stmt s.value ≡ told_node at (told_name label.entry ∷ [])) }
-    ensures span { IfOk result (λ s. stmt_at s.value ≡ at) }
-{
-    boxed(alloc, Stmt::Continue(at, label))
-}
-
-/// `break a;`
-pub fn break_statement<'s>(
-    alloc: Global,
-    at: Option<Span>,
-    label: Option<Ident<'s>>,
-) -> Result<Box<Stmt<'s>>, AllocError>
-    ensures view { IfOk result (λ s. view_stmt s.value ≡ node (statement Break) (part (optional_name label.entry) none)) }
-    ensures told { IfOk result (λ s. told_stmt s.value ≡ told_node at (told_name label.entry ∷ [])) }
-    ensures span { IfOk result (λ s. stmt_at s.value ≡ at) }
-{
-    boxed(alloc, Stmt::Break(at, label))
-}
-
-/// `a: b;`
-pub fn label_statement<'s>(
-    alloc: Global,
-    at: Option<Span>,
-    label: Ident<'s>,
-    body: Box<Stmt<'s>>,
-) -> Result<Box<Stmt<'s>>, AllocError>
-    ensures view { IfOk result (λ s. view_stmt s.value ≡ node (statement Label) (part (name_of label.entry) (part (view_stmt body.entry.value) none))) }
-    ensures told { IfOk result (λ s. told_stmt s.value ≡ told_node at (told_text label.entry.text ∷ told_stmt body.entry.value ∷ [])) }
-    ensures span { IfOk result (λ s. stmt_at s.value ≡ at) }
-{
-    boxed(alloc, Stmt::Control(Control::Label(at, label, body)))
-}
-
-/// `throw a;`
-pub fn throw_statement<'s>(
-    alloc: Global,
-    at: Option<Span>,
-    value: Box<Expr<'s>>,
-) -> Result<Box<Stmt<'s>>, AllocError>
-    ensures view { IfOk result (λ s. view_stmt s.value ≡ node (statement Throw) (part (view_expr value.entry.value) none)) }
-    ensures told { IfOk result (λ s. told_stmt s.value ≡ told_node at (told_expr value.entry.value ∷ [])) }
-    ensures span { IfOk result (λ s. stmt_at s.value ≡ at) }
-{
-    boxed(alloc, Stmt::Throw(at, value))
-}
-
-/// `debugger;`
-pub fn debugger_statement<'s>(alloc: Global, at: Option<Span>) -> Result<Box<Stmt<'s>>, AllocError>
-    ensures view { IfOk result (λ s. view_stmt s.value ≡ node (statement Debugger) none) }
-    ensures told { IfOk result (λ s. told_stmt s.value ≡ told_node at []) }
-    ensures span { IfOk result (λ s. stmt_at s.value ≡ at) }
-{
-    boxed(alloc, Stmt::Debugger(at))
-}
-
-/// `if (a) b; else c;`
-pub fn if_statement<'s>(
-    alloc: Global,
-    at: Option<Span>,
-    test: Box<Expr<'s>>,
-    then: Box<Stmt<'s>>,
-    other: Option<Box<Stmt<'s>>>,
-) -> Result<Box<Stmt<'s>>, AllocError>
-    ensures view { IfOk result (λ s. view_stmt s.value ≡ node (statement If) (part (view_expr test.entry.value) (part (view_stmt then.entry.value) (part (optional_of view_stmt other.entry) none)))) }
-    ensures told { IfOk result (λ s. told_stmt s.value ≡ told_node at (told_expr test.entry.value ∷ told_stmt then.entry.value ∷ told_optional told_stmt other.entry ∷ [])) }
-    ensures span { IfOk result (λ s. stmt_at s.value ≡ at) }
-{
-    boxed(alloc, Stmt::Control(Control::If(at, test, then, other)))
-}
-
-/// `do a; while (b);`
-pub fn do_statement<'s>(
-    alloc: Global,
-    at: Option<Span>,
-    body: Box<Stmt<'s>>,
-    test: Box<Expr<'s>>,
-) -> Result<Box<Stmt<'s>>, AllocError>
-    ensures view { IfOk result (λ s. view_stmt s.value ≡ node (statement Do) (part (view_stmt body.entry.value) (part (view_expr test.entry.value) none))) }
-    ensures told { IfOk result (λ s. told_stmt s.value ≡ told_node at (told_stmt body.entry.value ∷ told_expr test.entry.value ∷ [])) }
-    ensures span { IfOk result (λ s. stmt_at s.value ≡ at) }
-{
-    boxed(alloc, Stmt::Control(Control::Do(at, body, test)))
-}
-
-/// `while (a) b;`
-pub fn while_statement<'s>(
-    alloc: Global,
-    at: Option<Span>,
-    test: Box<Expr<'s>>,
-    body: Box<Stmt<'s>>,
-) -> Result<Box<Stmt<'s>>, AllocError>
-    ensures view { IfOk result (λ s. view_stmt s.value ≡ node (statement While) (part (view_expr test.entry.value) (part (view_stmt body.entry.value) none))) }
-    ensures told { IfOk result (λ s. told_stmt s.value ≡ told_node at (told_expr test.entry.value ∷ told_stmt body.entry.value ∷ [])) }
-    ensures span { IfOk result (λ s. stmt_at s.value ≡ at) }
-{
-    boxed(alloc, Stmt::Control(Control::While(at, test, body)))
-}
-
-/// `let a = 1` in the head of a `for`, each declarator a `Pat::Binding`.
-pub fn head_declaration<'s>(
-    alloc: Global,
-    at: Option<Span>,
-    word: DeclareWord,
-    declarators: Vec<Box<Pat<'s>>>,
+    inner: Box<Pat<'s>>,
 ) -> Result<Box<Pat<'s>>, AllocError>
-    ensures view { IfOk result (λ p. (r : Role) → view_pattern p.value r ≡ node (statement (ForDeclaration (word_of word))) (part (list (forest (map (inside view_pat) declarators.entry.items))) none)) }
-    ensures told { IfOk result (λ p. told_pat p.value ≡ told_node at (told_list (map (inside told_pat) declarators.entry.items) ∷ [])) }
+    ensures view { IfOk result (λ p. (r : Role) → view_pattern p.value r ≡ node (function ParenTarget) (part (view_pattern inner.entry.value r) none)) }
+    ensures told { IfOk result (λ p. told_pat p.value ≡ told_pat inner.entry.value) }
 {
-    boxed(alloc, Pat::Declaration(at, word, declarators))
-}
-
-/// `let a` in the head of a `for`-`in` or `for`-`of`.
-pub fn head<'s>(
-    alloc: Global,
-    at: Option<Span>,
-    word: DeclareWord,
-    target: Box<Pat<'s>>,
-) -> Result<Box<Pat<'s>>, AllocError>
-    ensures view { IfOk result (λ p. (r : Role) → view_pattern p.value r ≡ node (statement (ForBinding (word_of word))) (part (view_pat target.entry.value) none)) }
-    ensures told { IfOk result (λ p. told_pat p.value ≡ told_node at (told_pat target.entry.value ∷ [])) }
-{
-    boxed(alloc, Pat::Head(at, word, target))
-}
-
-/// `for (a in b) c;`
-pub fn for_in<'s>(
-    alloc: Global,
-    at: Option<Span>,
-    head: Box<Pat<'s>>,
-    object: Box<Expr<'s>>,
-    body: Box<Stmt<'s>>,
-) -> Result<Box<Stmt<'s>>, AllocError>
-    ensures view { IfOk result (λ s. view_stmt s.value ≡ node (statement ForIn) (part (view_target head.entry.value) (part (view_expr object.entry.value) (part (view_stmt body.entry.value) none)))) }
-    ensures told { IfOk result (λ s. told_stmt s.value ≡ told_node at (told_pat head.entry.value ∷ told_expr object.entry.value ∷ told_stmt body.entry.value ∷ [])) }
-    ensures span { IfOk result (λ s. stmt_at s.value ≡ at) }
-{
-    boxed(alloc, Stmt::Control(Control::ForIn(at, head, object, body)))
-}
-
-/// `for (a of b) c;`
-pub fn for_of<'s>(
-    alloc: Global,
-    at: Option<Span>,
-    head: Box<Pat<'s>>,
-    items: Box<Expr<'s>>,
-    body: Box<Stmt<'s>>,
-) -> Result<Box<Stmt<'s>>, AllocError>
-    ensures view { IfOk result (λ s. view_stmt s.value ≡ node (statement ForOf) (part (view_target head.entry.value) (part (view_expr items.entry.value) (part (view_stmt body.entry.value) none)))) }
-    ensures told { IfOk result (λ s. told_stmt s.value ≡ told_node at (told_pat head.entry.value ∷ told_expr items.entry.value ∷ told_stmt body.entry.value ∷ [])) }
-    ensures span { IfOk result (λ s. stmt_at s.value ≡ at) }
-{
-    boxed(alloc, Stmt::Control(Control::ForOf(at, head, items, body)))
-}
-
-/// `for (a; b; c) d;`
-pub fn for_statement<'s>(
-    alloc: Global,
-    at: Option<Span>,
-    init: Option<Box<Pat<'s>>>,
-    test: Option<Box<Expr<'s>>>,
-    update: Option<Box<Expr<'s>>>,
-    body: Box<Stmt<'s>>,
-) -> Result<Box<Stmt<'s>>, AllocError>
-    ensures view { IfOk result (λ s. view_stmt s.value ≡ node (statement For) (part (optional_at_of Assigns view_pattern init.entry) (part (optional_of view_expr test.entry) (part (optional_of view_expr update.entry) (part (view_stmt body.entry.value) none))))) }
-    ensures told { IfOk result (λ s. told_stmt s.value ≡ told_node at (told_optional told_pat init.entry ∷ told_optional told_expr test.entry ∷ told_optional told_expr update.entry ∷ told_stmt body.entry.value ∷ [])) }
-    ensures span { IfOk result (λ s. stmt_at s.value ≡ at) }
-{
-    boxed(
-        alloc,
-        Stmt::Control(Control::For(at, init, test, update, body)),
-    )
-}
-
-/// `switch (a) { case b: c; }`, each case a `Control::Case`.
-pub fn switch_statement<'s>(
-    alloc: Global,
-    at: Option<Span>,
-    value: Box<Expr<'s>>,
-    cases: Vec<Box<Control<'s>>>,
-) -> Result<Box<Stmt<'s>>, AllocError>
-    ensures view { IfOk result (λ s. view_stmt s.value ≡ node (statement Switch) (part (view_expr value.entry.value) (part (list (forest (map (inside view_control) cases.entry.items))) none))) }
-    ensures told { IfOk result (λ s. told_stmt s.value ≡ told_node at (told_expr value.entry.value ∷ told_list (map (inside told_control) cases.entry.items) ∷ [])) }
-    ensures span { IfOk result (λ s. stmt_at s.value ≡ at) }
-{
-    boxed(alloc, Stmt::Control(Control::Switch(at, value, cases)))
-}
-
-/// `case a: b;`, or `default: b;`
-pub fn case_clause<'s>(
-    alloc: Global,
-    at: Option<Span>,
-    test: Option<Box<Expr<'s>>>,
-    body: Vec<Box<Stmt<'s>>>,
-) -> Result<Box<Control<'s>>, AllocError>
-    ensures view { IfOk result (λ s. view_control s.value ≡ clause_of view_expr test.entry (list (forest (map (inside view_stmt) body.entry.items)))) }
-    ensures told { IfOk result (λ s. told_control s.value ≡ told_node at (led_by told_expr test.entry (told_list (map (inside told_stmt) body.entry.items) ∷ []))) }
-{
-    boxed(alloc, Control::Case(at, test, body))
-}
-
-/// `try {} catch (a) {} finally {}`, each block a `Stmt::Block`, what is caught a `Control::Catch`.
-pub fn try_statement<'s>(
-    alloc: Global,
-    at: Option<Span>,
-    body: Box<Stmt<'s>>,
-    handler: Option<Box<Control<'s>>>,
-    finalizer: Option<Box<Stmt<'s>>>,
-) -> Result<Box<Stmt<'s>>, AllocError>
-    ensures view { IfOk result (λ s. view_stmt s.value ≡ node (statement Try) (part (view_stmt body.entry.value) (part (optional_of view_control handler.entry) (part (optional_of view_stmt finalizer.entry) none)))) }
-    ensures told { IfOk result (λ s. told_stmt s.value ≡ told_node at (told_stmt body.entry.value ∷ told_optional told_control handler.entry ∷ told_optional told_stmt finalizer.entry ∷ [])) }
-    ensures span { IfOk result (λ s. stmt_at s.value ≡ at) }
-{
-    boxed(
-        alloc,
-        Stmt::Control(Control::Try(at, body, handler, finalizer)),
-    )
-}
-
-/// `catch (a) {}`, or `catch {}`
-pub fn catch_clause<'s>(
-    alloc: Global,
-    at: Option<Span>,
-    parameter: Option<Box<Pat<'s>>>,
-    body: Box<Stmt<'s>>,
-) -> Result<Box<Control<'s>>, AllocError>
-    ensures view { IfOk result (λ s. view_control s.value ≡ node (statement Catch) (part (optional_at_of Binds view_pattern parameter.entry) (part (view_stmt body.entry.value) none))) }
-    ensures told { IfOk result (λ s. told_control s.value ≡ told_node at (told_optional told_pat parameter.entry ∷ told_stmt body.entry.value ∷ [])) }
-{
-    boxed(alloc, Control::Catch(at, parameter, body))
+    boxed(alloc, Pat::Paren(at, inner))
 }

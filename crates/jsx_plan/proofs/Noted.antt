@@ -215,9 +215,9 @@ pub noted-Operation-Assign : (at : Option Span) (p : Box Pat Global) (a : Box Ex
 unfolding noted_expr noted_operation noted_pattern
 noted-Operation-Assign at p a = ap_2 noted (view-Operation-Assign at p a) (told-Operation-Assign at p a)
 
-pub noted-Operation-OpAssign : (at : Option Span) (o : AssignOp) (a : Box Expr Global) (b : Box Expr Global) → noted_operation (operation.OpAssign at o a b) ≡ node (expression (OpAssign (assign_of o))) (part (noted_expr a.value) (part (noted_expr b.value) none))
-unfolding noted_expr noted_operation
-noted-Operation-OpAssign at o a b = ap_2 noted (view-Operation-OpAssign at o a b) (told-Operation-OpAssign at o a b)
+pub noted-Operation-OpAssign : (at : Option Span) (o : AssignOp) (p : Box Pat Global) (a : Box Expr Global) → noted_operation (operation.OpAssign at o p a) ≡ node (expression (OpAssign (assign_of o))) (part ((noted_pattern p.value) Assigns) (part (noted_expr a.value) none))
+unfolding noted_expr noted_operation noted_pattern
+noted-Operation-OpAssign at o p a = ap_2 noted (view-Operation-OpAssign at o p a) (told-Operation-OpAssign at o p a)
 
 pub noted-Operation-Arrow : (at : Option Span) (ps : Vec (Box Pat Global) Global) (b : Box Expr Global) → noted_operation (operation.Arrow at ps b) ≡ node (expression Arrow) (part (list (forest_at Binds (map (inside noted_pattern) ps.items))) (part (noted_expr b.value) none))
 unfolding noted_expr noted_operation noted_pattern
@@ -251,10 +251,10 @@ pub noted-Operation-Unary : (at : Option Span) (o : code_unary.UnaryOp) (a : Box
 unfolding noted_expr noted_operation
 noted-Operation-Unary at o a = ap_2 noted (view-Operation-Unary at o a) (told-Operation-Unary at o a)
 
-pub noted-Operation-Update : (at : Option Span) (o : code_update.UpdateOp) (s : UpdateSide) (a : Box Expr Global) → noted_operation (operation.Update at o s a) ≡ node (expression (update_of o s)) (part (noted_expr a.value) none)
-unfolding noted_expr noted_operation
-noted-Operation-Update at o side.Before a = ap_2 noted (view-Operation-Update at o side.Before a) (told-Operation-Update at o side.Before a)
-noted-Operation-Update at o side.After a = ap_2 noted (view-Operation-Update at o side.After a) (told-Operation-Update at o side.After a)
+pub noted-Operation-Update : (at : Option Span) (o : code_update.UpdateOp) (s : UpdateSide) (p : Box Pat Global) → noted_operation (operation.Update at o s p) ≡ node (expression (update_of o s)) (part ((noted_pattern p.value) Assigns) none)
+unfolding noted_operation noted_pattern
+noted-Operation-Update at o side.Before p = ap_2 noted (view-Operation-Update at o side.Before p) (told-Operation-Update at o side.Before p)
+noted-Operation-Update at o side.After p = ap_2 noted (view-Operation-Update at o side.After p) (told-Operation-Update at o side.After p)
 
 pub noted-Operation-Spread : (at : Option Span) (a : Box Expr Global) → noted_operation (operation.Spread at a) ≡ node (expression Spread) (part (noted_expr a.value) none)
 unfolding noted_expr noted_operation

@@ -1,7 +1,7 @@
 -- What is an empty statement, and what has no signs: by the equations of the view, a variant a line.
 use Rattle.std.proofs.Common.{◌≡◌, List, [], ◌∷◌, ap, sym, ◌∙◌, refl, map, Bool, false, Option, Some, None, Box, Global}
 use Rattle.jsx_base.specs.Token as token
-use Rattle.jsx_tree.specs.Kinds.{Role, Tree, leaf, node, list, none, part, expression}
+use Rattle.jsx_tree.specs.Kinds.{Role, Assigns, Tree, leaf, node, list, none, part, expression}
 use Rattle.jsx_tree.specs.ViewOperators.{update_of}
 use Rattle.jsx_tree.specs.declared.operator.UpdateSide.TheVariants as side
 use Rattle.jsx_tree.specs.declared.text.Text.{Text}
@@ -93,7 +93,7 @@ solid_rolled_operation (Operation-F.BareArrowBlock at a ds ss) = ap (λ e. is_em
 solid_rolled_operation (Operation-F.Cond at a b c) = ap (λ e. is_empty (laid_tree (view_operation e))) (operation.rolls-Cond at a b c) ∙ ap (λ t. is_empty (laid_tree t)) (view-Operation-Cond at a b c)
 solid_rolled_operation (Operation-F.Binary at o a b) = ap (λ e. is_empty (laid_tree (view_operation e))) (operation.rolls-Binary at o a b) ∙ ap (λ t. is_empty (laid_tree t)) (view-Operation-Binary at o a b)
 solid_rolled_operation (Operation-F.Unary at o a) = ap (λ e. is_empty (laid_tree (view_operation e))) (operation.rolls-Unary at o a) ∙ ap (λ t. is_empty (laid_tree t)) (view-Operation-Unary at o a)
-solid_rolled_operation (Operation-F.Update at o s a) = ap (λ e. is_empty (laid_tree (view_operation e))) (operation.rolls-Update at o s a) ∙ ap (λ t. is_empty (laid_tree t)) (view-Operation-Update at o s a) ∙ solid_update o s (view_expr a.value)
+solid_rolled_operation (Operation-F.Update at o s a) = ap (λ e. is_empty (laid_tree (view_operation e))) (operation.rolls-Update at o s a) ∙ ap (λ t. is_empty (laid_tree t)) (view-Operation-Update at o s a) ∙ solid_update o s ((view_pattern a.value) Assigns)
 solid_rolled_operation (Operation-F.«Operation::Spread» at a) = ap (λ e. is_empty (laid_tree (view_operation e))) (operation.rolls-Spread at a) ∙ ap (λ t. is_empty (laid_tree t)) (view-Operation-Spread at a)
 solid_rolled_operation Operation-F.«Operation::Hole» = ap (λ e. is_empty (laid_tree (view_operation e))) (operation.rolls-Hole) ∙ ap (λ t. is_empty (laid_tree t)) (view-Operation-Hole)
 

@@ -133,7 +133,7 @@ fn open_operation<'a, 's>(
         Operation::Cond(_, test, yes, no) => cond(printer, test, yes, no),
         Operation::Binary(_, op, left, right) => binary(printer, *op, left, right),
         Operation::Unary(_, op, operand) => unary(printer, *op, operand),
-        Operation::Update(_, op, side, operand) => update(printer, *op, *side, operand),
+        Operation::Update(_, op, side, target) => update(printer, *op, *side, target),
         Operation::Spread(_, operand) => spread(printer, operand),
         Operation::Hole => Ok(()),
     }
@@ -156,14 +156,14 @@ fn assign<'a, 's>(
 fn op_assign<'a, 's>(
     printer: &mut Printer<'a, 's>,
     op: AssignOp,
-    target: &'a Box<Expr<'s>>,
+    target: &'a Box<Pat<'s>>,
     value: &'a Box<Expr<'s>>,
 ) -> Result<(), AllocError>
-    ensures { OnOk result (outcome (job_of printer.new) ≡ with_tree (job_of printer.old) (node (expression (OpAssign (assign_of op))) (part (noted_expr target.now.value) (part (noted_expr value.now.value) none)))) }
+    ensures { OnOk result (outcome (job_of printer.new) ≡ with_tree (job_of printer.old) (node (expression (OpAssign (assign_of op))) (part (noted_pattern target.now.value Assigns) (part (noted_expr value.now.value) none)))) }
 {
     printer.expr(value)?;
     printer.raw(assign_text(op))?;
-    printer.expr(target)
+    printer.pat(target, Role::Assigns)
 }
 
 #[tactic(auto, using(crate::proofs::Productions::plain))]
@@ -288,13 +288,13 @@ fn update<'a, 's>(
     printer: &mut Printer<'a, 's>,
     op: UpdateOp,
     side: UpdateSide,
-    operand: &'a Box<Expr<'s>>,
+    target: &'a Box<Pat<'s>>,
 ) -> Result<(), AllocError>
-    ensures { OnOk result (outcome (job_of printer.new) ≡ with_tree (job_of printer.old) (node (expression (update_of op side)) (part (noted_expr operand.now.value) none))) }
+    ensures { OnOk result (outcome (job_of printer.new) ≡ with_tree (job_of printer.old) (node (expression (update_of op side)) (part (noted_pattern target.now.value Assigns) none))) }
 {
     match side {
-        UpdateSide::Before => update_before(printer, op, operand),
-        UpdateSide::After => update_after(printer, op, operand),
+        UpdateSide::Before => update_before(printer, op, target),
+        UpdateSide::After => update_after(printer, op, target),
     }
 }
 
@@ -302,11 +302,11 @@ fn update<'a, 's>(
 fn update_before<'a, 's>(
     printer: &mut Printer<'a, 's>,
     op: UpdateOp,
-    operand: &'a Box<Expr<'s>>,
+    target: &'a Box<Pat<'s>>,
 ) -> Result<(), AllocError>
-    ensures { OnOk result (outcome (job_of printer.new) ≡ behind (job_of printer.old) (puts (inked (pen_of (job_of printer.old)) (update (step_of op))) (signs (noted_expr operand.now.value)))) }
+    ensures { OnOk result (outcome (job_of printer.new) ≡ behind (job_of printer.old) (puts (inked (pen_of (job_of printer.old)) (update (step_of op))) (signs (noted_pattern target.now.value Assigns)))) }
 {
-    printer.expr(operand)?;
+    printer.pat(target, Role::Assigns)?;
     printer.sign(step_text(op))
 }
 
@@ -314,12 +314,12 @@ fn update_before<'a, 's>(
 fn update_after<'a, 's>(
     printer: &mut Printer<'a, 's>,
     op: UpdateOp,
-    operand: &'a Box<Expr<'s>>,
+    target: &'a Box<Pat<'s>>,
 ) -> Result<(), AllocError>
-    ensures { OnOk result (outcome (job_of printer.new) ≡ behind (job_of printer.old) (inked (puts (pen_of (job_of printer.old)) (signs (noted_expr operand.now.value))) (update (step_of op)))) }
+    ensures { OnOk result (outcome (job_of printer.new) ≡ behind (job_of printer.old) (inked (puts (pen_of (job_of printer.old)) (signs (noted_pattern target.now.value Assigns))) (update (step_of op)))) }
 {
     printer.sign(step_text(op))?;
-    printer.expr(operand)
+    printer.pat(target, Role::Assigns)
 }
 
 #[tactic(auto, using(crate::proofs::Productions::planning))]

@@ -63,10 +63,10 @@ fn of_operation(operation: &Operation<'_>) -> Opening
     match operation {
         Operation::Seq(_, items) => of_first(items),
         Operation::Assign(_, target, _) => of_pattern(target),
-        Operation::OpAssign(_, _, target, _) => at(Place::Level(0), target),
+        Operation::OpAssign(_, _, target, _) => of_pattern(target),
         Operation::Cond(_, test, _, _) => at(Place::Level(3), test),
         Operation::Binary(_, operator, first, _) => at(left(*operator), first),
-        Operation::Update(_, _, side, operand) => of_update(*side, operand),
+        Operation::Update(_, _, side, target) => of_update(*side, target),
         Operation::Arrow(..)
         | Operation::ArrowBlock(..)
         | Operation::BareArrow(..)
@@ -77,15 +77,15 @@ fn of_operation(operation: &Operation<'_>) -> Opening
     }
 }
 
-/// `++a` begins with its operator, `a++` with its operand.
+/// `++a` begins with its operator, `a++` with its target.
 #[cycle(opening)]
 #[tactic(auto, using(crate::proofs::Begins::begins))]
-fn of_update(side: UpdateSide, operand: &Expr<'_>) -> Opening
-    ensures { (o : code_update.UpdateOp) → result ≡ opening (node (expression (update_of o side)) (part (view_expr operand.now) none)) }
+fn of_update(side: UpdateSide, target: &Pat<'_>) -> Opening
+    ensures { (o : code_update.UpdateOp) → result ≡ opening (node (expression (update_of o side)) (part (view_pattern target.now Assigns) none)) }
 {
     match side {
         UpdateSide::Before => Opening::Other,
-        UpdateSide::After => at(Place::Level(0), operand),
+        UpdateSide::After => of_pattern(target),
     }
 }
 

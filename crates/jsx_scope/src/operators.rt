@@ -59,13 +59,13 @@ impl Walker {
         match operation {
             Operation::Seq(_, items) => self.exprs(place, bare, items),
             Operation::Assign(_, target, _) => self.pattern(bare, target),
-            Operation::OpAssign(_, _, target, _) => self.expr(place, bare, target),
+            Operation::OpAssign(_, _, target, _) => self.pattern(bare, target),
             Operation::Arrow(_, parameters, _) => self.patterns(false, parameters),
             Operation::ArrowBlock(_, parameters, _, _) => self.patterns(false, parameters),
             Operation::Cond(_, test, _, _) => self.expr(place, bare, test),
             Operation::Binary(_, _, left, _) => self.expr(place, bare, left),
             Operation::Unary(_, _, operand) => self.expr(place, bare, operand),
-            Operation::Update(_, _, _, operand) => self.expr(place, bare, operand),
+            Operation::Update(_, _, _, target) => self.pattern(bare, target),
             Operation::Spread(_, operand) => self.expr(place, bare, operand),
             Operation::BareArrow(..) | Operation::BareArrowBlock(..) | Operation::Hole => Ok(()),
         }

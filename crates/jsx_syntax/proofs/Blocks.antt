@@ -20,15 +20,15 @@ use Rattle.jsx_tree.proofs.Rows.Closers.{closes}
 use Rattle.jsx_tree.proofs.Rows.Lists.{brace, closed}
 use Rattle.jsx_tree.proofs.Rows.Steps.{bar, both, no_sign}
 use Rattle.jsx_tree.proofs.Rows.Turns.{From, Turn, cons, early, item_of, no_rest, prepend, prepend_cons, turn_as, turn_both, turn_none, turn_only, whole_of}
-use Rattle.jsx_expression.specs.SoFar.{Staged, so_far}
+use Rattle.jsx_operand.specs.SoFar.{Staged, so_far}
 use Rattle.jsx_token.specs.Marks.{row_so_far}
 use Rattle.jsx_token.specs.Growths.{same_sign}
 use Rattle.jsx_token.specs.Headings.{heading_sign}
 use Rattle.jsx_token.specs.declared.heading.Heading.{Heading}
-use Rattle.jsx_expression.proofs.OfSoFar.{of_so_far}
+use Rattle.jsx_operand.proofs.OfSoFar.{of_so_far}
 use Rattle.jsx_token.proofs.Headings.{of_begun, of_heading}
 use Rattle.jsx_token.proofs.Marks.{one_sign}
-use Rattle.jsx_expression.proofs.Homes.{taken_by, home_of}
+use Rattle.jsx_operand.proofs.Homes.{taken_by, home_of}
 use Rattle.jsx_syntax.proofs.Statements.{coded, lost_if, none_begins, spot_kind, stmts}
 
 -- ---- the steps of the loop

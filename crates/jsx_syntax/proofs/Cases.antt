@@ -30,16 +30,16 @@ use Rattle.jsx_token.specs.CaseEnds.{ends_case}
 use Rattle.jsx_token.specs.Growths.{is_code, same_sign}
 use Rattle.jsx_token.specs.Headings.{heading_sign}
 use Rattle.jsx_token.specs.Here.{Here, place_of}
-use Rattle.jsx_expression.specs.SoFar.{Staged, so_far}
+use Rattle.jsx_operand.specs.SoFar.{Staged, so_far}
 use Rattle.jsx_token.specs.Marks.{row_so_far}
 use Rattle.jsx_token.specs.Places.{Takes}
-use Rattle.jsx_expression.proofs.OfSoFar.{of_so_far}
+use Rattle.jsx_operand.proofs.OfSoFar.{of_so_far}
 use Rattle.jsx_token.proofs.Headings.{headings, every_heading, of_heading}
 use Rattle.jsx_token.proofs.Marks.{one_sign}
-use Rattle.jsx_expression.proofs.Homes.{Taken, no_list, taken_by, home_of}
-use Rattle.jsx_expression.proofs.Standing.{standing}
+use Rattle.jsx_operand.proofs.Homes.{Taken, no_list, taken_by, home_of}
+use Rattle.jsx_operand.proofs.Standing.{standing}
 use Rattle.jsx_tree.proofs.Rows.Firsts.{kind_home}
-use Rattle.jsx_expression.proofs.Values.{led_sign}
+use Rattle.jsx_operand.proofs.Values.{led_sign}
 use Rattle.jsx_syntax.proofs.Blocks.{both_none, no_functions, no_heading, turn_line, turn_none_left}
 use Rattle.jsx_syntax.proofs.Heads.{as_front, as_turn, behind_both, head_of, items_of, rest_of}
 use Rattle.jsx_syntax.proofs.Statements.{KeySign, Spot, coded, heading_stands, keyed, named, none_begins, spot_kind, stmts, unlabelled_word, worded_evaluation}

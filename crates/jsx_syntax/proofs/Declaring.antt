@@ -14,8 +14,8 @@ use Rattle.jsx_tree.specs.Told.{told_pat}
 use Rattle.jsx_tree.specs.declared.tree.Pat.{Pat as Code}
 use Rattle.jsx_token.specs.Here.{Here, place_of}
 use Rattle.jsx_token.specs.Places.{next_of}
-use Rattle.jsx_expression.specs.Spans.{IsPlaced, IsPlacedPast}
-use Rattle.jsx_expression.proofs.Placing.{placed_to}
+use Rattle.jsx_operand.specs.Spans.{IsPlaced, IsPlacedPast}
+use Rattle.jsx_operand.proofs.Placing.{placed_to}
 use Rattle.jsx_tree.specs.Walk.{is_found, nothing, one}
 use Rattle.jsx_tree.specs.Answers.{Moves, Only, Barred}
 use Rattle.jsx_tree.specs.declared.text.DeclareWord as code
@@ -26,7 +26,7 @@ use Rattle.jsx_tree.proofs.Rows.Steps.{bar, no_sign}
 use Rattle.jsx_tree.proofs.Rows.Turns.{turn_none}
 use Rattle.jsx_token.specs.Growths.{settled}
 use Rattle.jsx_token.specs.Semicolons.{in_list}
-use Rattle.jsx_expression.specs.SoFar.{so_far}
+use Rattle.jsx_operand.specs.SoFar.{so_far}
 use Rattle.jsx_syntax.proofs.Statements.{lost_if}
 use Rattle.jsx_syntax.specs.Heads.{Declares, Initializes, IsDeclared, IsFirst, IsInitial, IsItems, IsKeys, NoHead, NoHeads, NoInitial, NotDeclared, NotHeaded, NotOver, declare_sign}
 use Rattle.jsx_syntax.specs.OpenIn.{any_opens}

@@ -18,14 +18,14 @@ use Rattle.jsx_tree.proofs.Rows.Stopping.{is_not, or_cases, stays}
 use Rattle.jsx_tree.proofs.Rows.Laws.{end_found}
 use Rattle.jsx_tree.proofs.Rows.Steps.{bar, end, then'}
 use Rattle.jsx_tree.proofs.Rows.Turns.{whole_of}
-use Rattle.jsx_expression.specs.SoFar.{Staged, so_far}
+use Rattle.jsx_operand.specs.SoFar.{Staged, so_far}
 use Rattle.jsx_token.specs.Marks.{row_so_far}
 use Rattle.jsx_syntax.specs.Statements.{Closes, alternative_row}
 use Rattle.jsx_token.specs.Headings.{Begins}
 use Rattle.jsx_token.specs.declared.heading.Heading.{Heading}
 use Rattle.jsx_token.proofs.Headings.{of_begun}
-use Rattle.jsx_expression.proofs.OfSoFar.{of_so_far}
-use Rattle.jsx_expression.proofs.Homes.{no_list, taken_by, home_of}
+use Rattle.jsx_operand.proofs.OfSoFar.{of_so_far}
+use Rattle.jsx_operand.proofs.Homes.{no_list, taken_by, home_of}
 use Rattle.jsx_syntax.proofs.PartWords.{absent_word, barred_word, of_else, present_word}
 use Rattle.jsx_syntax.proofs.Tries.{try_closed}
 use Rattle.jsx_syntax.proofs.Statements.{Spot, subs, spot_kind, unless_lost}

@@ -29,7 +29,7 @@ use Rattle.jsx_tree.proofs.Rows.Optionals.{turn_absent, turn_present}
 use Rattle.jsx_tree.proofs.Rows.Placing.{no_node}
 use Rattle.jsx_tree.proofs.Rows.Steps.{bar, both, end, no_sign, on, on_row, only_sign, then', then_row}
 use Rattle.jsx_tree.proofs.Rows.Turns.{Turn, early, prepend, turn_both, turn_final, turn_none, turn_only, whole_of}
-use Rattle.jsx_expression.specs.SoFar.{Staged, so_far}
+use Rattle.jsx_operand.specs.SoFar.{Staged, so_far}
 use Rattle.jsx_token.specs.Marks.{ends_so_far, is_sign, row_so_far}
 use Rattle.jsx_token.specs.Semicolons.{in_list}
 use Rattle.jsx_token.specs.Here.{sign_of}
@@ -37,14 +37,14 @@ use Rattle.jsx_syntax.specs.Heads.{Rest, Front, Declares, NotDeclared, IsDeclare
 use Rattle.jsx_syntax.specs.OpenIn.{any_opens, opens_whole}
 use Rattle.jsx_token.specs.declared.lexer.Fixed.{Fixed as Mark}
 use Rattle.jsx_token.specs.declared.lexer.Fixed.TheVariants as fixed
-use Rattle.jsx_expression.proofs.OfSoFar.{of_so_far}
+use Rattle.jsx_operand.proofs.OfSoFar.{of_so_far}
 use Rattle.jsx_token.proofs.Headings.{of_begun}
-use Rattle.jsx_expression.proofs.Inners.{declaration, inner_kind, of_inner}
+use Rattle.jsx_operand.proofs.Inners.{declaration, inner_kind, of_inner}
 use Rattle.jsx_token.proofs.Listed.{agree, agreed, of_each}
 use Rattle.jsx_token.proofs.Marks.{by_sign}
-use Rattle.jsx_expression.proofs.Homes.{Taken, module', headed, inner, evaluation, labelled, sequence, spread, operand, no_list, taken_by, home_of, AtWhole, single, several, at_whole, made, value_kind}
+use Rattle.jsx_operand.proofs.Homes.{Taken, module', headed, inner, evaluation, labelled, sequence, spread, aimed, operand, no_list, taken_by, home_of, AtWhole, single, several, at_whole, made, value_kind}
 use Rattle.jsx_token.proofs.Lives.{lives}
-use Rattle.jsx_expression.proofs.Values.{Seat, at_any, led_sign, move, node_to}
+use Rattle.jsx_operand.proofs.Values.{Seat, at_any, led_sign, move, node_to}
 use Rattle.jsx_expression.proofs.Sequences.{and_equal, no_comma_ends}
 use Rattle.jsx_syntax.proofs.Controls.{barred_in, only_in}
 use Rattle.jsx_syntax.proofs.Items.{head_inits, list_inits, no_init, unless_none}
@@ -186,6 +186,7 @@ begin_kind : {v : Surroundings} {x y : Place} (l : Kind) (ts : Forest) → Taken
 begin_kind l ts (operand m) h r = of_value (single (made m))
 begin_kind l ts sequence h r = of_value several
 begin_kind l ts spread h r = cc
+begin_kind l ts aimed h r = cc
 begin_kind l ts (inner i) h r =
     head_begins (inner_kind i) ts
     (or_cases (not (lives ForInit (inner_kind i))) (is_head (inner_kind i)) (of_inner (λ j. not (lives ForInit (inner_kind j)) || is_head (inner_kind j)) refl i) (λ n. absurd (clash _ (kind_home ForInit (inner_kind i) ts h) (is_not _ n))) (λ e. e))

@@ -13,7 +13,7 @@ use Rattle.jsx_tree.specs.Walk.{is_found, nothing, one, Piece, piece, tail, Give
 use Rattle.jsx_tree.specs.Stops.{going}
 use Rattle.jsx_tree.specs.Language.{Language, Whole}
 use Rattle.jsx_tree.specs.Answers.{Moves, Stuck, Only, Barred, OnlyRow, NoRow, NoNode, BuiltNode}
-use Rattle.jsx_expression.specs.SoFar.{Staged, so_far}
+use Rattle.jsx_operand.specs.SoFar.{Staged, so_far}
 use Rattle.jsx_token.specs.Marks.{ends_so_far, row_so_far}
 use Rattle.jsx_tree.proofs.Tokens.{and_left, and_right, and_both}
 use Rattle.jsx_tree.proofs.Apart.{clash}
@@ -27,14 +27,14 @@ use Rattle.jsx_tree.proofs.Rows.Lists.{all_with}
 use Rattle.jsx_tree.proofs.Rows.Optionals.{turn_absent, present_last, none_last}
 use Rattle.jsx_tree.proofs.Rows.Laws.{lost_barred, end_found, start_found}
 use Rattle.jsx_tree.proofs.Rows.Placing.{Chosen, OnlyAt, NoneAt, then_at, only_at, barred_at}
-use Rattle.jsx_expression.proofs.OfSoFar.{of_so_far}
-use Rattle.jsx_expression.proofs.Homes.{IsName, patterns, no_list, Taken, taken_by, home_of}
+use Rattle.jsx_operand.proofs.OfSoFar.{of_so_far}
+use Rattle.jsx_operand.proofs.Homes.{IsName, patterns, no_list, Taken, taken_by, home_of}
 use Rattle.jsx_syntax.specs.Statements.{has_value}
-use Rattle.jsx_expression.proofs.Inners.{declaration}
-use Rattle.jsx_expression.proofs.Standing.{standing}
+use Rattle.jsx_operand.proofs.Inners.{declaration}
+use Rattle.jsx_operand.proofs.Standing.{standing}
 use Rattle.jsx_tree.proofs.Rows.Firsts.{kind_home}
 use Rattle.jsx_token.specs.Growths.{settled}
-use Rattle.jsx_expression.proofs.Values.{settled_token, leaf_full, is_next, found_next, no_heads}
+use Rattle.jsx_operand.proofs.Values.{settled_token, leaf_full, is_next, found_next, no_heads}
 
 -- ---- a variable and its initializer
 

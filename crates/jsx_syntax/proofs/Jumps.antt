@@ -19,8 +19,8 @@ use Rattle.jsx_tree.proofs.Rows.Turns.{turn_both, turn_none, turn_only, turn_sym
 use Rattle.jsx_base.specs.Token.{Text, Operator, IdentifierName, breaks}
 use Rattle.jsx_token.specs.Here.{Here, place_of}
 use Rattle.jsx_token.specs.Marks.{row_so_far}
-use Rattle.jsx_expression.specs.SoFar.{so_far}
-use Rattle.jsx_expression.proofs.OfSoFar.{of_so_far}
+use Rattle.jsx_operand.specs.SoFar.{so_far}
+use Rattle.jsx_operand.proofs.OfSoFar.{of_so_far}
 use Rattle.jsx_syntax.specs.declared.label.Label.{Label}
 use Rattle.jsx_syntax.specs.Heads.{Front, free_end}
 use Rattle.jsx_syntax.specs.Labels.{jump_row, target_of}

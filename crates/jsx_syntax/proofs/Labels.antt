@@ -17,7 +17,7 @@ use Rattle.jsx_tree.specs.StaticRules.{Jump, jump, Surroundings, has_label, is_l
 use Rattle.jsx_tree.specs.Walk.{is_found, one, Given, Past, sign, tree, Walk, done, next, around, steady}
 use Rattle.jsx_tree.specs.Language.{Whole}
 use Rattle.jsx_tree.specs.Answers.{Moves, Only, Barred, BuiltNode, NoNode}
-use Rattle.jsx_expression.specs.SoFar.{Staged, so_far}
+use Rattle.jsx_operand.specs.SoFar.{Staged, so_far}
 use Rattle.jsx_token.specs.Here.{Here, place_of}
 use Rattle.jsx_token.specs.Marks.{row_so_far}
 use Rattle.jsx_token.specs.Growths.{rung, is_code, same_sign, settled}
@@ -32,10 +32,10 @@ use Rattle.jsx_tree.proofs.Rows.Bodies.{plain}
 use Rattle.jsx_tree.proofs.Rows.Placing.{Chosen, free_around, moved}
 use Rattle.jsx_tree.proofs.Rows.Laws.{end_found}
 use Rattle.jsx_tree.proofs.Rows.Turns.{item_of, whole_of}
-use Rattle.jsx_expression.proofs.OfSoFar.{of_so_far}
-use Rattle.jsx_expression.proofs.Homes.{IsName, taken_by, home_of, no_list, staged_leaf}
-use Rattle.jsx_expression.proofs.Values.{found_next, leaf_full, literal_follows, or_left, settled_token}
-use Rattle.jsx_expression.proofs.Climbing.{climb_only}
+use Rattle.jsx_operand.proofs.OfSoFar.{of_so_far}
+use Rattle.jsx_operand.proofs.Homes.{IsName, taken_by, home_of, no_list, staged_leaf}
+use Rattle.jsx_operand.proofs.Values.{found_next, leaf_full, literal_follows, or_left, settled_token}
+use Rattle.jsx_operand.proofs.Climbing.{climb_only}
 use Rattle.jsx_expression.proofs.Sequences.{whole_only}
 use Rattle.jsx_token.proofs.Headings.{of_heading}
 use Rattle.jsx_token.proofs.Marks.{one_sign}

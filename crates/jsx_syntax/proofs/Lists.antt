@@ -17,11 +17,11 @@ use Rattle.jsx_token.specs.Here.{Here, place_of}
 use Rattle.jsx_token.specs.Places.{Takes}
 use Rattle.jsx_token.specs.Semicolons.{in_list}
 use Rattle.jsx_token.proofs.Semicolons.{comma_first, one_more}
-use Rattle.jsx_expression.specs.SoFar.{so_far}
-use Rattle.jsx_expression.specs.Spans.{IsPlaced}
-use Rattle.jsx_expression.proofs.OfSoFar.{of_so_far}
-use Rattle.jsx_expression.proofs.Placing.{PlacedFront, plain_no_trailing, front_last, front_more, front_none, list_to, map_pushed}
-use Rattle.jsx_expression.proofs.Trees.{pushed}
+use Rattle.jsx_operand.specs.SoFar.{so_far}
+use Rattle.jsx_operand.specs.Spans.{IsPlaced}
+use Rattle.jsx_operand.proofs.OfSoFar.{of_so_far}
+use Rattle.jsx_operand.proofs.Placing.{PlacedFront, plain_no_trailing, front_last, front_more, front_none, list_to, map_pushed}
+use Rattle.jsx_operand.proofs.Trees.{pushed}
 use Rattle.jsx_syntax.specs.Heads.{AllDeclare, IsFirst, NoneDeclare, free_row, marked_row}
 use Rattle.jsx_syntax.specs.Statements.{has_value}
 use Rattle.jsx_syntax.proofs.Heads.{Leads, declares, leads_more, leads_none, not_declared, not_initialized}

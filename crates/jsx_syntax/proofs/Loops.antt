@@ -17,12 +17,12 @@ use Rattle.jsx_tree.proofs.Rows.Turns.{whole_of}
 use Rattle.jsx_token.specs.Headings.{Begins, own, over_keys, over_items}
 use Rattle.jsx_token.specs.declared.heading.Heading.TheVariants as heading
 use Rattle.jsx_token.specs.Marks.{row_so_far}
-use Rattle.jsx_expression.specs.SoFar.{so_far}
-use Rattle.jsx_expression.proofs.OfSoFar.{of_so_far}
+use Rattle.jsx_operand.specs.SoFar.{so_far}
+use Rattle.jsx_operand.proofs.OfSoFar.{of_so_far}
 use Rattle.jsx_syntax.specs.declared.for_head.ForHead.{ForHead}
 use Rattle.jsx_syntax.specs.declared.for_head.ForHead.TheVariants as head
 use Rattle.jsx_syntax.specs.Heads.{Heads, IsInitial, IsItems, IsKeys, IsPlacedHead, NoHeads, NotOver, initial_symbols, items_row, items_symbols, keys_row, keys_symbols, over_row}
-use Rattle.jsx_expression.specs.Spans.{IsPlacedFront}
+use Rattle.jsx_operand.specs.Spans.{IsPlacedFront}
 use Rattle.jsx_token.specs.Here.{Here}
 use Rattle.jsx_tree.specs.View.{optional_at_of, view_pattern, view_target}
 use Rattle.jsx_tree.specs.Told.{told_optional, told_pat}

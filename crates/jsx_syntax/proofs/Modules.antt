@@ -18,7 +18,7 @@ use Rattle.jsx_tree.specs.Walk.{is_found, Items, nil, last, more, sign, tree, ma
 use Rattle.jsx_tree.specs.Texts.{start}
 use Rattle.jsx_tree.specs.Language.{Whole}
 use Rattle.jsx_tree.specs.Answers.{Barred, ToEnd, OnlyToEnd, NoneToEnd, Stuck}
-use Rattle.jsx_expression.specs.SoFar.{Staged, so_far, in_module}
+use Rattle.jsx_operand.specs.SoFar.{Staged, so_far, in_module}
 use Rattle.jsx_token.specs.Marks.{row_so_far}
 use Rattle.jsx_tree.proofs.Tokens.{and_left, and_right, and_both, same_is}
 use Rattle.jsx_tree.proofs.Rows.Bridge.{found_at}
@@ -30,12 +30,12 @@ use Rattle.jsx_tree.proofs.Rows.Stopping.{is_not, not_is, never_stops, stays}
 use Rattle.jsx_tree.proofs.Rows.Guarded.{weaken_items, whole_items}
 use Rattle.jsx_tree.proofs.Rows.Optionals.{end_shut}
 use Rattle.jsx_tree.proofs.Rows.Lines.{found_end}
-use Rattle.jsx_expression.proofs.OfSoFar.{of_so_far}
-use Rattle.jsx_expression.proofs.Homes.{Taken, taken_by, home_of, no_list, strings, IsString}
-use Rattle.jsx_expression.proofs.Values.{no_heads, literal_opening, opener_of}
+use Rattle.jsx_operand.proofs.OfSoFar.{of_so_far}
+use Rattle.jsx_operand.proofs.Homes.{Taken, taken_by, home_of, no_list, strings, IsString}
+use Rattle.jsx_operand.proofs.Values.{no_heads, literal_opening, opener_of}
 use Rattle.jsx_token.specs.Growths.{is_code}
 use Rattle.jsx_token.specs.Headings.{heading_sign}
-use Rattle.jsx_expression.proofs.Standing.{standing}
+use Rattle.jsx_operand.proofs.Standing.{standing}
 use Rattle.jsx_tree.proofs.Rows.Firsts.{kind_home}
 use Rattle.jsx_token.proofs.Listed.{listed}
 use Rattle.jsx_syntax.specs.Modules.{IsModule, NoModule, OnlyModule, module_row}

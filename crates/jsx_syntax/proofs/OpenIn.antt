@@ -3,7 +3,7 @@ use Rattle.std.proofs.Common.{◌≡◌, ◌<◌, ◌≤◌, ◌+◌, ℕ, zero,
 use Rattle.std.specs.Prelude.{◌&&◌, ◌||◌}
 use Rattle.std.proofs.lemmas.List.{get_or-map, length-map}
 use Rattle.jsx_base.specs.Token.{NoSubstitution, TemplateHead, TemplateTail}
-use Rattle.jsx_tree.specs.Kinds.{Role, Binds, Declarator, Seq, Element, Kind, statement, expression, jsx, Tree, leaf, node, list, Forest, none, part, PlainTemplate, SubstitutedTemplate, NameLink, IndexLink, CallLink}
+use Rattle.jsx_tree.specs.Kinds.{Role, Binds, Declarator, Seq, Element, ParenTarget, Kind, statement, expression, function, jsx, Tree, leaf, node, list, Forest, none, part, PlainTemplate, SubstitutedTemplate, NameLink, IndexLink, CallLink}
 use Rattle.jsx_tree.specs.Nonterminals.{Nonterminal, Expr, Name, Pat, TagName, Attributes, Declarators, TemplatePart, TemplateOf, ChainLink}
 use Rattle.jsx_tree.specs.Grammar.{ListShape, NoTrailing, Spaced, TwoOrMore}
 use Rattle.jsx_tree.specs.Form.{Single, Several, Position, position, positions, admits, shaped, fits_below, fit_slots, fit_each, is}
@@ -11,6 +11,7 @@ use Rattle.jsx_tree.specs.Reading.{Place}
 use Rattle.jsx_tree.specs.StaticRules.{Surroundings, is_in_op, open_in, open_ins, any_open}
 use Rattle.jsx_tree.specs.Walk.{Items, nil, last, more, sign, tree, absent, present, many, Walk, done, next, around}
 use Rattle.jsx_tree.specs.Language.{Whole}
+use Rattle.jsx_tree.specs.Grows.{is_aim}
 use Rattle.jsx_tree.specs.declared.text.Text.{Text as TreeText}
 use Rattle.jsx_tree.specs.declared.text.Word.{Word}
 use Rattle.jsx_tree.specs.declared.text.Word.TheVariants as words
@@ -27,18 +28,18 @@ use Rattle.jsx_tree.proofs.Tokens.{and_left, and_right}
 use Rattle.jsx_tree.proofs.Views.{views}
 use Rattle.jsx_tree.proofs.Rows.Stopping.{is_not, or_cases}
 use Rattle.jsx_token.specs.Stage.{has_kind, in_stage, in_stages, each_in_stage}
-use Rattle.jsx_expression.specs.SoFar.{Staged, so_far}
-use Rattle.jsx_expression.specs.Templates.{IsOf, plain, substituted}
+use Rattle.jsx_operand.specs.SoFar.{Staged, so_far}
+use Rattle.jsx_operand.specs.Templates.{IsOf, plain, substituted}
 use Rattle.jsx_token.specs.Marks.{row_so_far}
 use Rattle.jsx_syntax.specs.OpenIn.{spreads, fronts, opens, any_of, first_of, is_several, opens_listed, opens_whole, some_of, opens_declared, any_opens}
-use Rattle.jsx_expression.proofs.OfSoFar.{of_so_far}
+use Rattle.jsx_operand.proofs.OfSoFar.{of_so_far}
 use Rattle.jsx_token.proofs.Listed.{Listed, kinds, every, of_each}
-use Rattle.jsx_expression.proofs.Homes.{Value, literal, made, operand_kind, nowhere, patterns, wholes, heads, tails, taken, taken_by, home_of, no_list, AtWhole, single, several, at_whole}
-use Rattle.jsx_token.proofs.Lives.{is_single}
-use Rattle.jsx_expression.proofs.Values.{at_one, move}
-use Rattle.jsx_expression.proofs.Climbing.{is_link}
-use Rattle.jsx_expression.proofs.Standing.{standing}
-use Rattle.jsx_expression.proofs.Tags.{template_node}
+use Rattle.jsx_operand.proofs.Homes.{Value, literal, made, operand_kind, nowhere, patterns, wholes, heads, tails, taken, taken_by, home_of, no_list, AtWhole, single, several, at_whole}
+use Rattle.jsx_token.proofs.Lives.{is_lone}
+use Rattle.jsx_operand.proofs.Values.{at_one, move}
+use Rattle.jsx_operand.proofs.Climbing.{is_link}
+use Rattle.jsx_operand.proofs.Standing.{standing}
+use Rattle.jsx_operand.proofs.Tags.{template_node}
 use Rattle.jsx_syntax.proofs.Items.{bound_kind}
 
 -- ---- the variants of the code's tree
@@ -91,7 +92,7 @@ or_false true = refl
 or_false false = refl
 
 record Opened (t : Tree) : Type 0 where
-  on : (c : Nonterminal) → is_single c ≡ true → is c t ≡ true → in_stage c t ≡ true → opens t ≡ open_in t
+  on : (c : Nonterminal) → is_lone c ≡ true → is c t ≡ true → in_stage c t ≡ true → opens t ≡ open_in t
 
 data AllOpened : Forest → Type 0 where
   nil_opened : AllOpened none
@@ -106,7 +107,7 @@ rest_opened (cons_opened o a) = a
 -- each part stands outside of brackets, as an operand
 abbrev all_plain : List Position → Bool
 all_plain [] = true
-all_plain (position Single c g false a ∷ ss) = is_single c && all_plain ss
+all_plain (position Single c g false a ∷ ss) = is_lone c && all_plain ss
 all_plain (s ∷ ss) = false
 
 -- each stands in brackets, or is a name or a template's first or last piece
@@ -130,7 +131,7 @@ sole_links (position (Several m) ChainLink g false a ∷ []) = true
 sole_links ss = false
 
 abbrev first_plain : List Position → Bool
-first_plain (position Single c g false a ∷ ss) = is_single c && (all_shut ss || (sole_template ss || sole_links ss))
+first_plain (position Single c g false a ∷ ss) = is_lone c && (all_shut ss || (sole_template ss || sole_links ss))
 first_plain ss = false
 
 abbrev is_element : Kind → Bool
@@ -155,19 +156,19 @@ fit_here c t ss ts h = first_two (admits c t) (fits_below c t) (fit_slots ss ts)
 fit_rest : (f : _) (c : Nonterminal) (t : Tree) (ss : List Position) (ts : Forest) → (shaped f c t && (fits_below c t && fit_slots ss ts)) ≡ true → fit_slots ss ts ≡ true
 fit_rest f c t ss ts h = and_right (fits_below c t) _ (and_right (shaped f c t) _ h)
 
-here_opened : (c : Nonterminal) (t : Tree) (ss : List Position) (ts : Forest) → Opened t → is_single c ≡ true → (shaped Single c t && (fits_below c t && fit_slots ss ts)) ≡ true → (in_stage c t && in_stages ss ts) ≡ true → opens t ≡ open_in t
+here_opened : (c : Nonterminal) (t : Tree) (ss : List Position) (ts : Forest) → Opened t → is_lone c ≡ true → (shaped Single c t && (fits_below c t && fit_slots ss ts)) ≡ true → (in_stage c t && in_stages ss ts) ≡ true → opens t ≡ open_in t
 here_opened c t ss ts o k f s = o.on c k (fit_here c t ss ts f) (and_left (in_stage c t) _ s)
 
 plain_same : (ss : List Position) (ts : Forest) → all_plain ss ≡ true → AllOpened ts → fit_slots ss ts ≡ true → in_stages ss ts ≡ true → any_of ts ≡ open_ins ss ts
 plain_same [] none p a f s = refl
 plain_same [] (part t ts) p a f s = cc
 plain_same (position Single c g false d ∷ ss) none p a f s = cc
-plain_same (position Single c g false d ∷ []) (part t none) p a f s = here_opened c t [] none (head_opened a) (and_left (is_single c) _ p) f s ∙ sym (or_false (open_in t))
+plain_same (position Single c g false d ∷ []) (part t none) p a f s = here_opened c t [] none (head_opened a) (and_left (is_lone c) _ p) f s ∙ sym (or_false (open_in t))
 plain_same (position Single c g false d ∷ []) (part t (part u us)) p a f s = let bad : false ≡ true = fit_rest Single c t [] (part u us) f in cc
 plain_same (position Single c g false d ∷ (e ∷ ss)) (part t none) p a f s = let bad : false ≡ true = fit_rest Single c t (e ∷ ss) none f in cc
 plain_same (position Single c g false d ∷ (e ∷ ss)) (part t (part u us)) p a f s =
-    let here = here_opened c t (e ∷ ss) (part u us) (head_opened a) (and_left (is_single c) _ p) f s in
-    let rest = plain_same (e ∷ ss) (part u us) (and_right (is_single c) _ p) (rest_opened a) (fit_rest Single c t (e ∷ ss) (part u us) f) (and_right (in_stage c t) _ s) in
+    let here = here_opened c t (e ∷ ss) (part u us) (head_opened a) (and_left (is_lone c) _ p) f s in
+    let rest = plain_same (e ∷ ss) (part u us) (and_right (is_lone c) _ p) (rest_opened a) (fit_rest Single c t (e ∷ ss) (part u us) f) (and_right (in_stage c t) _ s) in
     (λ i. here i || rest i)
 plain_same _ ts p a f s = cc
 
@@ -254,10 +255,10 @@ links_shut _ ts p f s = cc
 first_same : (ss : List Position) (ts : Forest) → first_plain ss ≡ true → AllOpened ts → fit_slots ss ts ≡ true → in_stages ss ts ≡ true → first_of ts ≡ open_ins ss ts
 first_same (position Single c g false d ∷ ss) none p a f s = cc
 first_same (position Single c g false d ∷ ss) (part t ts) p a f s =
-    let here = here_opened c t ss ts (head_opened a) (and_left (is_single c) _ p) f s in
+    let here = here_opened c t ss ts (head_opened a) (and_left (is_lone c) _ p) f s in
     let fit = fit_rest Single c t ss ts f in
     let staged = and_right (in_stage c t) _ s in
-    let rest = or_cases (all_shut ss) _ (and_right (is_single c) _ p) (λ h. shut_same ss ts h fit staged) (λ o. or_cases (sole_template ss) (sole_links ss) o (λ h. sole_shut ss ts h fit staged) (λ h. links_shut ss ts h fit staged)) in
+    let rest = or_cases (all_shut ss) _ (and_right (is_lone c) _ p) (λ h. shut_same ss ts h fit staged) (λ o. or_cases (sole_template ss) (sole_links ss) o (λ h. sole_shut ss ts h fit staged) (λ h. links_shut ss ts h fit staged)) in
     sym ((λ i. sym here i || rest i) ∙ or_false (opens t))
 first_same _ ts p a f s = cc
 
@@ -314,10 +315,17 @@ kind_opened k cs l a f s = by (spreads k) (fronts k) (of_each placed_so all_plac
 node_listed : {k : Kind} {ts : Forest} → Value (node k ts) → Listed k
 node_listed (made l) = l
 
+-- in a target's parentheses all stands in brackets
+aim_opened : (k : Kind) (ts : Forest) → is_aim (node k ts) ≡ true → fit_slots (positions k) ts ≡ true → in_stages (positions k) ts ≡ true → opens (node k ts) ≡ open_in (node k ts)
+aim_opened (function ParenTarget) ts e f s = sym (shut_same (positions (function ParenTarget)) ts refl f s)
+aim_opened _ ts e f s = cc
+
 node_opened : (k : Kind) (ts : Forest) → AllOpened ts → Opened (node k ts)
-node_opened k ts a = record {
-  on = λ c o i s. kind_opened k ts (node_listed (operand_kind c {ts = ts} o (taken k (and_left (has_kind k) _ s)) (and_left (admits c (node k ts)) _ i))) a (and_right (admits c (node k ts)) _ i) (and_right (has_kind k) _ s);
-}
+node_opened k ts a = record { on = λ c o i s. by c o i s (is_aim (node k ts)) refl }
+  where
+    by : (c : Nonterminal) → is_lone c ≡ true → is c (node k ts) ≡ true → in_stage c (node k ts) ≡ true → (b : Bool) → is_aim (node k ts) ≡ b → opens (node k ts) ≡ open_in (node k ts)
+    by c o i s true e = aim_opened k ts e (and_right (admits c (node k ts)) _ i) (and_right (has_kind k) _ s)
+    by c o i s false e = kind_opened k ts (node_listed (operand_kind c {ts = ts} o e (taken k (and_left (has_kind k) _ s)) (and_left (admits c (node k ts)) _ i))) a (and_right (admits c (node k ts)) _ i) (and_right (has_kind k) _ s)
 
 mutual
   tree_opened : (t : Tree) → Opened t
@@ -329,7 +337,7 @@ mutual
   all_opened none = nil_opened
   all_opened (part t ts) = cons_opened (tree_opened t) (all_opened ts)
 
-pub value_opened : {v : Surroundings} {c : Nonterminal} {x y : Place} {t : Tree} → is_single c ≡ true → Staged v false c x t y → opens t ≡ open_in t
+pub value_opened : {v : Surroundings} {c : Nonterminal} {x y : Place} {t : Tree} → is_lone c ≡ true → Staged v false c x t y → opens t ≡ open_in t
 value_opened {c = c} {t = t} o r = (tree_opened t).on c o r.reads.is r.staged
 
 -- ---- where a sequence may stand

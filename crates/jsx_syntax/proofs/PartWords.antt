@@ -18,8 +18,8 @@ use Rattle.jsx_tree.proofs.Apart.{by_not, clash}
 use Rattle.jsx_tree.proofs.Rows.Bridge.{found_at}
 use Rattle.jsx_tree.proofs.Rows.Laws.{end_found, lost_barred}
 use Rattle.jsx_tree.proofs.Rows.Turns.{item_of, whole_of}
-use Rattle.jsx_expression.specs.SoFar.{so_far}
-use Rattle.jsx_expression.proofs.OfSoFar.{of_so_far}
+use Rattle.jsx_operand.specs.SoFar.{so_far}
+use Rattle.jsx_operand.proofs.OfSoFar.{of_so_far}
 use Rattle.jsx_syntax.proofs.Statements.{unless_lost}
 
 -- ---- a token that is spelled as a word is that word

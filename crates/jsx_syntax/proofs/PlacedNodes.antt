@@ -28,11 +28,11 @@ use Rattle.jsx_syntax.specs.Labels.{TakesLabel, jump_symbols, label_text, target
 use Rattle.jsx_syntax.specs.Modules.{module_symbols}
 use Rattle.jsx_syntax.specs.Statements.{alternative_symbols, block_symbols, loop_symbols}
 use Rattle.jsx_syntax.specs.Tries.{catch_symbols, finally_symbols}
-use Rattle.jsx_expression.specs.Spans.{Spans, IsPlaced, IsPlacedAs, IsPlacedFront, is_argument, IsPlacedRow, IsPlacedList}
+use Rattle.jsx_operand.specs.Spans.{Spans, IsPlaced, IsPlacedAs, IsPlacedFront, is_argument, IsPlacedRow, IsPlacedList}
 use Rattle.jsx_token.specs.Places.{next_of, end_of, Takes}
 use Rattle.jsx_token.specs.Growths.{opening_sign}
-use Rattle.jsx_expression.proofs.PlacedExpressions.{name_placed}
-use Rattle.jsx_expression.proofs.Placing.{IsItem, PlacedFront, row_end, row_sign, row_quiet, row_unless, row_within, row_part, row_list, row_present, row_absent, row_guarded, row_unguarded, list_none, front_last, front_more, front_none, laid_last, laid_more, map_pushed, plain_top_lines, node_is, led, row_around}
+use Rattle.jsx_operand.proofs.PlacedExpressions.{name_placed}
+use Rattle.jsx_operand.proofs.Placing.{IsItem, PlacedFront, row_end, row_sign, row_quiet, row_unless, row_within, row_part, row_list, row_present, row_absent, row_guarded, row_unguarded, list_none, front_last, front_more, front_none, laid_last, laid_more, map_pushed, plain_top_lines, node_is, led, row_around}
 
 -- ---- nodes
 

@@ -1,4 +1,4 @@
--- The trees that are taken so far: each of their elements is one name alone, and none of their targets is in parentheses.
+-- The trees that are taken so far: each of their elements is one name alone.
 use Rattle.std.proofs.Common.{◌≡◌, List, [], ◌∷◌, Bool, true, false, cond, sym, refl, ◌∙◌}
 use Rattle.std.proofs.lemmas.Bool.{and_parts, and_from, false≢true}
 use Rattle.std.specs.Prelude.{◌&&◌}
@@ -14,11 +14,6 @@ abbrev pub is_simple : Kind → Forest → Bool
 is_simple (jsx Element) (part (leaf JsxName t) (part (list none) none)) = true
 is_simple (jsx k) cs = false
 is_simple k cs = true
-
--- no target in parentheses
-abbrev pub is_bare_target : Kind → Forest → Bool
-is_bare_target (function ParenTarget) cs = false
-is_bare_target k cs = true
 
 -- no kind that is taken is a tag's name or an attribute
 record NoTag (k : Kind) : Type 0 where
@@ -85,6 +80,7 @@ no_tag (expression Object) h = record { name = refl; attribute = refl }
 no_tag (expression Property) h = record { name = refl; attribute = refl }
 no_tag (expression Shorthand) h = record { name = refl; attribute = refl }
 no_tag (function ComputedKey) h = record { name = refl; attribute = refl }
+no_tag (function ParenTarget) h = record { name = refl; attribute = refl }
 no_tag (expression (PlainTemplate true)) h = record { name = refl; attribute = refl }
 no_tag (expression (PlainTemplate false)) h = record { name = refl; attribute = refl }
 no_tag (expression (SubstitutedTemplate true)) h = record { name = refl; attribute = refl }
@@ -167,11 +163,3 @@ so_far_pass p h text t r = staged_pass p h WholeProgram t (and_parts (admits Who
 
 pub so_far_simple : (text : Text) (t : Tree) → ReadsSoFar text t → each_node is_simple t ≡ true
 so_far_simple text t r = so_far_pass is_simple (record { on = node_simple }) text t r
-
--- no target is in parentheses
-target_bare : (k : Kind) (cs : Forest) → has_kind k ≡ true → fit_slots (positions k) cs ≡ true → in_stages (positions k) cs ≡ true → is_bare_target k cs ≡ true
-target_bare (function ParenTarget) cs h f s = absurd (false≢true h)
-target_bare k cs h f s = refl
-
-pub so_far_bare : (text : Text) (t : Tree) → ReadsSoFar text t → each_node is_bare_target t ≡ true
-so_far_bare text t r = so_far_pass is_bare_target (record { on = target_bare }) text t r

@@ -5,7 +5,7 @@ use Rattle.jsx_base.specs.Token.{Text, TokenKind, Operand, Operator, IdentifierN
 use Rattle.jsx_base.proofs.Families.{may_be}
 use Rattle.jsx_base.proofs.Fronts.{none_ahead}
 use Rattle.jsx_tree.specs.Signs.{AfterExpr, Sign, Tok, Unless}
-use Rattle.jsx_tree.specs.Kinds.{Module, ExprStmt, Label, Seq, Kind, program, statement, expression, Tree, leaf, node, list, Forest, Spread, ForIn, ForOf}
+use Rattle.jsx_tree.specs.Kinds.{Module, ExprStmt, Label, Seq, ParenTarget, Kind, program, statement, function, expression, Tree, leaf, node, list, Forest, Spread, ForIn, ForOf}
 use Rattle.jsx_tree.specs.Nonterminals.{Nonterminal, Expr, Ident, Stmt, SubStmt, Item, is_ident}
 use Rattle.jsx_tree.specs.Grammar.{Part, Fixed, heads, pun, Context}
 use Rattle.jsx_tree.specs.Form.{admits, is_leaf}
@@ -26,7 +26,7 @@ use Rattle.jsx_tree.proofs.Rows.Closers.{Closer, Shut, closes, shut_reading}
 use Rattle.jsx_tree.proofs.Rows.Steps.{only_sign, then'}
 use Rattle.jsx_tree.proofs.Rows.Placing.{Chosen, free, free_around, moved, only_node, barred_node}
 use Rattle.jsx_token.specs.Stage.{leaf_at}
-use Rattle.jsx_expression.specs.SoFar.{Staged, so_far}
+use Rattle.jsx_operand.specs.SoFar.{Staged, so_far}
 use Rattle.jsx_syntax.specs.Statements.{NoneHeaded, OnlyHeaded, OnlyNode}
 use Rattle.jsx_token.specs.Marks.{ends_so_far, row_so_far}
 use Rattle.jsx_token.specs.Growths.{is_code, lead, same_sign}
@@ -34,15 +34,15 @@ use Rattle.jsx_token.specs.Headings.{Begins, own, over_keys, over_items, NoHeadi
 use Rattle.jsx_token.specs.declared.heading.Heading.{Heading}
 use Rattle.jsx_token.specs.declared.heading.Heading.TheVariants as heading
 use Rattle.jsx_syntax.specs.Labels.{NoLabel}
-use Rattle.jsx_expression.proofs.OfSoFar.{of_so_far}
+use Rattle.jsx_operand.proofs.OfSoFar.{of_so_far}
 use Rattle.jsx_token.proofs.Headings.{number, begins_one, every_begun, its_kind, of_begun, of_heading, of_two_headings, one_number}
-use Rattle.jsx_expression.proofs.Inners.{inner_kind, every_inner, of_inner}
+use Rattle.jsx_operand.proofs.Inners.{inner_kind, every_inner, of_inner}
 use Rattle.jsx_token.proofs.Listed.{kinds, every, implies, implied, agree, agreed}
 use Rattle.jsx_token.proofs.Marks.{one_sign}
-use Rattle.jsx_expression.proofs.Homes.{IsName, Taken, module', headed, evaluation, labelled, sequence, operand, no_list, no_operand_at, taken_by, home_of, idents, inner, spread}
+use Rattle.jsx_operand.proofs.Homes.{IsName, Taken, module', headed, evaluation, labelled, sequence, operand, no_list, no_operand_at, taken_by, home_of, idents, inner, spread, aimed}
 use Rattle.jsx_token.proofs.Lives.{lives}
 use Rattle.jsx_token.proofs.Levels.{signed}
-use Rattle.jsx_expression.proofs.Values.{leaf_forth, led_sign, whole_of_leaf}
+use Rattle.jsx_operand.proofs.Values.{leaf_forth, led_sign, whole_of_leaf}
 
 -- ---- the places of statements
 
@@ -52,6 +52,7 @@ pub record Spot (c : Nonterminal) : Type 0 where
   pub no_inner : every_inner (λ i. not (lives c (inner_kind i))) ≡ true
   pub no_sequence : lives c (expression Seq) ≡ false
   pub no_spread : lives c (expression Spread) ≡ false
+  pub no_target : lives c (function ParenTarget) ≡ false
   pub no_operand : every (λ j. not (lives c j)) kinds ≡ true
   pub guards : every_begun (λ k. guarded c (row_so_far k)) ≡ true
   pub guards_plain : guarded c (row_so_far (statement ExprStmt)) ≡ true
@@ -62,13 +63,13 @@ pub record Spot (c : Nonterminal) : Type 0 where
   pub label_home : lives c (statement Label) ≡ true
 
 pub items : Spot Item
-items = record { leafless = λ s t h. cc; no_module = refl; no_inner = refl; no_sequence = refl; no_spread = refl; no_operand = refl; guards = refl; guards_plain = refl; never = refl; home = λ k ts h. h; guards_label = refl; plain_home = refl; label_home = refl }
+items = record { leafless = λ s t h. cc; no_module = refl; no_inner = refl; no_sequence = refl; no_spread = refl; no_target = refl; no_operand = refl; guards = refl; guards_plain = refl; never = refl; home = λ k ts h. h; guards_label = refl; plain_home = refl; label_home = refl }
 
 pub stmts : Spot Stmt
-stmts = record { leafless = λ s t h. cc; no_module = refl; no_inner = refl; no_sequence = refl; no_spread = refl; no_operand = refl; guards = refl; guards_plain = refl; never = refl; home = λ k ts h. h; guards_label = refl; plain_home = refl; label_home = refl }
+stmts = record { leafless = λ s t h. cc; no_module = refl; no_inner = refl; no_sequence = refl; no_spread = refl; no_target = refl; no_operand = refl; guards = refl; guards_plain = refl; never = refl; home = λ k ts h. h; guards_label = refl; plain_home = refl; label_home = refl }
 
 pub subs : Spot SubStmt
-subs = record { leafless = λ s t h. cc; no_module = refl; no_inner = refl; no_sequence = refl; no_spread = refl; no_operand = refl; guards = refl; guards_plain = refl; never = refl; home = λ k ts h. h; guards_label = refl; plain_home = refl; label_home = refl }
+subs = record { leafless = λ s t h. cc; no_module = refl; no_inner = refl; no_sequence = refl; no_spread = refl; no_target = refl; no_operand = refl; guards = refl; guards_plain = refl; never = refl; home = λ k ts h. h; guards_label = refl; plain_home = refl; label_home = refl }
 
 -- what stands at one of them begins with one of those signs, or is an expression or a label with what it stands on
 pub spot_kind : {c : Nonterminal} → Spot c → (l : Kind) (ts : Forest) {A : Type 0} → Taken l → admits c (node l ts) ≡ true → ((g : Heading) → Begins g l → A) → (l ≡ statement ExprStmt → A) → (l ≡ statement Label → A) → A
@@ -79,6 +80,7 @@ spot_kind {c} s l ts module' h f e b = absurd (clash _ (kind_home c _ ts h) s.no
 spot_kind {c} s l ts (inner i) h f e b = absurd (clash _ (kind_home c _ ts h) (is_not _ (of_inner (λ j. not (lives c (inner_kind j))) s.no_inner i)))
 spot_kind {c} s l ts sequence h f e b = absurd (clash _ (kind_home c _ ts h) s.no_sequence)
 spot_kind {c} s l ts spread h f e b = absurd (clash _ (kind_home c _ ts h) s.no_spread)
+spot_kind {c} s l ts aimed h f e b = absurd (clash _ (kind_home c _ ts h) s.no_target)
 spot_kind {c} s l ts (operand m) h f e b = absurd (no_operand_at c s.no_operand m (kind_home c _ ts h))
 
 pub spot_ends : {c : Nonterminal} → Spot c → (y : Place) → ends_so_far c y ≡ true

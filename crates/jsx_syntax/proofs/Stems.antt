@@ -3,17 +3,17 @@ use Rattle.std.proofs.Common.{◌≡◌, ◌<◌, nat_le, Bool, true, false, not
 use Rattle.std.specs.Prelude.{IsTrue, codes, ◌&&◌, ◌||◌}
 use Rattle.std.proofs.lemmas.Bool.{lt-leb}
 use Rattle.jsx_base.specs.Token.{Operator, IdentifierName, Punctuator, same}
-use Rattle.jsx_tree.specs.Kinds.{Seq, Kind, expression, Tree, node, list, Forest, none, part, Tagged}
+use Rattle.jsx_tree.specs.Kinds.{Seq, Parenthesized, Kind, expression, Tree, node, list, Forest, none, part, Tagged}
 use Rattle.jsx_tree.specs.Nonterminals.{Expr}
 use Rattle.jsx_tree.specs.Grammar.{NoTrailing, TwoOrMore, Part, key, pun}
 use Rattle.jsx_tree.specs.Grammar as symbol
 use Rattle.jsx_tree.specs.Form.{Position, position, positions, enough}
-use Rattle.jsx_tree.specs.Grows.{Onward, stay, step}
+use Rattle.jsx_tree.specs.Grows.{Onward, stay, step, as_target, seen}
 use Rattle.jsx_tree.specs.Reading.{Place, Lost, forth}
 use Rattle.jsx_tree.specs.StaticRules.{Surroundings, is_in_op, open_in, open_ins, any_open}
 use Rattle.jsx_tree.specs.Walk.{is_found, one, nothing, Items, nil, last, more, sign, tree, tail, done, next}
 use Rattle.jsx_tree.specs.Language.{Whole}
-use Rattle.jsx_tree.specs.Answers.{Moves, Stuck, Only, Barred, NoRow, Built}
+use Rattle.jsx_tree.specs.Answers.{Moves, Stuck, Only, Barred, Built}
 use Rattle.jsx_tree.proofs.Tokens.{and_left, and_right, and_both, one_text, same_self}
 use Rattle.jsx_tree.proofs.Apart.{clash, never_both}
 use Rattle.jsx_tree.proofs.Rows.Bridge.{found_at}
@@ -21,20 +21,21 @@ use Rattle.jsx_tree.proofs.Rows.Guarded.{whole_items_found}
 use Rattle.jsx_tree.proofs.Rows.Stopping.{is_not, sign_stops}
 use Rattle.jsx_token.specs.Here.{Here, place_of}
 use Rattle.jsx_token.specs.Marks.{ends_so_far, row_so_far}
-use Rattle.jsx_token.specs.Growths.{rung, Rung, OnLine, level_of_kind, mark, same_sign, settled}
+use Rattle.jsx_token.specs.Growths.{rung, OnLine, level_of_kind, mark, same_sign, settled}
 use Rattle.jsx_token.proofs.Listed.{Listed, kinds, every, of_each, implies, implied}
 use Rattle.jsx_token.proofs.Levels.{grows_on, marked, marks_on}
 use Rattle.jsx_token.proofs.Marks.{one_sign}
-use Rattle.jsx_expression.specs.SoFar.{so_far}
-use Rattle.jsx_expression.specs.Climbing.{Begins, Climbs, Grown, NoneBegins, NotGrown, fits, is_target, level}
+use Rattle.jsx_operand.specs.SoFar.{so_far}
+use Rattle.jsx_operand.specs.Climbing.{Begins, Climbs, Grown, NoneBegins, NotGrown, fits, is_target, level}
 use Rattle.jsx_expression.specs.Gathering.{NotGathered}
-use Rattle.jsx_expression.specs.Templates.{NotTagged}
-use Rattle.jsx_expression.proofs.OfSoFar.{of_so_far}
-use Rattle.jsx_expression.proofs.Homes.{AtWhole, single, several, Value, at_whole, value}
-use Rattle.jsx_expression.proofs.Rungs.{rung_single}
-use Rattle.jsx_expression.proofs.Values.{at_one, listed_node, move, Quote}
-use Rattle.jsx_expression.proofs.Tags.{sign_piece}
-use Rattle.jsx_expression.proofs.Climbing.{begins_grows, climb_barred, climb_on, climb_only, climb_tagged, climb_unfit, climbs_to, next_mark, mark_goes, tagged_unread, Going, by_mark, by_piece, goes_next}
+use Rattle.jsx_operand.specs.Templates.{NotTagged}
+use Rattle.jsx_operand.proofs.OfSoFar.{of_so_far}
+use Rattle.jsx_operand.proofs.Aims.{is_pair, seen_plain}
+use Rattle.jsx_operand.proofs.Homes.{AtWhole, single, several, Value, at_whole, value}
+use Rattle.jsx_operand.proofs.Rungs.{rung_single}
+use Rattle.jsx_operand.proofs.Values.{at_one, listed_node, move, Quote}
+use Rattle.jsx_operand.proofs.Tags.{sign_piece}
+use Rattle.jsx_operand.proofs.Climbing.{begins_grows, climb_barred, climb_on, climb_only, climb_tagged, climb_unfit, climbs_to, next_mark, mark_goes, tagged_unread, Going, by_mark, by_piece, goes_next}
 use Rattle.jsx_expression.proofs.Sequences.{several_of, whole_barred, whole_only}
 use Rattle.jsx_syntax.proofs.Statements.{lost_if}
 use Rattle.jsx_syntax.specs.Heads.{IsInitial, IsItems, IsKeys, IsStem, Near, near, far, NoDeclaring, NoHead, NoHeads, NoInitial, NoStem, NotOver, Stopped, at_in, at_end, is_async}
@@ -65,9 +66,23 @@ front_opens [] t ts h o = cc
 node_opens : (k : Kind) (t : Tree) (ts : Forest) → Listed k → grows_on k ≡ true → open_in t ≡ true → open_in (node k (part t ts)) ≡ true
 node_opens k t ts l g o = or_right (is_in_op k) _ (front_opens (positions k) t ts (and_left (first_open (positions k)) _ (implied (grows_on k) _ (of_each leads_open all_lead_open k l) g)) o)
 
+-- parentheses enclose all that stands in them
+pair_shut : (t : Tree) → is_pair t ≡ true → open_in t ≡ false
+pair_shut (node (expression Parenthesized) none) h = refl
+pair_shut (node (expression Parenthesized) (part t ts)) h = refl
+pair_shut (node _ ts) h = cc
+pair_shut _ h = cc
+
+seen_opens : (k : Kind) (t : Tree) → open_in t ≡ true → open_in (seen k t) ≡ true
+seen_opens k t h = by (is_pair t) refl
+  where
+    by : (b : Bool) → is_pair t ≡ b → open_in (seen k t) ≡ true
+    by true e = absurd (clash _ h (pair_shut t e))
+    by false e = ap open_in (seen_plain k t e) ∙ h
+
 onward_opens : {v : Surroundings} {x y z : Place} {t u : Tree} → Onward so_far v x t y u z → open_in t ≡ true → open_in u ≡ true
 onward_opens stay h = h
-onward_opens (step {t = t} k c d {ts = ts} b i r o q on) h = onward_opens on (node_opens k t ts (listed_node o b q) (begins_grows (row_so_far k) b) h)
+onward_opens (step {t = t} k c d {ts = ts} b i r o q on) h = onward_opens on (node_opens k (seen k t) ts (listed_node o b q) (begins_grows (row_so_far k) b) (seen_opens k t h))
 
 in_or_stay : {v : Surroundings} {x y z : Place} {t u : Tree} {A : Type 0} → Value t → IsTrue (is_found (forth (key "in") y)) → Onward so_far v x t y u z → (t ≡ u → y ≡ z → A) → (open_in u ≡ true → A) → A
 in_or_stay w f stay g h = g refl refl
@@ -80,7 +95,7 @@ in_or_stay {y = y} {A = A} w f (step {t = t} k c d {ts = ts} b i r o q on) g h =
     by (by_mark m) =
         let there = one_sign (mark k) (key "in") y (marked k listed m).coded refl (next_mark k (marked k listed m) q r) f in
         let j = and_right (first_open (positions k)) _ (implied (grows_on k) _ (of_each leads_open all_lead_open k listed) (begins_grows (row_so_far k) b)) in
-        h (onward_opens on (ap (λ b. b || open_ins (positions k) (part t ts)) (implied (same_sign (mark k) (key "in")) (is_in_op k) j there)))
+        h (onward_opens on (ap (λ b. b || open_ins (positions k) (part (seen k t) ts)) (implied (same_sign (mark k) (key "in")) (is_in_op k) j there)))
     by (by_piece e p) = absurd (sign_piece (key "in") y refl refl f p)
 
 ends_one : (z : Place) → ends_so_far (Expr 0) z ≡ true → ends_so_far (Expr 1) z ≡ true
@@ -203,20 +218,17 @@ initial_in k n s f = none_initial k (in_head n s.climbs f)
 initial_of : {v : Surroundings} {x y : Place} {t : Tree} → Stuck (pun ";") x → NoDeclaring x → IsStem v x t y → (IsTrue (is_found (forth (key "in") y)) → ⊥) → IsTrue (is_found (forth (key "of") y)) → NoInitial v x
 initial_of k n s a f = none_initial k (of_head n (stem_only s a) s.climbs.ended f)
 
-pub stem_keys : {v : Surroundings} {x y y' : Place} {t : Tree} → Stuck (pun ";") x → NoDeclaring x → IsStem v x t y → Moves (key "in") y y' → is_target t ≡ true → IsKeys v x t y'
+pub stem_keys : {v : Surroundings} {x y y' : Place} {t : Tree} → Stuck (pun ";") x → NoDeclaring x → IsStem v x t y → Moves (key "in") y y' → is_target t ≡ true → IsKeys v x (as_target t) y'
 stem_keys {v} {x} {y} {y'} {t} k n s m i = by s.targets
   where
     f : IsTrue (is_found (forth (key "in") y))
     f = found_at (sym m.is) m.found
 
-    a : Value t
-    a = value t refl s.climbs.reads
-
-    by : Near v x t y → IsKeys v x t y'
+    by : Near v x t y → IsKeys v x (as_target t) y'
     by (near c) =
         let o = climb_only (rung 11) refl c (in_ends y f) in
-        record { keys = aimed_only keys n o a i s.climbs.reads m; items = aimed_none items n o (λ h g. two_words y f g); initial = initial_in k n s f }
-    by (far o) = absurd (o.keys.no (part t none) y' (next (tree (head_ended keys (aimed_head keys a i s.climbs.reads) f)) (next (sign (sym m.is) m.found) (done m.found))))
+        record { keys = aimed_only keys n o i s.climbs.reads m; items = aimed_none items n o (λ h g. two_words y f g); initial = initial_in k n s f }
+    by (far o) = absurd (o.keys.no (part (as_target t) none) y' (next (tree (head_ended keys (aimed_head keys i s.climbs.reads) f)) (next (sign (sym m.is) m.found) (done m.found))))
 
 pub stem_no_keys : {v : Surroundings} {x y y' : Place} {t : Tree} → Stuck (pun ";") x → NoDeclaring x → IsStem v x t y → Moves (key "in") y y' → is_target t ≡ false → NoHeads v x
 stem_no_keys {v} {x} {y} {y'} {t} k n s m i = record { initial = initial_in k n s f; over = by s.targets }
@@ -230,20 +242,17 @@ stem_no_keys {v} {x} {y} {y'} {t} k n s m i = record { initial = initial_in k n 
         record { keys = aimed_none keys n o (λ h g. clash _ h i); items = aimed_none items n o (λ h g. two_words y f g) }
     by (far o) = o
 
-pub stem_items : {v : Surroundings} {x y y' : Place} {t : Tree} → Stuck (pun ";") x → NoDeclaring x → IsStem v x t y → forth (key "in") y ≡ Lost → Moves (key "of") y y' → (is_target t && not (is_async t)) ≡ true → IsItems v x t y'
+pub stem_items : {v : Surroundings} {x y y' : Place} {t : Tree} → Stuck (pun ";") x → NoDeclaring x → IsStem v x t y → forth (key "in") y ≡ Lost → Moves (key "of") y y' → (is_target t && not (is_async t)) ≡ true → IsItems v x (as_target t) y'
 stem_items {v} {x} {y} {y'} {t} k n s l m i = by s.targets
   where
     f : IsTrue (is_found (forth (key "of") y))
     f = found_at (sym m.is) m.found
 
-    a : Value t
-    a = value t refl s.climbs.reads
-
-    by : Near v x t y → IsItems v x t y'
+    by : Near v x t y → IsItems v x (as_target t) y'
     by (near c) =
         let o = climb_only (rung 11) refl c (of_ends y f) in
-        record { items = aimed_only items n o a i s.climbs.reads m; keys = aimed_none keys n o (λ h g. two_words y g f); initial = initial_of k n s (lost_there (key "in") y l) f }
-    by (far o) = absurd (o.items.no (part t none) y' (next (tree (head_ended items (aimed_head items a i s.climbs.reads) f)) (next (sign (sym m.is) m.found) (done m.found))))
+        record { items = aimed_only items n o i s.climbs.reads m; keys = aimed_none keys n o (λ h g. two_words y g f); initial = initial_of k n s (lost_there (key "in") y l) f }
+    by (far o) = absurd (o.items.no (part (as_target t) none) y' (next (tree (head_ended items (aimed_head items i s.climbs.reads) f)) (next (sign (sym m.is) m.found) (done m.found))))
 
 pub stem_no_items : {v : Surroundings} {x y y' : Place} {t : Tree} → Stuck (pun ";") x → NoDeclaring x → IsStem v x t y → forth (key "in") y ≡ Lost → Moves (key "of") y y' → (is_target t && not (is_async t)) ≡ false → NoHeads v x
 stem_no_items {v} {x} {y} {y'} {t} k n s l m i = record { initial = initial_of k n s (lost_there (key "in") y l) f; over = by s.targets }

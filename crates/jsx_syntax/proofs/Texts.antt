@@ -6,8 +6,8 @@ use Rattle.jsx_tree.specs.Reading.{Place}
 use Rattle.jsx_tree.specs.StaticRules.{Surroundings}
 use Rattle.jsx_token.specs.Stage.{ReadsSoFar}
 use Rattle.jsx_tree.specs.Texts.{start}
-use Rattle.jsx_expression.specs.SoFar.{in_module}
-use Rattle.jsx_expression.specs.Answers.{NoTree}
+use Rattle.jsx_operand.specs.SoFar.{in_module}
+use Rattle.jsx_operand.specs.Answers.{NoTree}
 use Rattle.jsx_syntax.specs.Modules.{IsModule, NoModule, OnlyModule}
 use Rattle.jsx_syntax.proofs.Modules.{module_reads, module_parts_of}
 

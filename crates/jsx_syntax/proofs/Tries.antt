@@ -30,12 +30,12 @@ use Rattle.jsx_tree.proofs.Rows.Turns.{turn_only, whole_of}
 use Rattle.jsx_token.specs.Here.{Here, place_of}
 use Rattle.jsx_token.specs.Marks.{ends_so_far, row_so_far}
 use Rattle.jsx_token.specs.Places.{Takes}
-use Rattle.jsx_expression.specs.SoFar.{Staged, so_far}
-use Rattle.jsx_expression.proofs.Homes.{Taken, no_list, taken_by, home_of}
-use Rattle.jsx_expression.proofs.OfSoFar.{of_so_far}
-use Rattle.jsx_expression.proofs.Values.{led_sign}
+use Rattle.jsx_operand.specs.SoFar.{Staged, so_far}
+use Rattle.jsx_operand.proofs.Homes.{Taken, no_list, taken_by, home_of}
+use Rattle.jsx_operand.proofs.OfSoFar.{of_so_far}
+use Rattle.jsx_operand.proofs.Values.{led_sign}
 use Rattle.jsx_syntax.specs.Tries.{IsCatch, catch_row, catch_symbol, finally_symbol}
-use Rattle.jsx_expression.proofs.Standing.{standing}
+use Rattle.jsx_operand.proofs.Standing.{standing}
 use Rattle.jsx_syntax.proofs.Items.{unless_none}
 use Rattle.jsx_syntax.proofs.Statements.{signed_none, signed_row}
 use Rattle.jsx_tree.proofs.Rows.Stopping.{stays}

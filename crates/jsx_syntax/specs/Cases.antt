@@ -9,7 +9,7 @@ use Rattle.jsx_tree.specs.Reading.{Place, forth}
 use Rattle.jsx_tree.specs.StaticRules.{Surroundings, at_most, is_default}
 use Rattle.jsx_tree.specs.Walk.{Piece, piece, pieces, one, Past, Walk, steady}
 use Rattle.jsx_tree.specs.Language.{Whole}
-use Rattle.jsx_expression.specs.SoFar.{so_far}
+use Rattle.jsx_operand.specs.SoFar.{so_far}
 use Rattle.jsx_syntax.specs.Heads.{Front}
 
 -- the cases, and the brace behind them

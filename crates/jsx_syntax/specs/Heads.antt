@@ -23,9 +23,9 @@ use Rattle.jsx_token.specs.declared.lexer.Fixed.TheVariants as fixed
 use Rattle.jsx_token.specs.Here.{Here, place_of, sign_of}
 use Rattle.jsx_token.specs.Marks.{ends_so_far}
 use Rattle.jsx_token.specs.Places.{Takes, begin_of, next_of}
-use Rattle.jsx_expression.specs.SoFar.{so_far}
-use Rattle.jsx_expression.specs.Climbing.{Climbs}
-use Rattle.jsx_expression.specs.Spans.{IsPlaced, IsPlacedFront, IsPlacedList}
+use Rattle.jsx_operand.specs.SoFar.{so_far}
+use Rattle.jsx_operand.specs.Climbing.{Climbs}
+use Rattle.jsx_operand.specs.Spans.{IsPlaced, IsPlacedFront, IsPlacedList}
 use Rattle.jsx_token.specs.Headings.{declaring}
 use Rattle.jsx_syntax.specs.declared.for_head.ForHead.{ForHead}
 use Rattle.jsx_syntax.specs.declared.for_head.ForHead.TheVariants as head

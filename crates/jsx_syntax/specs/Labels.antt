@@ -19,8 +19,8 @@ use Rattle.jsx_tree.specs.Answers.{Moves, Only}
 use Rattle.jsx_token.specs.Here.{Here}
 use Rattle.jsx_token.specs.Marks.{row_so_far}
 use Rattle.jsx_token.specs.Places.{Takes, next_of}
-use Rattle.jsx_expression.specs.SoFar.{Staged, so_far}
-use Rattle.jsx_expression.specs.Spans.{IsPlaced}
+use Rattle.jsx_operand.specs.SoFar.{Staged, so_far}
+use Rattle.jsx_operand.specs.Spans.{IsPlaced}
 use Rattle.jsx_syntax.specs.declared.label.Label as code
 
 -- a label and its colon lead from one place to another; none stand there

@@ -16,7 +16,7 @@ use Rattle.jsx_tree.specs.View.{directive, forest, text_of, view_stmt}
 use Rattle.jsx_tree.specs.ViewProgram.{view_item}
 use Rattle.jsx_tree.specs.Walk.{Piece, Walk, pieces, steady}
 use Rattle.jsx_tree.specs.Language.{Whole}
-use Rattle.jsx_expression.specs.SoFar.{so_far}
+use Rattle.jsx_operand.specs.SoFar.{so_far}
 
 -- the row of a module, in what its code stands in
 abbrev pub module_symbols : Production

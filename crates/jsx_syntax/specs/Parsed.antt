@@ -2,7 +2,7 @@
 use Rattle.std.specs.Prelude.{◌≡◌}
 use Rattle.jsx_base.specs.Token.{Text}
 use Rattle.jsx_tree.specs.declared.program.Program.{Program}
-use Rattle.jsx_tree.specs.Kinds.{Parenthesized, Kind, expression, Tree, node, Forest, none, part}
+use Rattle.jsx_tree.specs.Kinds.{Tree}
 use Rattle.jsx_tree.specs.Normal.{without_parentheses}
 use Rattle.jsx_tree.specs.Spans.{IsTold, placed_in}
 use Rattle.jsx_tree.specs.Told.{told}
@@ -19,8 +19,3 @@ pub record IsParsed (text : Text) (program : Program) : Type 0 where
   pub bare : view program ≡ without_parentheses written
   -- each text is the piece of the source at its place, and each node below the module runs from its first token to its last
   pub placed : IsTold (told program) (placed_in text written)
-
--- what an expression in parentheses is, stands in their place
-abbrev pub bare_node : Kind → Forest → Tree
-bare_node (expression Parenthesized) (part e none) = e
-bare_node k cs = node k cs

@@ -8,7 +8,7 @@ use Rattle.jsx_tree.specs.Grammar as symbol
 use Rattle.jsx_tree.specs.Reading.{Place}
 use Rattle.jsx_tree.specs.StaticRules.{Surroundings}
 use Rattle.jsx_tree.specs.Answers.{Only}
-use Rattle.jsx_expression.specs.SoFar.{so_far}
+use Rattle.jsx_operand.specs.SoFar.{so_far}
 use Rattle.jsx_tree.specs.Walk.{Piece, nothing, one, pieces}
 
 -- what is caught, and what is done last, as they are read: where one is absent its word doesn't come next

@@ -11,12 +11,12 @@ use Rattle.jsx_tree.specs.declared.tree.Stmt.{Stmt}
 use Rattle.jsx_token.specs.Here.{Here, left, place_of}
 use Rattle.jsx_token.specs.Places.{end_of, next_of}
 use Rattle.jsx_make.specs.NodeSpans.{stmt_at}
-use Rattle.jsx_expression.specs.declared.around.Context.{Context}
-use Rattle.jsx_expression.specs.declared.error.ParseError.{ParseError}
-use Rattle.jsx_expression.specs.Answers.{Refused}
-use Rattle.jsx_expression.specs.Around.{around_of}
-use Rattle.jsx_expression.specs.SoFar.{so_far}
-use Rattle.jsx_expression.specs.Spans.{IsPlaced, Spans}
+use Rattle.jsx_operand.specs.declared.around.Context.{Context}
+use Rattle.jsx_operand.specs.declared.error.ParseError.{ParseError}
+use Rattle.jsx_operand.specs.Answers.{Refused}
+use Rattle.jsx_operand.specs.Around.{around_of}
+use Rattle.jsx_operand.specs.SoFar.{so_far}
+use Rattle.jsx_operand.specs.Spans.{IsPlaced, Spans}
 use Rattle.jsx_syntax.specs.declared.statement.Seat.{Seat}
 use Rattle.jsx_syntax.specs.Seats.{symbol_of}
 

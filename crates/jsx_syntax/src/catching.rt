@@ -8,23 +8,23 @@ ghost use Rattle.jsx_tree.specs.View.{optional_of, view_control, view_stmt};
 ghost use Rattle.jsx_tree.specs.Told.{told_control, told_optional, told_stmt};
 ghost use Rattle.jsx_tree.specs.Walk.{one, tail};
 ghost use Rattle.jsx_tree.specs.Answers.{Only, Barred, NoRow, NoNode, BuiltNode};
-ghost use Rattle.jsx_expression.specs.Around.{around_of};
+ghost use Rattle.jsx_operand.specs.Around.{around_of};
 ghost use Rattle.jsx_token.specs.Marks.{row_so_far};
-ghost use Rattle.jsx_expression.specs.SoFar.{so_far};
+ghost use Rattle.jsx_operand.specs.SoFar.{so_far};
 ghost use Rattle.jsx_token.specs.Here.{place_of, left};
 ghost use Rattle.jsx_token.specs.Growths.{opening_sign};
 ghost use Rattle.jsx_syntax.specs.Tries.{IsCatch, catch_row, catch_symbol, catch_symbols, finally_symbol, finally_symbols};
-ghost use Rattle.jsx_expression.specs.Answers.{Refused};
+ghost use Rattle.jsx_operand.specs.Answers.{Refused};
 ghost use Rattle.jsx_make.specs.NodeSpans.{stmt_at};
-ghost use Rattle.jsx_expression.specs.Spans.{IsPlaced, IsPlacedBehind, IsPlacedFront, Spans};
+ghost use Rattle.jsx_operand.specs.Spans.{IsPlaced, IsPlacedBehind, IsPlacedFront, Spans};
 ghost use Rattle.jsx_token.specs.Places.{begin_of, end_of};
 ghost use Rattle.std.specs.Prelude.{suc};
 ghost use Rattle.jsx_syntax.specs.Within.{ReadsStatements};
 
 use crate::grammar::Statements;
 use crate::statement::{Seat, has_part};
-use jsx_expression::{Context, ParseError, binding_identifier, expect, give_up, span_to};
 use jsx_make::make;
+use jsx_operand::{Context, ParseError, binding_identifier, expect, give_up, span_to};
 use jsx_token::{Fixed, Lexer, Word};
 use jsx_tree::{Control, Stmt};
 

@@ -7,23 +7,22 @@ ghost use Rattle.jsx_tree.specs.View.{optional_of, text_of, view_expr};
 ghost use Rattle.jsx_tree.specs.Told.{told_expr, told_optional};
 ghost use Rattle.jsx_tree.specs.Answers.{NoRow, OnlyRow};
 ghost use Rattle.jsx_make.specs.NodeSpans.{expr_at};
-ghost use Rattle.jsx_expression.specs.Around.{around_of};
-ghost use Rattle.jsx_expression.specs.Climbing.{is_target};
-ghost use Rattle.jsx_expression.specs.SoFar.{so_far};
+ghost use Rattle.jsx_operand.specs.Around.{around_of};
+ghost use Rattle.jsx_operand.specs.Climbing.{is_target};
+ghost use Rattle.jsx_operand.specs.SoFar.{so_far};
 ghost use Rattle.jsx_tree.specs.Reading.{forth};
 ghost use Rattle.jsx_token.specs.Here.{place_of, left};
-ghost use Rattle.jsx_expression.specs.Answers.{Refused};
+ghost use Rattle.jsx_operand.specs.Answers.{Refused};
 ghost use Rattle.jsx_syntax.specs.Heads.{DeclaresHead, DeclaresNoHead, Heads, IsPlacedHead, IsPlacedHeadBehind, IsStem, AtValue, NoDeclaring, NoHeads, NoStem, clause_row, clause_symbols, declare_sign, is_async, is_closer};
-ghost use Rattle.jsx_expression.specs.Spans.{IsPlaced, IsPlacedFront, Spans};
+ghost use Rattle.jsx_operand.specs.Spans.{IsPlaced, IsPlacedFront, Spans};
 ghost use Rattle.jsx_token.specs.Places.{Takes, begin_of, end_of, next_of};
 
 use crate::open_in::{any_has_open_in, head_has_open_in};
 use crate::statement::{initialized, more_declarators};
-use jsx_expression::expression::{
-    ASSIGNMENT, beginning, fits, grow, is_target, level, more_items, sequence, tagged, target_of,
-};
-use jsx_expression::{Context, ParseError, binding_identifier, expect, give_up, span_to};
+use jsx_expression::expression::{beginning, grow, more_items, sequence, tagged};
 use jsx_make::make;
+use jsx_operand::operand::{ASSIGNMENT, fits, is_target, level, target_of};
+use jsx_operand::{Context, ParseError, binding_identifier, expect, give_up, span_to};
 use jsx_token::{Fixed, Lexer, Word};
 use jsx_tree::{DeclareWord, Expr, Pat, Text};
 

@@ -9,18 +9,18 @@ ghost use Rattle.jsx_tree.specs.Spans.{no_tales, tale};
 ghost use Rattle.jsx_tree.specs.Told.{told_list, told_stmt};
 ghost use Rattle.jsx_tree.specs.Walk.{one, tail};
 ghost use Rattle.jsx_tree.specs.Answers.{Only, Barred, OnlyRow, NoRow, NoNode, BuiltNode};
-ghost use Rattle.jsx_expression.specs.Around.{around_of};
+ghost use Rattle.jsx_operand.specs.Around.{around_of};
 ghost use Rattle.jsx_token.specs.Marks.{row_so_far};
-ghost use Rattle.jsx_expression.specs.SoFar.{so_far};
+ghost use Rattle.jsx_operand.specs.SoFar.{so_far};
 ghost use Rattle.std.specs.Str.{chars};
 ghost use Rattle.jsx_syntax.specs.Labels.{BuiltLabel, IsPlacedLabelled, NoBody};
 ghost use Rattle.jsx_token.specs.Here.{place_of, left};
 ghost use Rattle.jsx_token.specs.Growths.{opening_sign};
 ghost use Rattle.jsx_syntax.specs.Statements.{block_symbols, NoStatement, OnlyStatement, NoneHeaded, OnlyHeaded};
 ghost use Rattle.jsx_token.specs.Headings.{heading_sign, NoHeading};
-ghost use Rattle.jsx_expression.specs.Answers.{Refused};
+ghost use Rattle.jsx_operand.specs.Answers.{Refused};
 ghost use Rattle.jsx_make.specs.NodeSpans.{stmt_at};
-ghost use Rattle.jsx_expression.specs.Spans.{IsPlaced, IsPlacedBehind, IsPlacedRow, Spans};
+ghost use Rattle.jsx_operand.specs.Spans.{IsPlaced, IsPlacedBehind, IsPlacedRow, Spans};
 ghost use Rattle.jsx_token.specs.Places.{begin_of, end_of, next_of};
 ghost use Rattle.std.specs.Prelude.{suc};
 ghost use Rattle.jsx_syntax.specs.Within.{ReadsStatements};
@@ -30,8 +30,8 @@ use crate::statement::{
     Seat, break_statement, continue_statement, debugger_statement, declaration, empty_statement,
     expression_statement, throw_statement,
 };
-use jsx_expression::{Context, Labels, ParseError, give_up, span_to};
 use jsx_make::make;
+use jsx_operand::{Context, Labels, ParseError, give_up, span_to};
 use jsx_token::{Fixed, Heading, Lexer};
 use jsx_tree::Stmt;
 

@@ -11,15 +11,15 @@ ghost use Rattle.jsx_tree.specs.Answers.{NoRow};
 ghost use Rattle.jsx_token.specs.Headings.{heading_kind};
 ghost use Rattle.jsx_token.specs.Here.{left, place_of};
 ghost use Rattle.jsx_token.specs.Places.{next_of};
-ghost use Rattle.jsx_expression.specs.Answers.{Refused};
-ghost use Rattle.jsx_expression.specs.Around.{around_of, labels_of};
-ghost use Rattle.jsx_expression.specs.SoFar.{so_far};
-ghost use Rattle.jsx_expression.specs.Spans.{IsPlacedFront};
+ghost use Rattle.jsx_operand.specs.Answers.{Refused};
+ghost use Rattle.jsx_operand.specs.Around.{around_of, labels_of};
+ghost use Rattle.jsx_operand.specs.SoFar.{so_far};
+ghost use Rattle.jsx_operand.specs.Spans.{IsPlacedFront};
 ghost use Rattle.jsx_syntax.specs.Heads.{Front, free_end};
 ghost use Rattle.jsx_syntax.specs.Labels.{IsBeforeLoop, IsLabel, NoLabel, TakesLabel, jump_row, jump_symbols, label_text, target_of, told_target};
 
 use jsx_base::BytePos;
-use jsx_expression::{Context, Labels, ParseError, give_up};
+use jsx_operand::{Context, Labels, ParseError, give_up};
 use jsx_token::{Ending, Fixed, Heading, Leaf, Lexer, is_reserved};
 use jsx_tree::{Ident, Text};
 

@@ -12,5 +12,5 @@ mod open_in;
 mod statement;
 mod switch;
 
-pub use jsx_expression::ParseError;
+pub use jsx_operand::ParseError;
 pub use module::parse;

@@ -9,16 +9,16 @@ ghost use Rattle.jsx_tree.specs.ViewProgram.{view};
 ghost use Rattle.jsx_tree.specs.Spans.{IsTold, placed_in};
 ghost use Rattle.jsx_tree.specs.Told.{told};
 ghost use Rattle.jsx_token.specs.Here.{place_of};
-ghost use Rattle.jsx_expression.specs.Around.{around_of};
-ghost use Rattle.jsx_expression.specs.Answers.{Refused, NoTree, IsWithin};
-ghost use Rattle.jsx_expression.specs.Spans.{IsPlacedRow, Spans, program_at};
+ghost use Rattle.jsx_operand.specs.Around.{around_of};
+ghost use Rattle.jsx_operand.specs.Answers.{Refused, NoTree, IsWithin};
+ghost use Rattle.jsx_operand.specs.Spans.{IsPlacedRow, Spans, program_at};
 ghost use Rattle.jsx_syntax.specs.Modules.{IsString, NoModule, OnlyModule, module_parts, module_symbols, module_tales};
 ghost use Rattle.jsx_syntax.specs.Parsed.{IsParsed};
 
 use crate::bare::bare;
 use crate::statement::{Seat, statement};
 use jsx_base::{BytePos, Span};
-use jsx_expression::{Around, Context, Labels, ParseError};
+use jsx_operand::{Around, Context, Labels, ParseError};
 use jsx_token::Lexer;
 use jsx_tree::{Expr, Item, LiteralKind, Module, Program, Stmt, Text};
 use std::alloc::Global;
@@ -110,8 +110,8 @@ mod tests {
     use super::parse;
     use crate::ParseError;
     use jsx_base::BytePos;
-    use jsx_expression::expression::level;
-    use jsx_tree::{Access, Expr, Item, Operation, Program, Stmt};
+    use jsx_operand::operand::level;
+    use jsx_tree::{Access, Control, Expr, Item, Operation, Pat, Program, Stmt};
     use std::alloc::Global;
 
     /// The number of statements, or the place of the error.
@@ -221,6 +221,12 @@ mod tests {
             ),
             ("(a++) ** (++b).c;(a)\n++b;delete (a.b);delete (a).b;", 5),
             ("if (a) ++b; else c--;while (a++) delete b.c;", 2),
+            (
+                "(a) = b;((a.b)) += c;(a[b]) ??= c;++(a);--((a.b));(a)++;((a[b]))--;",
+                7,
+            ),
+            ("(a) = (b) = c;a = (b.c) = (d);((a.b).c) = d", 3),
+            ("-(a)++;++(a.b) ** c;(a)-- ** b;(a)\n++b", 5),
             ("for (;;) {}for (a; b; c) d;for (a;;c.d = e) break;", 3),
             (
                 "for (let a = 1, b; a < b; a += 1) c;for (const d = 1;;);",
@@ -244,6 +250,14 @@ mod tests {
                 2,
             ),
             ("for (var a\n;;)\nfor (\n;\n;\n)\ncontinue", 1),
+            (
+                "for ((a) of b) c;for ((a.b) in c) d;for (((a)) of b) c;for ((async) of a);",
+                4,
+            ),
+            (
+                "for ((a) = b, ++(c);;) d;for ((a[b in c]) = (d in e);;);for ((a)\nof\nb);",
+                3,
+            ),
             (
                 "for (a in b);for (const a in b, c) continue;for (a.b[c] in d in e) {}",
                 3,
@@ -347,11 +361,22 @@ mod tests {
         }
     }
 
+    /// The level of what is assigned to; 0 where it is in parentheses.
+    fn level_of_target(target: &Pat) -> u8 {
+        match target {
+            Pat::Ident(_, _) => 18,
+            Pat::Target(expr) => level(expr),
+            _ => 0,
+        }
+    }
+
     fn sides_of(operation: &Operation) -> (u8, u8) {
         match operation {
             Operation::Binary(_, _, left, right) => (level(left), level(right)),
             Operation::Cond(_, test, _, other) => (level(test), level(other)),
-            Operation::OpAssign(_, _, target, value) => (level(target), level(value)),
+            Operation::Assign(_, target, value) => (level_of_target(target), level(value)),
+            Operation::OpAssign(_, _, target, value) => (level_of_target(target), level(value)),
+            Operation::Update(_, _, _, target) => (level_of_target(target), 0),
             Operation::Unary(_, _, operand) => (level(operand), 0),
             Operation::Seq(_, items) => ends(items),
             _ => (0, 0),
@@ -367,21 +392,35 @@ mod tests {
         }
     }
 
-    fn sides_of_first(items: &[Item]) -> (u8, u8) {
-        let Some(Item::Stmt(statement)) = items.first() else {
-            return (0, 0);
-        };
-        let Stmt::Expr(_, expr) = &**statement else {
-            return (0, 0);
-        };
-        match &**expr {
+    /// What a `for` goes over with, and what it goes over.
+    fn sides_of_control(control: &Control) -> (u8, u8) {
+        match control {
+            Control::ForIn(_, target, object, _) => (level_of_target(target), level(object)),
+            Control::ForOf(_, target, items, _) => (level_of_target(target), level(items)),
+            _ => (0, 0),
+        }
+    }
+
+    fn sides_of_expr(expr: &Expr) -> (u8, u8) {
+        match expr {
             Expr::Operation(operation) => sides_of(operation),
             Expr::Access(access) => sides_of_access(access),
             _ => (0, 0),
         }
     }
 
-    /// The levels of what stands at the two ends of the first statement's expression.
+    fn sides_of_first(items: &[Item]) -> (u8, u8) {
+        let Some(Item::Stmt(statement)) = items.first() else {
+            return (0, 0);
+        };
+        match &**statement {
+            Stmt::Expr(_, expr) => sides_of_expr(expr),
+            Stmt::Control(control) => sides_of_control(control),
+            _ => (0, 0),
+        }
+    }
+
+    /// The levels of what stands at the two ends of the first statement's expression, or in the head of its loop.
     fn sides(alloc: Global, text: &str) -> (u8, u8) {
         if text.len() >= 1000 {
             return (0, 0);
@@ -425,6 +464,14 @@ mod tests {
             ("-(a + b);", (12, 0)),
             ("new (a().b)(c);", (18, 0)),
             ("(((a ?? b)) || (c, d));", (3, 0)),
+            ("(a) = b;", (18, 18)),
+            ("((a.b)) += (c, d);", (18, 0)),
+            ("(a[(b)]) = c;", (18, 18)),
+            ("++(a);", (18, 0)),
+            ("((a))--;", (18, 0)),
+            ("for ((a) of b) c;", (18, 18)),
+            ("for ((a.b) in c, d) e;", (18, 0)),
+            ("for (((a)) of b ? c : d) e;", (18, 2)),
         ] {
             assert!(rt; sides(rt.alloc(), text) == *want, "at {text}");
         }
@@ -514,14 +561,26 @@ mod tests {
             ("delete (a);", 9),
             ("- delete ((a)) + b;", 13),
             ("if (a) delete b;", 14),
-            ("(a)++;", 3),
-            ("++(a);", 4),
             ("(a++)++;", 5),
             ("a++\n(b);", 4),
             ("();", 0),
             ("(a;", 1),
             ("(a) => b;", 2),
-            ("(a) = b;", 4),
+            ("((a)) => b;", 4),
+            ("(a?.b) = c;", 7),
+            ("(a?.b)++;", 6),
+            ("(a = b) = c;", 8),
+            ("(a() ) = b;", 7),
+            ("++(a + b);", 8),
+            ("([a]) = b;", 6),
+            ("({a}) = b;", 6),
+            ("[(a)] = b;", 6),
+            ("(eval) = a;", 7),
+            ("((eval)) += a;", 9),
+            ("(arguments)++;", 11),
+            ("--(arguments);", 12),
+            ("(this) = a;", 7),
+            ("(`a`) = b;", 6),
             ("/a;", 0),
             ("a\n/b/", 4),
             ("/a/ = b;", 4),
@@ -570,7 +629,14 @@ mod tests {
             ("for (a in b of c);", 10),
             ("for (a of b;;);", 10),
             ("for (a of);", 7),
-            ("for ((a) of b);", 9),
+            ("for ((a, b) of c);", 12),
+            ("for ((a?.b) in c);", 12),
+            ("for ((eval) in a);", 12),
+            ("for ([(a)] of b);", 11),
+            ("for ((a) = b in c;;);", 16),
+            ("for ((a) = b of c);", 13),
+            ("for (let (a) of b);", 5),
+            ("for ((let a) of b);", 6),
             ("for ([a] of b);", 9),
             ("for (a() in b);", 9),
             ("for (a + b in c);", 11),

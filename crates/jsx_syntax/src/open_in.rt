@@ -44,7 +44,7 @@ fn of_operation(operation: &Operation) -> bool
 {
     match operation {
         Operation::Assign(_, target, value) => of_pattern(target) || has_open_in(value),
-        Operation::OpAssign(_, _, target, value) => has_open_in(target) || has_open_in(value),
+        Operation::OpAssign(_, _, target, value) => of_pattern(target) || has_open_in(value),
         Operation::Cond(_, test, then, other) => {
             has_open_in(test) || has_open_in(then) || has_open_in(other)
         }
@@ -52,7 +52,7 @@ fn of_operation(operation: &Operation) -> bool
             is_in(*operator) || has_open_in(left) || has_open_in(right)
         }
         Operation::Unary(_, _, operand) => has_open_in(operand),
-        Operation::Update(_, _, _, operand) => has_open_in(operand),
+        Operation::Update(_, _, _, target) => of_pattern(target),
         Operation::Seq(..)
         | Operation::Arrow(..)
         | Operation::ArrowBlock(..)

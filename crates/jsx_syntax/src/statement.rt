@@ -9,18 +9,18 @@ ghost use Rattle.jsx_tree.specs.View.{forest, inside, optional_of, view_control,
 ghost use Rattle.jsx_tree.specs.Told.{tales, told_pat, told_stmt};
 ghost use Rattle.jsx_tree.specs.Walk.{one, tail};
 ghost use Rattle.jsx_tree.specs.Answers.{Only, Barred, NoNode, BuiltNode};
-ghost use Rattle.jsx_expression.specs.Around.{around_of};
+ghost use Rattle.jsx_operand.specs.Around.{around_of};
 ghost use Rattle.jsx_token.specs.Marks.{row_so_far};
-ghost use Rattle.jsx_expression.specs.SoFar.{so_far};
+ghost use Rattle.jsx_operand.specs.SoFar.{so_far};
 ghost use Rattle.jsx_token.specs.Here.{place_of, left};
 ghost use Rattle.jsx_token.specs.Growths.{opening_sign};
 ghost use Rattle.jsx_syntax.specs.Statements.{has_value};
 ghost use Rattle.jsx_token.specs.Headings.{NoHeading};
 ghost use Rattle.jsx_syntax.specs.Heads.{Declares, NotDeclared, AllDeclare, Initializes, NoneDeclare, NotInitialized};
-ghost use Rattle.jsx_expression.specs.Answers.{Refused};
+ghost use Rattle.jsx_operand.specs.Answers.{Refused};
 ghost use Rattle.jsx_token.specs.Semicolons.{in_list};
 ghost use Rattle.jsx_make.specs.NodeSpans.{pat_at, stmt_at};
-ghost use Rattle.jsx_expression.specs.Spans.{IsPlaced, IsPlacedBehind, IsPlacedList, IsPlacedPast, Spans};
+ghost use Rattle.jsx_operand.specs.Spans.{IsPlaced, IsPlacedBehind, IsPlacedList, IsPlacedPast, Spans};
 ghost use Rattle.jsx_syntax.specs.Seats.{symbol_of};
 ghost use Rattle.jsx_token.specs.Places.{begin_of, end_of, next_of};
 
@@ -28,9 +28,10 @@ use crate::for_head::clause;
 use crate::grammar::Statements;
 use crate::label::{jump_label, may_break, may_continue, target};
 use jsx_base::BytePos;
-use jsx_expression::expression::{ASSIGNMENT, expression, sequence, start_of};
-use jsx_expression::{Context, ParseError, binding_identifier, give_up, semicolon, span_to};
+use jsx_expression::expression::{expression, sequence};
 use jsx_make::make;
+use jsx_operand::operand::{ASSIGNMENT, start_of};
+use jsx_operand::{Context, ParseError, binding_identifier, give_up, semicolon, span_to};
 use jsx_token::{Ending, Fixed, Lexer, Word};
 use jsx_tree::{Control, DeclareWord, Pat, Stmt};
 

@@ -9,7 +9,7 @@ use Rattle.jsx_tree.specs.Signs.{Sign, Tok}
 use Rattle.jsx_tree.specs.Nonterminals.{Nonterminal, Expr, NullishLeft, MemberObject, DotObject, SimpleTarget, Pat, TagName, NewCallee, homes, in_homes, literal_homes}
 use Rattle.jsx_token.specs.Stage.{has_kind}
 use Rattle.jsx_tree.specs.Stops.{level_asked}
-use Rattle.jsx_tree.specs.Grows.{starts}
+use Rattle.jsx_tree.specs.Grows.{starts, takes_target}
 use Rattle.jsx_token.specs.Marks.{goes_at, marks, is_sign, row_so_far}
 use Rattle.jsx_tree.proofs.Tokens.{and_left, and_right, and_both}
 use Rattle.jsx_tree.proofs.Rows.Stopping.{is_not, covers}
@@ -18,7 +18,7 @@ use Rattle.jsx_tree.proofs.Rows.Bodies.{bodiless}
 use Rattle.jsx_tree.proofs.Rows.Closers.{any_operand}
 use Rattle.jsx_tree.proofs.Rows.Placing.{free}
 use Rattle.jsx_tree.proofs.Rows.Spines.{grows}
-use Rattle.jsx_token.specs.Growths.{Rung, rung, callee, asked, is_chain, is_rung, least, reaches, seat, mark, on_line, past_line, has_sign, is_code, levels, level_of_kind, fits_by, takes_target, growth_kind}
+use Rattle.jsx_token.specs.Growths.{Rung, rung, callee, asked, is_chain, is_rung, least, reaches, seat, mark, on_line, past_line, has_sign, is_code, levels, level_of_kind, fits_by, growth_kind}
 use Rattle.jsx_token.proofs.Listed.{Listed, kinds, every, of_each, every_level, of_level_kind, implies, implied, agree, agreed, listed, listed_binary}
 use Rattle.jsx_token.proofs.Marks.{text_of_sign, by_sign}
 use Rattle.jsx_token.proofs.Lives.{is_single}

@@ -2,7 +2,7 @@
 use Rattle.std.proofs.Common.{◌≡◌, ℕ, zero, suc, nat_eq, Bool, true, false, not, List, [], ◌∷◌, refl, sym, ◌∙◌, ap, subst}
 use Rattle.std.specs.Prelude.{Option, Some, None, ◌&&◌}
 use Rattle.std.proofs.lemmas.Bool.{eqb-true}
-use Rattle.jsx_tree.specs.Kinds.{ConstWord, Module, Var, Declarator, ExprStmt, Assign, OpAssign, BinaryOp, Nullish, Or, And, BitOr, BitXor, BitAnd, Equal, Unequal, StrictEqual, StrictUnequal, Less, Greater, AtMost, AtLeast, InOp, InstanceOf, ShiftLeft, ShiftRight, ShiftOut, Add, Subtract, Multiply, Divide, Remainder, Exponentiate, Void, TypeOf, Positive, Negative, Complement, Not, Unary, Binary, Cond, Call, Member, Index, New, NewWithoutArguments, NewTarget, ImportCall, ImportMeta, Parenthesized, Element, Kind, program, statement, expression, jsx, Delete, PrefixUpdate, PostfixUpdate, Increment, Decrement, Seq, Array, Object, Spread, ComputedKey, function, PlainTemplate, SubstitutedTemplate, TemplateSpan, Tagged, Chain, NameLink, IndexLink, CallLink}
+use Rattle.jsx_tree.specs.Kinds.{ConstWord, Module, Var, Declarator, ExprStmt, Assign, OpAssign, BinaryOp, Nullish, Or, And, BitOr, BitXor, BitAnd, Equal, Unequal, StrictEqual, StrictUnequal, Less, Greater, AtMost, AtLeast, InOp, InstanceOf, ShiftLeft, ShiftRight, ShiftOut, Add, Subtract, Multiply, Divide, Remainder, Exponentiate, Void, TypeOf, Positive, Negative, Complement, Not, Unary, Binary, Cond, Call, Member, Index, New, NewWithoutArguments, NewTarget, ImportCall, ImportMeta, Parenthesized, Element, Kind, program, statement, expression, jsx, Delete, PrefixUpdate, PostfixUpdate, Increment, Decrement, Seq, Array, Object, Spread, ComputedKey, ParenTarget, function, PlainTemplate, SubstitutedTemplate, TemplateSpan, Tagged, Chain, NameLink, IndexLink, CallLink}
 use Rattle.jsx_tree.specs.Nonterminals.{homes}
 use Rattle.jsx_token.specs.Stage.{has_kind}
 use Rattle.jsx_tree.proofs.Tokens.{and_left, and_right}
@@ -121,10 +121,11 @@ listed_binary Divide = record { is = refl }
 listed_binary Remainder = record { is = refl }
 listed_binary Exponentiate = record { is = refl }
 
--- all but a sequence and a spread, which stand in fewer places
+-- all but a sequence, a spread and a target in parentheses, which stand in fewer places
 abbrev pub is_apart : Kind → Bool
 is_apart (expression Seq) = true
 is_apart (expression Spread) = true
+is_apart (function ParenTarget) = true
 is_apart k = false
 
 pub listed : (k : Kind) → has_kind k ≡ true → any_operand (homes k) ≡ true → is_apart k ≡ false → Listed k
@@ -187,6 +188,7 @@ listed (statement Declarator) h a s = cc
 listed (statement ExprStmt) h a s = cc
 listed (expression Seq) h a s = cc
 listed (expression Spread) h a s = cc
+listed (function ParenTarget) h a s = cc
 listed _ h a s = cc
 
 some_is : {j k : Kind} → Some j ≡ Some k → j ≡ k

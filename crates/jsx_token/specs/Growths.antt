@@ -111,13 +111,6 @@ fits_by (expression (Binary o)) n = nat_le (left_level o) n || (nat_eq n 3 && na
 fits_by (expression Cond) n = nat_le 3 n
 fits_by k n = nat_le 18 n
 
--- what these stand behind is a name that may be bound, or a member
-abbrev pub takes_target : Kind → Bool
-takes_target (expression Assign) = true
-takes_target (expression (OpAssign o)) = true
-takes_target (expression (PostfixUpdate o)) = true
-takes_target k = false
-
 -- what goes on by links, the first of which begins with its mark
 abbrev pub is_chain : Kind → Bool
 is_chain (expression Chain) = true

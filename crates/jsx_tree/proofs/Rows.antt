@@ -18,3 +18,4 @@ pub mod Lines
 pub mod Spines
 pub mod Growing
 pub mod Joining
+pub mod Targets

@@ -85,8 +85,8 @@ told-Operation-Seq at xs = ap told_operation (sym (operation.rolls-Seq at xs)) �
 pub told-Operation-Assign : (at : Option Span) (p : Box Pat Global) (a : Box Expr Global) → told_operation (operation.Assign at p a) ≡ told_node at (told_pat p.value ∷ told_expr a.value ∷ [])
 told-Operation-Assign at p a = ap told_operation (sym (operation.rolls-Assign at p a)) ∙ fold-roll-Operation Told Told Told Told Told Told Told Told Told Told told_access_step told_control_step told_expr_step told_jsx_step told_key_step told_link_step told_operation_step told_pat_step told_prop_step told_stmt_step (Operation-F.Assign at p a)
 
-pub told-Operation-OpAssign : (at : Option Span) (o : AssignOp) (a : Box Expr Global) (b : Box Expr Global) → told_operation (operation.OpAssign at o a b) ≡ told_node at (told_expr a.value ∷ told_expr b.value ∷ [])
-told-Operation-OpAssign at o a b = ap told_operation (sym (operation.rolls-OpAssign at o a b)) ∙ fold-roll-Operation Told Told Told Told Told Told Told Told Told Told told_access_step told_control_step told_expr_step told_jsx_step told_key_step told_link_step told_operation_step told_pat_step told_prop_step told_stmt_step (Operation-F.OpAssign at o a b)
+pub told-Operation-OpAssign : (at : Option Span) (o : AssignOp) (p : Box Pat Global) (a : Box Expr Global) → told_operation (operation.OpAssign at o p a) ≡ told_node at (told_pat p.value ∷ told_expr a.value ∷ [])
+told-Operation-OpAssign at o p a = ap told_operation (sym (operation.rolls-OpAssign at o p a)) ∙ fold-roll-Operation Told Told Told Told Told Told Told Told Told Told told_access_step told_control_step told_expr_step told_jsx_step told_key_step told_link_step told_operation_step told_pat_step told_prop_step told_stmt_step (Operation-F.OpAssign at o p a)
 
 pub told-Operation-Arrow : (at : Option Span) (ps : Vec (Box Pat Global) Global) (b : Box Expr Global) → told_operation (operation.Arrow at ps b) ≡ told_node at (told_list (map (inside told_pat) ps.items) ∷ told_expr b.value ∷ [])
 told-Operation-Arrow at ps b = ap told_operation (sym (operation.rolls-Arrow at ps b)) ∙ fold-roll-Operation Told Told Told Told Told Told Told Told Told Told told_access_step told_control_step told_expr_step told_jsx_step told_key_step told_link_step told_operation_step told_pat_step told_prop_step told_stmt_step (Operation-F.Arrow at ps b) ∙ ap (λ us. told_node at (told_list us ∷ told_expr b.value ∷ [])) (held _ told_pat (λ b. refl) ps.items)
@@ -109,8 +109,8 @@ told-Operation-Binary at o a b = ap told_operation (sym (operation.rolls-Binary 
 pub told-Operation-Unary : (at : Option Span) (o : code_unary.UnaryOp) (a : Box Expr Global) → told_operation (operation.Unary at o a) ≡ told_node at (told_expr a.value ∷ [])
 told-Operation-Unary at o a = ap told_operation (sym (operation.rolls-Unary at o a)) ∙ fold-roll-Operation Told Told Told Told Told Told Told Told Told Told told_access_step told_control_step told_expr_step told_jsx_step told_key_step told_link_step told_operation_step told_pat_step told_prop_step told_stmt_step (Operation-F.Unary at o a)
 
-pub told-Operation-Update : (at : Option Span) (o : code_update.UpdateOp) (s : UpdateSide) (a : Box Expr Global) → told_operation (operation.Update at o s a) ≡ told_node at (told_expr a.value ∷ [])
-told-Operation-Update at o s a = ap told_operation (sym (operation.rolls-Update at o s a)) ∙ fold-roll-Operation Told Told Told Told Told Told Told Told Told Told told_access_step told_control_step told_expr_step told_jsx_step told_key_step told_link_step told_operation_step told_pat_step told_prop_step told_stmt_step (Operation-F.Update at o s a)
+pub told-Operation-Update : (at : Option Span) (o : code_update.UpdateOp) (s : UpdateSide) (p : Box Pat Global) → told_operation (operation.Update at o s p) ≡ told_node at (told_pat p.value ∷ [])
+told-Operation-Update at o s p = ap told_operation (sym (operation.rolls-Update at o s p)) ∙ fold-roll-Operation Told Told Told Told Told Told Told Told Told Told told_access_step told_control_step told_expr_step told_jsx_step told_key_step told_link_step told_operation_step told_pat_step told_prop_step told_stmt_step (Operation-F.Update at o s p)
 
 pub told-Operation-Spread : (at : Option Span) (a : Box Expr Global) → told_operation (operation.Spread at a) ≡ told_node at (told_expr a.value ∷ [])
 told-Operation-Spread at a = ap told_operation (sym (operation.rolls-Spread at a)) ∙ fold-roll-Operation Told Told Told Told Told Told Told Told Told Told told_access_step told_control_step told_expr_step told_jsx_step told_key_step told_link_step told_operation_step told_pat_step told_prop_step told_stmt_step (Operation-F.«Operation::Spread» at a)

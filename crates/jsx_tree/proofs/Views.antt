@@ -93,8 +93,8 @@ view-Operation-Seq at xs = ap view_operation (sym (operation.rolls-Seq at xs)) �
 pub view-Operation-Assign : (at : Option Span) (p : Box Pat Global) (a : Box Expr Global) → view_operation (operation.Assign at p a) ≡ node (expression Assign) (part ((view_pattern p.value) Assigns) (part (view_expr a.value) none))
 view-Operation-Assign at p a = ap view_operation (sym (operation.rolls-Assign at p a)) ∙ fold-roll-Operation Tree Tree Tree Tree Tree Tree Tree (Role → Tree) (Owner → Tree) Tree access_step control_step expr_step jsx_step key_step link_step operation_step pat_step prop_step stmt_step (Operation-F.Assign at p a)
 
-pub view-Operation-OpAssign : (at : Option Span) (o : AssignOp) (a : Box Expr Global) (b : Box Expr Global) → view_operation (operation.OpAssign at o a b) ≡ node (expression (OpAssign (assign_of o))) (part (view_expr a.value) (part (view_expr b.value) none))
-view-Operation-OpAssign at o a b = ap view_operation (sym (operation.rolls-OpAssign at o a b)) ∙ fold-roll-Operation Tree Tree Tree Tree Tree Tree Tree (Role → Tree) (Owner → Tree) Tree access_step control_step expr_step jsx_step key_step link_step operation_step pat_step prop_step stmt_step (Operation-F.OpAssign at o a b)
+pub view-Operation-OpAssign : (at : Option Span) (o : AssignOp) (p : Box Pat Global) (a : Box Expr Global) → view_operation (operation.OpAssign at o p a) ≡ node (expression (OpAssign (assign_of o))) (part ((view_pattern p.value) Assigns) (part (view_expr a.value) none))
+view-Operation-OpAssign at o p a = ap view_operation (sym (operation.rolls-OpAssign at o p a)) ∙ fold-roll-Operation Tree Tree Tree Tree Tree Tree Tree (Role → Tree) (Owner → Tree) Tree access_step control_step expr_step jsx_step key_step link_step operation_step pat_step prop_step stmt_step (Operation-F.OpAssign at o p a)
 
 pub view-Operation-Arrow : (at : Option Span) (ps : Vec (Box Pat Global) Global) (b : Box Expr Global) → view_operation (operation.Arrow at ps b) ≡ node (expression Arrow) (part (list (forest_at Binds (map (inside view_pattern) ps.items))) (part (view_expr b.value) none))
 view-Operation-Arrow at ps b = ap view_operation (sym (operation.rolls-Arrow at ps b)) ∙ fold-roll-Operation Tree Tree Tree Tree Tree Tree Tree (Role → Tree) (Owner → Tree) Tree access_step control_step expr_step jsx_step key_step link_step operation_step pat_step prop_step stmt_step (Operation-F.Arrow at ps b) ∙ ap (λ us. node (expression Arrow) (part (list (forest_at Binds us)) (part (view_expr b.value) none))) (held _ view_pattern (λ b. refl) ps.items)
@@ -117,8 +117,8 @@ view-Operation-Binary at o a b = ap view_operation (sym (operation.rolls-Binary 
 pub view-Operation-Unary : (at : Option Span) (o : code_unary.UnaryOp) (a : Box Expr Global) → view_operation (operation.Unary at o a) ≡ node (expression (Unary (unary_of o))) (part (view_expr a.value) none)
 view-Operation-Unary at o a = ap view_operation (sym (operation.rolls-Unary at o a)) ∙ fold-roll-Operation Tree Tree Tree Tree Tree Tree Tree (Role → Tree) (Owner → Tree) Tree access_step control_step expr_step jsx_step key_step link_step operation_step pat_step prop_step stmt_step (Operation-F.Unary at o a)
 
-pub view-Operation-Update : (at : Option Span) (o : code_update.UpdateOp) (s : UpdateSide) (a : Box Expr Global) → view_operation (operation.Update at o s a) ≡ node (expression (update_of o s)) (part (view_expr a.value) none)
-view-Operation-Update at o s a = ap view_operation (sym (operation.rolls-Update at o s a)) ∙ fold-roll-Operation Tree Tree Tree Tree Tree Tree Tree (Role → Tree) (Owner → Tree) Tree access_step control_step expr_step jsx_step key_step link_step operation_step pat_step prop_step stmt_step (Operation-F.Update at o s a)
+pub view-Operation-Update : (at : Option Span) (o : code_update.UpdateOp) (s : UpdateSide) (p : Box Pat Global) → view_operation (operation.Update at o s p) ≡ node (expression (update_of o s)) (part ((view_pattern p.value) Assigns) none)
+view-Operation-Update at o s p = ap view_operation (sym (operation.rolls-Update at o s p)) ∙ fold-roll-Operation Tree Tree Tree Tree Tree Tree Tree (Role → Tree) (Owner → Tree) Tree access_step control_step expr_step jsx_step key_step link_step operation_step pat_step prop_step stmt_step (Operation-F.Update at o s p)
 
 pub view-Operation-Spread : (at : Option Span) (a : Box Expr Global) → view_operation (operation.Spread at a) ≡ node (expression Spread) (part (view_expr a.value) none)
 view-Operation-Spread at a = ap view_operation (sym (operation.rolls-Spread at a)) ∙ fold-roll-Operation Tree Tree Tree Tree Tree Tree Tree (Role → Tree) (Owner → Tree) Tree access_step control_step expr_step jsx_step key_step link_step operation_step pat_step prop_step stmt_step (Operation-F.«Operation::Spread» at a)

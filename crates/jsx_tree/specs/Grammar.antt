@@ -214,7 +214,7 @@ function_production (ShorthandInit r) = count ∷ Fixed Begin ∷ Part BindingId
 function_production (WithInit r) = Part (Pat r) ∷ sp ∷ count ∷ p "=" ∷ sp ∷ Part (Expr 1) ∷ []
 function_production (RestPat r) = p "..." ∷ Part (Pat r) ∷ unless (codes "," ∷ []) ∷ []
 function_production (RestProperty r) = p "..." ∷ Part BindingIdent ∷ unless (codes "," ∷ []) ∷ []
-function_production ParenTarget = count ∷ p "(" ∷ Part SimpleTarget ∷ p ")" ∷ []
+function_production ParenTarget = count ∷ p "(" ∷ Part SimpleTarget ∷ p ")" ∷ unless (codes "=>" ∷ []) ∷ []
 
 -- `?.` of a chain's link, or nothing
 abbrev pub optional : Bool → Production → Production

@@ -206,7 +206,7 @@ expr_step (Expr-F.«Expr::Paren» at a) = node (expression Parenthesized) (part 
 abbrev pub operation_step : Operation-F Tree Tree Tree Tree Tree Tree Tree (Role → Tree) (Owner → Tree) Tree → Tree
 operation_step (Operation-F.Seq at xs) = node (expression Seq) (part (list (forest (contents xs.items))) none)
 operation_step (Operation-F.Assign at p a) = node (expression Assign) (part (p.value Assigns) (part a.value none))
-operation_step (Operation-F.OpAssign at o a b) = node (expression (OpAssign (assign_of o))) (part a.value (part b.value none))
+operation_step (Operation-F.OpAssign at o p a) = node (expression (OpAssign (assign_of o))) (part (p.value Assigns) (part a.value none))
 operation_step (Operation-F.Arrow at ps b) = node (expression Arrow) (part (list (forest_at Binds (contents ps.items))) (part b.value none))
 operation_step (Operation-F.ArrowBlock at ps ds ss) = node (expression ArrowBlock) (part (list (forest_at Binds (contents ps.items))) (part (body ds.items (contents ss.items)) none))
 operation_step (Operation-F.BareArrow at a b) = node (expression BareArrow) (part (name_of a) (part b.value none))
@@ -214,7 +214,7 @@ operation_step (Operation-F.BareArrowBlock at a ds ss) = node (expression BareAr
 operation_step (Operation-F.Cond at a b c) = node (expression Cond) (part a.value (part b.value (part c.value none)))
 operation_step (Operation-F.Binary at o a b) = node (expression (Binary (binary_of o))) (part a.value (part b.value none))
 operation_step (Operation-F.Unary at o a) = node (expression (Unary (unary_of o))) (part a.value none)
-operation_step (Operation-F.Update at o s a) = node (expression (update_of o s)) (part a.value none)
+operation_step (Operation-F.Update at o s p) = node (expression (update_of o s)) (part (p.value Assigns) none)
 operation_step (Operation-F.«Operation::Spread» at a) = node (expression Spread) (part a.value none)
 operation_step Operation-F.«Operation::Hole» = leaf token.Elision []
 

@@ -41,7 +41,7 @@ pub enum Operation<'s> {
     /// `a = b`
     Assign(At, Box<Pat<'s>>, Box<Expr<'s>>),
     /// `a += b`
-    OpAssign(At, AssignOp, Box<Expr<'s>>, Box<Expr<'s>>),
+    OpAssign(At, AssignOp, Box<Pat<'s>>, Box<Expr<'s>>),
     /// `(a, b) => c`
     Arrow(At, Vec<Box<Pat<'s>>>, Box<Expr<'s>>),
     /// `(a, b) => { c; }`: its parameters, directives and statements
@@ -54,7 +54,8 @@ pub enum Operation<'s> {
     Cond(At, Box<Expr<'s>>, Box<Expr<'s>>, Box<Expr<'s>>),
     Binary(At, BinaryOp, Box<Expr<'s>>, Box<Expr<'s>>),
     Unary(At, UnaryOp, Box<Expr<'s>>),
-    Update(At, UpdateOp, UpdateSide, Box<Expr<'s>>),
+    /// `++a`, `a++`
+    Update(At, UpdateOp, UpdateSide, Box<Pat<'s>>),
     /// `...a`
     Spread(At, Box<Expr<'s>>),
     /// Nothing, between two commas of an array.

@@ -1,5 +1,5 @@
 -- What is told of places, where a visitor keeps it: part by part, it stays.
-use Rattle.std.proofs.Common.{◌≡◌, ℕ, List, [], ◌∷◌, ◌++◌, map, set, get_or, Bool, true, false, refl, sym, ap, ◌∙◌, subst, Option, Some, None, Box, Vec, Global, Result, Ok, Err}
+use Rattle.std.proofs.Common.{◌≡◌, ℕ, List, [], ◌∷◌, ◌++◌, map, set, get_or, Bool, true, false, refl, sym, ap, ◌∙◌, Option, Some, None, Box, Vec, Global, Result, Ok, Err}
 use Rattle.std.specs.Prelude.{OnOk, IsTrue}
 use Rattle.std.proofs.lemmas.Bool.{false≢true}
 use Rattle.std.proofs.lemmas.Result.{on_ok_weaker}

@@ -1,7 +1,7 @@
 -- Which trees the code's nodes are seen as: by the layer of each type.
 use Rattle.std.proofs.Common.{◌≡◌, List, [], ◌∷◌, map, Bool, true, false, refl, ap, sym, ◌∙◌, subst, Option, Some, None, Box, Global}
 use Rattle.std.proofs.lemmas.Bool.{false≢true}
-use Rattle.jsx_tree.specs.Kinds.{Role, Kind, program, statement, function, FunctionExpr, ClassExpr, FunctionDecl, ClassDecl, Declarator, WithInit, PropertyPat, ShorthandInit, jsx, Tree, leaf, node, list, expression, Forest, none, part}
+use Rattle.jsx_tree.specs.Kinds.{Role, Kind, program, statement, function, FunctionExpr, ClassExpr, FunctionDecl, ClassDecl, Declarator, WithInit, PropertyPat, ShorthandInit, ParenTarget, jsx, Tree, leaf, node, list, expression, Forest, none, part}
 use Rattle.jsx_tree.specs.declared.text.Text.{Text}
 use Rattle.jsx_tree.specs.declared.text.Word.{Word}
 use Rattle.jsx_tree.specs.declared.text.Word.TheVariants as words
@@ -24,7 +24,7 @@ use Rattle.jsx_tree.specs.declared.tree.Access.TheViews.{roll-Expr, out-Expr, ro
 use Rattle.jsx_tree.specs.declared.tree.Access.TheFolds.{fold_out-Access, fold_out-Control, fold_out-Jsx, fold_out-Operation, fold_out-Prop}
 use Rattle.jsx_tree.proofs.Views.{view-Expr-Ident, view-Expr-Literal, view-Expr-Word, view-Expr-Operation, view-Expr-Access, view-Expr-Array, view-Expr-Object, view-Expr-Template, view-Expr-Function, view-Expr-Class, view-Expr-Jsx, view-Expr-Paren, view-Stmt-Block, view-Stmt-Var, view-Stmt-Empty, view-Stmt-Expr, view-Stmt-Control, view-Stmt-Continue, view-Stmt-Break, view-Stmt-Return, view-Stmt-Throw, view-Stmt-Debugger, view-Stmt-Function, view-Stmt-Class}
 use Rattle.jsx_visit.specs.Visit.{visited, visiteds, within}
-use Rattle.jsx_visit.specs.Parts.{nth_visited, with_part, front_visited, rest_visited, tail_visited, but_code, front_of_code, rest_of_code, with_half, but_half, with_test, with_second}
+use Rattle.jsx_visit.specs.Parts.{nth_visited, with_part, front_visited, rest_visited, tail_visited, but_code, front_of_code, rest_of_code, with_half, but_half, but_pair, with_test, with_second}
 
 -- ---- the roots of expressions
 
@@ -368,13 +368,14 @@ first_behind_tail : (f : Kind → Forest → Tree) (cs : Forest) → nth_visited
 first_behind_tail f none = refl
 first_behind_tail f (part t ts) = refl
 
-pub pattern_all : (f : Kind → Forest → Tree) (t : Tree) → but_half f (with_half f t) ≡ visited f t
+pub pattern_all : (f : Kind → Forest → Tree) (t : Tree) → but_half f (with_half f t) ≡ but_pair f t
 pattern_all f (leaf s x) = refl
 pattern_all f (list ts) = refl
 pattern_all f (node (statement Declarator) cs) = ap (node (statement Declarator)) (first_behind_tail f cs)
 pattern_all f (node (function (WithInit r)) cs) = ap (node (function (WithInit r))) (first_behind_tail f cs)
 pattern_all f (node (function (PropertyPat r)) cs) = ap (node (function (PropertyPat r))) (first_behind_tail f cs)
 pattern_all f (node (function (ShorthandInit r)) cs) = ap (node (function (ShorthandInit r))) (first_behind_tail f cs)
+pattern_all f (node (function ParenTarget) cs) = ap (node (function ParenTarget)) (first_behind_tail f cs)
 pattern_all f (node (program k) cs) = refl
 pattern_all f (node (expression k) cs) = refl
 pattern_all f (node (jsx k) cs) = refl

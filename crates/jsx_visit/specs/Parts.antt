@@ -1,7 +1,7 @@
 -- One part of a node visited after the other: what each function of the walk does.
 use Rattle.std.specs.Prelude.{ℕ, zero, suc, List, [], map, Bool, true, false, cond, Box}
 use Rattle.std.specs.Global.{Global}
-use Rattle.jsx_tree.specs.Kinds.{Declarator, Default, FunctionDecl, ClassDecl, Role, FunctionExpr, ClassExpr, PropertyPat, ShorthandInit, WithInit, ExportDefaultFn, Kind, program, statement, function, Tree, leaf, node, list, Forest, none, part}
+use Rattle.jsx_tree.specs.Kinds.{Declarator, Default, FunctionDecl, ClassDecl, Role, FunctionExpr, ClassExpr, PropertyPat, ShorthandInit, WithInit, ParenTarget, ExportDefaultFn, Kind, program, statement, function, Tree, leaf, node, list, Forest, none, part}
 use Rattle.jsx_tree.specs.Spans.{Told, tells, Tales, no_tales, tale}
 use Rattle.jsx_tree.specs.Told.{tales}
 use Rattle.jsx_tree.specs.View.{Owner, view_pattern, view_member}
@@ -52,12 +52,13 @@ rest_of_code f (leaf s x) = leaf s x
 rest_of_code f (node k cs) = cond (is_code k) (node k (rest_visited f cs)) (node k cs)
 rest_of_code f (list ts) = list ts
 
--- patterns whose first part isn't all that is visited
+-- patterns whose first part isn't all that is visited, and targets in parentheses, which aren't made anew with it
 abbrev pub has_halves : Kind → Bool
 has_halves (statement Declarator) = true
 has_halves (function (WithInit r)) = true
 has_halves (function (PropertyPat r)) = true
 has_halves (function (ShorthandInit r)) = true
+has_halves (function ParenTarget) = true
 has_halves k = false
 
 abbrev pub tail_visited : (Kind → Forest → Tree) → Forest → Forest
@@ -73,6 +74,16 @@ abbrev pub but_half : (Kind → Forest → Tree) → Tree → Tree
 but_half f (leaf s x) = leaf s x
 but_half f (node k cs) = cond (has_halves k) (node k (nth_visited 0 f cs)) (visited f (node k cs))
 but_half f (list ts) = list (visiteds f ts)
+
+-- a target in parentheses
+abbrev pub is_pair : Tree → Bool
+is_pair (node (function ParenTarget) cs) = true
+is_pair t = false
+
+-- a pattern that is visited, but for its own parentheses
+abbrev pub but_pair : (Kind → Forest → Tree) → Tree → Tree
+but_pair f (node (function ParenTarget) cs) = node (function ParenTarget) (visiteds f cs)
+but_pair f t = visited f t
 
 -- a clause's test, and its statements: `default` has no test
 abbrev pub with_test : (Kind → Forest → Tree) → Tree → Tree

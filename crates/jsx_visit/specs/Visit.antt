@@ -1,9 +1,9 @@
--- A tree that is visited: each expression is made anew, after its parts (ECMA-262 section 13). What stands in JSX isn't entered.
+-- A tree that is visited: each expression, and each target in parentheses, is made anew after its parts (ECMA-262 section 13). What stands in JSX isn't entered.
 use Rattle.std.specs.Prelude.{Bool, true, false, cond, not}
 use Rattle.jsx_base.specs.declared.place.Span.{Span}
 use Rattle.jsx_tree.specs.declared.program.Program.{Program}
 use Rattle.jsx_tree.specs.declared.program.Program.TheVariants as programs
-use Rattle.jsx_tree.specs.Kinds.{ExpressionKind, Property, Shorthand, Spread, NameLink, IndexLink, CallLink, PlainTemplate, SubstitutedTemplate, TemplateSpan, FunctionKind, FunctionExpr, ClassExpr, Kind, program, statement, function, expression, jsx, Tree, leaf, node, list, Forest, none, part}
+use Rattle.jsx_tree.specs.Kinds.{ExpressionKind, Property, Shorthand, Spread, NameLink, IndexLink, CallLink, PlainTemplate, SubstitutedTemplate, TemplateSpan, FunctionKind, FunctionExpr, ClassExpr, ParenTarget, Kind, program, statement, function, expression, jsx, Tree, leaf, node, list, Forest, none, part}
 
 -- what stands as an expression by itself, and not as a property, a spread, a link of a chain or a piece of a template
 abbrev pub is_whole : ExpressionKind → Bool
@@ -24,10 +24,11 @@ is_value FunctionExpr = true
 is_value ClassExpr = true
 is_value k = false
 
--- the kinds of node that a visitor is handed
+-- the kinds of node that a visitor is handed: expressions, and targets in parentheses
 abbrev pub is_handed : Kind → Bool
 is_handed (program k) = false
 is_handed (statement k) = false
+is_handed (function ParenTarget) = true
 is_handed (function k) = is_value k
 is_handed (expression k) = is_whole k
 is_handed (jsx k) = true
@@ -41,6 +42,11 @@ abbrev pub changed : (Kind → Forest → Tree) → Tree → Tree
 changed f (leaf s t) = leaf s t
 changed f (node k cs) = renewed f k cs
 changed f (list ts) = list ts
+
+-- what it makes of a pattern: a target in parentheses is made anew, and all else is left
+abbrev pub changed_target : (Kind → Forest → Tree) → Tree → Tree
+changed_target f (node (function ParenTarget) cs) = f (function ParenTarget) cs
+changed_target f t = t
 
 abbrev mutual
   -- what a visit makes of a tree

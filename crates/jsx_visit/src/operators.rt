@@ -39,13 +39,13 @@ impl Walker {
         match operation {
             Operation::Seq(_, items) => self.exprs(visitor, items),
             Operation::Assign(_, target, _) => self.pattern(visitor, target),
-            Operation::OpAssign(_, _, target, _) => self.expr(visitor, target),
+            Operation::OpAssign(_, _, target, _) => self.pattern(visitor, target),
             Operation::Arrow(_, parameters, _) => self.patterns(visitor, parameters),
             Operation::ArrowBlock(_, parameters, _, _) => self.patterns(visitor, parameters),
             Operation::Cond(_, test, _, _) => self.expr(visitor, test),
             Operation::Binary(_, _, left, _) => self.expr(visitor, left),
             Operation::Unary(_, _, operand) => self.expr(visitor, operand),
-            Operation::Update(_, _, _, operand) => self.expr(visitor, operand),
+            Operation::Update(_, _, _, target) => self.pattern(visitor, target),
             Operation::Spread(_, operand) => self.expr(visitor, operand),
             Operation::BareArrow(..) | Operation::BareArrowBlock(..) | Operation::Hole => Ok(()),
         }

@@ -1,18 +1,48 @@
 //! Patterns and keys.
 
-ghost use Rattle.std.specs.Prelude.{◌≡◌, OnOk, map};
+ghost use Rattle.std.specs.Prelude.{◌≡◌, OnOk, cond, map};
 ghost use Rattle.jsx_tree.specs.Kinds.{Binds, Assigns};
 ghost use Rattle.jsx_tree.specs.View.{inside, view_pattern, view_key, optional_at_of};
 ghost use Rattle.jsx_tree.specs.Told.{told_pat, told_key, told_optional};
-ghost use Rattle.jsx_visit.specs.Visit.{visited};
-ghost use Rattle.jsx_visit.specs.Parts.{but_half, with_half, seen_at, kept, kept_each};
+ghost use Rattle.jsx_visit.specs.Visit.{visited, changed_target};
+ghost use Rattle.jsx_visit.specs.Parts.{is_pair, but_pair, but_half, with_half, seen_at, kept, kept_each};
 
 use crate::visitor::Visitor;
 use crate::walk::Walker;
 use jsx_tree::{Key, Pat};
 use std::alloc::AllocError;
 
+/// Whether a pattern is a target in parentheses.
+#[tactic(auto, using(crate::proofs::Visits::visits))]
+fn has_pair(pattern: &Pat<'_>) -> bool
+    ensures binds { result ≡ is_pair (view_pattern pattern.now Binds) }
+    ensures assigns { result ≡ is_pair (view_pattern pattern.now Assigns) }
+{
+    match pattern {
+        Pat::Paren(..) => true,
+        _ => false,
+    }
+}
+
 impl Walker {
+    /// A target in parentheses, after what stands in them.
+    fn closed<V: Visitor>(
+        self,
+        visitor: &mut V,
+        paired: bool,
+        pattern: &mut Box<Pat<'_>>,
+    ) -> Result<(), AllocError>
+        ensures binds { OnOk result (view_pattern pattern.new.value Binds ≡ cond paired (changed_target V.made (view_pattern pattern.old.value Binds)) (view_pattern pattern.old.value Binds)) }
+        ensures assigns { OnOk result (view_pattern pattern.new.value Assigns ≡ cond paired (changed_target V.made (view_pattern pattern.old.value Assigns)) (view_pattern pattern.old.value Assigns)) }
+        ensures places { OnOk result (kept V.keeps (told_pat pattern.new.value) ≡ kept V.keeps (told_pat pattern.old.value)) }
+    {
+        if paired {
+            return visitor.target(self.alloc, pattern);
+        }
+        Ok(())
+    }
+
+    /// A pattern, after its parts.
     #[cycle(walk)]
     pub(crate) fn pattern<V: Visitor>(
         self,
@@ -23,8 +53,10 @@ impl Walker {
         ensures assigns { OnOk result (view_pattern pattern.new.value Assigns ≡ visited V.made (view_pattern pattern.old.value Assigns)) }
         ensures places { OnOk result (kept V.keeps (told_pat pattern.new.value) ≡ kept V.keeps (told_pat pattern.old.value)) }
     {
+        let paired = has_pair(pattern);
         let below = self.below()?;
-        below.parts_of_pattern(visitor, pattern)
+        below.parts_of_pattern(visitor, pattern)?;
+        self.closed(visitor, paired, pattern)
     }
 
     #[cycle(walk)]
@@ -33,8 +65,8 @@ impl Walker {
         visitor: &mut V,
         pattern: &mut Pat<'_>,
     ) -> Result<(), AllocError>
-        ensures binds { OnOk result (view_pattern pattern.new Binds ≡ visited V.made (view_pattern pattern.old Binds)) }
-        ensures assigns { OnOk result (view_pattern pattern.new Assigns ≡ visited V.made (view_pattern pattern.old Assigns)) }
+        ensures binds { OnOk result (view_pattern pattern.new Binds ≡ but_pair V.made (view_pattern pattern.old Binds)) }
+        ensures assigns { OnOk result (view_pattern pattern.new Assigns ≡ but_pair V.made (view_pattern pattern.old Assigns)) }
         ensures places { OnOk result (kept V.keeps (told_pat pattern.new) ≡ kept V.keeps (told_pat pattern.old)) }
     {
         self.second_of_pattern(visitor, pattern)?;

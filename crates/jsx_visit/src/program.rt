@@ -95,8 +95,9 @@ impl Walker {
     }
 }
 
-/// Visits each expression of a program after its parts, in the order of the text. What stands in JSX isn't entered: an element
-/// is handed to the visitor as it is. A visitor that keeps what an expression tells of places keeps what the program tells.
+/// Visits each expression of a program after its parts, and each target in parentheses after what stands in them, in the order
+/// of the text. What stands in JSX isn't entered: an element is handed to the visitor as it is. A visitor that keeps what a node
+/// tells of places keeps what the program tells.
 ///
 /// # Errors
 ///

@@ -5,9 +5,9 @@ use Rattle.std.specs.Result.{IsErrAnd}
 use Rattle.std.specs.Str.{chars}
 use Rattle.std.proofs.lemmas.Result.{err_from_is_err_and}
 use Rattle.jsx_tree.specs.Kinds.{Tree}
-use Rattle.jsx_expression.specs.Answers.{Refused, NoTree}
-use Rattle.jsx_expression.specs.declared.error.ParseError.{ParseError}
-use Rattle.jsx_expression.specs.declared.error.ParseError.TheVariants as parse
+use Rattle.jsx_operand.specs.Answers.{Refused, NoTree}
+use Rattle.jsx_operand.specs.declared.error.ParseError.{ParseError}
+use Rattle.jsx_operand.specs.declared.error.ParseError.TheVariants as parse
 use Rattle.react_compile.specs.declared.compiler.CompileError.{CompileError}
 use Rattle.react_compile.specs.declared.compiler.CompileError.TheVariants.{Syntax, Memory}
 use Rattle.react_compile.specs.Compiles.{IsSource}

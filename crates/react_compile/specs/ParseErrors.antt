@@ -1,7 +1,7 @@
 -- Errors of syntax, of the parser and of the compiler.
 use Rattle.std.specs.Prelude.{ℕ, ◌≤◌}
-use Rattle.jsx_expression.specs.declared.error.ParseError.{ParseError}
-use Rattle.jsx_expression.specs.declared.error.ParseError.TheVariants as parse
+use Rattle.jsx_operand.specs.declared.error.ParseError.{ParseError}
+use Rattle.jsx_operand.specs.declared.error.ParseError.TheVariants as parse
 use Rattle.react_compile.specs.declared.compiler.CompileError.{CompileError}
 use Rattle.react_compile.specs.declared.compiler.CompileError.TheVariants as compile
 

@@ -6,7 +6,7 @@ ghost use Rattle.react_compile.specs.Lowering.{can_lower, lower};
 
 use crate::calls::call_of;
 use jsx_base::{Comments, SingleThreadedComments};
-use jsx_tree::{Access, Expr, Program};
+use jsx_tree::{Access, Expr, Pat, Program};
 use jsx_visit::{Visitor, visit};
 use std::alloc::{AllocError, Global};
 
@@ -41,6 +41,11 @@ impl Visitor for Lowering {
             self.mark(&call)?;
             *expr = call;
         }
+        Ok(())
+    }
+
+    #[tactic(auto, using(crate::proofs::Lowering::Visiting::targets))]
+    fn target(&mut self, _: Global, _: &mut Box<Pat<'_>>) -> Result<(), AllocError> {
         Ok(())
     }
 }

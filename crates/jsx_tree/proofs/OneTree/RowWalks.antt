@@ -147,7 +147,7 @@ row_walk e _ a ts o w f m q = cc
 
 pub of_row : (k : Kind) {n : ℕ} {x y : Place} (ts : Forest) → taken k ≡ true → (is_brace k || is_prop k) ≡ false → n ≤ level k → leads (production k) ≡ false → Walk (row k) x ts y → Reads n x (node k ts) y
 of_row (expression Parenthesized) ts s o l d (take e f (all a (take e' f' (pass g done)))) = paren l e f a e' f'
-of_row (function ParenTarget) ts s o l d (take e f (under r c (take e' f' done))) = target l e f r c e' f'
+of_row (function ParenTarget) ts s o l d (take e f (under r c (take e' f' (pass g done)))) = target l e f r c e' f'
 of_row (expression Arrow) ts s o l d (take e f (each i w)) = arrow l (take e f (each i done)) w
 of_row (expression ArrowBlock) ts s o l d w = cc
 of_row (expression Object) ts s o l d w = cc

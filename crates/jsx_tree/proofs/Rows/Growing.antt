@@ -9,7 +9,7 @@ use Rattle.jsx_tree.specs.StaticRules.{Surroundings}
 use Rattle.jsx_tree.specs.Walk.{Piece, piece, tail, Given, one, Past, tree, Walk, next, around}
 use Rattle.jsx_tree.specs.Language.{Language, Whole}
 use Rattle.jsx_tree.specs.Answers.{Only, Barred, NoRow, Built}
-use Rattle.jsx_tree.specs.Grows.{starts, Onward, stay, step, Follows, Steps, Decides, Joins, Stays}
+use Rattle.jsx_tree.specs.Grows.{starts, seen, Onward, stay, step, Follows, Steps, Decides, Joins, Stays}
 use Rattle.jsx_tree.proofs.Rows.Laws.{Lawful}
 use Rattle.jsx_tree.proofs.Rows.Guarded.{loosen}
 
@@ -21,14 +21,14 @@ no_stay t' a' e g u z stay w h f = h e g
 no_stay {L} {v} {c} {x} {a} {t} t' a' e g u z (step {y = a''} {z = y} k s d {ts = ts} b i r o q on) w h f = f k ts y (record {
   side = s;
   begins = b;
-  left = subst (λ p. L.reads v false s x t p) (sym g) (subst (λ p. L.reads v false s x p a') (sym e) i);
-  walk = subst (λ p. Walk L.reads (around v (part t ts)) (tail (L.rows k)) p ts y) (sym g) (subst (λ p. Walk L.reads (around v (part p ts)) (tail (L.rows k)) a' ts y) (sym e) r);
+  left = subst (λ p. L.reads v false s x (seen k t) p) (sym g) (subst (λ p. L.reads v false s x (seen k p) a') (sym e) i);
+  walk = subst (λ p. Walk L.reads (around v (part (seen k t) ts)) (tail (L.rows k)) p ts y) (sym g) (subst (λ p. Walk L.reads (around v (part (seen k p) ts)) (tail (L.rows k)) a' ts y) (sym e) r);
   home = d;
   operand = o;
-  reads = subst (λ p. L.reads v false d x (node k (part p ts)) y) (sym e) q;
+  reads = subst (λ p. L.reads v false d x (node k (part (seen k p) ts)) y) (sym e) q;
   end = u;
   place = z;
-  onward = subst (λ p. Onward L v x (node k (part p ts)) y u z) (sym e) on;
+  onward = subst (λ p. Onward L v x (node k (part (seen k p) ts)) y u z) (sym e) on;
   whole = w;
 }) refl refl
 
@@ -53,14 +53,14 @@ low_barred {L} {v} {c} {x} {a} {t} fs s i = record { no = at }
 -- ---- one step
 
 -- it can't be read
-pub step_barred : {L : Language} {v : Surroundings} {c : Nonterminal} {x a : Place} {t : Tree} {k : Kind} → Follows L v c x t a → Decides L v c x t a k → NoRow L v (tail (L.rows k)) a → Barred L v (Part c) x
+pub step_barred : {L : Language} {v : Surroundings} {c : Nonterminal} {x a : Place} {t : Tree} {k : Kind} {qs : List Piece} → Follows L v c x t a → Decides L v c x t a k qs → NoRow L v qs a → Barred L v (Part c) x
 step_barred {L} {v} {c} {x} {a} {t} {k} fs d b = record { no = at }
   where
     at : (h : Given) (z : Place) → Past (Whole L) v (Part c) x h z → ⊥
     at h z (tree {t = u} w) = cases fs u z w (λ e g. d.goes (subst (λ q. L.ends c q ≡ true) (sym g) w.ends_there)) (λ l ts y p e g. b.no ts y (d.ends ts y (subst (λ m. Steps L v c x t a m ts y) (d.kind l ts y p) p)))
 
 -- the tree at its left may not stand there
-pub left_barred : {L : Language} {v : Surroundings} {c s : Nonterminal} {x a : Place} {t : Tree} {k : Kind} → Follows L v c x t a → Decides L v c x t a k → starts (L.rows k) ≡ Some s → (L.reads v false s x t a → ⊥) → Barred L v (Part c) x
+pub left_barred : {L : Language} {v : Surroundings} {c s : Nonterminal} {x a : Place} {t : Tree} {k : Kind} {qs : List Piece} → Follows L v c x t a → Decides L v c x t a k qs → starts (L.rows k) ≡ Some s → (L.reads v false s x (seen k t) a → ⊥) → Barred L v (Part c) x
 left_barred {L} {v} {c} {s} {x} {a} {t} {k} fs d b i = record { no = at }
   where
     some_is : {A : Type 0} {p q : A} → Some p ≡ Some q → p ≡ q
@@ -68,28 +68,28 @@ left_barred {L} {v} {c} {s} {x} {a} {t} {k} fs d b i = record { no = at }
 
     at : (h : Given) (z : Place) → Past (Whole L) v (Part c) x h z → ⊥
     at h z (tree {t = u} w) = cases fs u z w (λ e g. d.goes (subst (λ q. L.ends c q ≡ true) (sym g) w.ends_there))
-        (λ l ts y p e g. let q = subst (λ m. Steps L v c x t a m ts y) (d.kind l ts y p) p in i (subst (λ n. L.reads v false n x t a) (some_is (sym q.begins ∙ b)) q.left))
+        (λ l ts y p e g. let q = subst (λ m. Steps L v c x t a m ts y) (d.kind l ts y p) p in i (subst (λ n. L.reads v false n x (seen k t) a) (some_is (sym q.begins ∙ b)) q.left))
 
 led_row : (ps : List Piece) (c : Nonterminal) → starts ps ≡ Some c → piece [] (Part c) ∷ tail ps ≡ ps
 led_row (piece [] (Part d) ∷ ps) c e = cc
 led_row _ c e = cc
 
 -- it is read: what it gives is what everything begins with
-pub step_follows : {L : Language} {v : Surroundings} {c : Nonterminal} {x a b : Place} {t u : Tree} {k : Kind} → Lawful L → Follows L v c x t a → Decides L v c x t a k → Joins L v x t a k → Built L v (tail (L.rows k)) k (part t) u a b → Follows L v c x u b
+pub step_follows : {L : Language} {v : Surroundings} {c : Nonterminal} {x a b : Place} {t u : Tree} {k : Kind} {qs : List Piece} → Lawful L → Follows L v c x t a → Decides L v c x t a k qs → Joins L v x t a k qs → Built L v qs k (part (seen k t)) u a b → Follows L v c x u b
 step_follows {L} {v} {c} {x} {a} {b} {t} {u} {k} law fs d j built = record { home = j.home; operand = j.operand; reads = subst (λ p. L.reads v false j.home x p b) (sym built.is) read; all = at }
   where
-    walk : Walk L.reads (around v (part t built.parts)) (L.rows k) x (part t built.parts) b
-    walk = subst (λ ps. Walk L.reads (around v (part t built.parts)) ps x (part t built.parts) b) (led_row (L.rows k) j.side j.begins) (next (tree j.left) (loosen (j.frees built.parts b built.row.walk)))
+    walk : Walk L.reads (around v (part (seen k t) built.parts)) (L.rows k) x (part (seen k t) built.parts) b
+    walk = subst (λ ps. Walk L.reads (around v (part (seen k t) built.parts)) ps x (part (seen k t) built.parts) b) (led_row (L.rows k) j.side j.begins) (next (tree j.left) (loosen (j.frees built.parts b built.row.walk)))
 
-    read : L.reads v false j.home x (node k (part t built.parts)) b
-    read = law.to_node k (j.at_home (part t built.parts)) (record { walk = walk; keeps = j.keeps built.parts b built.row.walk })
+    read : L.reads v false j.home x (node k (part (seen k t) built.parts)) b
+    read = law.to_node k (j.at_home (part (seen k t) built.parts)) (record { walk = walk; keeps = j.keeps built.parts b built.row.walk })
 
     on : (l : Kind) (ts : Forest) (y : Place) (w : Tree) (z : Place) (p : Steps L v c x t a l ts y) → p.end ≡ w → p.place ≡ z → Onward L v x u b w z
     on l ts y w z p e f =
         let q = subst (λ m. Steps L v c x t a m ts y) (d.kind l ts y p) p in
         let same = built.row.alone ts y (d.ends ts y q) in
-        let step' : Onward L v x (node k (part t ts)) y p.end p.place = subst (λ m. Onward L v x (node m (part t ts)) y p.end p.place) (d.kind l ts y p) p.onward in
-        let here : Onward L v x (node k (part t built.parts)) b p.end p.place = subst (λ q. Onward L v x (node k (part t built.parts)) q p.end p.place) (sym same.1) (subst (λ us. Onward L v x (node k (part t us)) y p.end p.place) (sym same.0) step') in
+        let step' : Onward L v x (node k (part (seen k t) ts)) y p.end p.place = subst (λ m. Onward L v x (node m (part (seen m t) ts)) y p.end p.place) (d.kind l ts y p) p.onward in
+        let here : Onward L v x (node k (part (seen k t) built.parts)) b p.end p.place = subst (λ q. Onward L v x (node k (part (seen k t) built.parts)) q p.end p.place) (sym same.1) (subst (λ us. Onward L v x (node k (part (seen k t) us)) y p.end p.place) (sym same.0) step') in
         subst (λ q. Onward L v x u b w q) f (subst (λ p'. Onward L v x u b p' p.place) e (subst (λ p'. Onward L v x p' b p.end p.place) (sym built.is) here))
 
     at : (w : Tree) (z : Place) → Whole L v false c x w z → Onward L v x u b w z

@@ -60,7 +60,7 @@ no_body : (o : BinaryOp) → bodiless (row false (expression (Binary o))) ≡ tr
 no_body = each (λ o. bodiless (row false (expression (Binary o))) ≡ true) refl refl refl refl refl refl refl refl refl refl refl refl refl refl refl refl refl refl refl refl refl refl refl refl refl
 
 -- an operator joins what may stand at its left
-pub joins_binary : (o : BinaryOp) {v : Surroundings} {x a : Place} {t : Tree} → IsRead v false (left_of o) x t a → Joins grammar v x t a (expression (Binary o))
+pub joins_binary : (o : BinaryOp) {v : Surroundings} {x a : Place} {t : Tree} → IsRead v false (left_of o) x t a → Joins grammar v x t a (expression (Binary o)) (tail (row false (expression (Binary o))))
 joins_binary o {v} {x} {a} {t} r = record {
   side = left_of o;
   begins = refl;

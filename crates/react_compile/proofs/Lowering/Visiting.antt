@@ -6,7 +6,7 @@ use Rattle.jsx_tree.specs.Kinds.{Kind, function, expression, jsx, ParenTarget, P
 use Rattle.jsx_tree.specs.Normal.{remades, unwrapped_node, without_parentheses}
 use Rattle.jsx_tree.specs.Sound.{each_nodes}
 use Rattle.jsx_token.specs.Stage.{ReadsSoFar}
-use Rattle.jsx_visit.specs.Visit.{is_handed, visited}
+use Rattle.jsx_visit.specs.Visit.{is_handed, visited, changed_target}
 use Rattle.jsx_visit.proofs.Remade.{is_bare, visited_remade, each_weaker}
 use Rattle.jsx_syntax.proofs.Staged.{is_simple, so_far_simple}
 use Rattle.react_compile.specs.Lowering.{lower_node, lower, is_lowerable, can_lower}
@@ -22,6 +22,13 @@ of_tokens k cs o = refl
 
 pub visited_lower : (t : Tree) → can_lower t ≡ true → visited lower_node t ≡ lower t
 visited_lower t o = visited_remade lower_node (record { keeps = others_stay }) t (each_weaker is_lowerable is_bare of_tokens t o)
+
+-- no target is lowered
+pub target_stays : (t : Tree) → changed_target lower_node t ≡ t
+target_stays (node (function ParenTarget) cs) = refl
+target_stays t = refl
+
+pub ruleset targets = (target_stays)
 
 -- ---- what reads can be lowered, with its parentheses off
 

@@ -10,7 +10,7 @@ use Rattle.jsx_make.proofs.Making.{shows}
 use Rattle.jsx_make.proofs.make.prefix_update.Goals as goal
 
 pub returns-clause-view : goal.returns-clause-view
-returns-clause-view c = shows view_expr c.boxed.result (expr.Operation (operation.Update c.args.at c.args.operator side.Before c.args.operand)) c.boxed.ensures (view-Expr-Operation (operation.Update c.args.at c.args.operator side.Before c.args.operand) ∙ view-Operation-Update c.args.at c.args.operator side.Before c.args.operand)
+returns-clause-view c = shows view_expr c.boxed.result (expr.Operation (operation.Update c.args.at c.args.operator side.Before c.args.target)) c.boxed.ensures (view-Expr-Operation (operation.Update c.args.at c.args.operator side.Before c.args.target) ∙ view-Operation-Update c.args.at c.args.operator side.Before c.args.target)
 
 pub returns-clause-told : goal.returns-clause-told
-returns-clause-told c = shows told_expr c.boxed.result (expr.Operation (operation.Update c.args.at c.args.operator side.Before c.args.operand)) c.boxed.ensures (told-Expr-Operation (operation.Update c.args.at c.args.operator side.Before c.args.operand) ∙ told-Operation-Update c.args.at c.args.operator side.Before c.args.operand)
+returns-clause-told c = shows told_expr c.boxed.result (expr.Operation (operation.Update c.args.at c.args.operator side.Before c.args.target)) c.boxed.ensures (told-Expr-Operation (operation.Update c.args.at c.args.operator side.Before c.args.target) ∙ told-Operation-Update c.args.at c.args.operator side.Before c.args.target)

@@ -1,9 +1,9 @@
 use Rattle.std.proofs.Common.{refl, sym, ap}
 use Rattle.jsx_token.specs.Here.{place_of}
 use Rattle.jsx_syntax.proofs.Heads.{no_clause, none_clause, some_clause, unended_clause}
-use Rattle.jsx_expression.proofs.Placing.{placed_from}
+use Rattle.jsx_operand.proofs.Placing.{placed_from}
 use Rattle.jsx_syntax.proofs.PlacedNodes.{clause_placed, no_clause_placed}
-use Rattle.jsx_expression.proofs.Steps.{passed}
+use Rattle.jsx_operand.proofs.Steps.{passed}
 use Rattle.jsx_syntax.proofs.for_head.clause.Goals as goal
 
 pub returns-then-take-clause-read : goal.returns-then-take-clause-read

@@ -6,14 +6,14 @@ use Rattle.jsx_tree.specs.Reading.{forth}
 use Rattle.jsx_tree.specs.StaticRules.{open_in}
 use Rattle.jsx_token.specs.Here.{place_of}
 use Rattle.jsx_token.specs.Places.{begin_of}
-use Rattle.jsx_expression.specs.Around.{around_of}
+use Rattle.jsx_operand.specs.Around.{around_of}
 use Rattle.jsx_syntax.specs.OpenIn.{any_opens}
 use Rattle.jsx_syntax.proofs.Items.{head_keeps}
 use Rattle.jsx_syntax.proofs.Heads.{any_closed}
 use Rattle.jsx_syntax.proofs.Declaring.{bound_items, bound_keys, declared_initial, first_read, lost_from, no_first, no_name, none_more, only_from, open_more, unended_more}
-use Rattle.jsx_expression.proofs.Steps.{passed}
-use Rattle.jsx_expression.proofs.Placing.{placed_as, placed_to}
-use Rattle.jsx_expression.proofs.Places.{spans_from}
+use Rattle.jsx_operand.proofs.Steps.{passed}
+use Rattle.jsx_operand.proofs.Placing.{placed_as, placed_to}
+use Rattle.jsx_operand.proofs.Places.{spans_from}
 use Rattle.jsx_syntax.proofs.PlacedNodes.{binding_placed, head_placed, initial_placed, items_placed, keys_placed}
 use Rattle.jsx_syntax.proofs.for_head.declared_head.Goals as goal
 

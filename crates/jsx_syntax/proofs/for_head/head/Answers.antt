@@ -8,7 +8,7 @@ use Rattle.jsx_syntax.proofs.Overs.{marked_over}
 use Rattle.jsx_syntax.proofs.PlacedNodes.{no_initial_placed}
 use Rattle.jsx_tree.proofs.Rows.Bridge.{found_at}
 use Rattle.jsx_token.specs.Places.{Takes, next_of}
-use Rattle.jsx_expression.proofs.Steps.{passed}
+use Rattle.jsx_operand.proofs.Steps.{passed}
 use Rattle.jsx_syntax.proofs.for_head.head.Goals as goal
 
 pub returns-then-take-clause-read : goal.returns-then-take-clause-read

@@ -6,12 +6,12 @@ use Rattle.jsx_token.specs.Growths.{rung, growth_kind}
 use Rattle.jsx_token.specs.Places.{end_of}
 use Rattle.jsx_token.proofs.Levels.{growth_marks, growth_listed}
 use Rattle.jsx_token.proofs.TakingGrowths.{ended}
-use Rattle.jsx_expression.specs.Climbing.{fits, level}
-use Rattle.jsx_expression.proofs.Climbing.{climb_on, climb_tagged, climbs_to}
-use Rattle.jsx_expression.proofs.Templates.{quoted_to, unquoted_to}
-use Rattle.jsx_expression.proofs.Places.{spans_from}
-use Rattle.jsx_expression.proofs.Placing.{placed_to}
-use Rattle.jsx_expression.proofs.Steps.{passed}
+use Rattle.jsx_operand.specs.Climbing.{fits, level}
+use Rattle.jsx_operand.proofs.Climbing.{climb_on, climb_tagged, climbs_to}
+use Rattle.jsx_operand.proofs.Templates.{quoted_to, unquoted_to}
+use Rattle.jsx_operand.proofs.Places.{spans_from}
+use Rattle.jsx_operand.proofs.Placing.{placed_to}
+use Rattle.jsx_operand.proofs.Steps.{passed}
 use Rattle.jsx_syntax.specs.Heads.{at_in, at_end}
 use Rattle.jsx_syntax.proofs.Stems.{near_more, near_tagged, near_to, not_before, stem_barred, stem_begun, stem_low, stem_to, stem_unbegun, stem_unfit, stem_untagged}
 use Rattle.jsx_syntax.proofs.for_head.stem.Goals as goal

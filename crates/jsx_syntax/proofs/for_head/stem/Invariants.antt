@@ -5,9 +5,9 @@ use Rattle.jsx_tree.specs.Told.{told_expr}
 use Rattle.jsx_token.specs.Here.{place_of, left}
 use Rattle.jsx_token.specs.Places.{end_of, next_of}
 use Rattle.jsx_make.specs.NodeSpans.{expr_at}
-use Rattle.jsx_expression.specs.Around.{around_of}
-use Rattle.jsx_expression.specs.Climbing.{Climbs}
-use Rattle.jsx_expression.specs.Spans.{IsPlaced, Spans}
+use Rattle.jsx_operand.specs.Around.{around_of}
+use Rattle.jsx_operand.specs.Climbing.{Climbs}
+use Rattle.jsx_operand.specs.Spans.{IsPlaced, Spans}
 use Rattle.jsx_syntax.specs.Heads.{Near}
 use Rattle.jsx_syntax.proofs.for_head.stem.Given as goal
 

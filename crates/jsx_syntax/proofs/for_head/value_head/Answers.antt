@@ -6,10 +6,11 @@ use Rattle.jsx_tree.specs.Reading.{forth}
 use Rattle.jsx_tree.specs.View.{view_expr}
 use Rattle.jsx_token.specs.Here.{place_of}
 use Rattle.jsx_token.specs.Growths.{settled}
-use Rattle.jsx_expression.specs.Climbing.{is_target}
-use Rattle.jsx_expression.proofs.Placing.{placed_as, placed_to}
-use Rattle.jsx_expression.proofs.Places.{spans_from}
-use Rattle.jsx_expression.proofs.Steps.{passed}
+use Rattle.jsx_operand.specs.Climbing.{is_target}
+use Rattle.jsx_operand.proofs.PlacedTargets.{placed_target}
+use Rattle.jsx_operand.proofs.Placing.{placed_as, placed_to}
+use Rattle.jsx_operand.proofs.Places.{spans_from}
+use Rattle.jsx_operand.proofs.Steps.{passed}
 use Rattle.jsx_token.specs.Places.{end_of}
 use Rattle.jsx_syntax.specs.Heads.{is_async}
 use Rattle.jsx_syntax.specs.OpenIn.{opens_whole}
@@ -35,7 +36,7 @@ returns-then-take-clause-read c =
     (stem_keys c.requires.unmarked c.requires.undeclared c.in_ok-first.ensures.read (record { is = c.take.ensures.taken c.if-take.true; found = refl }) (ap (λ e. is_target (view_expr e)) (sym c.deref.ensures) ∙ (sym c.is_target.ensures ∙ c.if-not-is_target.false)))
 
 pub returns-then-take-clause-placed : goal.returns-then-take-clause-placed
-returns-then-take-clause-placed c = keys_placed (placed_as c.in_ok-target_of.ensures.told (c.in_ok-target_of.ensures.view Assigns) c.in_ok-first.ensures.placed) (c.take.ensures.takes c.if-take.true)
+returns-then-take-clause-placed c = keys_placed (placed_as c.in_ok-target_of.ensures.told (c.in_ok-target_of.ensures.view Assigns) (placed_target c.in_ok-target_of.ensures.formed c.in_ok-first.ensures.placed)) (c.take.ensures.takes c.if-take.true)
 
 pub returns-then-not-takes_items-clause-refused : goal.returns-then-not-takes_items-clause-refused
 returns-then-not-takes_items-clause-refused c = record {
@@ -51,7 +52,7 @@ returns-then-take-2-clause-read c =
     (ap (λ e. is_target (view_expr e) && not (is_async (view_expr e))) (sym c.deref-then-take-2.ensures) ∙ (sym c.takes_items.ensures ∙ c.if-not-takes_items.false)))
 
 pub returns-then-take-2-clause-placed : goal.returns-then-take-2-clause-placed
-returns-then-take-2-clause-placed c = items_placed (placed_to (c.take.ensures.stays c.if-take.false) (placed_as c.in_ok-target_of-2.ensures.told (c.in_ok-target_of-2.ensures.view Assigns) c.in_ok-first.ensures.placed)) (c.take-2.ensures.takes c.if-take-2.true)
+returns-then-take-2-clause-placed c = items_placed (placed_to (c.take.ensures.stays c.if-take.false) (placed_as c.in_ok-target_of-2.ensures.told (c.in_ok-target_of-2.ensures.view Assigns) (placed_target c.in_ok-target_of-2.ensures.formed c.in_ok-first.ensures.placed))) (c.take-2.ensures.takes c.if-take-2.true)
 
 pub more_items-requires : goal.more_items-requires
 more_items-requires c = subst (λ h. settled (place_of h) ≡ true) (sym (c.take-2.ensures.stays c.if-take-2.false ∙ c.take.ensures.stays c.if-take.false)) c.in_ok-first.ensures.read.climbs.ended

@@ -6,10 +6,10 @@ use Rattle.jsx_tree.specs.Reading.{is_do}
 use Rattle.jsx_tree.proofs.Rows.Bridge.{found_at}
 use Rattle.jsx_tree.proofs.Rows.Steps.{no_sign}
 use Rattle.jsx_token.specs.Here.{place_of}
-use Rattle.jsx_expression.specs.Around.{around_of}
-use Rattle.jsx_expression.specs.Spans.{IsPlacedFront}
-use Rattle.jsx_expression.proofs.Homes.{idents, no_leaf, only_leaf, unfit_leaf}
-use Rattle.jsx_expression.proofs.Placing.{takes_ends}
+use Rattle.jsx_operand.specs.Around.{around_of}
+use Rattle.jsx_operand.specs.Spans.{IsPlacedFront}
+use Rattle.jsx_operand.proofs.Homes.{idents, no_leaf, only_leaf, unfit_leaf}
+use Rattle.jsx_operand.proofs.Placing.{takes_ends}
 use Rattle.jsx_syntax.specs.Heads.{Front, free_end}
 use Rattle.jsx_syntax.specs.Labels.{jump_row, jump_symbols, target_of, told_target}
 use Rattle.jsx_syntax.proofs.Controls.{on_line}

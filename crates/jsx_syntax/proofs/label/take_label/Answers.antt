@@ -3,7 +3,7 @@ use Rattle.std.specs.Str.{chars}
 use Rattle.jsx_tree.proofs.Apart.{clash}
 use Rattle.jsx_token.specs.Here.{place_of}
 use Rattle.jsx_token.specs.Places.{next_of}
-use Rattle.jsx_expression.proofs.Placing.{takes_from}
+use Rattle.jsx_operand.proofs.Placing.{takes_from}
 use Rattle.jsx_syntax.proofs.Labels.{label_there, no_name, other_name}
 use Rattle.jsx_syntax.proofs.label.take_label.Goals as goal
 

@@ -9,18 +9,18 @@ use Rattle.jsx_tree.specs.View.{forest, view_stmt}
 use Rattle.jsx_tree.specs.ViewProgram.{view_item}
 use Rattle.jsx_tree.specs.Walk.{one}
 use Rattle.jsx_tree.specs.Answers.{Only, Barred}
-use Rattle.jsx_expression.specs.SoFar.{so_far}
-use Rattle.jsx_expression.specs.Around.{around_of}
+use Rattle.jsx_operand.specs.SoFar.{so_far}
+use Rattle.jsx_operand.specs.Around.{around_of}
 use Rattle.jsx_token.specs.Here.{place_of}
 use Rattle.jsx_tree.proofs.Rows.Lines.{Onto, onto_none, onto_more, onto_end, onto_barred}
-use Rattle.jsx_expression.proofs.OfSoFar.{of_so_far}
+use Rattle.jsx_operand.proofs.OfSoFar.{of_so_far}
 use Rattle.jsx_syntax.proofs.Modules.{begins_free, first_more, first_stays, module_only, no_length, no_module, none_at_end, run, run_behind, run_first, run_item, run_more}
 use Rattle.jsx_syntax.proofs.Statements.{as_item, no_item}
-use Rattle.jsx_expression.proofs.Steps.{passed}
-use Rattle.jsx_expression.proofs.Trees.{pushed_as}
+use Rattle.jsx_operand.proofs.Steps.{passed}
+use Rattle.jsx_operand.proofs.Trees.{pushed_as}
 use Rattle.jsx_tree.proofs.Rows.Steps.{both}
 use Rattle.jsx_tree.proofs.Rows.Turns.{whole_of}
-use Rattle.jsx_expression.proofs.Placing.{map_pushed, placed_as, placed_from}
+use Rattle.jsx_operand.proofs.Placing.{map_pushed, placed_as, placed_from}
 use Rattle.jsx_syntax.proofs.PlacedNodes.{PlacedModule, directive_item, string_statement, placed_directive, placed_end, placed_item, placed_module, placed_none}
 use Rattle.jsx_syntax.proofs.module.module.Goals.{then-is_empty+in_default, else-is_empty}
 use Rattle.jsx_syntax.proofs.module.module.Goals as goal

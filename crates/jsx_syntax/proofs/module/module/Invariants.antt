@@ -4,8 +4,8 @@ use Rattle.jsx_tree.specs.StaticRules.{first_of_list, is_string_stmt}
 use Rattle.jsx_tree.specs.View.{forest}
 use Rattle.jsx_tree.specs.ViewProgram.{view_item}
 use Rattle.jsx_tree.specs.Told.{told_item}
-use Rattle.jsx_expression.specs.SoFar.{so_far}
-use Rattle.jsx_expression.specs.Around.{around_of}
+use Rattle.jsx_operand.specs.SoFar.{so_far}
+use Rattle.jsx_operand.specs.Around.{around_of}
 use Rattle.jsx_token.specs.Here.{place_of, left}
 use Rattle.jsx_tree.proofs.Rows.Lines.{Onto}
 use Rattle.jsx_syntax.proofs.Modules.{run}

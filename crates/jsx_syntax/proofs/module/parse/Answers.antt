@@ -4,9 +4,9 @@ use Rattle.std.specs.Str.{chars}
 use Rattle.jsx_tree.specs.declared.text.Goal.TheVariants as goals
 use Rattle.jsx_tree.specs.Spans.{IsTold, placed_in}
 use Rattle.jsx_tree.specs.ViewProgram.{view}
-use Rattle.jsx_expression.specs.Spans.{Spans, program_at}
+use Rattle.jsx_operand.specs.Spans.{Spans, program_at}
 use Rattle.jsx_tree.proofs.OneTree.Whole.{one_tree}
-use Rattle.jsx_expression.proofs.Steps.{passed}
+use Rattle.jsx_operand.proofs.Steps.{passed}
 use Rattle.jsx_syntax.proofs.Unwrapping.{same_span}
 use Rattle.jsx_syntax.proofs.module.parse.Goals as goal
 

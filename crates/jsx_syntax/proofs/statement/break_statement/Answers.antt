@@ -3,9 +3,9 @@ use Rattle.jsx_tree.specs.Kinds.{Break, statement, node, none, part}
 use Rattle.jsx_tree.specs.Told.{told_node}
 use Rattle.jsx_tree.proofs.Rows.Placing.{no_node}
 use Rattle.jsx_syntax.proofs.Jumps.{break_built, no_break, unended}
-use Rattle.jsx_expression.proofs.Steps.{passed}
-use Rattle.jsx_expression.proofs.Placing.{placed_as}
-use Rattle.jsx_expression.proofs.Places.{spans_from}
+use Rattle.jsx_operand.proofs.Steps.{passed}
+use Rattle.jsx_operand.proofs.Placing.{placed_as}
+use Rattle.jsx_operand.proofs.Places.{spans_from}
 use Rattle.jsx_syntax.proofs.PlacedNodes.{break_placed}
 use Rattle.jsx_syntax.proofs.statement.break_statement.Goals as goal
 

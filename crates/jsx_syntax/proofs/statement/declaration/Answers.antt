@@ -1,12 +1,12 @@
-use Rattle.jsx_expression.specs.Around.{around_of}
+use Rattle.jsx_operand.specs.Around.{around_of}
 use Rattle.std.proofs.Common.{refl, ◌∙◌, map}
 use Rattle.jsx_tree.specs.View.{forest, inside, view_pat, word_of}
 use Rattle.jsx_tree.proofs.Rows.Placing.{no_node}
 use Rattle.jsx_syntax.proofs.Items.{declared_keeps}
 use Rattle.jsx_syntax.proofs.Heads.{declared_row, undeclared_row}
-use Rattle.jsx_expression.proofs.Steps.{passed}
-use Rattle.jsx_expression.proofs.Placing.{placed_as}
-use Rattle.jsx_expression.proofs.Places.{spans_from}
+use Rattle.jsx_operand.proofs.Steps.{passed}
+use Rattle.jsx_operand.proofs.Placing.{placed_as}
+use Rattle.jsx_operand.proofs.Places.{spans_from}
 use Rattle.jsx_syntax.proofs.PlacedNodes.{declared_placed}
 use Rattle.jsx_syntax.proofs.statement.declaration.Goals as goal
 

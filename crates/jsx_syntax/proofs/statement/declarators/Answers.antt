@@ -2,7 +2,7 @@ use Rattle.jsx_tree.specs.View.{word_of}
 use Rattle.std.proofs.Common.{refl}
 use Rattle.jsx_tree.specs.Kinds.{none}
 use Rattle.jsx_tree.proofs.Rows.Lists.{begun}
-use Rattle.jsx_expression.proofs.Steps.{passed}
+use Rattle.jsx_operand.proofs.Steps.{passed}
 use Rattle.jsx_syntax.proofs.Heads.{not_declared}
 use Rattle.jsx_syntax.proofs.statement.declarators.Goals as goal
 

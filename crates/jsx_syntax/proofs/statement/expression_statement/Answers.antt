@@ -1,13 +1,13 @@
 use Rattle.std.proofs.Common.{refl, sym, subst}
 use Rattle.jsx_token.specs.declared.heading.Heading.TheVariants as heading
 use Rattle.jsx_make.specs.NodeSpans.{expr_at}
-use Rattle.jsx_expression.specs.Spans.{Spans}
+use Rattle.jsx_operand.specs.Spans.{Spans}
 use Rattle.jsx_token.specs.Places.{end_of, next_of}
 use Rattle.jsx_tree.proofs.Rows.Placing.{no_node}
 use Rattle.jsx_syntax.proofs.Items.{statement_built, no_value_statement, unfinished}
-use Rattle.jsx_expression.proofs.Steps.{passed}
-use Rattle.jsx_expression.proofs.Places.{spans_from}
-use Rattle.jsx_expression.proofs.Placing.{placed_as}
+use Rattle.jsx_operand.proofs.Steps.{passed}
+use Rattle.jsx_operand.proofs.Places.{spans_from}
+use Rattle.jsx_operand.proofs.Placing.{placed_as}
 use Rattle.jsx_syntax.proofs.PlacedNodes.{evaluation_placed}
 use Rattle.jsx_syntax.proofs.statement.expression_statement.Goals as goal
 

@@ -5,16 +5,16 @@ use Rattle.jsx_tree.specs.Nonterminals.{Declarators}
 use Rattle.jsx_tree.specs.Grammar.{Part}
 use Rattle.jsx_tree.specs.Walk.{one}
 use Rattle.jsx_tree.specs.Answers.{Only}
-use Rattle.jsx_expression.specs.SoFar.{so_far}
-use Rattle.jsx_expression.specs.Around.{around_of}
+use Rattle.jsx_operand.specs.SoFar.{so_far}
+use Rattle.jsx_operand.specs.Around.{around_of}
 use Rattle.jsx_token.specs.Here.{place_of}
 use Rattle.jsx_token.specs.Places.{end_of}
 use Rattle.jsx_syntax.proofs.Items.{initialized, uninitialized, no_initializer}
 use Rattle.jsx_token.specs.Semicolons.{in_list}
 use Rattle.jsx_token.proofs.Semicolons.{settled_in_list}
-use Rattle.jsx_expression.proofs.Steps.{passed}
-use Rattle.jsx_expression.proofs.Places.{spans_from}
-use Rattle.jsx_expression.proofs.Placing.{placed_as, placed_to, takes_ends}
+use Rattle.jsx_operand.proofs.Steps.{passed}
+use Rattle.jsx_operand.proofs.Places.{spans_from}
+use Rattle.jsx_operand.proofs.Placing.{placed_as, placed_to, takes_ends}
 use Rattle.jsx_syntax.proofs.PlacedNodes.{declarator_row, plain_row}
 use Rattle.jsx_syntax.proofs.statement.initialized.Goals as goal
 

@@ -1,7 +1,7 @@
 use Rattle.std.proofs.Common.{arith, refl, sym, ◌∙◌, ap}
 use Rattle.jsx_tree.specs.View.{view_pat, word_of}
 use Rattle.jsx_syntax.specs.Statements.{has_value}
-use Rattle.jsx_expression.proofs.Steps.{passed}
+use Rattle.jsx_operand.proofs.Steps.{passed}
 use Rattle.jsx_syntax.proofs.Lists.{read_all, read_bare, read_first, read_more, read_none}
 use Rattle.jsx_syntax.proofs.statement.more_declarators.Goals as goal
 

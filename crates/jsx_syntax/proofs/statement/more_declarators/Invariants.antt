@@ -1,7 +1,7 @@
 use Rattle.std.proofs.Common.{◌≤◌}
 use Rattle.std.specs.Prelude.{IsTrue}
 use Rattle.jsx_tree.specs.View.{word_of}
-use Rattle.jsx_expression.specs.Around.{around_of}
+use Rattle.jsx_operand.specs.Around.{around_of}
 use Rattle.jsx_token.specs.Here.{place_of, left}
 use Rattle.jsx_token.specs.Semicolons.{in_list}
 use Rattle.jsx_syntax.proofs.Lists.{AllRead}

@@ -8,32 +8,32 @@ use Rattle.jsx_tree.specs.Reading.{Place}
 use Rattle.jsx_tree.specs.StaticRules.{Surroundings}
 use Rattle.jsx_tree.specs.Walk.{one, tail}
 use Rattle.jsx_tree.specs.Answers.{Only, NoNode, Built, BuiltNode}
-use Rattle.jsx_expression.specs.Openings.{OnlyOpened, NoneOpened}
-use Rattle.jsx_expression.specs.SoFar.{so_far}
+use Rattle.jsx_operand.specs.Openings.{OnlyOpened, NoneOpened}
+use Rattle.jsx_operand.specs.SoFar.{so_far}
 use Rattle.jsx_token.specs.Marks.{is_quoted, row_so_far}
 use Rattle.jsx_token.specs.Seen.{next_token}
-use Rattle.jsx_expression.specs.Around.{around_of}
+use Rattle.jsx_operand.specs.Around.{around_of}
 use Rattle.jsx_token.specs.Here.{place_of, left}
 use Rattle.jsx_token.specs.Growths.{NoOpening, callee, growth_kind, opening_kind, opening_sign, settled}
-use Rattle.jsx_expression.specs.Climbing.{fits, rises}
+use Rattle.jsx_operand.specs.Climbing.{fits, rises}
 use Rattle.jsx_token.specs.Places.{end_of}
 use Rattle.jsx_tree.proofs.Rows.Steps.{on}
 use Rattle.jsx_tree.proofs.Rows.Lists.{ended}
-use Rattle.jsx_expression.proofs.Values.{sign_ended}
+use Rattle.jsx_operand.proofs.Values.{sign_ended}
 use Rattle.jsx_token.proofs.Levels.{growth_listed, growth_marks, is_ruled}
-use Rattle.jsx_expression.proofs.Climbing.{climb_only, climb_on, climb_barred, climb_unfit, climb_tagged, climbs_to, tagged_unread}
+use Rattle.jsx_operand.proofs.Climbing.{climb_only, climb_on, climb_barred, climb_unfit, climb_tagged, climbs_to, tagged_unread}
 use Rattle.jsx_tree.proofs.Rows.Placing.{no_node}
-use Rattle.jsx_expression.proofs.Openings.{is_shared, kept_behind, signed_follows, sole_none, sole_opened, unread_opening}
+use Rattle.jsx_operand.proofs.Openings.{is_shared, kept_behind, signed_follows, sole_none, sole_opened, unread_opening}
 use Rattle.jsx_expression.proofs.Shared.{arguments_unread, callee_unread, target_opened, target_outside, target_unread, with_opened, without_opened}
 use Rattle.jsx_token.specs.declared.opening.Opening.{Opening}
 use Rattle.jsx_token.specs.declared.opening.Opening.TheVariants as opening
 use Rattle.jsx_token.proofs.TakingOpenings.{opening_listed, opening_opens, opening_staged}
 use Rattle.jsx_token.proofs.TakingGrowths.{ended as stopped}
-use Rattle.jsx_expression.proofs.Places.{spans_from}
-use Rattle.jsx_expression.proofs.Steps.{passed}
-use Rattle.jsx_expression.proofs.Templates.{quoted_to, unquoted_to}
-use Rattle.jsx_expression.proofs.Placing.{placed_as, placed_from, placed_to}
-use Rattle.jsx_expression.proofs.PlacedExpressions.{target_row, new_row, new_alone_row}
+use Rattle.jsx_operand.proofs.Places.{spans_from}
+use Rattle.jsx_operand.proofs.Steps.{passed}
+use Rattle.jsx_operand.proofs.Templates.{quoted_to, unquoted_to}
+use Rattle.jsx_operand.proofs.Placing.{placed_as, placed_from, placed_to}
+use Rattle.jsx_operand.proofs.PlacedExpressions.{target_row, new_row, new_alone_row}
 use Rattle.jsx_expression.proofs.grammar.Expressions.+beginning.Goals as goal
 
 opened_as : {v : Surroundings} {x y : Place} {t : Tree} (g h : Opening) → g ≡ h → OnlyOpened v (opening_sign (opening_kind h)) t x y → OnlyOpened v (opening_sign (opening_kind g)) t x y

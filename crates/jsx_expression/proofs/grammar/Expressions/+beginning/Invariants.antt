@@ -1,13 +1,13 @@
 use Rattle.std.proofs.Common.{◌+◌, ◌*◌, ◌<◌}
 use Rattle.jsx_tree.specs.Told.{told_expr}
 use Rattle.jsx_tree.specs.View.{view_expr}
-use Rattle.jsx_expression.specs.SoFar.{so_far}
-use Rattle.jsx_expression.specs.Around.{around_of}
+use Rattle.jsx_operand.specs.SoFar.{so_far}
+use Rattle.jsx_operand.specs.Around.{around_of}
 use Rattle.jsx_token.specs.Here.{place_of, left}
 use Rattle.jsx_token.specs.Growths.{callee}
-use Rattle.jsx_expression.specs.Climbing.{Climbs}
+use Rattle.jsx_operand.specs.Climbing.{Climbs}
 use Rattle.jsx_make.specs.NodeSpans.{expr_at}
-use Rattle.jsx_expression.specs.Spans.{IsPlaced, Spans}
+use Rattle.jsx_operand.specs.Spans.{IsPlaced, Spans}
 use Rattle.jsx_token.specs.Places.{end_of, next_of}
 use Rattle.jsx_expression.proofs.grammar.Expressions.+beginning.Given as goal
 

@@ -7,15 +7,15 @@ use Rattle.jsx_tree.specs.View.{text_of}
 use Rattle.jsx_tree.specs.Form.{is_leaf}
 use Rattle.jsx_tree.specs.Spans.{Comes}
 use Rattle.jsx_tree.specs.Reading.{forth}
-use Rattle.jsx_expression.specs.Around.{around_of}
+use Rattle.jsx_operand.specs.Around.{around_of}
 use Rattle.jsx_token.specs.Here.{place_of}
-use Rattle.jsx_expression.specs.Climbing.{fits}
+use Rattle.jsx_operand.specs.Climbing.{fits}
 use Rattle.jsx_token.specs.Places.{Takes, next_of}
-use Rattle.jsx_expression.proofs.Values.{settled_token}
-use Rattle.jsx_expression.proofs.Steps.{passed}
+use Rattle.jsx_operand.proofs.Values.{settled_token}
+use Rattle.jsx_operand.proofs.Steps.{passed}
 use Rattle.jsx_expression.proofs.Parts.{whole_placed, head_placed}
-use Rattle.jsx_expression.proofs.Templates.{whole_template, unfit_whole, head_template, unfit_head, no_rest, no_template, whole_full, whole_view}
-use Rattle.jsx_expression.specs.Templates.{NoRest, fits_tag}
+use Rattle.jsx_operand.proofs.Templates.{whole_template, unfit_whole, head_template, unfit_head, no_rest, no_template, whole_full, whole_view}
+use Rattle.jsx_operand.specs.Templates.{NoRest, fits_tag}
 use Rattle.jsx_expression.proofs.grammar.Expressions.any_template.Goals as goal
 
 pub returns-in-Some-clause-read : goal.returns-in-Some-clause-read

@@ -1,11 +1,11 @@
 use Rattle.std.proofs.Common.{true, false, refl, sym, ap}
 use Rattle.jsx_token.specs.Here.{place_of}
 use Rattle.jsx_tree.proofs.Rows.Steps.{on}
-use Rattle.jsx_expression.proofs.Steps.{passed}
+use Rattle.jsx_operand.proofs.Steps.{passed}
 use Rattle.jsx_expression.proofs.Arguments.{argument_placed, spread_argument}
 use Rattle.jsx_expression.proofs.Elements.{arguments, expression_item, no_expression_item, spread_item, no_spread_item, argument_only, argument_as, argument_barred}
-use Rattle.jsx_expression.proofs.Homes.{never_list}
-use Rattle.jsx_expression.proofs.Placing.{placed_as, placed_from}
+use Rattle.jsx_operand.proofs.Homes.{never_list}
+use Rattle.jsx_operand.proofs.Placing.{placed_as, placed_from}
 use Rattle.jsx_expression.proofs.grammar.Expressions.argument.Goals as goal
 
 pub returns-in_err-argument-clause-refused : goal.returns-in_err-argument-clause-refused

@@ -4,17 +4,17 @@ use Rattle.jsx_base.specs.Token.{Operator, Punctuator}
 use Rattle.jsx_tree.specs.Grammar.{Commas}
 use Rattle.jsx_tree.specs.View.{forest, inside, view_expr}
 use Rattle.jsx_tree.specs.Told.{tales, told_expr}
-use Rattle.jsx_expression.specs.SoFar.{so_far}
+use Rattle.jsx_operand.specs.SoFar.{so_far}
 use Rattle.jsx_token.specs.Here.{place_of, left}
-use Rattle.jsx_expression.specs.Spans.{IsPlacedListAs}
-use Rattle.jsx_expression.proofs.OfSoFar.{of_so_far}
+use Rattle.jsx_operand.specs.Spans.{IsPlacedListAs}
+use Rattle.jsx_operand.proofs.OfSoFar.{of_so_far}
 use Rattle.jsx_tree.proofs.Rows.Lists.{begun, ended, ended_behind, no_more, not_closed, item_more, round}
-use Rattle.jsx_expression.proofs.Values.{settled_token, sign_ended}
-use Rattle.jsx_expression.proofs.Steps.{passed}
+use Rattle.jsx_operand.proofs.Values.{settled_token, sign_ended}
+use Rattle.jsx_operand.proofs.Steps.{passed}
 use Rattle.jsx_expression.proofs.Elements.{arguments, items}
-use Rattle.jsx_expression.proofs.Trees.{pushed}
-use Rattle.jsx_expression.proofs.Placing.{PlacedFront, plain_commas, row_end, row_sign, row_list, list_none, front_none, front_more, front_last, list_to, map_pushed, placed_from}
-use Rattle.jsx_expression.proofs.PlacedExpressions.{no_trailing, takes_trailing}
+use Rattle.jsx_operand.proofs.Trees.{pushed}
+use Rattle.jsx_operand.proofs.Placing.{PlacedFront, plain_commas, row_end, row_sign, row_list, list_none, front_none, front_more, front_last, list_to, map_pushed, placed_from}
+use Rattle.jsx_operand.proofs.PlacedExpressions.{no_trailing, takes_trailing}
 use Rattle.jsx_expression.proofs.grammar.Expressions.arguments.Goals as goal
 
 pub arguments-init : goal.arguments-init

@@ -1,8 +1,8 @@
 use Rattle.std.proofs.Common.{refl, ◌∙◌}
 use Rattle.jsx_tree.proofs.Rows.Steps.{on}
-use Rattle.jsx_expression.proofs.Places.{spans_from}
-use Rattle.jsx_expression.proofs.Placing.{placed_as}
-use Rattle.jsx_expression.proofs.PlacedExpressions.{array_row}
+use Rattle.jsx_operand.proofs.Places.{spans_from}
+use Rattle.jsx_operand.proofs.Placing.{placed_as}
+use Rattle.jsx_operand.proofs.PlacedExpressions.{array_row}
 use Rattle.jsx_expression.proofs.grammar.Expressions.array.Goals as goal
 
 pub returns-clause-read : goal.returns-clause-read

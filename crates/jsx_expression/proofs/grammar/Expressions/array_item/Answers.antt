@@ -1,6 +1,6 @@
 use Rattle.std.proofs.Common.{true, false, refl, sym, ap}
 use Rattle.jsx_token.specs.Here.{place_of}
-use Rattle.jsx_expression.proofs.Steps.{passed}
+use Rattle.jsx_operand.proofs.Steps.{passed}
 use Rattle.jsx_expression.proofs.Elements.{items, expression_item, no_expression_item, spread_item, no_spread_item}
 use Rattle.jsx_expression.proofs.grammar.Expressions.array_item.Goals as goal
 

@@ -4,17 +4,17 @@ use Rattle.jsx_base.specs.Token.{Operator, Punctuator}
 use Rattle.jsx_tree.specs.Grammar.{Elisions}
 use Rattle.jsx_tree.specs.View.{forest, inside, view_expr}
 use Rattle.jsx_tree.specs.Told.{tales, told_expr}
-use Rattle.jsx_expression.specs.SoFar.{so_far}
+use Rattle.jsx_operand.specs.SoFar.{so_far}
 use Rattle.jsx_token.specs.Here.{place_of, left}
-use Rattle.jsx_expression.specs.Spans.{IsPlacedListAs}
+use Rattle.jsx_operand.specs.Spans.{IsPlacedListAs}
 use Rattle.jsx_tree.proofs.Rows.Lists.{begun}
-use Rattle.jsx_expression.proofs.Values.{settled_token, sign_ended}
-use Rattle.jsx_expression.proofs.Steps.{passed}
+use Rattle.jsx_operand.proofs.Values.{settled_token, sign_ended}
+use Rattle.jsx_operand.proofs.Steps.{passed}
 use Rattle.jsx_expression.proofs.Elements.{items}
 use Rattle.jsx_expression.proofs.Holes.{before, hole_more, filled_more, shut, none_here, shut_behind, unshut, trails}
-use Rattle.jsx_expression.proofs.Trees.{pushed, pushed_as}
-use Rattle.jsx_expression.proofs.Placing.{PlacedFront, plain_elisions, hole_item, laid_more, laid_last, takes_from, row_end, row_sign, row_list, list_none, front_none, front_more, front_last, list_to, map_pushed, placed_from}
-use Rattle.jsx_expression.proofs.PlacedExpressions.{no_trailing, takes_trailing}
+use Rattle.jsx_operand.proofs.Trees.{pushed, pushed_as}
+use Rattle.jsx_operand.proofs.Placing.{PlacedFront, plain_elisions, hole_item, laid_more, laid_last, takes_from, row_end, row_sign, row_list, list_none, front_none, front_more, front_last, list_to, map_pushed, placed_from}
+use Rattle.jsx_operand.proofs.PlacedExpressions.{no_trailing, takes_trailing}
 use Rattle.jsx_expression.proofs.grammar.Expressions.array_items.Goals as goal
 
 pub items-init : goal.items-init

@@ -5,12 +5,12 @@ use Rattle.jsx_tree.specs.Told.{tales, told_expr}
 use Rattle.jsx_tree.specs.View.{forest, inside, view_expr}
 use Rattle.jsx_tree.specs.Walk.{tail}
 use Rattle.jsx_token.specs.Marks.{row_so_far}
-use Rattle.jsx_expression.specs.SoFar.{so_far}
-use Rattle.jsx_expression.specs.Around.{around_of}
+use Rattle.jsx_operand.specs.SoFar.{so_far}
+use Rattle.jsx_operand.specs.Around.{around_of}
 use Rattle.jsx_token.specs.Here.{place_of, left}
-use Rattle.jsx_expression.specs.Spans.{IsPlacedListAs}
+use Rattle.jsx_operand.specs.Spans.{IsPlacedListAs}
 use Rattle.jsx_tree.proofs.Rows.Turns.{Turn, prepend}
-use Rattle.jsx_expression.proofs.Placing.{PlacedFront}
+use Rattle.jsx_operand.proofs.Placing.{PlacedFront}
 use Rattle.jsx_expression.proofs.grammar.Expressions.array_items.Given as goal
 
 abbrev pub invariant-items : goal.invariant-items

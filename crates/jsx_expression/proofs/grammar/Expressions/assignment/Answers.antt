@@ -3,14 +3,15 @@ use Rattle.jsx_tree.specs.Kinds.{Assigns, Assign, expression, node, none, part}
 use Rattle.jsx_tree.specs.View.{view_expr}
 use Rattle.jsx_tree.specs.Told.{told_expr, told_node}
 use Rattle.jsx_make.specs.NodeSpans.{expr_at}
-use Rattle.jsx_expression.specs.Spans.{Spans}
+use Rattle.jsx_operand.specs.Spans.{Spans}
 use Rattle.jsx_token.specs.Places.{end_of, next_of}
 use Rattle.jsx_tree.proofs.Rows.Steps.{bar, on, built_1}
 use Rattle.jsx_tree.proofs.Rows.Lists.{ended}
-use Rattle.jsx_expression.proofs.Places.{spans_from}
-use Rattle.jsx_expression.proofs.Steps.{passed}
-use Rattle.jsx_expression.proofs.Placing.{placed_as}
-use Rattle.jsx_expression.proofs.PlacedExpressions.{assign_row}
+use Rattle.jsx_operand.proofs.PlacedTargets.{placed_target}
+use Rattle.jsx_operand.proofs.Places.{spans_from}
+use Rattle.jsx_operand.proofs.Steps.{passed}
+use Rattle.jsx_operand.proofs.Placing.{placed_as}
+use Rattle.jsx_operand.proofs.PlacedExpressions.{assign_row}
 use Rattle.jsx_expression.proofs.grammar.Expressions.assignment.Goals as goal
 
 pub returns-in_err-value-clause-refused : goal.returns-in_err-value-clause-refused
@@ -27,6 +28,6 @@ returns-clause-placed g c = record {
   on = λ w z s l sign.
       placed_as (c.in_ok-assign.ensures.told ∙ ap (λ d. told_node c.span_to-span.result (d ∷ told_expr c.in_ok-value.value.value ∷ [])) c.in_ok-target.ensures.told)
       (c.in_ok-assign.ensures.view ∙ ap (λ u. node (expression Assign) (part u (part (view_expr c.in_ok-value.value.value) none))) (c.in_ok-target.ensures.view Assigns))
-      (assign_row l sign c.in_ok-value.ensures.placed
+      (assign_row (placed_target c.in_ok-target.ensures.formed l) sign c.in_ok-value.ensures.placed
       (spans_from c.span_to-span.ensures refl (c.start_of.ensures.on _ _ (subst (λ e. Spans (expr_at e) (next_of w) (end_of z)) (sym c.deref.ensures) s)) refl));
 }

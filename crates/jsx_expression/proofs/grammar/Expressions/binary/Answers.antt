@@ -2,15 +2,15 @@ use Rattle.std.proofs.Common.{◌≡◌, true, refl, sym, subst}
 use Rattle.jsx_make.specs.NodeSpans.{expr_at}
 use Rattle.jsx_token.specs.Growths.{is_level}
 use Rattle.jsx_tree.specs.ViewOperators.{binary_of}
-use Rattle.jsx_expression.specs.Spans.{Spans}
+use Rattle.jsx_operand.specs.Spans.{Spans}
 use Rattle.jsx_token.specs.Places.{Takes, end_of, next_of}
 use Rattle.jsx_tree.proofs.Rows.Steps.{on}
 use Rattle.jsx_tree.proofs.Rows.Lists.{ended}
-use Rattle.jsx_expression.proofs.Operators.{binary_built, binary_none, mark_is, right_is_level}
-use Rattle.jsx_expression.proofs.Places.{spans_from}
-use Rattle.jsx_expression.proofs.Steps.{passed}
-use Rattle.jsx_expression.proofs.Placing.{placed_as}
-use Rattle.jsx_expression.proofs.PlacedExpressions.{binary_row}
+use Rattle.jsx_operand.proofs.Operators.{binary_built, binary_none, mark_is, right_is_level}
+use Rattle.jsx_operand.proofs.Places.{spans_from}
+use Rattle.jsx_operand.proofs.Steps.{passed}
+use Rattle.jsx_operand.proofs.Placing.{placed_as}
+use Rattle.jsx_operand.proofs.PlacedExpressions.{binary_row}
 use Rattle.jsx_expression.proofs.grammar.Expressions.binary.Goals as goal
 
 pub inner-requires-clause-ranked : goal.inner-requires-clause-ranked

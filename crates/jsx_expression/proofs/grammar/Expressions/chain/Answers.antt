@@ -2,23 +2,23 @@ use Rattle.std.proofs.Common.{◌≡◌, ◌++◌, true, arith, map, refl, sym, 
 use Rattle.jsx_tree.specs.Kinds.{expression, Chain}
 use Rattle.jsx_tree.specs.View.{forest, inside, view_expr, view_link}
 use Rattle.jsx_tree.specs.Told.{told_link}
-use Rattle.jsx_expression.specs.SoFar.{so_far}
-use Rattle.jsx_expression.specs.Around.{around_of}
+use Rattle.jsx_operand.specs.SoFar.{so_far}
+use Rattle.jsx_operand.specs.Around.{around_of}
 use Rattle.jsx_token.specs.Here.{place_of}
 use Rattle.jsx_make.specs.NodeSpans.{expr_at}
 use Rattle.jsx_token.specs.Growths.{settled}
-use Rattle.jsx_expression.specs.Climbing.{Grown}
-use Rattle.jsx_expression.specs.Spans.{Spans}
+use Rattle.jsx_operand.specs.Climbing.{Grown}
+use Rattle.jsx_operand.specs.Spans.{Spans}
 use Rattle.jsx_token.specs.Places.{end_of, next_of}
 use Rattle.jsx_tree.proofs.Rows.Steps.{on}
 use Rattle.jsx_tree.proofs.Rows.Lists.{ended}
-use Rattle.jsx_expression.proofs.Places.{spans_from}
-use Rattle.jsx_expression.proofs.Steps.{passed}
+use Rattle.jsx_operand.proofs.Places.{spans_from}
+use Rattle.jsx_operand.proofs.Steps.{passed}
 use Rattle.jsx_expression.proofs.Elements.{items}
-use Rattle.jsx_expression.proofs.Trees.{pushed}
-use Rattle.jsx_expression.proofs.Placing.{front_none, front_more, front_last, list_to, map_pushed, placed_as}
+use Rattle.jsx_operand.proofs.Trees.{pushed}
+use Rattle.jsx_operand.proofs.Placing.{front_none, front_more, front_last, list_to, map_pushed, placed_as}
 use Rattle.jsx_expression.proofs.Links.{Linked, chain_broken, chain_grown, chain_unread, linked_more, linked_one}
-use Rattle.jsx_expression.proofs.PlacedLinks.{chain_row, plain_links}
+use Rattle.jsx_operand.proofs.PlacedLinks.{chain_row, plain_links}
 use Rattle.jsx_tree.proofs.Rows.Bridge.{found_at}
 use Rattle.jsx_token.proofs.Taking.{takes_begins}
 use Rattle.jsx_expression.proofs.grammar.Expressions.chain.Goals as goal

@@ -3,13 +3,13 @@ use Rattle.jsx_tree.specs.Kinds.{expression, Chain}
 use Rattle.jsx_tree.specs.Grammar.{OneOrMore}
 use Rattle.jsx_tree.specs.Told.{tales, told_link}
 use Rattle.jsx_tree.specs.View.{forest, inside, view_link}
-use Rattle.jsx_expression.specs.SoFar.{so_far}
-use Rattle.jsx_expression.specs.Around.{around_of}
+use Rattle.jsx_operand.specs.SoFar.{so_far}
+use Rattle.jsx_operand.specs.Around.{around_of}
 use Rattle.jsx_token.specs.Here.{place_of, left, Here}
 use Rattle.jsx_token.specs.Growths.{mark, settled}
-use Rattle.jsx_expression.specs.Spans.{IsPlacedListAs}
+use Rattle.jsx_operand.specs.Spans.{IsPlacedListAs}
 use Rattle.jsx_token.specs.Places.{Takes}
-use Rattle.jsx_expression.proofs.Placing.{PlacedFront}
+use Rattle.jsx_operand.proofs.Placing.{PlacedFront}
 use Rattle.jsx_tree.specs.Reading.{Place}
 use Rattle.jsx_tree.specs.Answers.{Moves}
 use Rattle.jsx_expression.proofs.Links.{Linked}

@@ -1,13 +1,13 @@
 use Rattle.std.proofs.Common.{refl, sym, subst}
 use Rattle.jsx_make.specs.NodeSpans.{expr_at}
-use Rattle.jsx_expression.specs.Spans.{Spans}
+use Rattle.jsx_operand.specs.Spans.{Spans}
 use Rattle.jsx_token.specs.Places.{end_of, next_of}
 use Rattle.jsx_tree.proofs.Rows.Steps.{bar, on, built_3}
 use Rattle.jsx_tree.proofs.Rows.Lists.{ended}
-use Rattle.jsx_expression.proofs.Places.{spans_from}
-use Rattle.jsx_expression.proofs.Steps.{passed}
-use Rattle.jsx_expression.proofs.Placing.{placed_as}
-use Rattle.jsx_expression.proofs.PlacedExpressions.{conditional_row}
+use Rattle.jsx_operand.proofs.Places.{spans_from}
+use Rattle.jsx_operand.proofs.Steps.{passed}
+use Rattle.jsx_operand.proofs.Placing.{placed_as}
+use Rattle.jsx_operand.proofs.PlacedExpressions.{conditional_row}
 use Rattle.jsx_expression.proofs.grammar.Expressions.conditional.Goals as goal
 
 pub returns-in_err-then-clause-refused : goal.returns-in_err-then-clause-refused

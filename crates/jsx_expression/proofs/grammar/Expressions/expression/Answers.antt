@@ -4,22 +4,22 @@ use Rattle.jsx_tree.specs.Grammar.{Part}
 use Rattle.jsx_tree.specs.View.{view_expr}
 use Rattle.jsx_tree.specs.Walk.{one}
 use Rattle.jsx_tree.specs.Answers.{Only}
-use Rattle.jsx_expression.specs.SoFar.{so_far}
-use Rattle.jsx_expression.specs.Around.{around_of}
+use Rattle.jsx_operand.specs.SoFar.{so_far}
+use Rattle.jsx_operand.specs.Around.{around_of}
 use Rattle.jsx_token.specs.Here.{place_of, left}
 use Rattle.jsx_token.specs.Growths.{rung, growth_kind, settled}
-use Rattle.jsx_expression.specs.Climbing.{fits, level}
+use Rattle.jsx_operand.specs.Climbing.{fits, level}
 use Rattle.jsx_token.specs.Places.{end_of}
 use Rattle.jsx_tree.proofs.Rows.Steps.{on}
 use Rattle.jsx_tree.proofs.Rows.Lists.{ended}
 use Rattle.jsx_token.proofs.Levels.{growth_listed, growth_marks}
-use Rattle.jsx_expression.proofs.Climbing.{climb_only, climb_on, climb_barred, climb_unfit, climb_tagged, climbs_to, tagged_unread}
+use Rattle.jsx_operand.proofs.Climbing.{climb_only, climb_on, climb_barred, climb_unfit, climb_tagged, climbs_to, tagged_unread}
 use Rattle.std.proofs.lemmas.Bool.{le-leb, lt-leb}
 use Rattle.jsx_token.proofs.TakingGrowths.{ended as stopped}
-use Rattle.jsx_expression.proofs.Places.{spans_from}
-use Rattle.jsx_expression.proofs.Steps.{passed}
-use Rattle.jsx_expression.proofs.Templates.{quoted_to, unquoted_to}
-use Rattle.jsx_expression.proofs.Placing.{placed_to}
+use Rattle.jsx_operand.proofs.Places.{spans_from}
+use Rattle.jsx_operand.proofs.Steps.{passed}
+use Rattle.jsx_operand.proofs.Templates.{quoted_to, unquoted_to}
+use Rattle.jsx_operand.proofs.Placing.{placed_to}
 use Rattle.jsx_expression.proofs.grammar.Expressions.expression.Goals as goal
 
 pub steps-init : goal.steps-init

@@ -1,9 +1,9 @@
 use Rattle.std.proofs.Common.{refl}
 use Rattle.jsx_tree.specs.Kinds.{Assign, Chain}
 use Rattle.jsx_tree.specs.ViewOperators.{binary_of}
-use Rattle.jsx_expression.proofs.Operators.{built_operator, no_operator}
-use Rattle.jsx_expression.proofs.Climbing.{as_grown, as_not_grown, grown_as, not_grown_as}
-use Rattle.jsx_expression.proofs.Steps.{passed}
+use Rattle.jsx_operand.proofs.Operators.{built_operator, no_operator}
+use Rattle.jsx_operand.proofs.Climbing.{as_grown, as_not_grown, grown_as, not_grown_as}
+use Rattle.jsx_operand.proofs.Steps.{passed}
 use Rattle.jsx_token.specs.declared.growth.Growth.TheVariants as growth
 use Rattle.jsx_expression.proofs.grammar.Expressions.grow.Goals as goal
 

@@ -3,16 +3,16 @@ use Rattle.jsx_tree.specs.Grammar.{key}
 use Rattle.jsx_tree.specs.View.{view_expr}
 use Rattle.jsx_tree.specs.Told.{told_expr}
 use Rattle.jsx_token.specs.Here.{place_of}
-use Rattle.jsx_expression.specs.Spans.{IsPlacedBehind}
+use Rattle.jsx_operand.specs.Spans.{IsPlacedBehind}
 use Rattle.jsx_token.specs.Places.{begin_of}
 use Rattle.jsx_tree.proofs.Rows.Steps.{on}
-use Rattle.jsx_expression.proofs.Values.{sign_ended}
+use Rattle.jsx_operand.proofs.Values.{sign_ended}
 use Rattle.jsx_expression.proofs.Shared.{import_called, import_uncalled, meta_opened, meta_outside, meta_unread}
-use Rattle.jsx_expression.proofs.Places.{spans_from}
-use Rattle.jsx_expression.proofs.Steps.{passed}
+use Rattle.jsx_operand.proofs.Places.{spans_from}
+use Rattle.jsx_operand.proofs.Steps.{passed}
 use Rattle.jsx_expression.proofs.Holes.{before}
-use Rattle.jsx_expression.proofs.Placing.{placed_as}
-use Rattle.jsx_expression.proofs.PlacedExpressions.{meta_row}
+use Rattle.jsx_operand.proofs.Placing.{placed_as}
+use Rattle.jsx_operand.proofs.PlacedExpressions.{meta_row}
 use Rattle.jsx_expression.proofs.grammar.Expressions.import.Goals as goal
 
 pub returns-in_err-import_call-clause-refused : goal.returns-in_err-import_call-clause-refused

@@ -1,10 +1,10 @@
 use Rattle.std.proofs.Common.{◌∙◌}
 use Rattle.jsx_tree.specs.Nonterminals.{Name}
 use Rattle.jsx_tree.proofs.Rows.Steps.{on}
-use Rattle.jsx_expression.proofs.Steps.{passed}
-use Rattle.jsx_expression.specs.Links.{plainly}
+use Rattle.jsx_operand.proofs.Steps.{passed}
+use Rattle.jsx_operand.specs.Links.{plainly}
 use Rattle.jsx_expression.proofs.Links.{link_as, link_placed, no_link_as, no_plain_call, no_plain_index, no_plain_name, plain_call, plain_index, plain_name}
-use Rattle.jsx_expression.specs.declared.link.Linking.TheVariants as linking
+use Rattle.jsx_operand.specs.declared.link.Linking.TheVariants as linking
 use Rattle.jsx_expression.proofs.grammar.Expressions.link.Goals as goal
 
 pub returns-in_ok-optional_link-in-Optional-clause-read : goal.returns-in_ok-optional_link-in-Optional-clause-read

@@ -1,13 +1,13 @@
 use Rattle.std.proofs.Common.{◌≡◌, ◌++◌, true, false, arith, refl, sym, ◌∙◌, ap, subst, [], ◌∷◌}
-use Rattle.jsx_expression.specs.SoFar.{so_far}
+use Rattle.jsx_operand.specs.SoFar.{so_far}
 use Rattle.jsx_token.specs.Here.{place_of}
 use Rattle.jsx_make.specs.NodeSpans.{expr_at}
 use Rattle.jsx_token.specs.Growths.{settled}
-use Rattle.jsx_expression.specs.Spans.{Spans}
+use Rattle.jsx_operand.specs.Spans.{Spans}
 use Rattle.jsx_token.specs.Places.{end_of}
 use Rattle.jsx_tree.proofs.Rows.Steps.{on}
 use Rattle.jsx_tree.proofs.Rows.Lists.{ended}
-use Rattle.jsx_expression.proofs.Steps.{passed}
+use Rattle.jsx_operand.proofs.Steps.{passed}
 use Rattle.jsx_expression.proofs.Elements.{items}
 use Rattle.jsx_expression.proofs.Gatherings.{gathered_all, gathered_alone, gathered_none, gathers_more, gathers_one}
 use Rattle.jsx_expression.proofs.grammar.Expressions.more_items.Goals as goal

@@ -4,12 +4,12 @@ use Rattle.jsx_make.specs.Members.{view_prop}
 use Rattle.jsx_tree.specs.StaticRules.{at_most, is_proto}
 use Rattle.jsx_tree.proofs.Rows.Steps.{on}
 use Rattle.jsx_tree.proofs.Rows.Placing.{no_node}
-use Rattle.jsx_expression.proofs.Places.{spans_from}
-use Rattle.jsx_expression.proofs.Steps.{passed}
+use Rattle.jsx_operand.proofs.Places.{spans_from}
+use Rattle.jsx_operand.proofs.Steps.{passed}
 use Rattle.jsx_tree.proofs.Rows.Stopping.{is_not}
-use Rattle.jsx_expression.proofs.Protos.{object_node, two_protos, not_false}
-use Rattle.jsx_expression.proofs.Placing.{placed_as}
-use Rattle.jsx_expression.proofs.PlacedExpressions.{object_row}
+use Rattle.jsx_operand.proofs.Protos.{object_node, two_protos, not_false}
+use Rattle.jsx_operand.proofs.Placing.{placed_as}
+use Rattle.jsx_operand.proofs.PlacedExpressions.{object_row}
 use Rattle.jsx_expression.proofs.grammar.Expressions.object.Goals as goal
 
 pub returns-in_err-all-clause-refused : goal.returns-in_err-all-clause-refused

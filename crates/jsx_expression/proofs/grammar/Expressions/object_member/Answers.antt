@@ -5,18 +5,18 @@ use Rattle.jsx_tree.specs.Signs.{Tok}
 use Rattle.jsx_tree.specs.Grammar.{key, pun}
 use Rattle.jsx_make.specs.Members.{view_prop}
 use Rattle.jsx_tree.specs.Reading.{forth}
-use Rattle.jsx_expression.specs.Around.{around_of}
+use Rattle.jsx_operand.specs.Around.{around_of}
 use Rattle.jsx_token.specs.Here.{place_of}
 use Rattle.jsx_token.specs.Places.{end_of}
 use Rattle.jsx_tree.proofs.Rows.Steps.{on}
-use Rattle.jsx_expression.proofs.Places.{spans_from}
-use Rattle.jsx_expression.proofs.Steps.{passed}
-use Rattle.jsx_expression.proofs.Homes.{IsName}
-use Rattle.jsx_expression.specs.Members.{OnlyMember, NoMember, is_word}
-use Rattle.jsx_expression.proofs.Keys.{computed_only, computed_barred, key_as, literal_key}
+use Rattle.jsx_operand.proofs.Places.{spans_from}
+use Rattle.jsx_operand.proofs.Steps.{passed}
+use Rattle.jsx_operand.proofs.Homes.{IsName}
+use Rattle.jsx_operand.specs.Members.{OnlyMember, NoMember, is_word}
+use Rattle.jsx_operand.proofs.Keys.{computed_only, computed_barred, key_as, literal_key}
 use Rattle.jsx_expression.proofs.Members as members
-use Rattle.jsx_expression.proofs.Placing.{placed_as, placed_from, placed_to}
-use Rattle.jsx_expression.proofs.PlacedExpressions.{name_placed, shorthand_row}
+use Rattle.jsx_operand.proofs.Placing.{placed_as, placed_from, placed_to}
+use Rattle.jsx_operand.proofs.PlacedExpressions.{name_placed, shorthand_row}
 use Rattle.jsx_expression.proofs.grammar.Expressions.object_member.Goals as goal
 
 pub returns-in_err-spread_member-clause-refused : goal.returns-in_err-spread_member-clause-refused

@@ -5,18 +5,18 @@ use Rattle.jsx_tree.specs.Grammar.{Commas}
 use Rattle.jsx_tree.specs.View.{forest, inside}
 use Rattle.jsx_make.specs.Members.{view_prop}
 use Rattle.jsx_tree.specs.Told.{tales, told_prop}
-use Rattle.jsx_expression.specs.SoFar.{so_far}
+use Rattle.jsx_operand.specs.SoFar.{so_far}
 use Rattle.jsx_token.specs.Here.{place_of, left}
-use Rattle.jsx_expression.specs.Spans.{IsPlacedListAs}
+use Rattle.jsx_operand.specs.Spans.{IsPlacedListAs}
 use Rattle.jsx_tree.proofs.Rows.Lists.{begun}
-use Rattle.jsx_expression.proofs.Values.{settled_token, sign_ended}
-use Rattle.jsx_expression.proofs.Steps.{passed}
+use Rattle.jsx_operand.proofs.Values.{settled_token, sign_ended}
+use Rattle.jsx_operand.proofs.Steps.{passed}
 use Rattle.jsx_expression.proofs.Elements.{items}
 use Rattle.jsx_expression.proofs.Holes.{shut, shut_behind, unshut}
 use Rattle.jsx_expression.proofs.Members as members
-use Rattle.jsx_expression.proofs.Trees.{pushed}
-use Rattle.jsx_expression.proofs.Placing.{PlacedFront, plain_commas, row_end, row_quiet, row_sign, row_list, list_none, front_none, front_more, front_last, list_to, map_pushed, placed_from}
-use Rattle.jsx_expression.proofs.PlacedExpressions.{no_trailing, takes_trailing}
+use Rattle.jsx_operand.proofs.Trees.{pushed}
+use Rattle.jsx_operand.proofs.Placing.{PlacedFront, plain_commas, row_end, row_quiet, row_sign, row_list, list_none, front_none, front_more, front_last, list_to, map_pushed, placed_from}
+use Rattle.jsx_operand.proofs.PlacedExpressions.{no_trailing, takes_trailing}
 use Rattle.jsx_expression.proofs.grammar.Expressions.object_members.Goals as goal
 
 pub members-init : goal.members-init

@@ -5,16 +5,16 @@ use Rattle.jsx_tree.specs.View.{view_link}
 use Rattle.jsx_tree.specs.Reading.{forth}
 use Rattle.jsx_tree.specs.StaticRules.{is_optional}
 use Rattle.jsx_tree.specs.Answers.{Barred}
-use Rattle.jsx_expression.specs.SoFar.{so_far}
-use Rattle.jsx_expression.specs.Around.{around_of}
+use Rattle.jsx_operand.specs.SoFar.{so_far}
+use Rattle.jsx_operand.specs.Around.{around_of}
 use Rattle.jsx_token.specs.Here.{place_of}
 use Rattle.jsx_token.specs.Places.{Takes, begin_of}
 use Rattle.jsx_tree.proofs.Rows.Steps.{on}
-use Rattle.jsx_expression.proofs.Steps.{passed}
-use Rattle.jsx_expression.proofs.Placing.{takes_from}
-use Rattle.jsx_expression.specs.Links.{OnlyLink, link_sign, optionally}
+use Rattle.jsx_operand.proofs.Steps.{passed}
+use Rattle.jsx_operand.proofs.Placing.{takes_from}
+use Rattle.jsx_operand.specs.Links.{OnlyLink, link_sign, optionally}
 use Rattle.jsx_expression.proofs.Links.{no_optional, no_optional_call, no_optional_index, optional_call, optional_index, optional_name}
-use Rattle.jsx_expression.specs.declared.link.Linking.TheVariants as linking
+use Rattle.jsx_operand.specs.declared.link.Linking.TheVariants as linking
 use Rattle.jsx_expression.proofs.grammar.Expressions.optional_link.Goals as goal
 
 pub returns-then-take-clause-read : goal.returns-then-take-clause-read

@@ -2,11 +2,11 @@ use Rattle.std.proofs.Common.{◌≡◌, true, false, refl, sym, ◌∙◌, ap, 
 use Rattle.jsx_token.specs.Here.{place_of}
 use Rattle.jsx_token.specs.Growths.{settled}
 use Rattle.jsx_tree.proofs.Rows.Steps.{bar, no_sign, on, only_sign, built_3}
-use Rattle.jsx_expression.proofs.Values.{sign_ended}
-use Rattle.jsx_expression.proofs.Steps.{passed}
+use Rattle.jsx_operand.proofs.Values.{sign_ended}
+use Rattle.jsx_operand.proofs.Steps.{passed}
 use Rattle.jsx_token.proofs.Ahead.{an_arrow, no_arrow}
 use Rattle.jsx_expression.proofs.Arguments.{paren_placed}
-use Rattle.jsx_expression.proofs.Placing.{placed_as, placed_to}
+use Rattle.jsx_operand.proofs.Placing.{placed_as, placed_to}
 use Rattle.jsx_expression.proofs.grammar.Expressions.parenthesized.Goals as goal
 
 pub returns-in_err-inner-clause-refused : goal.returns-in_err-inner-clause-refused

@@ -1,4 +1,4 @@
-use Rattle.jsx_expression.proofs.Steps.{passed}
+use Rattle.jsx_operand.proofs.Steps.{passed}
 use Rattle.jsx_expression.proofs.Sequences.{whole_barred}
 use Rattle.jsx_expression.proofs.grammar.Expressions.sequence.Goals as goal
 

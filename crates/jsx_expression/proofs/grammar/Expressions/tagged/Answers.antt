@@ -2,17 +2,17 @@ use Rattle.std.proofs.Common.{true, false, arith, refl, sym, ◌∙◌, ap, subs
 use Rattle.jsx_tree.specs.Kinds.{expression, Tagged}
 use Rattle.jsx_tree.specs.View.{view_expr}
 use Rattle.jsx_make.specs.NodeSpans.{expr_at}
-use Rattle.jsx_expression.specs.Climbing.{fits, level}
-use Rattle.jsx_expression.specs.Spans.{Spans}
+use Rattle.jsx_operand.specs.Climbing.{fits, level}
+use Rattle.jsx_operand.specs.Spans.{Spans}
 use Rattle.jsx_token.specs.Places.{end_of, next_of}
 use Rattle.jsx_tree.proofs.Rows.Steps.{bar, on, built_1}
 use Rattle.jsx_tree.proofs.Apart.{clash}
 use Rattle.std.proofs.lemmas.Bool.{le-leb, lt-leb}
-use Rattle.jsx_expression.proofs.Places.{spans_from}
-use Rattle.jsx_expression.proofs.Steps.{passed}
-use Rattle.jsx_expression.proofs.Templates.{tag_barred, tag_only}
-use Rattle.jsx_expression.proofs.Placing.{placed_as}
-use Rattle.jsx_expression.proofs.PlacedExpressions.{tagged_row}
+use Rattle.jsx_operand.proofs.Places.{spans_from}
+use Rattle.jsx_operand.proofs.Steps.{passed}
+use Rattle.jsx_operand.proofs.Templates.{tag_barred, tag_only}
+use Rattle.jsx_operand.proofs.Placing.{placed_as}
+use Rattle.jsx_operand.proofs.PlacedExpressions.{tagged_row}
 use Rattle.jsx_expression.proofs.grammar.Expressions.tagged.Goals as goal
 
 pub returns-then-level-lt18-clause-refused : goal.returns-then-level-lt18-clause-refused

@@ -11,17 +11,17 @@ use Rattle.jsx_tree.specs.Spans.{Comes}
 use Rattle.jsx_tree.specs.Reading.{forth}
 use Rattle.jsx_tree.specs.Walk.{one, tail}
 use Rattle.jsx_tree.specs.Answers.{Only}
-use Rattle.jsx_expression.specs.SoFar.{so_far}
-use Rattle.jsx_expression.specs.Around.{around_of}
+use Rattle.jsx_operand.specs.SoFar.{so_far}
+use Rattle.jsx_operand.specs.Around.{around_of}
 use Rattle.jsx_token.specs.Here.{place_of, left}
-use Rattle.jsx_expression.specs.Climbing.{fits}
+use Rattle.jsx_operand.specs.Climbing.{fits}
 use Rattle.jsx_token.specs.Places.{Takes, end_of}
-use Rattle.jsx_expression.proofs.Values.{settled_token}
-use Rattle.jsx_expression.proofs.Steps.{passed}
+use Rattle.jsx_operand.proofs.Values.{settled_token}
+use Rattle.jsx_operand.proofs.Steps.{passed}
 use Rattle.jsx_expression.proofs.Elements.{items}
 use Rattle.jsx_expression.proofs.Parts.{reads_none, reads_more, reads_rest, reads_placed, reads_divided, part_barred, brace_barred, piece_barred, tail_barred}
-use Rattle.jsx_expression.proofs.Templates.{tail_full}
-use Rattle.jsx_expression.specs.Templates.{NoMiddle, fits_tag}
+use Rattle.jsx_operand.proofs.Templates.{tail_full}
+use Rattle.jsx_operand.specs.Templates.{NoMiddle, fits_tag}
 use Rattle.jsx_expression.proofs.grammar.Expressions.template_rest.Goals as goal
 
 pub parts-init : goal.parts-init

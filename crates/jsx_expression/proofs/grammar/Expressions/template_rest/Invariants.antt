@@ -1,5 +1,5 @@
 use Rattle.std.proofs.Common.{◌≤◌}
-use Rattle.jsx_expression.specs.Around.{around_of}
+use Rattle.jsx_operand.specs.Around.{around_of}
 use Rattle.jsx_token.specs.Here.{left}
 use Rattle.jsx_expression.proofs.Parts.{Reads}
 use Rattle.jsx_expression.proofs.grammar.Expressions.template_rest.Given as goal

@@ -1,16 +1,16 @@
 use Rattle.std.proofs.Common.{true, false, refl, sym, ◌∙◌, ap}
 use Rattle.jsx_tree.specs.View.{view_expr}
-use Rattle.jsx_expression.specs.Climbing.{deletes_name}
+use Rattle.jsx_operand.specs.Climbing.{deletes_name}
 use Rattle.jsx_tree.specs.ViewOperators.{unary_of}
 use Rattle.jsx_tree.proofs.Rows.Steps.{on}
 use Rattle.jsx_tree.proofs.Rows.Lists.{ended}
-use Rattle.jsx_expression.proofs.Operators.{unary_none}
+use Rattle.jsx_operand.proofs.Operators.{unary_none}
 use Rattle.jsx_tree.proofs.Rows.Placing.{no_node}
 use Rattle.jsx_expression.proofs.Deleting.{no_deleted, unary_node}
-use Rattle.jsx_expression.proofs.Places.{spans_from}
-use Rattle.jsx_expression.proofs.Steps.{passed}
-use Rattle.jsx_expression.proofs.Placing.{placed_as}
-use Rattle.jsx_expression.proofs.PlacedExpressions.{unary_row}
+use Rattle.jsx_operand.proofs.Places.{spans_from}
+use Rattle.jsx_operand.proofs.Steps.{passed}
+use Rattle.jsx_operand.proofs.Placing.{placed_as}
+use Rattle.jsx_operand.proofs.PlacedExpressions.{unary_row}
 use Rattle.jsx_expression.proofs.grammar.Expressions.unary.Goals as goal
 
 pub returns-in_err-operand-clause-refused : goal.returns-in_err-operand-clause-refused

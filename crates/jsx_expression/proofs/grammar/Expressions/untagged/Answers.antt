@@ -1,10 +1,10 @@
 use Rattle.std.proofs.Common.{refl}
 use Rattle.jsx_tree.proofs.Rows.Steps.{on}
 use Rattle.jsx_tree.proofs.Rows.Lists.{ended}
-use Rattle.jsx_expression.proofs.Places.{spans_from}
-use Rattle.jsx_expression.proofs.Steps.{passed}
-use Rattle.jsx_expression.proofs.Templates.{template_follows, no_template_begins, quoted_there, template_as}
-use Rattle.jsx_expression.proofs.Placing.{placed_as}
+use Rattle.jsx_operand.proofs.Places.{spans_from}
+use Rattle.jsx_operand.proofs.Steps.{passed}
+use Rattle.jsx_operand.proofs.Templates.{template_follows, no_template_begins, quoted_there, template_as}
+use Rattle.jsx_operand.proofs.Placing.{placed_as}
 use Rattle.jsx_expression.proofs.grammar.Expressions.untagged.Goals as goal
 
 pub returns-clause-read : goal.returns-clause-read

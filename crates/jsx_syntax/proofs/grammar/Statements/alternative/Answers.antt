@@ -4,13 +4,13 @@ use Rattle.jsx_tree.specs.Spans.{no_tales, tale}
 use Rattle.jsx_tree.specs.Told.{told_list}
 use Rattle.jsx_tree.specs.Answers.{OnlyRow}
 use Rattle.jsx_tree.proofs.Rows.Bridge.{found_at}
-use Rattle.jsx_expression.specs.Around.{around_of}
+use Rattle.jsx_operand.specs.Around.{around_of}
 use Rattle.jsx_syntax.specs.Statements.{alternative_row, alternative_symbols}
 use Rattle.jsx_token.specs.Here.{place_of}
-use Rattle.jsx_expression.specs.SoFar.{so_far}
-use Rattle.jsx_expression.specs.Spans.{IsPlacedRow}
+use Rattle.jsx_operand.specs.SoFar.{so_far}
+use Rattle.jsx_operand.specs.Spans.{IsPlacedRow}
 use Rattle.jsx_syntax.proofs.Elses.{no_else, none_else, some_else}
-use Rattle.jsx_expression.proofs.Steps.{passed}
+use Rattle.jsx_operand.proofs.Steps.{passed}
 use Rattle.jsx_syntax.proofs.PlacedNodes.{else_placed, no_else_placed}
 use Rattle.jsx_syntax.proofs.grammar.Statements.alternative.Goals as goal
 

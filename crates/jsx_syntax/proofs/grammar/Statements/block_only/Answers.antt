@@ -1,7 +1,7 @@
 use Rattle.std.proofs.Common.{refl}
 use Rattle.jsx_tree.proofs.Rows.Steps.{on}
 use Rattle.jsx_syntax.proofs.Tries.{block_barred, block_only, no_body, taken_on}
-use Rattle.jsx_expression.proofs.Steps.{passed}
+use Rattle.jsx_operand.proofs.Steps.{passed}
 use Rattle.jsx_syntax.proofs.grammar.Statements.block_only.Goals as goal
 
 pub returns-in_err-expect-clause-refused : goal.returns-in_err-expect-clause-refused

@@ -7,15 +7,15 @@ use Rattle.jsx_tree.specs.Told.{tales, told_stmt}
 use Rattle.jsx_tree.specs.View.{forest, inside, view_stmt}
 use Rattle.jsx_tree.specs.Answers.{Only, Barred}
 use Rattle.jsx_tree.proofs.Rows.Lists.{begun}
-use Rattle.jsx_expression.specs.Around.{around_of}
+use Rattle.jsx_operand.specs.Around.{around_of}
 use Rattle.jsx_syntax.specs.Cases.{IsBody}
 use Rattle.jsx_token.specs.Here.{place_of, left}
-use Rattle.jsx_expression.specs.SoFar.{so_far}
-use Rattle.jsx_expression.specs.Spans.{IsPlacedList}
+use Rattle.jsx_operand.specs.SoFar.{so_far}
+use Rattle.jsx_operand.specs.Spans.{IsPlacedList}
 use Rattle.jsx_syntax.proofs.Cases.{ahead_more, ahead_none, body_barred, body_ended, body_more}
-use Rattle.jsx_expression.proofs.Steps.{passed}
-use Rattle.jsx_expression.proofs.Trees.{pushed}
-use Rattle.jsx_expression.proofs.Placing.{PlacedFront, plain_lines, front_last, front_more, front_none, list_none, map_pushed, placed_from, list_to}
+use Rattle.jsx_operand.proofs.Steps.{passed}
+use Rattle.jsx_operand.proofs.Trees.{pushed}
+use Rattle.jsx_operand.proofs.Placing.{PlacedFront, plain_lines, front_last, front_more, front_none, list_none, map_pushed, placed_from, list_to}
 use Rattle.jsx_syntax.proofs.grammar.Statements.case_body.Goals as goal
 
 pub statements-init : goal.statements-init

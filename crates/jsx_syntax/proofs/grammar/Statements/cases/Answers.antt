@@ -7,12 +7,12 @@ use Rattle.jsx_tree.specs.Told.{tales, told_control}
 use Rattle.jsx_tree.specs.View.{forest, inside, view_control}
 use Rattle.jsx_tree.proofs.Rows.Lists.{begun}
 use Rattle.jsx_token.specs.Here.{place_of, left}
-use Rattle.jsx_expression.specs.SoFar.{so_far}
-use Rattle.jsx_expression.specs.Spans.{IsPlacedList}
+use Rattle.jsx_operand.specs.SoFar.{so_far}
+use Rattle.jsx_operand.specs.Spans.{IsPlacedList}
 use Rattle.jsx_syntax.proofs.Cases.{case_at, cases_barred, cases_ended, cases_more, defaults, defaults_next, few_defaults, more_defaults, second_default}
-use Rattle.jsx_expression.proofs.Steps.{passed}
-use Rattle.jsx_expression.proofs.Trees.{pushed}
-use Rattle.jsx_expression.proofs.Placing.{PlacedFront, plain_lines, front_last, front_more, front_none, list_none, map_pushed, placed_from, row_end, row_list, row_quiet, row_sign}
+use Rattle.jsx_operand.proofs.Steps.{passed}
+use Rattle.jsx_operand.proofs.Trees.{pushed}
+use Rattle.jsx_operand.proofs.Placing.{PlacedFront, plain_lines, front_last, front_more, front_none, list_none, map_pushed, placed_from, row_end, row_list, row_quiet, row_sign}
 use Rattle.jsx_syntax.proofs.grammar.Statements.cases.Goals as goal
 
 pub cases-init : goal.cases-init

@@ -3,13 +3,13 @@ use Rattle.jsx_tree.specs.Grammar.{Lines}
 use Rattle.jsx_tree.specs.Told.{tales, told_control}
 use Rattle.jsx_tree.specs.View.{forest, inside, view_control}
 use Rattle.jsx_tree.proofs.Rows.Turns.{Turn, prepend}
-use Rattle.jsx_expression.specs.Around.{around_of}
+use Rattle.jsx_operand.specs.Around.{around_of}
 use Rattle.jsx_token.specs.Here.{place_of, left}
-use Rattle.jsx_expression.specs.SoFar.{so_far}
-use Rattle.jsx_expression.specs.Spans.{IsPlacedList}
+use Rattle.jsx_operand.specs.SoFar.{so_far}
+use Rattle.jsx_operand.specs.Spans.{IsPlacedList}
 use Rattle.jsx_syntax.specs.Cases.{cases_row}
 use Rattle.jsx_syntax.proofs.Cases.{defaults}
-use Rattle.jsx_expression.proofs.Placing.{PlacedFront}
+use Rattle.jsx_operand.proofs.Placing.{PlacedFront}
 use Rattle.jsx_syntax.proofs.grammar.Statements.cases.Given as goal
 
 abbrev pub invariant-cases : goal.invariant-cases

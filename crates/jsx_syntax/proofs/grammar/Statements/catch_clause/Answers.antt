@@ -2,13 +2,13 @@ use Rattle.std.proofs.Common.{true, false, refl, ◌∙◌, subst}
 use Rattle.jsx_tree.specs.Grammar.{Fixed, pun}
 use Rattle.jsx_tree.specs.Answers.{Barred}
 use Rattle.jsx_tree.proofs.Rows.Steps.{on}
-use Rattle.jsx_expression.specs.Around.{around_of}
+use Rattle.jsx_operand.specs.Around.{around_of}
 use Rattle.jsx_token.specs.Here.{place_of}
-use Rattle.jsx_expression.specs.SoFar.{so_far}
+use Rattle.jsx_operand.specs.SoFar.{so_far}
 use Rattle.jsx_syntax.proofs.Tries.{block_barred, block_only, caught_bare, caught_named, no_body, no_caught, no_caught_bare, taken_on}
-use Rattle.jsx_expression.proofs.Steps.{passed}
-use Rattle.jsx_expression.proofs.Placing.{placed_as, placed_from}
-use Rattle.jsx_expression.proofs.Places.{spans_from}
+use Rattle.jsx_operand.proofs.Steps.{passed}
+use Rattle.jsx_operand.proofs.Placing.{placed_as, placed_from}
+use Rattle.jsx_operand.proofs.Places.{spans_from}
 use Rattle.jsx_syntax.proofs.PlacedNodes.{bare_placed}
 use Rattle.jsx_syntax.proofs.grammar.Statements.catch_clause.Goals as goal
 

@@ -1,8 +1,8 @@
 use Rattle.std.proofs.Common.{refl, ◌∙◌}
 use Rattle.jsx_tree.proofs.Rows.Steps.{bar, on}
-use Rattle.jsx_expression.proofs.Steps.{passed}
-use Rattle.jsx_expression.proofs.Placing.{placed_as}
-use Rattle.jsx_expression.proofs.Places.{spans_from}
+use Rattle.jsx_operand.proofs.Steps.{passed}
+use Rattle.jsx_operand.proofs.Placing.{placed_as}
+use Rattle.jsx_operand.proofs.Places.{spans_from}
 use Rattle.jsx_syntax.proofs.PlacedNodes.{caught_placed}
 use Rattle.jsx_syntax.proofs.grammar.Statements.catch_name.Goals as goal
 

@@ -3,9 +3,9 @@ use Rattle.jsx_tree.proofs.Rows.Placing.{no_node}
 use Rattle.jsx_tree.proofs.Rows.Steps.{bar, on, only_sign}
 use Rattle.jsx_token.specs.Here.{place_of}
 use Rattle.jsx_syntax.proofs.Controls.{barred_in, do_built, only_in}
-use Rattle.jsx_expression.proofs.Steps.{passed}
-use Rattle.jsx_expression.proofs.Placing.{placed_as, takes_ends}
-use Rattle.jsx_expression.proofs.Places.{spans_from}
+use Rattle.jsx_operand.proofs.Steps.{passed}
+use Rattle.jsx_operand.proofs.Placing.{placed_as, takes_ends}
+use Rattle.jsx_operand.proofs.Places.{spans_from}
 use Rattle.jsx_syntax.proofs.PlacedNodes.{do_placed}
 use Rattle.jsx_syntax.proofs.grammar.Statements.do_statement.Goals as goal
 

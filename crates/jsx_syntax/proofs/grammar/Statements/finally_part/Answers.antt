@@ -3,13 +3,13 @@ use Rattle.jsx_tree.specs.Walk.{one}
 use Rattle.jsx_tree.specs.Kinds.{list, none}
 use Rattle.jsx_tree.specs.Told.{told_list}
 use Rattle.jsx_tree.specs.Answers.{Only}
-use Rattle.jsx_expression.specs.Around.{around_of}
+use Rattle.jsx_operand.specs.Around.{around_of}
 use Rattle.jsx_syntax.specs.Tries.{finally_symbol, finally_symbols}
 use Rattle.jsx_token.specs.Here.{place_of}
-use Rattle.jsx_expression.specs.SoFar.{so_far}
-use Rattle.jsx_expression.specs.Spans.{IsPlacedFront}
+use Rattle.jsx_operand.specs.SoFar.{so_far}
+use Rattle.jsx_operand.specs.Spans.{IsPlacedFront}
 use Rattle.jsx_syntax.proofs.PartWords.{absent_word, barred_word, of_finally, present_word}
-use Rattle.jsx_expression.proofs.Steps.{passed}
+use Rattle.jsx_operand.proofs.Steps.{passed}
 use Rattle.jsx_syntax.proofs.PlacedNodes.{led_placed, unled_placed}
 use Rattle.jsx_syntax.proofs.grammar.Statements.finally_part.Goals as goal
 

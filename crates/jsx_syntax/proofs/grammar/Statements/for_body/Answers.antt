@@ -1,5 +1,5 @@
 use Rattle.jsx_tree.proofs.Rows.Steps.{bar}
-use Rattle.jsx_expression.proofs.Steps.{passed}
+use Rattle.jsx_operand.proofs.Steps.{passed}
 use Rattle.jsx_syntax.proofs.PlacedNodes.{loop_placed}
 use Rattle.jsx_syntax.proofs.Loops.{body_row, no_loop_body}
 use Rattle.jsx_syntax.proofs.grammar.Statements.for_body.Goals as goal

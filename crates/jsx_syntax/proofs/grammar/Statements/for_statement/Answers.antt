@@ -1,9 +1,9 @@
 use Rattle.std.proofs.Common.{refl, ◌∙◌}
 use Rattle.jsx_tree.proofs.Rows.Steps.{on}
 use Rattle.jsx_syntax.proofs.Heads.{for_built, no_for_body, no_for_test, no_for_update}
-use Rattle.jsx_expression.proofs.Steps.{passed}
-use Rattle.jsx_expression.proofs.Placing.{placed_as}
-use Rattle.jsx_expression.proofs.Places.{spans_from}
+use Rattle.jsx_operand.proofs.Steps.{passed}
+use Rattle.jsx_operand.proofs.Placing.{placed_as}
+use Rattle.jsx_operand.proofs.Places.{spans_from}
 use Rattle.jsx_syntax.proofs.PlacedNodes.{for_placed, in_placed, of_placed}
 use Rattle.jsx_syntax.proofs.Loops.{as_initial, as_items, as_keys, in_built, initial_only, initial_other, items_only, items_other, keys_only, keys_other, no_bracket, no_head, no_in_body, no_listed, no_object, no_of_body, of_node, placed_initial, placed_items, placed_keys}
 use Rattle.jsx_syntax.proofs.grammar.Statements.for_statement.Goals as goal

@@ -1,6 +1,6 @@
 use Rattle.std.proofs.Common.{refl}
 use Rattle.jsx_syntax.proofs.Statements.{headed_as, none_as}
-use Rattle.jsx_expression.proofs.Steps.{passed}
+use Rattle.jsx_operand.proofs.Steps.{passed}
 use Rattle.jsx_syntax.proofs.grammar.Statements.headed.Goals as goal
 
 pub returns-in_ok-empty_statement-in-Empty-clause-read : goal.returns-in_ok-empty_statement-in-Empty-clause-read

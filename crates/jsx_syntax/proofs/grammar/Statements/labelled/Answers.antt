@@ -6,9 +6,9 @@ use Rattle.jsx_tree.specs.View.{text_of, view_stmt}
 use Rattle.jsx_tree.proofs.Rows.Steps.{on}
 use Rattle.jsx_syntax.specs.Labels.{label_text}
 use Rattle.jsx_syntax.proofs.Labels.{label_built, no_label_body, taken_label}
-use Rattle.jsx_expression.proofs.Steps.{passed}
-use Rattle.jsx_expression.proofs.Placing.{placed_as}
-use Rattle.jsx_expression.proofs.Places.{spans_from}
+use Rattle.jsx_operand.proofs.Steps.{passed}
+use Rattle.jsx_operand.proofs.Placing.{placed_as}
+use Rattle.jsx_operand.proofs.Places.{spans_from}
 use Rattle.jsx_syntax.proofs.PlacedNodes.{label_placed}
 use Rattle.jsx_syntax.proofs.grammar.Statements.labelled.Goals as goal
 

@@ -1,11 +1,11 @@
 use Rattle.std.proofs.Common.{refl, sym, subst}
 use Rattle.jsx_tree.specs.View.{view_stmt}
-use Rattle.jsx_expression.specs.Around.{around_of}
+use Rattle.jsx_operand.specs.Around.{around_of}
 use Rattle.jsx_syntax.specs.Statements.{NoStatement, OnlyStatement}
 use Rattle.jsx_token.specs.Headings.{NoHeading}
 use Rattle.jsx_token.specs.Here.{place_of}
 use Rattle.jsx_syntax.proofs.Statements.{headed_barred, headed_only, stmt_home, stmts}
-use Rattle.jsx_expression.proofs.Steps.{passed}
+use Rattle.jsx_operand.proofs.Steps.{passed}
 use Rattle.jsx_syntax.proofs.grammar.Statements.listed_statement.Goals as goal
 
 pub unheaded-requires-clause-plain : goal.unheaded-requires-clause-plain

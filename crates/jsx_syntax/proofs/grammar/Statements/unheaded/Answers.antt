@@ -3,13 +3,13 @@ use Rattle.jsx_tree.specs.Kinds.{ExprStmt, statement}
 use Rattle.jsx_tree.specs.View.{view_stmt}
 use Rattle.jsx_tree.specs.Answers.{NoNode, BuiltNode}
 use Rattle.jsx_tree.proofs.Rows.Steps.{on}
-use Rattle.jsx_expression.specs.Around.{around_of}
+use Rattle.jsx_operand.specs.Around.{around_of}
 use Rattle.jsx_token.specs.Headings.{NoHeading}
 use Rattle.jsx_token.specs.Here.{place_of}
 use Rattle.jsx_token.specs.Marks.{row_so_far}
-use Rattle.jsx_expression.specs.SoFar.{so_far}
+use Rattle.jsx_operand.specs.SoFar.{so_far}
 use Rattle.jsx_syntax.proofs.Labels.{labelled_statement, no_labelled, no_plain, plain_statement}
-use Rattle.jsx_expression.proofs.Steps.{passed}
+use Rattle.jsx_operand.proofs.Steps.{passed}
 use Rattle.jsx_syntax.proofs.grammar.Statements.unheaded.Goals as goal
 
 pub expression_statement-requires : goal.expression_statement-requires

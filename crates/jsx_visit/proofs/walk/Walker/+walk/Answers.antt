@@ -1,4 +1,4 @@
-use Rattle.std.proofs.Common.{List, [], ◌∷◌, refl, true, false, ap, sym, ◌∙◌, map, rules, Option, Box, Vec, Global}
+use Rattle.std.proofs.Common.{List, [], ◌∷◌, refl, true, false, cond, ap, sym, ◌∙◌, map, rules, Option, Box, Vec, Global}
 use Rattle.jsx_tree.specs.Kinds.{Binds, Assigns, FunctionExpr, ClassExpr, Method, Getter, Setter, Arrow, ArrowBlock, BareArrowBlock, Call, Tagged, New, Chain, CallLink, Var, ForDeclaration, Switch, FunctionDecl, ClassDecl, statement, function, expression, Tree, node, list, Forest, none, part}
 use Rattle.jsx_tree.specs.View.{OfObject, OfClass, inside, name_of, word_of, is_optional, holder_of, forest, forest_at, optional_of, template, body, clause_of, view_expr, view_operation, view_access, view_key, view_stmt, view_control, view_link, view_member, view_pattern}
 use Rattle.jsx_tree.proofs.Views.{ap_2, view-Access-Call, view-Access-New, view-Access-Chain, view-Access-Tagged, view-Control-Switch, view-Control-Case, view-Expr-Function, view-Expr-Class, view-Expr-Template, view-Expr-Access, view-Expr-Operation, view-Operation-Arrow, view-Operation-ArrowBlock, view-Operation-BareArrowBlock, view-Stmt-Var, view-Stmt-Function, view-Stmt-Class, view-Link-Call, view-Prop-Method, view-Prop-Getter, view-Prop-Setter, view-Pat-Declaration, view-Pat-Target}
@@ -24,13 +24,14 @@ use Rattle.jsx_tree.specs.declared.tree.Pat.{Pat}
 use Rattle.jsx_tree.specs.declared.tree.Prop.{Prop}
 use Rattle.jsx_tree.specs.declared.tree.Stmt.{Stmt}
 use Rattle.jsx_tree.specs.declared.tree.Control.{Control}
-use Rattle.jsx_visit.specs.Visit.{visited, within}
-use Rattle.jsx_visit.specs.Parts.{kept, kept_each, with_part, but_code, front_of_code, rest_of_code, but_half, with_test, with_second, seen_at, member_at}
+use Rattle.jsx_visit.specs.Visit.{visited, within, changed_target}
+use Rattle.jsx_visit.specs.Parts.{kept, kept_each, with_part, but_code, front_of_code, rest_of_code, but_half, but_pair, is_pair, with_test, with_second, seen_at, member_at}
 use Rattle.jsx_visit.proofs.Layers.{operation_but, access_but, stmt_root, operation_all, access_all, member_all, control_all, statement_visit}
 use Rattle.jsx_visit.proofs.Lists.{seen_next}
 use Rattle.jsx_visit.proofs.Outcomes.{arm, then_ok, two_ok, three_ok, four_ok}
 use Rattle.jsx_visit.proofs.Visits.{visiteds_forest, forest_roles, class_members, name_stays, body_visit, template_but, tagged_visit, target_first, clause_second}
 use Rattle.jsx_visit.proofs.Halves.{half_stays}
+use Rattle.jsx_visit.proofs.Pairs.{pair_visited}
 use Rattle.jsx_visit.proofs.Keeping.{kept_next, kept_made, kept_arm, kept_list, kept_by, kept_led}
 use Rattle.jsx_tree.specs.Told.{led_by, told_access, told_body, told_control, told_expr, told_ident, told_key, told_link, told_list, told_node, told_operation, told_optional, told_pat, told_prop, told_stmt, told_template, told_text}
 use Rattle.jsx_tree.proofs.Telling.{told-Access-Call, told-Access-Chain, told-Access-New, told-Access-SuperCall, told-Access-Tagged, told-Control-Case, told-Control-Switch, told-Expr-Array, told-Expr-Class, told-Expr-Function, told-Expr-Object, told-Expr-Template, told-Link-Call, told-Operation-Arrow, told-Operation-ArrowBlock, told-Operation-BareArrowBlock, told-Operation-Seq, told-Pat-Array, told-Pat-Declaration, told-Pat-Object, told-Pat-Shorthand, told-Prop-Getter, told-Prop-Method, told-Prop-Setter, told-Stmt-Block, told-Stmt-Class, told-Stmt-Function, told-Stmt-Var}
@@ -51,6 +52,16 @@ stmt-returns-clause-seen g t c = then_ok c.parts_of_stmt.result (view_stmt c.par
 pub control-returns-clause-seen : goal.control-returns-clause-seen
 control-returns-clause-seen g t c = four_ok c.fourth_of_control.result (with_test g.V.Visitor.made) (with_second g.V.Visitor.made) (with_part 2 g.V.Visitor.made) (with_part 3 g.V.Visitor.made) (view_control c.args.control.now) (view_control c.first_of_control.new.control) (view_control c.second_of_control.new.control) (view_control c.third_of_control.new.control) (view_control c.fourth_of_control.new.control) (visited g.V.Visitor.made (view_control c.args.control.now))
     (control_all g.V.Visitor.made c.args.control.now) c.in_ok-first_of_control.ensures.seen c.in_ok-second_of_control.ensures.seen c.in_ok-third_of_control.ensures.seen c.fourth_of_control.ensures.seen
+
+pub pattern-returns-clause-binds : goal.pattern-returns-clause-binds
+pattern-returns-clause-binds g t c = then_ok c.closed.result (view_pattern c.closed.new.pattern.value Binds) (cond c.has_pair-paired.result (changed_target g.V.Visitor.made (view_pattern c.parts_of_pattern.new.pattern Binds)) (view_pattern c.parts_of_pattern.new.pattern Binds)) (visited g.V.Visitor.made (view_pattern c.args.pattern.now.value Binds))
+    (pair_visited g.V.Visitor.made c.has_pair-paired.result (view_pattern c.args.pattern.now.value Binds) (view_pattern c.parts_of_pattern.new.pattern Binds) (view_pattern c.closed.new.pattern.value Binds)
+    (c.has_pair-paired.ensures.binds ∙ ap (λ x. is_pair (view_pattern x Binds)) c.deref.ensures) (c.in_ok-parts_of_pattern.ensures.binds ∙ ap (λ x. but_pair g.V.Visitor.made (view_pattern x Binds)) c.deref_mut.ensures.value)) c.closed.ensures.binds
+
+pub pattern-returns-clause-assigns : goal.pattern-returns-clause-assigns
+pattern-returns-clause-assigns g t c = then_ok c.closed.result (view_pattern c.closed.new.pattern.value Assigns) (cond c.has_pair-paired.result (changed_target g.V.Visitor.made (view_pattern c.parts_of_pattern.new.pattern Assigns)) (view_pattern c.parts_of_pattern.new.pattern Assigns)) (visited g.V.Visitor.made (view_pattern c.args.pattern.now.value Assigns))
+    (pair_visited g.V.Visitor.made c.has_pair-paired.result (view_pattern c.args.pattern.now.value Assigns) (view_pattern c.parts_of_pattern.new.pattern Assigns) (view_pattern c.closed.new.pattern.value Assigns)
+    (c.has_pair-paired.ensures.assigns ∙ ap (λ x. is_pair (view_pattern x Assigns)) c.deref.ensures) (c.in_ok-parts_of_pattern.ensures.assigns ∙ ap (λ x. but_pair g.V.Visitor.made (view_pattern x Assigns)) c.deref_mut.ensures.value)) c.closed.ensures.assigns
 
 pub member-returns-clause-of_object : goal.member-returns-clause-of_object
 member-returns-clause-of_object g t c = three_ok c.third_of_member.result (with_part 0 g.V.Visitor.made) (with_part 1 g.V.Visitor.made) (with_part 2 g.V.Visitor.made) (view_member c.args.member.now OfObject) (view_member c.first_of_member.new.member OfObject) (view_member c.second_of_member.new.member OfObject) (view_member c.third_of_member.new.member OfObject) (visited g.V.Visitor.made (view_member c.args.member.now OfObject))

@@ -1,6 +1,0 @@
-use Rattle.std.proofs.Common.{sym, ap, ◌∙◌}
-use Rattle.jsx_expression.proofs.Steps.{passed}
-use Rattle.jsx_expression.proofs.template.whole_template.Goals as goal
-
-pub returns-in_err-piece-clause-refused : goal.returns-in_err-piece-clause-refused
-returns-in_err-piece-clause-refused c = passed _ c.in_err-piece.ensures.refused c.from_residual.ensures.1 (λ n. n)

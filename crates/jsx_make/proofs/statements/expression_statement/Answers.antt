@@ -1,0 +1,13 @@
+use Rattle.jsx_tree.specs.declared.tree.Stmt.TheVariants as stmt
+use Rattle.jsx_tree.specs.View.{view_stmt}
+use Rattle.jsx_tree.specs.Told.{told_stmt}
+use Rattle.jsx_tree.proofs.Views.{view-Stmt-Expr}
+use Rattle.jsx_tree.proofs.Telling.{told-Stmt-Expr}
+use Rattle.jsx_make.proofs.Making.{shows}
+use Rattle.jsx_make.proofs.statements.expression_statement.Goals as goal
+
+pub returns-clause-view : goal.returns-clause-view
+returns-clause-view c = shows view_stmt c.boxed.result (stmt.Expr c.args.at c.args.expression) c.boxed.ensures (view-Stmt-Expr c.args.at c.args.expression)
+
+pub returns-clause-told : goal.returns-clause-told
+returns-clause-told c = shows told_stmt c.boxed.result (stmt.Expr c.args.at c.args.expression) c.boxed.ensures (told-Stmt-Expr c.args.at c.args.expression)

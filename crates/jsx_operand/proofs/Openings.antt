@@ -1,0 +1,406 @@
+-- What an expression begins with that is neither a literal nor another expression: a node of a kind whose row begins with a sign. Each fact on the kinds is one test of all of them.
+use Rattle.std.proofs.Common.{◌≡◌, nat_eq, nat_le, Bool, true, false, not, List, [], ◌∷◌, refl, sym, ◌∙◌, ap, subst}
+use Rattle.std.specs.Prelude.{IsTrue, ◌&&◌, ◌||◌}
+use Rattle.std.proofs.lemmas.Bool.{eqb-true}
+use Rattle.jsx_base.specs.Token.{Text, Operator, Punctuator, kind_number, token, same}
+use Rattle.jsx_tree.specs.Signs.{AfterExpr, Sign, Tok}
+use Rattle.jsx_tree.specs.Kinds.{ImportCall, ImportMeta, New, NewWithoutArguments, NewTarget, Seq, Spread, ParenTarget, Element, Kind, function, expression, jsx, Tree, node, Forest, PlainTemplate, SubstitutedTemplate}
+use Rattle.jsx_tree.specs.Nonterminals.{Nonterminal, Expr, homes, in_homes}
+use Rattle.jsx_tree.specs.Grammar.{Fixed, Part, Context}
+use Rattle.jsx_tree.specs.Reading.{Place, Lost, At, forth, go_if}
+use Rattle.jsx_tree.specs.StaticRules.{Surroundings}
+use Rattle.jsx_tree.specs.Walk.{is_found, Given, Past, Piece, piece, sign, tree, tail, Walk, next, steady}
+use Rattle.jsx_tree.specs.Language.{Whole}
+use Rattle.jsx_tree.specs.Answers.{Moves, Barred, NoRow, NoNode, Built, BuiltNode}
+use Rattle.jsx_tree.specs.Grows.{Onward}
+use Rattle.jsx_token.specs.Stage.{has_kind, value_leaf}
+use Rattle.jsx_operand.specs.SoFar.{Staged, so_far}
+use Rattle.jsx_token.specs.Marks.{row_so_far}
+use Rattle.jsx_tree.proofs.Tokens.{and_left, and_right, and_both, same_is}
+use Rattle.jsx_tree.proofs.Apart.{clash}
+use Rattle.jsx_tree.proofs.Rows.Bridge.{found_at}
+use Rattle.jsx_tree.proofs.Rows.Stopping.{or_cases}
+use Rattle.jsx_tree.proofs.Rows.Guarded.{guarded, whole_walk, loosen, to_grammar}
+use Rattle.jsx_tree.proofs.Rows.Bodies.{bodiless, plain as plain_row}
+use Rattle.jsx_tree.proofs.Rows.Closers.{any_operand, homes_operand}
+use Rattle.jsx_tree.proofs.Rows.Spines.{grows}
+use Rattle.jsx_tree.proofs.Rows.Placing.{free, free_around, moved}
+use Rattle.jsx_operand.proofs.OfSoFar.{of_so_far}
+use Rattle.jsx_token.specs.Growths.{Rung, rung, is_rung, level_of_kind, reaches, seat, lead, settled, opening_sign, opening_signs, same_sign, has_sign, is_code, NoOpening}
+use Rattle.jsx_operand.specs.Climbing.{Begins, NoneBegins, rises, level}
+use Rattle.jsx_operand.specs.Openings.{opens_with, OnlyOpened, NoneOpened}
+use Rattle.jsx_token.proofs.Listed.{Listed, listed, code, is_apart, kinds, every, every_two, of_each, of_two, one_place, implies, implied}
+use Rattle.jsx_operand.proofs.Homes.{Literal, IsName, IsNumber, IsLong, IsString, token_kind, IsPattern, Value, made}
+use Rattle.jsx_operand.proofs.Values.{First, name, opened, less_literal, led_sign, Opener, angle, plain, SameFirst, begun, onto, same_both, literal_sign, literal_opening, one_opening, opener_of, opened_sign, opened_led, quoted, Quote, one_piece, whole_row, head_row, piece_row, piece_of, literal_piece, opener_piece}
+use Rattle.jsx_operand.proofs.Rungs.{clear_first, leads_as, reaches_level, rises_node, rung_operand, rung_single, seat_admits, clear}
+use Rattle.jsx_token.proofs.Levels.{grows_on, edge, at_level, is_ruled, signed, Quoted, undivided, divided, is_template}
+use Rattle.jsx_operand.proofs.Climbing.{edge_on, low, node_reaches, plain_kind, signed_node}
+
+-- ---- of each kind
+
+-- each part of its row is ended by what stands behind it, it may stand wherever a parser asks for an expression, and it begins as an element does or with one of the signs
+abbrev opens_formed : Kind → Bool
+opens_formed k =
+    grows_on k
+    || (((guarded (edge k) (row_so_far k) && free (row_so_far k)) && bodiless (tail (row_so_far k))) && ((has_kind k && any_operand (homes k)) && (nat_eq (code k) (code (jsx Element)) || (is_code (opening_sign k) && has_sign (opening_sign k) opening_signs))))
+
+all_opens_formed : every opens_formed kinds ≡ true
+unfolding opening_signs
+all_opens_formed = refl
+
+-- two that begin with one sign are one, but for those that are told apart behind it
+abbrev pub is_shared : Kind → Bool
+is_shared (expression ImportCall) = true
+is_shared (expression ImportMeta) = true
+is_shared (expression New) = true
+is_shared (expression NewWithoutArguments) = true
+is_shared (expression NewTarget) = true
+is_shared k = false
+
+abbrev opens_apart : Kind → Kind → Bool
+opens_apart k l = implies (not (grows_on k) && not (grows_on l)) (implies (same_sign (opening_sign k) (opening_sign l)) (nat_eq (code k) (code l) || is_shared l))
+
+all_opens_apart : every_two opens_apart ≡ true
+all_opens_apart = refl
+
+record Opens (k : Kind) : Type 0 where
+  closed : guarded (edge k) (row_so_far k) ≡ true
+  freed : free (row_so_far k) ≡ true
+  bare : bodiless (tail (row_so_far k)) ≡ true
+  taken : has_kind k ≡ true
+  stood : any_operand (homes k) ≡ true
+  begins : (nat_eq (code k) (code (jsx Element)) || (is_code (opening_sign k) && has_sign (opening_sign k) opening_signs)) ≡ true
+
+opens : (k : Kind) → Listed k → grows_on k ≡ false → Opens k
+opens k l g =
+    let a : (((guarded (edge k) (row_so_far k) && free (row_so_far k)) && bodiless (tail (row_so_far k))) && ((has_kind k && any_operand (homes k)) && (nat_eq (code k) (code (jsx Element)) || (is_code (opening_sign k) && has_sign (opening_sign k) opening_signs)))) ≡ true = or_cases (grows_on k) _ (of_each opens_formed all_opens_formed k l) (λ h. absurd (clash _ h g)) (λ e. e) in
+    let b = and_left ((guarded (edge k) (row_so_far k) && free (row_so_far k)) && bodiless (tail (row_so_far k))) _ a in
+    let c = and_right ((guarded (edge k) (row_so_far k) && free (row_so_far k)) && bodiless (tail (row_so_far k))) _ a in
+    let b1 = and_left (guarded (edge k) (row_so_far k) && free (row_so_far k)) _ b in
+    let b2 = and_right (guarded (edge k) (row_so_far k) && free (row_so_far k)) _ b in
+    let c1 = and_left (has_kind k && any_operand (homes k)) _ c in
+    record {
+      closed = and_left (guarded (edge k) (row_so_far k)) _ b1;
+      freed = and_right (guarded (edge k) (row_so_far k)) _ b1;
+      bare = b2;
+      taken = and_left (has_kind k) _ c1;
+      stood = and_right (has_kind k) _ c1;
+      begins = and_right (has_kind k && any_operand (homes k)) _ c;
+    }
+
+sole_kind : (j k : Kind) → Listed j → grows_on j ≡ false → Listed k → grows_on k ≡ false → is_shared k ≡ false → same_sign (opening_sign j) (opening_sign k) ≡ true → j ≡ k
+sole_kind j k m h l g n e =
+    one_place j k m l
+    (or_cases (nat_eq (code j) (code k)) (is_shared k) (implied (same_sign (opening_sign j) (opening_sign k)) _ (implied (not (grows_on j) && not (grows_on k)) _ (of_two opens_apart all_opens_apart j k m l) (and_both _ _ (ap not h) (ap not g))) e) (λ i. i) (λ i. absurd (clash _ i n)))
+
+-- ---- its row, read to the ends of its parts
+
+pub kind_whole : {v : Surroundings} (r : Rung) {d : Nonterminal} {x y z : Place} {u : Tree} {ts : Forest} (k : Kind) → is_rung r ≡ true → Listed k → guarded (edge k) (row_so_far k) ≡ true → free (row_so_far k) ≡ true → Staged v false d x (node k ts) y → Onward so_far v x (node k ts) y u z → Whole so_far v false (seat r) x u z → Walk (Whole so_far) (steady v) (row_so_far k) x ts y
+kind_whole {v} r {ts = ts} k i l c f q o w = moved (λ a h. free_around a ts v h) f (whole_walk of_so_far (edge k) (row_so_far k) c (edge_on r k (node k ts) i l refl o w) (of_so_far.from_node k q).walk)
+
+opened_whole : {v : Surroundings} (r : Rung) {d : Nonterminal} {x y z : Place} {u : Tree} {ts : Forest} (k : Kind) → is_rung r ≡ true → Listed k → grows_on k ≡ false → Staged v false d x (node k ts) y → Onward so_far v x (node k ts) y u z → Whole so_far v false (seat r) x u z → Walk (Whole so_far) (steady v) (row_so_far k) x ts y
+opened_whole r k i l g q o w = let f = opens k l g in kind_whole r k i l f.closed f.freed q o w
+
+-- a node, and that no other begins from there with the sign that it begins with
+record OnlyFirst (v : Surroundings) (t : Tree) (x y : Place) : Type 0 where
+  kind : Kind
+  listed : Listed kind
+  still : grows_on kind ≡ false
+  built : BuiltNode so_far v (row_so_far kind) kind t x y
+  alone : (j : Kind) (ts : Forest) (z : Place) → Listed j → grows_on j ≡ false → same_sign (opening_sign j) (opening_sign kind) ≡ true → Walk (Whole so_far) (steady v) (row_so_far j) x ts z → so_far.keeps j v ts ≡ true → SameFirst (node j ts) t z y
+
+-- so it is what everything that is read from there begins with
+to_opened : {v : Surroundings} (r : Rung) {x y p z : Place} {f t u : Tree} → is_rung r ≡ true → OnlyFirst v t x y → First v x f p → Onward so_far v x f p u z → Whole so_far v false (seat r) x u z → SameFirst f t p y
+to_opened r {x = x} i b (name m {t = s} h q e e') o w = absurd (literal_opening m s (opening_sign b.kind) x (opener_of b.kind b.listed b.still) h (found_at e e') (led_sign (row_so_far b.kind) (opened_led b.kind b.listed b.still) b.built.row.walk))
+to_opened r {x = x} i b (quoted d q s) o w = absurd (opener_piece x (opener_of b.kind b.listed b.still) (led_sign (row_so_far b.kind) (opened_led b.kind b.listed b.still) b.built.row.walk) (piece_of q s))
+to_opened r {x = x} {p = p} i b (opened d {k = j} {ts} m h q) o w =
+    let here = led_sign (row_so_far b.kind) (opened_led b.kind b.listed b.still) b.built.row.walk in
+    b.alone j ts p m h (one_opening (opening_sign j) (opening_sign b.kind) x (opener_of j m h) (opener_of b.kind b.listed b.still) (opened_sign j m h q) here) (opened_whole r j i m h q o w) (of_so_far.from_node j q).keeps
+
+staged_at : {v : Surroundings} (r : Rung) {x y : Place} {ts : Forest} (k : Kind) → is_rung r ≡ true → reaches r k ≡ true → Listed k → free (row_so_far k) ≡ true → clear r (node k ts) ≡ true → Walk (Whole so_far) (steady v) (row_so_far k) x ts y → so_far.keeps k v ts ≡ true → Staged v false (seat r) x (node k ts) y
+staged_at {v} r {ts = ts} k i e l f c w keeps = of_so_far.to_node k (seat_admits r k ts ((at_level {r = r} i k l).home ∙ reaches_level r k e) c) (record { walk = loosen (moved (λ a h. sym (free_around a ts v h)) f w); keeps = keeps })
+
+-- what stands behind its sign keeps its rules, where these ask nothing
+pub kept_behind : {v : Surroundings} {a y : Place} {t : Tree} (k : Kind) → Listed k → grows_on k ≡ false → is_ruled k ≡ false → Built so_far v (tail (row_so_far k)) k (λ ts. ts) t a y → BuiltNode so_far v (tail (row_so_far k)) k t a y
+kept_behind {v} k l g n b =
+    let f = opens k l g in
+    record {
+      parts = b.parts;
+      is = b.is;
+      row = b.row;
+      keeps = and_both _ _ f.taken (plain_kind k b.parts v n f.taken f.stood (plain_row (tail (row_so_far k)) f.bare (to_grammar of_so_far b.row.walk)));
+    }
+
+-- the same of its whole row
+pub kept_whole : {v : Surroundings} {x y : Place} {t : Tree} (k : Kind) → Listed k → grows_on k ≡ false → is_ruled k ≡ false → bodiless (row_so_far k) ≡ true → Built so_far v (row_so_far k) k (λ ts. ts) t x y → BuiltNode so_far v (row_so_far k) k t x y
+kept_whole {v} k l g n bare b =
+    let f = opens k l g in
+    record { parts = b.parts; is = b.is; row = b.row; keeps = and_both _ _ f.taken (plain_kind k b.parts v n f.taken f.stood (plain_row (row_so_far k) bare (to_grammar of_so_far b.row.walk))) }
+
+-- what is read from there begins with this node
+record Leads (v : Surroundings) (x : Place) (t : Tree) (y : Place) : Type 0 where
+  on : (r : Rung) {f u : Tree} {p z : Place} → is_rung r ≡ true → First v x f p → Onward so_far v x f p u z → Whole so_far v false (seat r) x u z → SameFirst f t p y
+
+-- above its level nothing is read that begins with it
+too_low : {v : Surroundings} (r : Rung) {x y : Place} {t : Tree} (k : Kind) → is_rung r ≡ true → Listed k → free (row_so_far k) ≡ true → Leads v x t y → BuiltNode so_far v (row_so_far k) k t x y → rises r t ≡ false → Barred so_far v (Part (seat r)) x
+too_low {v} r {x} {y} {t} k i l f c b e = record { no = at }
+  where
+    at : (h : Given) (z : Place) → Past (Whole so_far) v (Part (seat r)) x h z → ⊥
+    at h z (tree {t = u} q) =
+        let m = begun (rung_single r i) u q.reads in
+        let o : Onward so_far v x t y u z = onto (c.on r i m.first m.onward q) m.onward in
+        let here : Staged v false (Expr 1) x t y = subst (λ w. Staged v false (Expr 1) x w y) (sym b.is) (staged_at (rung 1) k refl (of_each (λ j. nat_le 1 (level_of_kind j)) refl k l) l f refl b.row.walk b.keeps) in
+        clash (rises r t) (ap (rises r) b.is ∙ (rises_node r k b.parts ∙ node_reaches r i l (subst (λ w. Staged v false (seat r) x w y) b.is (low r i (subst Value (sym b.is) (made l)) here o q.reads)))) e
+
+node_follows : {v : Surroundings} {x y : Place} {t : Tree} (k : Kind) → Listed k → free (row_so_far k) ≡ true → Leads v x t y → (b : BuiltNode so_far v (row_so_far k) k t x y) → ((r : Rung) → reaches r k ≡ true → clear r (node k b.parts) ≡ true) → settled y ≡ true → Begins v x t y
+node_follows {v} {x} {y} {t} k l f c b d s = record {
+  on = λ r i e.
+      let up : reaches r k ≡ true = sym (rises_node r k b.parts) ∙ (sym (ap (rises r) b.is) ∙ e) in
+      let reads : Staged v false (seat r) x t y = subst (λ u. Staged v false (seat r) x u y) (sym b.is) (staged_at r k i up l f (d r up) b.row.walk b.keeps) in
+      record {
+        follows = record { home = seat r; operand = rung_operand r; reads = reads; all = λ u z q. let m = begun (rung_single r i) u q.reads in onto (c.on r i m.first m.onward q) m.onward };
+        reads = reads;
+        ended = s;
+      };
+  low = λ r i e. too_low r k i l f c b e;
+}
+
+only_follows : {v : Surroundings} {x y : Place} {t : Tree} → OnlyFirst v t x y → settled y ≡ true → Begins v x t y
+only_follows b s = node_follows b.kind b.listed (opens b.kind b.listed b.still).freed (record { on = λ r i f o w. to_opened r i b f o w }) b.built (λ r e. clear_first r b.kind b.built.parts (sym (leads_as b.kind b.listed) ∙ ap (λ g. g && not (is_template b.kind)) b.still) e) s
+
+-- a node that was read is what is read as one of its kind
+
+same_node : {v : Surroundings} {ps : List Piece} {x y z : Place} {t : Tree} {ts : Forest} (k : Kind) → BuiltNode so_far v ps k t x y → Walk (Whole so_far) (steady v) ps x ts z → SameFirst (node k ts) t z y
+same_node {z = z} {ts = ts} k b w = let s = b.row.alone ts z w in record { tree = ap (node k) (sym s.0) ∙ sym b.is; place = sym s.1 }
+
+-- ---- a kind that no other begins as
+
+sole_first : {v : Surroundings} {x y : Place} {t : Tree} (k : Kind) → Listed k → grows_on k ≡ false → is_shared k ≡ false → BuiltNode so_far v (row_so_far k) k t x y → OnlyFirst v t x y
+sole_first {v} {x} {y} {t} k l g n b = record {
+  kind = k;
+  listed = l;
+  still = g;
+  built = b;
+  alone = λ j ts z m h e w _. subst (λ i. Walk (Whole so_far) (steady v) (row_so_far i) x ts z → SameFirst (node i ts) t z y) (sym (sole_kind j k m h l g n e)) (same_node k b) w;
+}
+
+pub opened_follows : {v : Surroundings} {x y : Place} {t : Tree} (k : Kind) → Listed k → grows_on k ≡ false → is_shared k ≡ false → BuiltNode so_far v (row_so_far k) k t x y → settled y ≡ true → Begins v x t y
+opened_follows k l g n b s = only_follows (sole_first k l g n b) s
+
+-- ---- what stands behind a sign, of all kinds that begin with it
+
+no_opens : (ps : List Piece) (s : Sign) → same_sign (lead ps) s ≡ true → grows ps ≡ false
+no_opens (piece [] (Fixed u) ∷ ps) s e = refl
+no_opens (piece [] (Part c) ∷ ps) s e = cc
+no_opens (piece (b ∷ a) (Fixed u) ∷ ps) s e = refl
+no_opens _ s e = cc
+
+opens_still : (s : Sign) (k : Kind) → opens_with s k ≡ true → grows_on k ≡ false
+opens_still s k e = no_opens (row_so_far k) s (and_right (in_homes (Expr 0) (homes k)) _ (and_right (has_kind k) _ e))
+
+not_apart : (s : Sign) (k : Kind) → opens_with s k ≡ true → is_apart k ≡ false
+not_apart s (expression Seq) e = cc
+not_apart s (expression Spread) e = cc
+not_apart s (function ParenTarget) e = cc
+not_apart s _ e = refl
+
+pub opens_listed : (s : Sign) (k : Kind) → opens_with s k ≡ true → Listed k
+opens_listed s k e = listed k (and_left (has_kind k) _ e) (homes_operand (Expr 0) (homes k) refl (and_left (in_homes (Expr 0) (homes k)) _ (and_right (has_kind k) _ e))) (not_apart s k e)
+
+with_sign : (k j : Kind) → Listed j → grows_on j ≡ false → same_sign (opening_sign j) (opening_sign k) ≡ true → opens_with (opening_sign k) j ≡ true
+with_sign k j m g e = and_both _ _ (opens j m g).taken (and_both _ _ (of_each (λ i. in_homes (Expr 0) (homes i)) refl j m) e)
+
+-- what is behind the sign of another is behind its own
+same_forth : (s u : Sign) (x : Place) → Opener s → Opener u → same_sign s u ≡ true → forth s x ≡ forth u x
+same_forth s u x angle angle e = refl
+same_forth s u x angle (plain {k} {d} {t} o) e = absurd (clash _ (ap (λ n. nat_eq n 60) (sym (eqb-true 60 d (and_left (nat_eq 60 d) _ (and_right (nat_eq (kind_number Punctuator) (kind_number k)) _ e))))) o.low)
+same_forth s u x (plain {k} {d} {t} o) angle e = absurd (clash _ (and_left (nat_eq d 60) _ (and_right (nat_eq (kind_number k) (kind_number Punctuator)) _ e)) o.low)
+same_forth s u x (plain {k} {d} {t} o) (plain {k = l} {d = c} {t = w} q) e = at x
+  where
+    kinds_same : kind_number k ≡ kind_number l
+    kinds_same = eqb-true (kind_number k) (kind_number l) (and_left (nat_eq (kind_number k) (kind_number l)) _ e)
+
+    texts_same : d ∷ t ≡ c ∷ w
+    texts_same = same_is (d ∷ t) (c ∷ w) (and_right (nat_eq (kind_number k) (kind_number l)) _ e)
+
+    at : (p : Place) → forth (Tok Operator k (d ∷ t)) p ≡ forth (Tok Operator l (c ∷ w)) p
+    at Lost = refl
+    at (At r g text) = let m = token Operator (same r []) text in (λ i. go_if (nat_eq (kind_number m.kind) (kinds_same i) && same m.raw (texts_same i)) (At (texts_same i) AfterExpr m.rest))
+
+peel : {v : Surroundings} (ps : List Piece) {x a z : Place} {ts : Forest} → signed ps ≡ true → forth (lead ps) x ≡ a → Walk (Whole so_far) (steady v) ps x ts z → Walk (Whole so_far) (steady v) (tail ps) a ts z
+peel {v} (piece [] (Fixed s) ∷ ps) {z = z} l e (next {ts = us} (sign d f) w) = subst (λ p. Walk (Whole so_far) (steady v) ps p us z) (sym d ∙ e) w
+peel _ l e w = cc
+
+behind_sign : {v : Surroundings} {x a z : Place} {ts : Forest} (j k : Kind) → Listed j → grows_on j ≡ false → Listed k → grows_on k ≡ false → Moves (opening_sign k) x a → same_sign (opening_sign j) (opening_sign k) ≡ true → Walk (Whole so_far) (steady v) (row_so_far j) x ts z → Walk (Whole so_far) (steady v) (tail (row_so_far j)) a ts z
+behind_sign {x = x} j k m h l g s e w = peel (row_so_far j) (opened_led j m h) (same_forth (opening_sign j) (opening_sign k) x (opener_of j m h) (opener_of k l g) e ∙ sym s.is) w
+
+opened_first : {v : Surroundings} {x a y : Place} {t : Tree} (k : Kind) → Listed k → grows_on k ≡ false → Moves (opening_sign k) x a → OnlyOpened v (opening_sign k) t a y → OnlyFirst v t x y
+opened_first {v} {x} {a} {y} {t} k l g s o = record {
+  kind = o.kind;
+  listed = m;
+  still = h;
+  built = signed_node (row_so_far o.kind) (opened_led o.kind m h) (record { is = s.is ∙ sym (same_forth (opening_sign o.kind) (opening_sign k) x (opener_of o.kind m h) (opener_of k l g) (and_right (in_homes (Expr 0) (homes o.kind)) _ (and_right (has_kind o.kind) _ o.begins))); found = s.found }) o.built;
+  alone = λ j ts z n i e w keeps.
+      let e' = one_opening (opening_sign j) (opening_sign k) x (opener_of j n i) (opener_of k l g) (led_sign (row_so_far j) (opened_led j n i) w) (found_at (sym s.is) s.found) in
+      let q = o.alone j ts z (with_sign k j n i e') (behind_sign j k n i l g s e' w) keeps in record { tree = q.0; place = q.1 };
+}
+  where
+    m : Listed o.kind
+    m = opens_listed (opening_sign k) o.kind o.begins
+
+    h : grows_on o.kind ≡ false
+    h = opens_still (opening_sign k) o.kind o.begins
+
+-- ---- a template
+
+pub quoted_listed : {k : Kind} → Quoted k → Listed k
+quoted_listed undivided = listed (expression (PlainTemplate false)) refl refl refl
+quoted_listed divided = listed (expression (SubstitutedTemplate false)) refl refl refl
+
+quoted_closed : {k : Kind} → Quoted k → guarded (edge k) (row_so_far k) ≡ true
+quoted_closed undivided = refl
+quoted_closed divided = refl
+
+quoted_freed : {k : Kind} → Quoted k → free (row_so_far k) ≡ true
+quoted_freed undivided = refl
+quoted_freed divided = refl
+
+-- no call stands at its left end
+clear_quoted : (r : Rung) {k : Kind} (ts : Forest) → Quoted k → reaches r k ≡ true → clear r (node k ts) ≡ true
+clear_quoted r ts undivided e = clear_first r (expression (PlainTemplate false)) ts refl e
+clear_quoted r ts divided e = clear_first r (expression (SubstitutedTemplate false)) ts refl e
+
+quoted_whole : {v : Surroundings} (r : Rung) {d : Nonterminal} {x y z : Place} {u : Tree} {k : Kind} {ts : Forest} → Quoted k → is_rung r ≡ true → Staged v false d x (node k ts) y → Onward so_far v x (node k ts) y u z → Whole so_far v false (seat r) x u z → Walk (Whole so_far) (steady v) (row_so_far k) x ts y
+quoted_whole r {k = k} q i s o w = kind_whole r k i (quoted_listed q) (quoted_closed q) (quoted_freed q) s o w
+
+-- two at one place are of one kind
+one_quoted : {v : Surroundings} {d : Nonterminal} {V : List Context → Surroundings} {x p y : Place} {j k : Kind} {ts us : Forest} → Quoted k → Quoted j → Staged v false d x (node j ts) p → Walk Staged V (row_so_far k) x us y → j ≡ k
+one_quoted undivided undivided r w = refl
+one_quoted divided divided r w = refl
+one_quoted undivided divided r w = absurd (one_piece (whole_row w) (head_row (of_so_far.from_node (expression (SubstitutedTemplate false)) r).walk))
+one_quoted divided undivided r w = absurd (one_piece (whole_row (of_so_far.from_node (expression (PlainTemplate false)) r).walk) (head_row w))
+
+to_quoted : {v : Surroundings} (r : Rung) {x y p z : Place} {f t u : Tree} {k : Kind} → Quoted k → is_rung r ≡ true → BuiltNode so_far v (row_so_far k) k t x y → First v x f p → Onward so_far v x f p u z → Whole so_far v false (seat r) x u z → SameFirst f t p y
+to_quoted r {x = x} q i b (name m {t = s} h w e e') o u = absurd (literal_piece m s x (found_at e e') (piece_row q (loosen b.row.walk)))
+to_quoted r {x = x} q i b (opened d {k = j} m h s) o u = absurd (opener_piece x (opener_of j m h) (opened_sign j m h s) (piece_row q (loosen b.row.walk)))
+to_quoted {v} r {x} {y} {p} {t = t} {k = k} q i b (quoted d {k = j} {ts} h s) o w = subst (λ c. Walk (Whole so_far) (steady v) (row_so_far c) x ts p → SameFirst (node c ts) t p y) (sym (one_quoted q h s (loosen b.row.walk))) (same_node k b) (quoted_whole r h i s o w)
+
+pub quoted_follows : {v : Surroundings} {x y : Place} {t : Tree} {k : Kind} → Quoted k → BuiltNode so_far v (row_so_far k) k t x y → settled y ≡ true → Begins v x t y
+quoted_follows {k = k} q b s = node_follows k (quoted_listed q) (quoted_freed q) (record { on = λ r i f o w. to_quoted r q i b f o w }) b (λ r e. clear_quoted r b.parts q e) s
+
+-- with the sign before it
+pub signed_follows : {v : Surroundings} {x a y : Place} {t : Tree} (k : Kind) → Listed k → grows_on k ≡ false → Moves (opening_sign k) x a → OnlyOpened v (opening_sign k) t a y → settled y ≡ true → Begins v x t y
+signed_follows k l g m o s = only_follows (opened_first k l g m o) s
+
+-- a kind that no other begins as
+abbrev self_signed : Kind → Bool
+self_signed k = grows_on k || same_sign (opening_sign k) (opening_sign k)
+
+all_self_signed : every self_signed kinds ≡ true
+all_self_signed = refl
+
+own_sign : (k : Kind) → Listed k → grows_on k ≡ false → opens_with (opening_sign k) k ≡ true
+own_sign k l g = with_sign k k l g (or_cases (grows_on k) _ (of_each self_signed all_self_signed k l) (λ h. absurd (clash _ h g)) (λ e. e))
+
+sole_with : (k : Kind) → Listed k → grows_on k ≡ false → is_shared k ≡ false → (j : Kind) → opens_with (opening_sign k) j ≡ true → j ≡ k
+sole_with k l g n j o = sole_kind j k (opens_listed (opening_sign k) j o) (opens_still (opening_sign k) j o) l g n (and_right (in_homes (Expr 0) (homes j)) _ (and_right (has_kind j) _ o))
+
+pub sole_opened : {v : Surroundings} {a y : Place} {t : Tree} (k : Kind) → Listed k → grows_on k ≡ false → is_shared k ≡ false → BuiltNode so_far v (tail (row_so_far k)) k t a y → OnlyOpened v (opening_sign k) t a y
+sole_opened {v} {a} {y} {t} k l g n b = record {
+  kind = k;
+  begins = own_sign k l g;
+  built = b;
+  alone = λ j ts z o w _. subst (λ i. Walk (Whole so_far) (steady v) (tail (row_so_far i)) a ts z → (node i ts ≡ t) × (z ≡ y)) (sym (sole_with k l g n j o)) (λ q. let s = same_node k b q in (s.tree, s.place)) w;
+}
+
+pub sole_none : {v : Surroundings} {a : Place} (k : Kind) → Listed k → grows_on k ≡ false → is_shared k ≡ false → NoNode so_far v (tail (row_so_far k)) k a → NoneOpened v (opening_sign k) a
+sole_none {v} {a} k l g n b = record { no = λ j o. subst (λ i. NoNode so_far v (tail (row_so_far i)) i a) (sym (sole_with k l g n j o)) b }
+
+-- of kinds that begin with one sign one is read, and each other is not
+pub data Other (v : Surroundings) (a : Place) : Kind → Kind → Type 0 where
+  itself : {k : Kind} → Other v a k k
+  barred : {k j : Kind} → NoNode so_far v (tail (row_so_far j)) j a → Other v a k j
+
+pub opened_by : {v : Surroundings} {s : Sign} {a y : Place} {t : Tree} (k : Kind) → opens_with s k ≡ true → BuiltNode so_far v (tail (row_so_far k)) k t a y → ((j : Kind) → opens_with s j ≡ true → Other v a k j) → OnlyOpened v s t a y
+opened_by {v} {s} {a} {y} {t} k e b others = record { kind = k; begins = e; built = b; alone = λ j ts z o w keeps. by (others j o) w keeps }
+  where
+    by : {j : Kind} {ts : Forest} {z : Place} → Other v a k j → Walk (Whole so_far) (steady v) (tail (row_so_far j)) a ts z → so_far.keeps j v ts ≡ true → (node j ts ≡ t) × (z ≡ y)
+    by itself w keeps = let q = same_node k b w in (q.tree, q.place)
+    by {ts = ts} {z = z} (barred n) w keeps = absurd (n.no ts z w keeps)
+
+-- ---- where no expression stands
+
+-- what is read from there begins with neither a literal nor a node, nor is it a template
+record NoFirst (v : Surroundings) (x : Place) : Type 0 where
+  literal : (l : Literal) (t : Text) → value_leaf (token_kind l) t ≡ true → IsTrue (is_found (forth (literal_sign l t) x)) → ⊥
+  quoted : (r : Rung) {d : Nonterminal} {p : Place} {ts : Forest} {u : Tree} {z : Place} {k : Kind} → is_rung r ≡ true → Quoted k → Staged v false d x (node k ts) p → Onward so_far v x (node k ts) p u z → Whole so_far v false (seat r) x u z → ⊥
+  node : (r : Rung) {d : Nonterminal} {p : Place} {ts : Forest} {u : Tree} {z : Place} (k : Kind) → is_rung r ≡ true → Listed k → grows_on k ≡ false → Staged v false d x (node k ts) p → Onward so_far v x (node k ts) p u z → Whole so_far v false (seat r) x u z → ⊥
+
+none_first : {v : Surroundings} (r : Rung) {x p z : Place} {f u : Tree} → NoFirst v x → is_rung r ≡ true → First v x f p → Onward so_far v x f p u z → Whole so_far v false (seat r) x u z → ⊥
+none_first r b i (name l {t} h q e g) o w = b.literal l t h (found_at e g)
+none_first r b i (opened d {k} l g q) o w = b.node r k i l g q o w
+none_first r b i (quoted d q s) o w = b.quoted r i q s o w
+
+none_begins : {v : Surroundings} {x : Place} → NoFirst v x → NoneBegins v x
+none_begins {v} {x} b = record { on = λ r i. record { no = at r i } }
+  where
+    at : (r : Rung) → is_rung r ≡ true → (h : Given) (z : Place) → Past (Whole so_far) v (Part (seat r)) x h z → ⊥
+    at r i h z (tree {t = u} q) = let f = begun (rung_single r i) u q.reads in none_first r b i f.first f.onward q
+
+lost_there : (s : Sign) (x : Place) → forth s x ≡ Lost → IsTrue (is_found (forth s x)) → ⊥
+lost_there s x e f = let bad : IsTrue (is_found Lost) = subst (λ p. IsTrue (is_found p)) e f in cc
+
+-- none of the signs stands there, and no element does
+no_node : {v : Surroundings} (r : Rung) {d : Nonterminal} {x p z : Place} {ts : Forest} {u : Tree} (k : Kind) → NoOpening x → NoRow so_far v (row_so_far (jsx Element)) x → is_rung r ≡ true → Listed k → grows_on k ≡ false → Staged v false d x (node k ts) p → Onward so_far v x (node k ts) p u z → Whole so_far v false (seat r) x u z → ⊥
+no_node {v} r {d} {x} {p} {z} {ts} {u} k unopened e i l g q o w = or_cases (nat_eq (code k) (code (jsx Element))) (is_code (opening_sign k) && has_sign (opening_sign k) opening_signs) (opens k l g).begins element (λ h. lost_there (opening_sign k) x (unopened.on (opening_sign k) (and_left (is_code (opening_sign k)) _ h) (and_right (is_code (opening_sign k)) _ h)) (opened_sign k l g q))
+  where
+    element : nat_eq (code k) (code (jsx Element)) ≡ true → ⊥
+    element h = subst (λ j. Staged v false d x (node j ts) p → Onward so_far v x (node j ts) p u z → ⊥) (sym (one_place k (jsx Element) l (listed (jsx Element) refl refl refl) h)) (λ q o. e.no ts p (opened_whole r (jsx Element) i (listed (jsx Element) refl refl refl) refl q o w)) q o
+
+-- an element doesn't begin with one of the signs
+no_angle : {v : Surroundings} {x : Place} (l : Literal) (t : Text) → IsTrue (is_found (forth (literal_sign l t) x)) → NoRow so_far v (row_so_far (jsx Element)) x
+no_angle {v} {x} l t f = record { no = λ ts y w. less_literal l t x (led_sign (row_so_far (jsx Element)) refl w) f }
+
+-- the literal that stands there may not
+pub unfit_literal : {v : Surroundings} {x y : Place} (l : Literal) (t : Text) → NoOpening x → y ≡ forth (literal_sign l t) x → IsTrue (is_found y) → value_leaf (token_kind l) t ≡ false → NoneBegins v x
+unfit_literal {v} {x} {y} l t unopened e f n =
+    let there = found_at (sym e) f in
+    none_begins (record {
+      literal = λ m s h g. let q = same_both m l s t x g there in clash _ (subst (λ k. value_leaf (token_kind k) t ≡ true) q.kinds (subst (λ r. value_leaf (token_kind m) r ≡ true) q.texts h)) n;
+      node = λ r k i j g q o w. no_node r k unopened (no_angle l t there) i j g q o w;
+      quoted = λ r i q s o w. literal_piece l t x there (piece_of q s);
+    })
+
+pub no_value : {v : Surroundings} {x : Place} → NoOpening x → ((t : Text) → forth (literal_sign IsName t) x ≡ Lost) → ((t : Text) → forth (literal_sign IsNumber t) x ≡ Lost) → ((t : Text) → forth (literal_sign IsLong t) x ≡ Lost) → ((t : Text) → forth (literal_sign IsString t) x ≡ Lost) → ((t : Text) → forth (literal_sign IsPattern t) x ≡ Lost) → NoRow so_far v (row_so_far (jsx Element)) x → (Quote x → ⊥) → NoneBegins v x
+no_value {v} {x} unopened a b d c p r z = none_begins (record {
+  literal = λ m s h g. lost_there (literal_sign m s) x (n m s) g;
+  node = λ s k i j g q o w. no_node s k unopened r i j g q o w;
+  quoted = λ s i q n o w. z (piece_of q n);
+})
+  where
+    n : (l : Literal) (t : Text) → forth (literal_sign l t) x ≡ Lost
+    n IsName t = a t
+    n IsNumber t = b t
+    n IsLong t = d t
+    n IsString t = c t
+    n IsPattern t = p t
+
+-- the sign stands there, and what is behind it can't be read
+pub unread_opening : {v : Surroundings} {x a : Place} (k : Kind) → Listed k → grows_on k ≡ false → Moves (opening_sign k) x a → NoneOpened v (opening_sign k) a → NoneBegins v x
+unread_opening {v} {x} {a} k l g m n =
+    let there = found_at (sym m.is) m.found in
+    none_begins (record {
+      literal = λ o t h f. literal_opening o t (opening_sign k) x (opener_of k l g) h f there;
+      node = λ r {ts = ts} j i h f q o w.
+          let e = one_opening (opening_sign j) (opening_sign k) x (opener_of j h f) (opener_of k l g) (opened_sign j h f q) there in
+          (n.no j (with_sign k j h f e)).no ts _ (behind_sign j k h f l g m e (opened_whole r j i h f q o w)) (of_so_far.from_node j q).keeps;
+      quoted = λ r i q s o w. opener_piece x (opener_of k l g) there (piece_of q s);
+    })
+
+-- a template begins there, and none can be read
+pub unread_quoted : {v : Surroundings} {x : Place} → Quote x → ((k : Kind) → Quoted k → NoNode so_far v (row_so_far k) k x) → NoneBegins v x
+unread_quoted {x = x} p n = none_begins (record {
+  literal = λ l t h f. literal_piece l t x f p;
+  node = λ r k i l g s o w. opener_piece x (opener_of k l g) (opened_sign k l g s) p;
+  quoted = λ r {p = q} {ts = ts} {k = k} i h s o w. (n k h).no ts q (quoted_whole r h i s o w) (of_so_far.from_node k s).keeps;
+})

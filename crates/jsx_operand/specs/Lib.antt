@@ -1,0 +1,9 @@
+pub mod SoFar
+pub mod Around
+pub mod Spans
+pub mod Answers
+pub mod Members
+pub mod Links
+pub mod Climbing
+pub mod Openings
+pub mod Templates

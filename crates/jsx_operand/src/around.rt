@@ -1,0 +1,100 @@
+//! What a node stands in, for the early errors that ask (ECMA-262 sections 13 to 16).
+
+ghost use Rattle.std.specs.Prelude.{◌≡◌, true};
+ghost use Rattle.jsx_operand.specs.Around.{around_of, labels_of, within_module};
+
+use std::alloc::Global;
+
+/// The labels that enclose, the innermost first (ECMA-262 section 14.13).
+#[derive(Clone, Copy)]
+pub enum Labels<'a> {
+    None,
+    /// A label, whether it stands on a loop, and those outside of it.
+    Inside(&'a str, bool, &'a Labels<'a>),
+}
+
+/// What a node stands in.
+#[derive(Clone, Copy)]
+pub struct Around<'a> {
+    pub is_module: bool,
+    pub is_strict: bool,
+    /// A function that `return` ends.
+    pub returns: bool,
+    /// What `new.target` speaks of.
+    pub has_target: bool,
+    /// A method, for `super.a`.
+    pub has_super: bool,
+    /// A constructor of a class with `extends`, for `super()`.
+    pub calls_super: bool,
+    /// A class with `extends`.
+    pub is_derived: bool,
+    pub in_loop: bool,
+    /// A loop or a `switch`.
+    pub breakable: bool,
+    pub labels: &'a Labels<'a>,
+}
+
+impl<'a> Around<'a> {
+    /// What the statements of a module stand in.
+    pub fn of_module(labels: &'a Labels<'a>) -> Around<'a>
+        ensures { around_of result ≡ within_module (labels_of labels.now) }
+    {
+        Around {
+            is_module: true,
+            is_strict: true,
+            returns: false,
+            has_target: false,
+            has_super: false,
+            calls_super: false,
+            is_derived: false,
+            in_loop: false,
+            breakable: false,
+            labels,
+        }
+    }
+}
+
+/// What each function of the parser is handed down.
+#[derive(Clone, Copy)]
+pub struct Context<'a> {
+    pub alloc: Global,
+    pub around: Around<'a>,
+}
+
+impl<'a> Context<'a> {
+    /// The same in the cases of a `switch`.
+    pub fn of_switch(self) -> Context<'a>
+        ensures { around_of result.around ≡ record (around_of self.entry.around) { breakable = true } }
+    {
+        let around = Around {
+            breakable: true,
+            ..self.around
+        };
+        Context { around, ..self }
+    }
+
+    /// The same in the body of a label, with the labels that enclose there.
+    pub fn of_label<'b>(self, labels: &'b Labels<'b>) -> Context<'b>
+    where
+        'a: 'b,
+        ensures { around_of result.around ≡ record (around_of self.entry.around) { labels = labels_of labels.now } }
+    {
+        let around = Around {
+            labels,
+            ..self.around
+        };
+        Context { around, ..self }
+    }
+
+    /// The same in the body of a loop.
+    pub fn of_loop(self) -> Context<'a>
+        ensures { around_of result.around ≡ record (around_of self.entry.around) { loop = true; breakable = true } }
+    {
+        let around = Around {
+            in_loop: true,
+            breakable: true,
+            ..self.around
+        };
+        Context { around, ..self }
+    }
+}

@@ -1,0 +1,15 @@
+//! What every production of the parser has in common, questions about expressions, and those that have none within.
+#![tactic(auto)]
+
+pub mod argument;
+mod around;
+mod error;
+pub mod link;
+pub mod operand;
+pub mod parser;
+pub mod proto;
+pub mod template;
+
+pub use around::{Around, Context, Labels};
+pub use error::ParseError;
+pub use parser::{binding_identifier, expect, give_up, semicolon, span_to};
