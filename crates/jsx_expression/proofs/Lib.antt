@@ -9,3 +9,5 @@ pub mod Holes
 pub mod Members
 pub mod Arguments
 pub mod Parts
+pub mod Params
+pub mod Functions

@@ -1,3 +1,4 @@
 pub mod Within
 pub mod Elements
 pub mod Gathering
+pub mod Functions

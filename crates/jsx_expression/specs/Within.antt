@@ -20,18 +20,18 @@ use Rattle.jsx_operand.specs.Around.{around_of}
 use Rattle.jsx_operand.specs.SoFar.{so_far}
 use Rattle.jsx_operand.specs.Spans.{IsPlaced, Spans}
 
-pub record ReadsWithin (bound : ℕ) (pre : Context → MutBor Here → ℕ → Type 0)
-    (post : Context → MutBor Here → ℕ → Result (Box Code Global) ParseError → MutBor Here → Type 0) : Type 0 where
-  pub callable : (c : Context) (x : MutBor Here) (level : ℕ) → left x.now < bound → IsTrue (is_level level) → pre c x level
-  pub read : (c : Context) (x y : MutBor Here) (level : ℕ) (r : Result (Box Code Global) ParseError) → post c x level r y
+pub record ReadsWithin {B : Type 0} (bound : ℕ) (pre : Context → MutBor Here → ℕ → B → Type 0)
+    (post : Context → MutBor Here → ℕ → B → Result (Box Code Global) ParseError → MutBor Here → Type 0) (body : B) : Type 0 where
+  pub callable : (c : Context) (x : MutBor Here) (level : ℕ) → left x.now < bound → IsTrue (is_level level) → pre c x level body
+  pub read : (c : Context) (x y : MutBor Here) (level : ℕ) (r : Result (Box Code Global) ParseError) → post c x level body r y
       → IfOk r (λ e. Only so_far (around_of c.around) (Part (Expr level)) (place_of x.now) (one (view_expr e.value)) (place_of y.now))
-  pub span : (c : Context) (x y : MutBor Here) (level : ℕ) (r : Result (Box Code Global) ParseError) → post c x level r y
+  pub span : (c : Context) (x y : MutBor Here) (level : ℕ) (r : Result (Box Code Global) ParseError) → post c x level body r y
       → IfOk r (λ e. Spans (expr_at e.value) (next_of x.now) (end_of y.now))
-  pub placed : (c : Context) (x y : MutBor Here) (level : ℕ) (r : Result (Box Code Global) ParseError) → post c x level r y
+  pub placed : (c : Context) (x y : MutBor Here) (level : ℕ) (r : Result (Box Code Global) ParseError) → post c x level body r y
       → IfOk r (λ e. IsPlaced (told_expr e.value) (view_expr e.value) x.now y.now)
-  pub shorter : (c : Context) (x y : MutBor Here) (level : ℕ) (r : Result (Box Code Global) ParseError) → post c x level r y
+  pub shorter : (c : Context) (x y : MutBor Here) (level : ℕ) (r : Result (Box Code Global) ParseError) → post c x level body r y
       → OnOk r (left y.now < left x.now)
-  pub ended : (c : Context) (x y : MutBor Here) (level : ℕ) (r : Result (Box Code Global) ParseError) → post c x level r y
+  pub ended : (c : Context) (x y : MutBor Here) (level : ℕ) (r : Result (Box Code Global) ParseError) → post c x level body r y
       → OnOk r (IsTrue (settled (place_of y.now)))
-  pub refused : (c : Context) (x y : MutBor Here) (level : ℕ) (r : Result (Box Code Global) ParseError) → post c x level r y
+  pub refused : (c : Context) (x y : MutBor Here) (level : ℕ) (r : Result (Box Code Global) ParseError) → post c x level body r y
       → Refused r (Barred so_far (around_of c.around) (Part (Expr level)) (place_of x.now))

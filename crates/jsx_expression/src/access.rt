@@ -21,19 +21,21 @@ ghost use Rattle.jsx_make.specs.NodeSpans.{expr_at};
 ghost use Rattle.jsx_operand.specs.Spans.{Extends, IsPlacedAs, IsPlacedBehind, IsPlacedOn, IsPlacedRow, Spans};
 ghost use Rattle.jsx_token.specs.Places.{begin_of, end_of};
 ghost use Rattle.jsx_expression.specs.Within.{ReadsWithin};
+ghost use Rattle.jsx_operand.specs.Bodies.{ReadsBodies};
 
 use crate::grammar::Expressions;
 use jsx_make::make;
 use jsx_operand::argument::place_argument;
 use jsx_operand::operand::{ASSIGNMENT, start_of};
 use jsx_operand::parser::{expect, give_up, span_to};
-use jsx_operand::{Context, ParseError};
+use jsx_operand::{Body, Context, ParseError};
 use jsx_token::{Fixed, Lexer, Word};
 use jsx_tree::{Expr, Word as Constant};
 
 impl<
-    F: for<'c, 's> Fn(Context<'c>, &mut Lexer<'s>, u8) -> Result<Box<Expr<'s>>, ParseError>,
-> Expressions<F> {
+    F: for<'c, 's> Fn(Context<'c>, &mut Lexer<'s>, u8, B) -> Result<Box<Expr<'s>>, ParseError>,
+    B: Copy + for<'c, 's> Fn(Context<'c>, &mut Lexer<'s>) -> Result<Body<'s>, ParseError>,
+> Expressions<F, B> {
     /// An argument: a spread, or an expression, which stands where its parentheses do, where it has some. It has no frame of its
     /// own, like all that a level of calls goes through.
     #[inline(always)]
@@ -42,7 +44,8 @@ impl<
         context: Context,
         lexer: &mut Lexer<'s>,
     ) -> Result<Box<Expr<'s>>, ParseError>
-        requires nests { ReadsWithin (suc (left lexer.old)) (F.pre self.now.inner) (F.post self.now.inner) }
+        requires nests { ReadsWithin (suc (left lexer.old)) (F.pre self.now.inner) (F.post self.now.inner) self.now.body }
+        requires bodies { ReadsBodies (left lexer.old) (B.pre self.now.body) (B.post self.now.body) }
         ensures read { IfOk result (λ e. Only so_far (around_of context.entry.around) (Part grammar.Argument) (place_of lexer.old) (one (view_expr e.value)) (place_of lexer.new)) }
         ensures placed { IfOk result (λ e. IsPlacedAs true (told_expr e.value) (view_expr e.value) lexer.old lexer.new) }
         ensures shorter { OnOk result (left lexer.new < left lexer.old) }
@@ -63,7 +66,8 @@ impl<
         context: Context,
         lexer: &mut Lexer<'s>,
     ) -> Result<Vec<Box<Expr<'s>>>, ParseError>
-        requires nests { ReadsWithin (suc (left lexer.old)) (F.pre self.now.inner) (F.post self.now.inner) }
+        requires nests { ReadsWithin (suc (left lexer.old)) (F.pre self.now.inner) (F.post self.now.inner) self.now.body }
+        requires bodies { ReadsBodies (left lexer.old) (B.pre self.now.body) (B.post self.now.body) }
         ensures read { IfOk result (λ v. OnlyRow so_far (around_of context.entry.around) (tail (tail (row_so_far (expression Call)))) (place_of lexer.old) (part (list (forest (map (inside view_expr) v.items))) none) (place_of lexer.new)) }
         ensures placed { IfOk result (λ v. IsPlacedRow (Many Commas grammar.Argument ∷ p ")" ∷ []) (tale (told_list (map (inside told_expr) v.items)) no_tales) (part (list (forest (map (inside view_expr) v.items))) none) lexer.old lexer.new) }
         ensures shorter { OnOk result (left lexer.new < left lexer.old) }
@@ -90,7 +94,8 @@ impl<
         lexer: &mut Lexer<'s>,
         callee: Box<Expr<'s>>,
     ) -> Result<Box<Expr<'s>>, ParseError>
-        requires nests { ReadsWithin (suc (left lexer.old)) (F.pre self.now.inner) (F.post self.now.inner) }
+        requires nests { ReadsWithin (suc (left lexer.old)) (F.pre self.now.inner) (F.post self.now.inner) self.now.body }
+        requires bodies { ReadsBodies (left lexer.old) (B.pre self.now.body) (B.post self.now.body) }
         ensures read { IfOk result (λ e. Built so_far (around_of context.entry.around) (tail (tail (row_so_far (expression Call)))) (expression Call) (part (view_expr callee.entry.value)) (view_expr e.value) (place_of lexer.old) (place_of lexer.new)) }
         ensures span { IfOk result (λ e. Extends (expr_at callee.entry.value) (expr_at e.value) (end_of lexer.new)) }
         ensures placed { IfOk result (λ e. IsPlacedOn (sign_of fixed.Open) callee.entry.value lexer.old e.value lexer.new) }
@@ -110,7 +115,8 @@ impl<
         lexer: &mut Lexer<'s>,
         object: Box<Expr<'s>>,
     ) -> Result<Box<Expr<'s>>, ParseError>
-        requires nests { ReadsWithin (suc (left lexer.old)) (F.pre self.now.inner) (F.post self.now.inner) }
+        requires nests { ReadsWithin (suc (left lexer.old)) (F.pre self.now.inner) (F.post self.now.inner) self.now.body }
+        requires bodies { ReadsBodies (left lexer.old) (B.pre self.now.body) (B.post self.now.body) }
         ensures read { IfOk result (λ e. Built so_far (around_of context.entry.around) (tail (tail (row_so_far (expression Index)))) (expression Index) (part (view_expr object.entry.value)) (view_expr e.value) (place_of lexer.old) (place_of lexer.new)) }
         ensures span { IfOk result (λ e. Extends (expr_at object.entry.value) (expr_at e.value) (end_of lexer.new)) }
         ensures placed { IfOk result (λ e. IsPlacedOn (mark (expression Index)) object.entry.value lexer.old e.value lexer.new) }
@@ -130,7 +136,8 @@ impl<
         context: Context,
         lexer: &mut Lexer<'s>,
     ) -> Result<Box<Expr<'s>>, ParseError>
-        requires nests { ReadsWithin (suc (left lexer.old)) (F.pre self.now.inner) (F.post self.now.inner) }
+        requires nests { ReadsWithin (suc (left lexer.old)) (F.pre self.now.inner) (F.post self.now.inner) self.now.body }
+        requires bodies { ReadsBodies (left lexer.old) (B.pre self.now.body) (B.post self.now.body) }
         ensures read { IfOk result (λ e. Built so_far (around_of context.entry.around) (tail (row_so_far (expression ImportCall))) (expression ImportCall) (λ ts. ts) (view_expr e.value) (place_of lexer.old) (place_of lexer.new)) }
         ensures span { IfOk result (λ e. Spans (expr_at e.value) (begin_of lexer.old) (end_of lexer.new)) }
         ensures placed { IfOk result (λ e. IsPlacedBehind (opening_sign (expression ImportCall)) lexer.old (told_expr e.value) (view_expr e.value) lexer.new) }
@@ -152,7 +159,8 @@ impl<
         context: Context,
         lexer: &mut Lexer<'s>,
     ) -> Result<Box<Expr<'s>>, ParseError>
-        requires nests { ReadsWithin (suc (left lexer.old)) (F.pre self.now.inner) (F.post self.now.inner) }
+        requires nests { ReadsWithin (suc (left lexer.old)) (F.pre self.now.inner) (F.post self.now.inner) self.now.body }
+        requires bodies { ReadsBodies (left lexer.old) (B.pre self.now.body) (B.post self.now.body) }
         ensures read { IfOk result (λ e. OnlyOpened (around_of context.entry.around) (opening_sign (expression ImportCall)) (view_expr e.value) (place_of lexer.old) (place_of lexer.new)) }
         ensures span { IfOk result (λ e. Spans (expr_at e.value) (begin_of lexer.old) (end_of lexer.new)) }
         ensures placed { IfOk result (λ e. IsPlacedBehind (opening_sign (expression ImportCall)) lexer.old (told_expr e.value) (view_expr e.value) lexer.new) }

@@ -21,6 +21,7 @@ ghost use Rattle.jsx_make.specs.NodeSpans.{expr_at};
 ghost use Rattle.jsx_operand.specs.Spans.{Extends, IsPlacedBehind, IsPlacedOn};
 ghost use Rattle.jsx_token.specs.Places.{end_of};
 ghost use Rattle.jsx_expression.specs.Within.{ReadsWithin};
+ghost use Rattle.jsx_operand.specs.Bodies.{ReadsBodies};
 
 use crate::grammar::Expressions;
 use jsx_base::BytePos;
@@ -28,13 +29,14 @@ use jsx_make::make;
 use jsx_operand::link::{Linking, name_link, take_link};
 use jsx_operand::operand::start_of;
 use jsx_operand::parser::{expect, span_to};
-use jsx_operand::{Context, ParseError};
+use jsx_operand::{Body, Context, ParseError};
 use jsx_token::{Fixed, Lexer};
 use jsx_tree::{Expr, Link, LinkForm};
 
 impl<
-    F: for<'c, 's> Fn(Context<'c>, &mut Lexer<'s>, u8) -> Result<Box<Expr<'s>>, ParseError>,
-> Expressions<F> {
+    F: for<'c, 's> Fn(Context<'c>, &mut Lexer<'s>, u8, B) -> Result<Box<Expr<'s>>, ParseError>,
+    B: Copy + for<'c, 's> Fn(Context<'c>, &mut Lexer<'s>) -> Result<Body<'s>, ParseError>,
+> Expressions<F, B> {
     /// A link behind its `[`, which begins at a place: `?.[a]`, `[a]`.
     pub(crate) fn index_link<'s>(
         &self,
@@ -43,7 +45,8 @@ impl<
         lo: BytePos,
         form: LinkForm,
     ) -> Result<Box<Link<'s>>, ParseError>
-        requires nests { ReadsWithin (suc (left lexer.old)) (F.pre self.now.inner) (F.post self.now.inner) }
+        requires nests { ReadsWithin (suc (left lexer.old)) (F.pre self.now.inner) (F.post self.now.inner) self.now.body }
+        requires bodies { ReadsBodies (left lexer.old) (B.pre self.now.body) (B.post self.now.body) }
         ensures read { IfOk result (λ l. Built so_far (around_of context.entry.around) (tail (row_so_far (expression (IndexLink false)))) (expression (IndexLink (is_optional form))) (λ ts. ts) (view_link l.value) (place_of lexer.old) (place_of lexer.new)) }
         ensures placed { IfOk result (λ l. IsPlacedLink lo.0 form (sign_of fixed.OpenBracket) lexer.old (told_link l.value) (view_link l.value) lexer.new) }
         ensures shorter { OnOk result (left lexer.new < left lexer.old) }
@@ -63,7 +66,8 @@ impl<
         lo: BytePos,
         form: LinkForm,
     ) -> Result<Box<Link<'s>>, ParseError>
-        requires nests { ReadsWithin (suc (left lexer.old)) (F.pre self.now.inner) (F.post self.now.inner) }
+        requires nests { ReadsWithin (suc (left lexer.old)) (F.pre self.now.inner) (F.post self.now.inner) self.now.body }
+        requires bodies { ReadsBodies (left lexer.old) (B.pre self.now.body) (B.post self.now.body) }
         ensures read { IfOk result (λ l. Built so_far (around_of context.entry.around) (tail (row_so_far (expression (CallLink false)))) (expression (CallLink (is_optional form))) (λ ts. ts) (view_link l.value) (place_of lexer.old) (place_of lexer.new)) }
         ensures placed { IfOk result (λ l. IsPlacedLink lo.0 form (sign_of fixed.Open) lexer.old (told_link l.value) (view_link l.value) lexer.new) }
         ensures shorter { OnOk result (left lexer.new < left lexer.old) }
@@ -80,7 +84,8 @@ impl<
         context: Context,
         lexer: &mut Lexer<'s>,
     ) -> Result<Box<Link<'s>>, ParseError>
-        requires nests { ReadsWithin (suc (left lexer.old)) (F.pre self.now.inner) (F.post self.now.inner) }
+        requires nests { ReadsWithin (suc (left lexer.old)) (F.pre self.now.inner) (F.post self.now.inner) self.now.body }
+        requires bodies { ReadsBodies (left lexer.old) (B.pre self.now.body) (B.post self.now.body) }
         ensures read { IfOk result (λ l. OnlyLink (around_of context.entry.around) (link_sign linkings.Optional) (place_of lexer.old) (view_link l.value) (place_of lexer.new)) }
         ensures optional { IfOk result (λ l. is_optional_link (view_link l.value) ≡ true) }
         ensures placed { IfOk result (λ l. IsPlacedBehind (link_sign linkings.Optional) lexer.old (told_link l.value) (view_link l.value) lexer.new) }
@@ -105,7 +110,8 @@ impl<
         lexer: &mut Lexer<'s>,
         linking: Linking,
     ) -> Result<Box<Link<'s>>, ParseError>
-        requires nests { ReadsWithin (suc (left lexer.old)) (F.pre self.now.inner) (F.post self.now.inner) }
+        requires nests { ReadsWithin (suc (left lexer.old)) (F.pre self.now.inner) (F.post self.now.inner) self.now.body }
+        requires bodies { ReadsBodies (left lexer.old) (B.pre self.now.body) (B.post self.now.body) }
         ensures read { IfOk result (λ l. OnlyLink (around_of context.entry.around) (link_sign linking) (place_of lexer.old) (view_link l.value) (place_of lexer.new)) }
         ensures placed { IfOk result (λ l. IsPlacedBehind (link_sign linking) lexer.old (told_link l.value) (view_link l.value) lexer.new) }
         ensures shorter { OnOk result (left lexer.new < left lexer.old) }
@@ -128,7 +134,8 @@ impl<
         lexer: &mut Lexer<'s>,
         base: Box<Expr<'s>>,
     ) -> Result<Box<Expr<'s>>, ParseError>
-        requires nests { ReadsWithin (suc (left lexer.old)) (F.pre self.now.inner) (F.post self.now.inner) }
+        requires nests { ReadsWithin (suc (left lexer.old)) (F.pre self.now.inner) (F.post self.now.inner) self.now.body }
+        requires bodies { ReadsBodies (left lexer.old) (B.pre self.now.body) (B.post self.now.body) }
         ensures read { IfOk result (λ e. Grown (around_of context.entry.around) (expression Chain) (view_expr base.entry.value) (place_of lexer.old) (view_expr e.value) (place_of lexer.new)) }
         ensures span { IfOk result (λ e. Extends (expr_at base.entry.value) (expr_at e.value) (end_of lexer.new)) }
         ensures placed { IfOk result (λ e. IsPlacedOn (mark (expression Chain)) base.entry.value lexer.old e.value lexer.new) }

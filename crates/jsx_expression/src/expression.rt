@@ -21,32 +21,48 @@ ghost use Rattle.jsx_expression.specs.Gathering.{IsGathered, NotGathered};
 ghost use Rattle.jsx_make.specs.NodeSpans.{expr_at};
 ghost use Rattle.jsx_operand.specs.Spans.{Extends, IsPlaced, IsPlacedOn, Spans};
 ghost use Rattle.jsx_token.specs.Places.{end_of, next_of};
+ghost use Rattle.jsx_operand.specs.Bodies.{ReadsBodies};
 
 use crate::grammar::Expressions;
-use jsx_operand::{Context, ParseError};
+use jsx_operand::{Body, Context, ParseError};
 use jsx_token::Lexer;
 use jsx_token::growth::Growth;
 use jsx_tree::Expr;
 
 /// An expression that begins with no other.
-pub fn beginning<'s>(context: Context, lexer: &mut Lexer<'s>) -> Result<Box<Expr<'s>>, ParseError>
+pub fn beginning<'s, B>(
+    context: Context,
+    lexer: &mut Lexer<'s>,
+    body: B,
+) -> Result<Box<Expr<'s>>, ParseError>
+where
+    B: Copy + for<'c, 't> Fn(Context<'c>, &mut Lexer<'t>) -> Result<Body<'t>, ParseError>,
+    requires bodies { ReadsBodies (left lexer.old) (B.pre body) (B.post body) }
     ensures read { IfOk result (λ e. Begins (around_of context.entry.around) (place_of lexer.old) (view_expr e.value) (place_of lexer.new)) }
     ensures span { IfOk result (λ e. Spans (expr_at e.value) (next_of lexer.old) (end_of lexer.new)) }
     ensures placed { IfOk result (λ e. IsPlaced (told_expr e.value) (view_expr e.value) lexer.old lexer.new) }
     ensures shorter { OnOk result (left lexer.new < left lexer.old) }
     ensures refused { Refused result (NoneBegins (around_of context.entry.around) (place_of lexer.old)) }
 {
-    Expressions { inner: expression }.beginning(context, lexer)
+    Expressions {
+        inner: expression::<B>,
+        body,
+    }
+    .beginning(context, lexer)
 }
 
 /// What goes on with an expression, behind its first token.
-pub fn grow<'s>(
+pub fn grow<'s, B>(
     context: Context,
     lexer: &mut Lexer<'s>,
     growth: Growth,
     first: Box<Expr<'s>>,
+    body: B,
 ) -> Result<Box<Expr<'s>>, ParseError>
-    requires { IsTrue (settled (place_of lexer.old)) }
+where
+    B: Copy + for<'c, 't> Fn(Context<'c>, &mut Lexer<'t>) -> Result<Body<'t>, ParseError>,
+    requires bodies { ReadsBodies (left lexer.old) (B.pre body) (B.post body) }
+    requires settled { IsTrue (settled (place_of lexer.old)) }
     ensures read { IfOk result (λ e. Grown (around_of context.entry.around) (growth_kind growth) (view_expr first.entry.value) (place_of lexer.old) (view_expr e.value) (place_of lexer.new)) }
     ensures span { IfOk result (λ e. Extends (expr_at first.entry.value) (expr_at e.value) (end_of lexer.new)) }
     ensures placed { IfOk result (λ e. IsPlacedOn (mark (growth_kind growth)) first.entry.value lexer.old e.value lexer.new) }
@@ -54,15 +70,23 @@ pub fn grow<'s>(
     ensures ended { OnOk result (IsTrue (settled (place_of lexer.new))) }
     ensures refused { Refused result (NotGrown (around_of context.entry.around) (growth_kind growth) (place_of lexer.old)) }
 {
-    Expressions { inner: expression }.grow(context, lexer, growth, first)
+    Expressions {
+        inner: expression::<B>,
+        body,
+    }
+    .grow(context, lexer, growth, first)
 }
 
 /// A template behind its tag (ECMA-262 section 13.3.11), which may have any escapes.
-pub fn tagged<'s>(
+pub fn tagged<'s, B>(
     context: Context,
     lexer: &mut Lexer<'s>,
     tag: Box<Expr<'s>>,
+    body: B,
 ) -> Result<Box<Expr<'s>>, ParseError>
+where
+    B: Copy + for<'c, 't> Fn(Context<'c>, &mut Lexer<'t>) -> Result<Body<'t>, ParseError>,
+    requires bodies { ReadsBodies (left lexer.old) (B.pre body) (B.post body) }
     ensures read { IfOk result (λ e. Built so_far (around_of context.entry.around) (tail (row_so_far (expression Tagged))) (expression Tagged) (part (view_expr tag.entry.value)) (view_expr e.value) (place_of lexer.old) (place_of lexer.new)) }
     ensures fits { OnOk result (IsTrue (climbing.fits (expression Tagged) (view_expr tag.entry.value))) }
     ensures span { IfOk result (λ e. Extends (expr_at tag.entry.value) (expr_at e.value) (end_of lexer.new)) }
@@ -71,16 +95,24 @@ pub fn tagged<'s>(
     ensures ended { OnOk result (IsTrue (settled (place_of lexer.new))) }
     ensures refused { Refused result (NotTagged (around_of context.entry.around) (view_expr tag.entry.value) (place_of lexer.old)) }
 {
-    Expressions { inner: expression }.tagged(context, lexer, tag)
+    Expressions {
+        inner: expression::<B>,
+        body,
+    }
+    .tagged(context, lexer, tag)
 }
 
 /// An expression of a level or more, up to where it doesn't go on: `a.b(c) + d`. A template goes on with it at every level.
-pub fn expression<'s>(
+pub fn expression<'s, B>(
     context: Context,
     lexer: &mut Lexer<'s>,
     level: u8,
+    body: B,
 ) -> Result<Box<Expr<'s>>, ParseError>
-    requires { IsTrue (is_level level) }
+where
+    B: Copy + for<'c, 't> Fn(Context<'c>, &mut Lexer<'t>) -> Result<Body<'t>, ParseError>,
+    requires bodies { ReadsBodies (left lexer.old) (B.pre body) (B.post body) }
+    requires ranked { IsTrue (is_level level) }
     ensures read { IfOk result (λ e. Only so_far (around_of context.entry.around) (Part (grammar.Expr level)) (place_of lexer.old) (one (view_expr e.value)) (place_of lexer.new)) }
     ensures span { IfOk result (λ e. Spans (expr_at e.value) (next_of lexer.old) (end_of lexer.new)) }
     ensures placed { IfOk result (λ e. IsPlaced (told_expr e.value) (view_expr e.value) lexer.old lexer.new) }
@@ -88,11 +120,22 @@ pub fn expression<'s>(
     ensures ended { OnOk result (IsTrue (settled (place_of lexer.new))) }
     ensures refused { Refused result (Barred so_far (around_of context.entry.around) (Part (grammar.Expr level)) (place_of lexer.old)) }
 {
-    Expressions { inner: expression }.expression(context, lexer, level)
+    Expressions {
+        inner: expression::<B>,
+        body,
+    }
+    .expression(context, lexer, level)
 }
 
 /// An expression, or several with commas between: `a, b` (ECMA-262 section 13.16).
-pub fn sequence<'s>(context: Context, lexer: &mut Lexer<'s>) -> Result<Box<Expr<'s>>, ParseError>
+pub fn sequence<'s, B>(
+    context: Context,
+    lexer: &mut Lexer<'s>,
+    body: B,
+) -> Result<Box<Expr<'s>>, ParseError>
+where
+    B: Copy + for<'c, 't> Fn(Context<'c>, &mut Lexer<'t>) -> Result<Body<'t>, ParseError>,
+    requires bodies { ReadsBodies (left lexer.old) (B.pre body) (B.post body) }
     ensures read { IfOk result (λ e. Only so_far (around_of context.entry.around) (Part (grammar.Expr 0)) (place_of lexer.old) (one (view_expr e.value)) (place_of lexer.new)) }
     ensures span { IfOk result (λ e. Spans (expr_at e.value) (next_of lexer.old) (end_of lexer.new)) }
     ensures placed { IfOk result (λ e. IsPlaced (told_expr e.value) (view_expr e.value) lexer.old lexer.new) }
@@ -100,20 +143,32 @@ pub fn sequence<'s>(context: Context, lexer: &mut Lexer<'s>) -> Result<Box<Expr<
     ensures ended { OnOk result (IsTrue (settled (place_of lexer.new))) }
     ensures refused { Refused result (Barred so_far (around_of context.entry.around) (Part (grammar.Expr 0)) (place_of lexer.old)) }
 {
-    Expressions { inner: expression }.sequence(context, lexer)
+    Expressions {
+        inner: expression::<B>,
+        body,
+    }
+    .sequence(context, lexer)
 }
 
 /// What is read with an expression that stands before it, with commas between: `a` and `, b`.
-pub fn more_items<'s>(
+pub fn more_items<'s, B>(
     context: Context,
     lexer: &mut Lexer<'s>,
     first: Box<Expr<'s>>,
+    body: B,
 ) -> Result<Box<Expr<'s>>, ParseError>
-    requires { IsTrue (settled (place_of lexer.old)) }
+where
+    B: Copy + for<'c, 't> Fn(Context<'c>, &mut Lexer<'t>) -> Result<Body<'t>, ParseError>,
+    requires bodies { ReadsBodies (left lexer.old) (B.pre body) (B.post body) }
+    requires settled { IsTrue (settled (place_of lexer.old)) }
     ensures read { IfOk result (λ e. IsGathered (around_of context.entry.around) first.entry.value lexer.old e.value lexer.new) }
     ensures within { OnOk result (left lexer.new ≤ left lexer.old) }
     ensures ended { OnOk result (IsTrue (settled (place_of lexer.new))) }
     ensures refused { Refused result (NotGathered (around_of context.entry.around) (view_expr first.entry.value) (place_of lexer.old)) }
 {
-    Expressions { inner: expression }.more_items(context, lexer, first)
+    Expressions {
+        inner: expression::<B>,
+        body,
+    }
+    .more_items(context, lexer, first)
 }

@@ -4,6 +4,7 @@
 mod access;
 mod chains;
 pub mod expression;
+pub mod function;
 mod grammar;
 mod literals;
 mod operations;

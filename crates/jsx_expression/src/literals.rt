@@ -23,6 +23,7 @@ ghost use Rattle.jsx_make.specs.NodeSpans.{expr_at};
 ghost use Rattle.jsx_operand.specs.Spans.{IsPlaced, IsPlacedBehind, IsPlacedPast, IsPlacedRow, Spans};
 ghost use Rattle.jsx_token.specs.Places.{begin_of, end_of};
 ghost use Rattle.jsx_expression.specs.Within.{ReadsWithin};
+ghost use Rattle.jsx_operand.specs.Bodies.{ReadsBodies};
 
 use crate::grammar::Expressions;
 use jsx_base::BytePos;
@@ -30,20 +31,22 @@ use jsx_make::make;
 use jsx_operand::operand::{ASSIGNMENT, is_paired, literal_key};
 use jsx_operand::parser::{expect, give_up, span_to};
 use jsx_operand::proto::has_two_protos;
-use jsx_operand::{Context, ParseError};
+use jsx_operand::{Body, Context, ParseError};
 use jsx_token::{Fixed, Leaf, Lexer};
 use jsx_tree::{Expr, Ident, Key, Prop, Text};
 
 impl<
-    F: for<'c, 's> Fn(Context<'c>, &mut Lexer<'s>, u8) -> Result<Box<Expr<'s>>, ParseError>,
-> Expressions<F> {
+    F: for<'c, 's> Fn(Context<'c>, &mut Lexer<'s>, u8, B) -> Result<Box<Expr<'s>>, ParseError>,
+    B: Copy + for<'c, 's> Fn(Context<'c>, &mut Lexer<'s>) -> Result<Body<'s>, ParseError>,
+> Expressions<F, B> {
     /// A spread behind its `...`: `...a` (ECMA-262 sections 13.2.4 and 13.3.8).
     pub(crate) fn spread<'s>(
         &self,
         context: Context,
         lexer: &mut Lexer<'s>,
     ) -> Result<Box<Expr<'s>>, ParseError>
-        requires nests { ReadsWithin (suc (left lexer.old)) (F.pre self.now.inner) (F.post self.now.inner) }
+        requires nests { ReadsWithin (suc (left lexer.old)) (F.pre self.now.inner) (F.post self.now.inner) self.now.body }
+        requires bodies { ReadsBodies (left lexer.old) (B.pre self.now.body) (B.post self.now.body) }
         ensures read { IfOk result (λ e. Built so_far (around_of context.entry.around) (tail (row_so_far (expression Spread))) (expression Spread) (λ ts. ts) (view_expr e.value) (place_of lexer.old) (place_of lexer.new)) }
         ensures span { IfOk result (λ e. Spans (expr_at e.value) (begin_of lexer.old) (end_of lexer.new)) }
         ensures placed { IfOk result (λ e. IsPlacedBehind (opening_sign (expression Spread)) lexer.old (told_expr e.value) (view_expr e.value) lexer.new) }
@@ -61,7 +64,8 @@ impl<
         context: Context,
         lexer: &mut Lexer<'s>,
     ) -> Result<Box<Expr<'s>>, ParseError>
-        requires nests { ReadsWithin (suc (left lexer.old)) (F.pre self.now.inner) (F.post self.now.inner) }
+        requires nests { ReadsWithin (suc (left lexer.old)) (F.pre self.now.inner) (F.post self.now.inner) self.now.body }
+        requires bodies { ReadsBodies (left lexer.old) (B.pre self.now.body) (B.post self.now.body) }
         ensures read { IfOk result (λ e. OnlyItem (around_of context.entry.around) grammar.ArrayItem (place_of lexer.old) (view_expr e.value) (place_of lexer.new)) }
         ensures placed { IfOk result (λ e. IsPlaced (told_expr e.value) (view_expr e.value) lexer.old lexer.new) }
         ensures shorter { OnOk result (left lexer.new < left lexer.old) }
@@ -79,7 +83,8 @@ impl<
         context: Context,
         lexer: &mut Lexer<'s>,
     ) -> Result<Vec<Box<Expr<'s>>>, ParseError>
-        requires nests { ReadsWithin (suc (left lexer.old)) (F.pre self.now.inner) (F.post self.now.inner) }
+        requires nests { ReadsWithin (suc (left lexer.old)) (F.pre self.now.inner) (F.post self.now.inner) self.now.body }
+        requires bodies { ReadsBodies (left lexer.old) (B.pre self.now.body) (B.post self.now.body) }
         ensures read { IfOk result (λ v. OnlyRow so_far (around_of context.entry.around) (tail (row_so_far (expression Array))) (place_of lexer.old) (part (list (forest (map (inside view_expr) v.items))) none) (place_of lexer.new)) }
         ensures placed { IfOk result (λ v. IsPlacedRow (Many Elisions grammar.ArrayItem ∷ p "]" ∷ []) (tale (told_list (map (inside told_expr) v.items)) no_tales) (part (list (forest (map (inside view_expr) v.items))) none) lexer.old lexer.new) }
         ensures shorter { OnOk result (left lexer.new < left lexer.old) }
@@ -109,7 +114,8 @@ impl<
         context: Context,
         lexer: &mut Lexer<'s>,
     ) -> Result<Box<Expr<'s>>, ParseError>
-        requires nests { ReadsWithin (suc (left lexer.old)) (F.pre self.now.inner) (F.post self.now.inner) }
+        requires nests { ReadsWithin (suc (left lexer.old)) (F.pre self.now.inner) (F.post self.now.inner) self.now.body }
+        requires bodies { ReadsBodies (left lexer.old) (B.pre self.now.body) (B.post self.now.body) }
         ensures read { IfOk result (λ e. Built so_far (around_of context.entry.around) (tail (row_so_far (expression Array))) (expression Array) (λ ts. ts) (view_expr e.value) (place_of lexer.old) (place_of lexer.new)) }
         ensures span { IfOk result (λ e. Spans (expr_at e.value) (begin_of lexer.old) (end_of lexer.new)) }
         ensures placed { IfOk result (λ e. IsPlacedBehind (opening_sign (expression Array)) lexer.old (told_expr e.value) (view_expr e.value) lexer.new) }
@@ -128,7 +134,8 @@ impl<
         context: Context,
         lexer: &mut Lexer<'s>,
     ) -> Result<Box<Prop<'s>>, ParseError>
-        requires nests { ReadsWithin (suc (left lexer.old)) (F.pre self.now.inner) (F.post self.now.inner) }
+        requires nests { ReadsWithin (suc (left lexer.old)) (F.pre self.now.inner) (F.post self.now.inner) self.now.body }
+        requires bodies { ReadsBodies (left lexer.old) (B.pre self.now.body) (B.post self.now.body) }
         ensures read { IfOk result (λ p. Built so_far (around_of context.entry.around) (tail (row_so_far (expression Spread))) (expression Spread) (λ ts. ts) (view_prop p.value) (place_of lexer.old) (place_of lexer.new)) }
         ensures placed { IfOk result (λ p. IsPlacedBehind (opening_sign (expression Spread)) lexer.old (told_prop p.value) (view_prop p.value) lexer.new) }
         ensures shorter { OnOk result (left lexer.new < left lexer.old) }
@@ -145,7 +152,8 @@ impl<
         context: Context,
         lexer: &mut Lexer<'s>,
     ) -> Result<Key<'s>, ParseError>
-        requires nests { ReadsWithin (suc (left lexer.old)) (F.pre self.now.inner) (F.post self.now.inner) }
+        requires nests { ReadsWithin (suc (left lexer.old)) (F.pre self.now.inner) (F.post self.now.inner) self.now.body }
+        requires bodies { ReadsBodies (left lexer.old) (B.pre self.now.body) (B.post self.now.body) }
         ensures read { IfOk result (λ k. Built so_far (around_of context.entry.around) (tail (row_so_far (function ComputedKey))) (function ComputedKey) (λ ts. ts) (view_key k) (place_of lexer.old) (place_of lexer.new)) }
         ensures placed { IfOk result (λ k. IsPlacedBehind (sign_of fixed.OpenBracket) lexer.old (told_key k) (view_key k) lexer.new) }
         ensures shorter { OnOk result (left lexer.new < left lexer.old) }
@@ -165,7 +173,8 @@ impl<
         lo: BytePos,
         key: Key<'s>,
     ) -> Result<Box<Prop<'s>>, ParseError>
-        requires nests { ReadsWithin (suc (left lexer.old)) (F.pre self.now.inner) (F.post self.now.inner) }
+        requires nests { ReadsWithin (suc (left lexer.old)) (F.pre self.now.inner) (F.post self.now.inner) self.now.body }
+        requires bodies { ReadsBodies (left lexer.old) (B.pre self.now.body) (B.post self.now.body) }
         ensures read { IfOk result (λ p. Built so_far (around_of context.entry.around) (tail (row_so_far (expression Property))) (expression Property) (part (view_key key.entry)) (view_prop p.value) (place_of lexer.old) (place_of lexer.new)) }
         ensures placed { IfOk result (λ p. IsPlacedPast lo.0 (told_key key.entry) (view_key key.entry) lexer.old (told_prop p.value) (view_prop p.value) lexer.new) }
         ensures shorter { OnOk result (left lexer.new < left lexer.old) }
@@ -182,7 +191,8 @@ impl<
         context: Context,
         lexer: &mut Lexer<'s>,
     ) -> Result<Box<Prop<'s>>, ParseError>
-        requires nests { ReadsWithin (suc (left lexer.old)) (F.pre self.now.inner) (F.post self.now.inner) }
+        requires nests { ReadsWithin (suc (left lexer.old)) (F.pre self.now.inner) (F.post self.now.inner) self.now.body }
+        requires bodies { ReadsBodies (left lexer.old) (B.pre self.now.body) (B.post self.now.body) }
         ensures read { IfOk result (λ p. OnlyMember (around_of context.entry.around) (place_of lexer.old) (view_prop p.value) (place_of lexer.new)) }
         ensures placed { IfOk result (λ p. IsPlaced (told_prop p.value) (view_prop p.value) lexer.old lexer.new) }
         ensures shorter { OnOk result (left lexer.new < left lexer.old) }
@@ -214,7 +224,8 @@ impl<
         context: Context,
         lexer: &mut Lexer<'s>,
     ) -> Result<Vec<Box<Prop<'s>>>, ParseError>
-        requires nests { ReadsWithin (suc (left lexer.old)) (F.pre self.now.inner) (F.post self.now.inner) }
+        requires nests { ReadsWithin (suc (left lexer.old)) (F.pre self.now.inner) (F.post self.now.inner) self.now.body }
+        requires bodies { ReadsBodies (left lexer.old) (B.pre self.now.body) (B.post self.now.body) }
         ensures read { IfOk result (λ v. OnlyRow so_far (around_of context.entry.around) (tail (row_so_far (expression Object))) (place_of lexer.old) (part (list (forest (map (inside view_prop) v.items))) none) (place_of lexer.new)) }
         ensures placed { IfOk result (λ v. IsPlacedRow behind_brace (tale (told_list (map (inside told_prop) v.items)) no_tales) (part (list (forest (map (inside view_prop) v.items))) none) lexer.old lexer.new) }
         ensures shorter { OnOk result (left lexer.new < left lexer.old) }
@@ -239,7 +250,8 @@ impl<
         context: Context,
         lexer: &mut Lexer<'s>,
     ) -> Result<Box<Expr<'s>>, ParseError>
-        requires nests { ReadsWithin (suc (left lexer.old)) (F.pre self.now.inner) (F.post self.now.inner) }
+        requires nests { ReadsWithin (suc (left lexer.old)) (F.pre self.now.inner) (F.post self.now.inner) self.now.body }
+        requires bodies { ReadsBodies (left lexer.old) (B.pre self.now.body) (B.post self.now.body) }
         ensures read { IfOk result (λ e. BuiltNode so_far (around_of context.entry.around) (tail (row_so_far (expression Object))) (expression Object) (view_expr e.value) (place_of lexer.old) (place_of lexer.new)) }
         ensures span { IfOk result (λ e. Spans (expr_at e.value) (begin_of lexer.old) (end_of lexer.new)) }
         ensures placed { IfOk result (λ e. IsPlacedBehind (opening_sign (expression Object)) lexer.old (told_expr e.value) (view_expr e.value) lexer.new) }

@@ -21,6 +21,7 @@ ghost use Rattle.jsx_make.specs.NodeSpans.{expr_at};
 ghost use Rattle.jsx_operand.specs.Spans.{Extends, IsPlaced, IsPlacedRow, Spans};
 ghost use Rattle.jsx_token.specs.Places.{end_of, next_of};
 ghost use Rattle.jsx_expression.specs.Within.{ReadsWithin};
+ghost use Rattle.jsx_operand.specs.Bodies.{ReadsBodies};
 
 use crate::grammar::Expressions;
 use jsx_base::BytePos;
@@ -28,13 +29,14 @@ use jsx_make::make;
 use jsx_operand::operand::{level, start_of};
 use jsx_operand::parser::{expect, give_up, span_to};
 use jsx_operand::template::{Template, middle, piece_text, whole_template};
-use jsx_operand::{Context, ParseError};
+use jsx_operand::{Body, Context, ParseError};
 use jsx_token::{Fixed, Leaf, Lexer, Piece};
 use jsx_tree::{Expr, Text};
 
 impl<
-    F: for<'c, 's> Fn(Context<'c>, &mut Lexer<'s>, u8) -> Result<Box<Expr<'s>>, ParseError>,
-> Expressions<F> {
+    F: for<'c, 's> Fn(Context<'c>, &mut Lexer<'s>, u8, B) -> Result<Box<Expr<'s>>, ParseError>,
+    B: Copy + for<'c, 's> Fn(Context<'c>, &mut Lexer<'s>) -> Result<Body<'s>, ParseError>,
+> Expressions<F, B> {
     /// A template behind its first piece: `a}b${c}d`.
     pub(crate) fn template_rest<'s>(
         &self,
@@ -44,7 +46,8 @@ impl<
         lo: BytePos,
         head: Text<'s>,
     ) -> Result<Template<'s>, ParseError>
-        requires nests { ReadsWithin (suc (left lexer.old)) (F.pre self.now.inner) (F.post self.now.inner) }
+        requires nests { ReadsWithin (suc (left lexer.old)) (F.pre self.now.inner) (F.post self.now.inner) self.now.body }
+        requires bodies { ReadsBodies (left lexer.old) (B.pre self.now.body) (B.post self.now.body) }
         requires fits { fits_tag is_tagged (text_of head) ≡ true }
         ensures divided { IfOk result (λ t. IsDivided is_tagged head.entry t.pieces.items t.parts.items) }
         ensures begins { IfOk result (λ t. t.lo ≡ lo) }
@@ -78,7 +81,8 @@ impl<
         lexer: &mut Lexer<'s>,
         is_tagged: bool,
     ) -> Result<Template<'s>, ParseError>
-        requires nests { ReadsWithin (left lexer.old) (F.pre self.now.inner) (F.post self.now.inner) }
+        requires nests { ReadsWithin (left lexer.old) (F.pre self.now.inner) (F.post self.now.inner) self.now.body }
+        requires bodies { ReadsBodies (left lexer.old) (B.pre self.now.body) (B.post self.now.body) }
         ensures begins { IfOk result (λ t. t.lo.0 ≡ next_of lexer.old) }
         ensures read { IfOk result (λ t. IsTemplate (around_of context.entry.around) is_tagged (place_of lexer.old) (template is_tagged t.pieces.items (map (inside view_expr) t.parts.items)) (place_of lexer.new)) }
         ensures placed { IfOk result (λ t. IsPlacedTemplate is_tagged t.pieces.items t.parts.items lexer.old lexer.new) }
@@ -104,7 +108,8 @@ impl<
         context: Context,
         lexer: &mut Lexer<'s>,
     ) -> Result<Box<Expr<'s>>, ParseError>
-        requires nests { ReadsWithin (left lexer.old) (F.pre self.now.inner) (F.post self.now.inner) }
+        requires nests { ReadsWithin (left lexer.old) (F.pre self.now.inner) (F.post self.now.inner) self.now.body }
+        requires bodies { ReadsBodies (left lexer.old) (B.pre self.now.body) (B.post self.now.body) }
         requires quoted { IsTrue (is_quoted (next_token Operator lexer.old)) }
         ensures read { IfOk result (λ e. Begins (around_of context.entry.around) (place_of lexer.old) (view_expr e.value) (place_of lexer.new)) }
         ensures span { IfOk result (λ e. Spans (expr_at e.value) (next_of lexer.old) (end_of lexer.new)) }
@@ -126,7 +131,8 @@ impl<
         lexer: &mut Lexer<'s>,
         tag: Box<Expr<'s>>,
     ) -> Result<Box<Expr<'s>>, ParseError>
-        requires nests { ReadsWithin (suc (left lexer.old)) (F.pre self.now.inner) (F.post self.now.inner) }
+        requires nests { ReadsWithin (suc (left lexer.old)) (F.pre self.now.inner) (F.post self.now.inner) self.now.body }
+        requires bodies { ReadsBodies (left lexer.old) (B.pre self.now.body) (B.post self.now.body) }
         ensures read { IfOk result (λ e. Built so_far (around_of context.entry.around) (tail (row_so_far (expression Tagged))) (expression Tagged) (part (view_expr tag.entry.value)) (view_expr e.value) (place_of lexer.old) (place_of lexer.new)) }
         ensures fits { OnOk result (IsTrue (climbing.fits (expression Tagged) (view_expr tag.entry.value))) }
         ensures span { IfOk result (λ e. Extends (expr_at tag.entry.value) (expr_at e.value) (end_of lexer.new)) }

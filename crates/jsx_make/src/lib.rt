@@ -1,5 +1,6 @@
 //! The makers of nodes of the tree, each with what the node is, tells and spans.
 #![tactic(auto)]
 
+mod functions;
 pub mod make;
 mod statements;

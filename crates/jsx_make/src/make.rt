@@ -1,4 +1,4 @@
-//! The makers of nodes, those of statements by name. Each node is in a box: a function that holds boxes costs a check little, and one that holds a node
+//! The makers of nodes, those of functions and of statements by name. Each node is in a box: a function that holds boxes costs a check little, and one that holds a node
 //! by value much.
 
 ghost use Rattle.std.specs.Prelude.{◌≡◌, [], ◌∷◌, IfOk, map, false, true};
@@ -11,6 +11,9 @@ ghost use Rattle.jsx_tree.specs.Spans.{no_tales, tells};
 ghost use Rattle.jsx_make.specs.NodeSpans.{expr_at, member_at, pat_at};
 ghost use Rattle.jsx_make.specs.Members.{view_prop};
 
+pub use crate::functions::{
+    function_declaration, function_expression, rest, return_statement, with_default,
+};
 pub use crate::statements::{
     block, break_statement, case_clause, catch_clause, continue_statement, debugger_statement,
     declarator, do_statement, empty_statement, expression_statement, for_in, for_of, for_statement,

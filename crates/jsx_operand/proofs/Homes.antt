@@ -3,8 +3,8 @@ use Rattle.std.proofs.Common.{◌≡◌, Bool, true, false, not, refl, sym, ◌�
 use Rattle.std.specs.Prelude.{IsTrue, codes, [], ◌∷◌, ◌&&◌, ◌||◌}
 use Rattle.jsx_base.specs.Token.{Text, Operator, TokenKind, IdentifierName, NumericLiteral, BigIntLiteral, StringLiteral, NoSubstitution, TemplateHead, TemplateMiddle, TemplateTail, JsxName, Elision, RegExpLiteral, among}
 use Rattle.jsx_tree.specs.Signs.{Tok}
-use Rattle.jsx_tree.specs.Kinds.{VarWord, LetWord, ConstWord, Block, Empty, If, Do, While, Continue, Break, Label, Throw, Debugger, Module, Directive, Var, Declarator, ExprStmt, Binds, Assigns, Assign, OpAssign, Nullish, Or, And, BitOr, BitXor, BitAnd, ShiftLeft, ShiftRight, ShiftOut, Add, Subtract, Multiply, Divide, Remainder, Exponentiate, Void, TypeOf, Positive, Negative, Complement, Not, Unary, Binary, Cond, Call, Member, Index, ImportCall, Parenthesized, Element, Kind, program, statement, expression, jsx, Tree, leaf, node, list, Forest, Delete, PrefixUpdate, PostfixUpdate, Increment, Decrement, Seq, For, ForDeclaration, Switch, Case, Default, Array, Spread, Try, Catch, Object, Property, Shorthand, ComputedKey, function, New, NewWithoutArguments, NewTarget, ImportMeta, ForIn, ForOf, ForBinding, PlainTemplate, SubstitutedTemplate, TemplateSpan, Tagged, Chain, NameLink, IndexLink, CallLink, ParenTarget}
-use Rattle.jsx_tree.specs.Nonterminals.{Nonterminal, Expr, NullishLeft, MemberObject, DotObject, SimpleTarget, Argument, Ident, Name, StringOnly, Pat, TagName, Attributes, is_ident, is_bound, is_value_word, leaf_in, homes, NewCallee, TemplatePart}
+use Rattle.jsx_tree.specs.Kinds.{VarWord, LetWord, ConstWord, FunctionBody, ImportBare, Import, ImportAll, ImportList, ImportBoth, Specifier, SpecifierAs, ExportNames, ExportFrom, ExportAll, ExportAllAs, ExportDecl, ExportDefaultFn, ExportDefaultExpr, Return, FunctionDecl, FunctionExpr, WithInit, RestPat, Block, Empty, If, Do, While, Continue, Break, Label, Throw, Debugger, Module, Directive, Var, Declarator, ExprStmt, Binds, Assigns, Assign, OpAssign, Nullish, Or, And, BitOr, BitXor, BitAnd, ShiftLeft, ShiftRight, ShiftOut, Add, Subtract, Multiply, Divide, Remainder, Exponentiate, Void, TypeOf, Positive, Negative, Complement, Not, Unary, Binary, Cond, Call, Member, Index, ImportCall, Parenthesized, Element, Kind, program, statement, expression, jsx, Tree, leaf, node, list, Forest, Delete, PrefixUpdate, PostfixUpdate, Increment, Decrement, Seq, For, ForDeclaration, Switch, Case, Default, Array, Spread, Try, Catch, Object, Property, Shorthand, ComputedKey, function, New, NewWithoutArguments, NewTarget, ImportMeta, ForIn, ForOf, ForBinding, PlainTemplate, SubstitutedTemplate, TemplateSpan, Tagged, Chain, NameLink, IndexLink, CallLink, ParenTarget}
+use Rattle.jsx_tree.specs.Nonterminals.{Nonterminal, Expr, NullishLeft, MemberObject, DotObject, SimpleTarget, Argument, Ident, BindingIdent, Param, Name, StringOnly, Pat, TagName, Attributes, is_ident, is_bound, is_value_word, leaf_in, homes, NewCallee, TemplatePart}
 use Rattle.jsx_tree.specs.Grammar.{Part}
 use Rattle.jsx_tree.specs.Form.{admits, fits_below, is_leaf}
 use Rattle.jsx_tree.specs.Spelling.{mode_of, spelled}
@@ -29,7 +29,7 @@ use Rattle.jsx_token.specs.declared.heading.Heading.{Heading}
 use Rattle.jsx_token.specs.declared.heading.Heading.TheVariants as heading
 use Rattle.jsx_token.specs.Headings.{Begins, own, over_keys, over_items}
 use Rattle.jsx_token.proofs.Headings.{every_begun, of_begun}
-use Rattle.jsx_operand.proofs.Inners.{Inner, directive, declarator, declaration, binding, case', default', inner_kind, every_inner, of_inner, catch', property, shorthand, computed, span, tagged_plain, tagged_substituted, name_link, index_link, call_link}
+use Rattle.jsx_operand.proofs.Inners.{Inner, import_bare, import_from, export_names, export_from, export_all, export_all_as, export_declared, export_function, export_value, function_body, with_init, rest_part, import_all, import_list, import_both, specifier, specifier_as, portal, directive, declarator, declaration, binding, case', default', inner_kind, every_inner, of_inner, catch', property, shorthand, computed, span, tagged_plain, tagged_substituted, name_link, index_link, call_link}
 use Rattle.jsx_token.proofs.Listed.{Listed, listed, listed_binary, kinds, every, of_each}
 use Rattle.jsx_token.proofs.Lives.{is_lone, is_single, lives}
 
@@ -48,6 +48,21 @@ pub data Taken : Kind → Type 0 where
 pub taken : (k : Kind) → has_kind k ≡ true → Taken k
 taken (program Module) h = module'
 taken (program Directive) h = inner directive
+taken (program FunctionBody) h = inner function_body
+taken (program ImportBare) h = inner (portal import_bare)
+taken (program Import) h = inner (portal import_from)
+taken (program ImportAll) h = inner import_all
+taken (program ImportList) h = inner import_list
+taken (program ImportBoth) h = inner import_both
+taken (program (Specifier s)) h = inner (specifier s)
+taken (program (SpecifierAs s)) h = inner (specifier_as s)
+taken (program ExportNames) h = inner (portal export_names)
+taken (program ExportFrom) h = inner (portal export_from)
+taken (program ExportAll) h = inner (portal export_all)
+taken (program ExportAllAs) h = inner (portal export_all_as)
+taken (program ExportDecl) h = inner (portal export_declared)
+taken (program ExportDefaultFn) h = inner (portal export_function)
+taken (program ExportDefaultExpr) h = inner (portal export_value)
 taken (statement (Var VarWord)) h = headed (own (heading.Var declare_word.Var))
 taken (statement (Var LetWord)) h = headed (own (heading.Var declare_word.Let))
 taken (statement (Var ConstWord)) h = headed (own (heading.Var declare_word.Const))
@@ -65,6 +80,8 @@ taken (statement Break) h = headed (own heading.Break)
 taken (statement Throw) h = headed (own heading.Throw)
 taken (statement Try) h = headed (own heading.Try)
 taken (statement Debugger) h = headed (own heading.Debugger)
+taken (statement Return) h = headed (own heading.Return)
+taken (statement FunctionDecl) h = headed (own heading.Function)
 taken (statement Declarator) h = inner declarator
 taken (statement (ForDeclaration w)) h = inner (declaration w)
 taken (statement (ForBinding w)) h = inner (binding w)
@@ -76,6 +93,9 @@ taken (statement Label) h = labelled
 taken (expression Seq) h = sequence
 taken (expression Spread) h = spread
 taken (function ParenTarget) h = aimed
+taken (function FunctionExpr) h = operand (listed (function FunctionExpr) refl refl refl)
+taken (function (WithInit Binds)) h = inner with_init
+taken (function (RestPat Binds)) h = inner rest_part
 taken (expression (Binary o)) h = operand (listed_binary o)
 taken (expression Assign) h = operand (listed (expression Assign) refl refl refl)
 taken (expression (OpAssign Nullish)) h = operand (listed (expression (OpAssign Nullish)) refl refl refl)
@@ -261,11 +281,18 @@ ident_kind : (l : TokenKind) (t : Text) → leaf_at Ident l t ≡ true → l ≡
 ident_kind IdentifierName t h = refl
 ident_kind _ t h = cc
 
+binding_kind : (l : TokenKind) (t : Text) → leaf_at BindingIdent l t ≡ true → l ≡ IdentifierName
+binding_kind IdentifierName t h = refl
+binding_kind _ t h = cc
+
 pub tags : LeafOnly TagName JsxName
 tags = record { token = refl; never = refl; node = λ l ts. nowhere TagName refl refl refl refl refl refl refl; kind = tag_kind }
 
 pub patterns : LeafOnly (Pat Binds) IdentifierName
 patterns = record { token = refl; never = refl; node = λ l ts. nowhere (Pat Binds) refl refl refl refl refl refl refl; kind = pattern_kind }
+
+pub bindings : LeafOnly BindingIdent IdentifierName
+bindings = record { token = refl; never = refl; node = λ l ts. nowhere BindingIdent refl refl refl refl refl refl refl; kind = binding_kind }
 
 pub strings : LeafOnly StringOnly StringLiteral
 strings = record { token = refl; never = refl; node = λ l ts. nowhere StringOnly refl refl refl refl refl refl refl; kind = string_kind }
@@ -370,9 +397,11 @@ operand_leaf NewCallee k t o i h = h
 operand_leaf DotObject k t o i h = h
 operand_leaf (Pat Assigns) IdentifierName t o i h = bound_word t i
 operand_leaf SimpleTarget IdentifierName t o i h = bound_word t i
+operand_leaf BindingIdent IdentifierName t o i h = bound_word t i
 operand_leaf Ident IdentifierName t o i h = ap (λ b. b || among t (codes "this" ∷ codes "null" ∷ codes "true" ∷ codes "false" ∷ [])) i
 operand_leaf (TemplatePart j) k t o i h = absurd (no_piece j o)
 operand_leaf (Pat Binds) k t o i h = cc
+operand_leaf Param k t o i h = cc
 operand_leaf Name k t o i h = cc
 operand_leaf StringOnly k t o i h = cc
 operand_leaf TagName k t o i h = cc

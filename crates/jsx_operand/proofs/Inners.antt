@@ -1,8 +1,31 @@
--- The kinds that stand within statements, before them, in objects, in templates or in chains alone, in one list: what a test finds of all of them holds of each.
+-- The kinds that stand within statements, before them, in functions, in objects, in templates, in chains or in modules alone, in one list: what a test finds of all of them holds of each.
 use Rattle.std.proofs.Common.{◌≡◌, Bool, true, false}
 use Rattle.std.specs.Prelude.{◌&&◌}
-use Rattle.jsx_tree.specs.Kinds.{DeclareWord, VarWord, LetWord, ConstWord, Directive, Declarator, ForDeclaration, ForBinding, Case, Default, Catch, ComputedKey, Property, Shorthand, NameLink, IndexLink, CallLink, Kind, program, statement, function, expression, PlainTemplate, SubstitutedTemplate, TemplateSpan}
+use Rattle.jsx_tree.specs.Kinds.{DeclareWord, VarWord, LetWord, ConstWord, Side, Imported, Exported, From, FunctionBody, Directive, ImportBare, Import, ImportAll, ImportList, ImportBoth, Specifier, SpecifierAs, ExportNames, ExportFrom, ExportAll, ExportAllAs, ExportDecl, ExportDefaultFn, ExportDefaultExpr, Declarator, ForDeclaration, ForBinding, Case, Default, Catch, Binds, ComputedKey, WithInit, RestPat, Property, Shorthand, NameLink, IndexLink, CallLink, Kind, program, statement, function, expression, PlainTemplate, SubstitutedTemplate, TemplateSpan}
 use Rattle.jsx_tree.proofs.Tokens.{and_left, and_right}
+
+-- imports and exports, the items of a module that are no statements
+pub data Portal : Type 0 where
+  import_bare : Portal
+  import_from : Portal
+  export_names : Portal
+  export_from : Portal
+  export_all : Portal
+  export_all_as : Portal
+  export_declared : Portal
+  export_function : Portal
+  export_value : Portal
+
+abbrev pub portal_kind : Portal → Kind
+portal_kind import_bare = program ImportBare
+portal_kind import_from = program Import
+portal_kind export_names = program ExportNames
+portal_kind export_from = program ExportFrom
+portal_kind export_all = program ExportAll
+portal_kind export_all_as = program ExportAllAs
+portal_kind export_declared = program ExportDecl
+portal_kind export_function = program ExportDefaultFn
+portal_kind export_value = program ExportDefaultExpr
 
 pub data Inner : Type 0 where
   directive : Inner
@@ -21,6 +44,15 @@ pub data Inner : Type 0 where
   name_link : Bool → Inner
   index_link : Bool → Inner
   call_link : Bool → Inner
+  function_body : Inner
+  with_init : Inner
+  rest_part : Inner
+  import_all : Inner
+  import_list : Inner
+  import_both : Inner
+  specifier : Side → Inner
+  specifier_as : Side → Inner
+  portal : Portal → Inner
 
 abbrev pub inner_kind : Inner → Kind
 inner_kind directive = program Directive
@@ -39,6 +71,19 @@ inner_kind tagged_substituted = expression (SubstitutedTemplate true)
 inner_kind (name_link q) = expression (NameLink q)
 inner_kind (index_link q) = expression (IndexLink q)
 inner_kind (call_link q) = expression (CallLink q)
+inner_kind function_body = program FunctionBody
+inner_kind with_init = function (WithInit Binds)
+inner_kind rest_part = function (RestPat Binds)
+inner_kind import_all = program ImportAll
+inner_kind import_list = program ImportList
+inner_kind import_both = program ImportBoth
+inner_kind (specifier s) = program (Specifier s)
+inner_kind (specifier_as s) = program (SpecifierAs s)
+inner_kind (portal q) = portal_kind q
+
+abbrev pub is_portal : Inner → Bool
+is_portal (portal q) = true
+is_portal i = false
 
 abbrev pub every_word : (DeclareWord → Bool) → Bool
 every_word p = p VarWord && (p LetWord && p ConstWord)
@@ -71,8 +116,27 @@ of_form p a false = and_right (p true) _ a
 abbrev pub every_link : (Inner → Bool) → Bool
 every_link p = every_form (λ q. p (name_link q)) && (every_form (λ q. p (index_link q)) && every_form (λ q. p (call_link q)))
 
+-- those of a function
+abbrev pub every_of_function : (Inner → Bool) → Bool
+every_of_function p = p function_body && (p with_init && p rest_part)
+
+abbrev pub every_side : (Side → Bool) → Bool
+every_side p = p Imported && (p Exported && p From)
+
+of_side : (p : Side → Bool) → every_side p ≡ true → (s : Side) → p s ≡ true
+of_side p a Imported = and_left (p Imported) _ a
+of_side p a Exported = and_left (p Exported) _ (and_right (p Imported) _ a)
+of_side p a From = and_right (p Exported) _ (and_right (p Imported) _ a)
+
+-- those of imports and exports
+abbrev pub every_clause : (Inner → Bool) → Bool
+every_clause p = p import_all && (p import_list && (p import_both && (every_side (λ s. p (specifier s)) && every_side (λ s. p (specifier_as s)))))
+
+abbrev pub every_portal : (Portal → Bool) → Bool
+every_portal p = p import_bare && (p import_from && (p export_names && (p export_from && (p export_all && (p export_all_as && (p export_declared && (p export_function && p export_value)))))))
+
 abbrev pub every_inner : (Inner → Bool) → Bool
-every_inner p = p directive && (every_part p && (every_member p && (every_piece p && every_link p)))
+every_inner p = p directive && (every_part p && (every_member p && (every_piece p && (every_link p && (every_of_function p && (every_clause p && every_portal (λ q. p (portal q))))))))
 
 record Part (p : Inner → Bool) : Type 0 where
   declarator' : p declarator ≡ true
@@ -127,27 +191,87 @@ of_piece p a =
     by e f true = e
     by e f false = f
 
+record OfFunction (p : Inner → Bool) : Type 0 where
+  of_body : p function_body ≡ true
+  of_init : p with_init ≡ true
+  of_rest : p rest_part ≡ true
+
+of_function : (p : Inner → Bool) → every_of_function p ≡ true → OfFunction p
+of_function p a =
+    let b = and_right (p function_body) _ a in
+    record { of_body = and_left (p function_body) _ a; of_init = and_left (p with_init) _ b; of_rest = and_right (p with_init) _ b }
+
+record Clause (p : Inner → Bool) : Type 0 where
+  of_all : p import_all ≡ true
+  of_list : p import_list ≡ true
+  of_both : p import_both ≡ true
+  of_single : (s : Side) → p (specifier s) ≡ true
+  of_renamed : (s : Side) → p (specifier_as s) ≡ true
+
+of_clause : (p : Inner → Bool) → every_clause p ≡ true → Clause p
+of_clause p a =
+    let singles = every_side (λ s. p (specifier s)) in
+    let b = and_right (p import_all) _ a in
+    let c = and_right (p import_list) _ b in
+    let d = and_right (p import_both) _ c in
+    record { of_all = and_left (p import_all) _ a; of_list = and_left (p import_list) _ b; of_both = and_left (p import_both) _ c; of_single = of_side (λ s. p (specifier s)) (and_left singles _ d); of_renamed = of_side (λ s. p (specifier_as s)) (and_right singles _ d) }
+
+pub of_portal : (p : Portal → Bool) → every_portal p ≡ true → (q : Portal) → p q ≡ true
+of_portal p a q =
+    let b = and_right (p import_bare) _ a in
+    let c = and_right (p import_from) _ b in
+    let d = and_right (p export_names) _ c in
+    let e = and_right (p export_from) _ d in
+    let f = and_right (p export_all) _ e in
+    let g = and_right (p export_all_as) _ f in
+    let h = and_right (p export_declared) _ g in
+    by q (and_left (p import_bare) _ a) (and_left (p import_from) _ b) (and_left (p export_names) _ c) (and_left (p export_from) _ d) (and_left (p export_all) _ e) (and_left (p export_all_as) _ f) (and_left (p export_declared) _ g) (and_left (p export_function) _ h) (and_right (p export_function) _ h)
+  where
+    by : (r : Portal) → p import_bare ≡ true → p import_from ≡ true → p export_names ≡ true → p export_from ≡ true → p export_all ≡ true → p export_all_as ≡ true → p export_declared ≡ true → p export_function ≡ true → p export_value ≡ true → p r ≡ true
+    by import_bare a b c d e f g h i = a
+    by import_from a b c d e f g h i = b
+    by export_names a b c d e f g h i = c
+    by export_from a b c d e f g h i = d
+    by export_all a b c d e f g h i = e
+    by export_all_as a b c d e f g h i = f
+    by export_declared a b c d e f g h i = g
+    by export_function a b c d e f g h i = h
+    by export_value a b c d e f g h i = i
+
 pub of_inner : (p : Inner → Bool) → every_inner p ≡ true → (i : Inner) → p i ≡ true
 of_inner p a i =
     let b = and_right (p directive) _ a in
     let c = and_right (every_part p) _ b in
     let d = and_right (every_member p) _ c in
-    by i (and_left (p directive) _ a) (of_part p (and_left (every_part p) _ b)) (of_member p (and_left (every_member p) _ c)) (of_piece p (and_left (every_piece p) _ d)) (of_link p (and_right (every_piece p) _ d))
+    let e = and_right (every_piece p) _ d in
+    let f = and_right (every_link p) _ e in
+    let g = and_right (every_of_function p) _ f in
+    by i (and_left (p directive) _ a) (of_part p (and_left (every_part p) _ b)) (of_member p (and_left (every_member p) _ c)) (of_piece p (and_left (every_piece p) _ d)) (of_link p (and_left (every_link p) _ e)) (of_function p (and_left (every_of_function p) _ f)) (of_clause p (and_left (every_clause p) _ g))
+    (of_portal (λ q. p (portal q)) (and_right (every_clause p) _ g))
   where
-    by : (j : Inner) → p directive ≡ true → Part p → Member p → Piece p → Link p → p j ≡ true
-    by directive d q m r l = d
-    by declarator d q m r l = q.declarator'
-    by (declaration w) d q m r l = of_word (λ x. p (declaration x)) q.word w
-    by (binding w) d q m r l = of_word (λ x. p (binding x)) q.bound w
-    by case' d q m r l = q.of_case
-    by default' d q m r l = q.of_default
-    by catch' d q m r l = q.of_catch
-    by property d q m r l = m.of_property
-    by shorthand d q m r l = m.of_shorthand
-    by computed d q m r l = m.of_computed
-    by (span b) d q m r l = r.of_span b
-    by tagged_plain d q m r l = r.of_plain
-    by tagged_substituted d q m r l = r.of_substituted
-    by (name_link q) d s m r l = l.of_name q
-    by (index_link q) d s m r l = l.of_index q
-    by (call_link q) d s m r l = l.of_call q
+    by : (j : Inner) → p directive ≡ true → Part p → Member p → Piece p → Link p → OfFunction p → Clause p → ((q : Portal) → p (portal q) ≡ true) → p j ≡ true
+    by directive d q m r l f k o = d
+    by declarator d q m r l f k o = q.declarator'
+    by (declaration w) d q m r l f k o = of_word (λ x. p (declaration x)) q.word w
+    by (binding w) d q m r l f k o = of_word (λ x. p (binding x)) q.bound w
+    by case' d q m r l f k o = q.of_case
+    by default' d q m r l f k o = q.of_default
+    by catch' d q m r l f k o = q.of_catch
+    by property d q m r l f k o = m.of_property
+    by shorthand d q m r l f k o = m.of_shorthand
+    by computed d q m r l f k o = m.of_computed
+    by (span b) d q m r l f k o = r.of_span b
+    by tagged_plain d q m r l f k o = r.of_plain
+    by tagged_substituted d q m r l f k o = r.of_substituted
+    by (name_link q) d s m r l f k o = l.of_name q
+    by (index_link q) d s m r l f k o = l.of_index q
+    by (call_link q) d s m r l f k o = l.of_call q
+    by function_body d q m r l f k o = f.of_body
+    by with_init d q m r l f k o = f.of_init
+    by rest_part d q m r l f k o = f.of_rest
+    by import_all d q m r l f k o = k.of_all
+    by import_list d q m r l f k o = k.of_list
+    by import_both d q m r l f k o = k.of_both
+    by (specifier s) d q m r l f k o = k.of_single s
+    by (specifier_as s) d q m r l f k o = k.of_renamed s
+    by (portal s) d q m r l f k o = o s

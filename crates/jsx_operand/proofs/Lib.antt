@@ -27,3 +27,5 @@ pub mod PlacedLinks
 pub mod Pairs
 pub mod Spanning
 pub mod Templates
+pub mod Entering
+pub mod Bodies

@@ -27,7 +27,7 @@ use Rattle.jsx_tree.proofs.Rows.Spines.{grows}
 use Rattle.jsx_tree.proofs.Rows.Placing.{free, free_around, moved}
 use Rattle.jsx_operand.proofs.OfSoFar.{of_so_far}
 use Rattle.jsx_token.specs.Growths.{Rung, rung, is_rung, level_of_kind, reaches, seat, lead, settled, opening_sign, opening_signs, same_sign, has_sign, is_code, NoOpening}
-use Rattle.jsx_operand.specs.Climbing.{Begins, NoneBegins, rises, level}
+use Rattle.jsx_operand.specs.Climbing.{Begins, NoneBegins, rises}
 use Rattle.jsx_operand.specs.Openings.{opens_with, OnlyOpened, NoneOpened}
 use Rattle.jsx_token.proofs.Listed.{Listed, listed, code, is_apart, kinds, every, every_two, of_each, of_two, one_place, implies, implied}
 use Rattle.jsx_operand.proofs.Homes.{Literal, IsName, IsNumber, IsLong, IsString, token_kind, IsPattern, Value, made}
@@ -38,11 +38,11 @@ use Rattle.jsx_operand.proofs.Climbing.{edge_on, low, node_reaches, plain_kind, 
 
 -- ---- of each kind
 
--- each part of its row is ended by what stands behind it, it may stand wherever a parser asks for an expression, and it begins as an element does or with one of the signs
+-- each part of its row is ended by what stands behind it, none of these is a body that asks something of the others, it may stand wherever a parser asks for an expression, and it begins as an element does or with one of the signs
 abbrev opens_formed : Kind → Bool
 opens_formed k =
     grows_on k
-    || (((guarded (edge k) (row_so_far k) && free (row_so_far k)) && bodiless (tail (row_so_far k))) && ((has_kind k && any_operand (homes k)) && (nat_eq (code k) (code (jsx Element)) || (is_code (opening_sign k) && has_sign (opening_sign k) opening_signs))))
+    || (((guarded (edge k) (row_so_far k) && free (row_so_far k)) && (is_ruled k || bodiless (tail (row_so_far k)))) && ((has_kind k && any_operand (homes k)) && (nat_eq (code k) (code (jsx Element)) || (is_code (opening_sign k) && has_sign (opening_sign k) opening_signs))))
 
 all_opens_formed : every opens_formed kinds ≡ true
 unfolding opening_signs
@@ -66,23 +66,23 @@ all_opens_apart = refl
 record Opens (k : Kind) : Type 0 where
   closed : guarded (edge k) (row_so_far k) ≡ true
   freed : free (row_so_far k) ≡ true
-  bare : bodiless (tail (row_so_far k)) ≡ true
+  bare : is_ruled k ≡ false → bodiless (tail (row_so_far k)) ≡ true
   taken : has_kind k ≡ true
   stood : any_operand (homes k) ≡ true
   begins : (nat_eq (code k) (code (jsx Element)) || (is_code (opening_sign k) && has_sign (opening_sign k) opening_signs)) ≡ true
 
 opens : (k : Kind) → Listed k → grows_on k ≡ false → Opens k
 opens k l g =
-    let a : (((guarded (edge k) (row_so_far k) && free (row_so_far k)) && bodiless (tail (row_so_far k))) && ((has_kind k && any_operand (homes k)) && (nat_eq (code k) (code (jsx Element)) || (is_code (opening_sign k) && has_sign (opening_sign k) opening_signs)))) ≡ true = or_cases (grows_on k) _ (of_each opens_formed all_opens_formed k l) (λ h. absurd (clash _ h g)) (λ e. e) in
-    let b = and_left ((guarded (edge k) (row_so_far k) && free (row_so_far k)) && bodiless (tail (row_so_far k))) _ a in
-    let c = and_right ((guarded (edge k) (row_so_far k) && free (row_so_far k)) && bodiless (tail (row_so_far k))) _ a in
+    let a : (((guarded (edge k) (row_so_far k) && free (row_so_far k)) && (is_ruled k || bodiless (tail (row_so_far k)))) && ((has_kind k && any_operand (homes k)) && (nat_eq (code k) (code (jsx Element)) || (is_code (opening_sign k) && has_sign (opening_sign k) opening_signs)))) ≡ true = or_cases (grows_on k) _ (of_each opens_formed all_opens_formed k l) (λ h. absurd (clash _ h g)) (λ e. e) in
+    let b = and_left ((guarded (edge k) (row_so_far k) && free (row_so_far k)) && (is_ruled k || bodiless (tail (row_so_far k)))) _ a in
+    let c = and_right ((guarded (edge k) (row_so_far k) && free (row_so_far k)) && (is_ruled k || bodiless (tail (row_so_far k)))) _ a in
     let b1 = and_left (guarded (edge k) (row_so_far k) && free (row_so_far k)) _ b in
     let b2 = and_right (guarded (edge k) (row_so_far k) && free (row_so_far k)) _ b in
     let c1 = and_left (has_kind k && any_operand (homes k)) _ c in
     record {
       closed = and_left (guarded (edge k) (row_so_far k)) _ b1;
       freed = and_right (guarded (edge k) (row_so_far k)) _ b1;
-      bare = b2;
+      bare = λ n. or_cases (is_ruled k) _ b2 (λ h. absurd (clash _ h n)) (λ e. e);
       taken = and_left (has_kind k) _ c1;
       stood = and_right (has_kind k) _ c1;
       begins = and_right (has_kind k && any_operand (homes k)) _ c;
@@ -128,7 +128,7 @@ kept_behind {v} k l g n b =
       parts = b.parts;
       is = b.is;
       row = b.row;
-      keeps = and_both _ _ f.taken (plain_kind k b.parts v n f.taken f.stood (plain_row (tail (row_so_far k)) f.bare (to_grammar of_so_far b.row.walk)));
+      keeps = and_both _ _ f.taken (plain_kind k b.parts v n f.taken f.stood (plain_row (tail (row_so_far k)) (f.bare n) (to_grammar of_so_far b.row.walk)));
     }
 
 -- the same of its whole row

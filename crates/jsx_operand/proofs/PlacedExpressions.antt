@@ -7,7 +7,7 @@ use Rattle.jsx_base.specs.declared.place.Span.{Span}
 use Rattle.jsx_tree.specs.declared.text.Text.{Text as TreeText}
 use Rattle.jsx_tree.specs.declared.tree.Jsx.{Jsx}
 use Rattle.jsx_tree.specs.Signs.{End, AfterExpr, Tok, TrailingComma, Sign}
-use Rattle.jsx_tree.specs.Kinds.{BinaryOp, Nullish, Exponentiate, UnaryOp, Delete, Void, TypeOf, Positive, Negative, Complement, Not, Assign, OpAssign, Unary, Binary, Cond, Call, Member, Index, New, NewWithoutArguments, NewTarget, ImportCall, ImportMeta, Element, expression, jsx, Tree, leaf, node, list, Forest, none, part, UpdateOp, Increment, Decrement, PrefixUpdate, PostfixUpdate, Seq, Array, Object, Property, Shorthand, Spread, ComputedKey, function, PlainTemplate, SubstitutedTemplate, TemplateSpan, Tagged}
+use Rattle.jsx_tree.specs.Kinds.{BinaryOp, Nullish, Exponentiate, UnaryOp, Delete, Void, TypeOf, Positive, Negative, Complement, Not, Assign, OpAssign, Unary, Binary, Cond, Call, Member, Index, New, NewWithoutArguments, NewTarget, ImportCall, ImportMeta, Element, expression, jsx, Tree, leaf, node, list, Forest, none, part, UpdateOp, Increment, Decrement, PrefixUpdate, PostfixUpdate, Seq, Array, Object, Property, Shorthand, Spread, ComputedKey, function, PlainTemplate, SubstitutedTemplate, TemplateSpan, Tagged, Binds, WithInit, RestPat}
 use Rattle.jsx_tree.specs.Nonterminals as grammar
 use Rattle.jsx_tree.specs.Grammar.{Commas, TwoOrMore, Many, Part, key, p, pun, sp, count, left_of, right_of, Elisions, Adjacent}
 use Rattle.jsx_tree.specs.Grows.{operator_sign}
@@ -200,6 +200,14 @@ property_row l colon r s = node_is (λ c e ps. refl) (led l _) s (row_quiet (λ 
 
 pub shorthand_row : {at : Option Span} {a : TreeText} {x y : Here} → Takes (Tok Operator IdentifierName (text_of a)) x y → Comes a (next_of x) → Spans at (next_of x) (end_of y) → IsPlaced (told_node at (told_text a ∷ [])) (node (expression Shorthand) (part (leaf IdentifierName (text_of a)) none)) x y
 shorthand_row {a = a} name comes s = let l = name_placed {a = a} name comes in node_is (λ c e ps. refl) (led l []) s (row_quiet (λ q. refl) (row_part l row_end))
+
+-- ---- parameters
+
+pub default_row : {at : Option Span} {d e : Told} {t u : Tree} {w z x y : Here} → IsPlaced d t w z → Takes (sign_of fixed.Equals) z x → IsPlaced e u x y → Spans at (next_of w) (end_of y) → IsPlaced (told_node at (d ∷ e ∷ [])) (node (function (WithInit Binds)) (part t (part u none))) w y
+default_row l sign r s = node_is (λ c e ps. refl) (led l _) s (row_part l (row_quiet (λ q. refl) (row_quiet (λ q. refl) (row_sign sign (row_quiet (λ q. refl) (row_part r row_end))))))
+
+pub rest_pattern_row : {at : Option Span} {e : Told} {u : Tree} {w x y : Here} → Takes (sign_of fixed.Dots) w x → IsPlaced e u x y → Spans at (next_of w) (end_of y) → IsPlaced (told_node at (e ∷ [])) (node (function (RestPat Binds)) (part u none)) w y
+rest_pattern_row sign r s = node_is (λ c e ps. refl) (λ ms text. refl) s (row_sign sign (row_part r (row_unless row_end)))
 
 -- ---- templates
 

@@ -4,9 +4,9 @@ use Rattle.std.proofs.lemmas.Bool.{eqb-true, eq-eqb}
 use Rattle.std.specs.Prelude.{IsTrue, codes, Option, Some, None, ◌&&◌, ◌||◌}
 use Rattle.jsx_base.specs.Token.{Text, Mode, Operand, Operator, kind_number, TokenKind, NoToken, IdentifierName, Punctuator, NumericLiteral, BigIntLiteral, StringLiteral, RegExpLiteral, NoSubstitution, TemplateHead, Lexeme, is_kind, is_token, among, no_token, breaks, skip, first_is, at_front, token, same}
 use Rattle.jsx_tree.specs.Signs.{Ending, AfterExpr, Sign, Tok, Unless}
-use Rattle.jsx_tree.specs.Kinds.{Label, Seq, ParenTarget, Parenthesized, function, statement, expression, Kind, Tree, leaf, node, list, Forest, part, Object, Spread, PlainTemplate, SubstitutedTemplate}
+use Rattle.jsx_tree.specs.Kinds.{Label, Seq, ParenTarget, Parenthesized, function, statement, expression, Kind, Tree, leaf, node, list, Forest, part, FunctionExpr, Object, Spread, PlainTemplate, SubstitutedTemplate}
 use Rattle.jsx_tree.specs.Nonterminals.{Nonterminal, Expr, Argument, Name, homes, in_homes, leaf_in, is_value_word, TemplatePart}
-use Rattle.jsx_tree.specs.Grammar.{ListShape, TwoOrMore, Context, Part, Fixed, heads, pun}
+use Rattle.jsx_tree.specs.Grammar.{ListShape, TwoOrMore, Context, Part, Fixed, heads, key, pun}
 use Rattle.jsx_tree.specs.Form.{admits, enough, is_leaf}
 use Rattle.jsx_tree.specs.Spelling.{mode_of}
 use Rattle.jsx_tree.specs.Reading.{Place, Lost, At, forth}
@@ -25,7 +25,7 @@ use Rattle.jsx_tree.proofs.Signs.{not_first}
 use Rattle.jsx_tree.proofs.Rows.Bridge.{found_at}
 use Rattle.jsx_tree.proofs.Rows.Firsts.{kind_home}
 use Rattle.jsx_tree.proofs.Rows.Closers.{any_operand, homes_operand}
-use Rattle.jsx_tree.proofs.Rows.Stopping.{is_not, or_cases}
+use Rattle.jsx_tree.proofs.Rows.Stopping.{is_not, not_among, or_cases}
 use Rattle.jsx_tree.proofs.Rows.Turns.{whole_of}
 use Rattle.jsx_tree.proofs.Rows.Spines.{grows, grown, Covers, spine}
 use Rattle.jsx_tree.proofs.Rows.Targets.{as_value, target_back, calm_value, level_17}
@@ -708,39 +708,44 @@ literal_heads l t x h f = by (is_plain l) refl
 no_head_piece : (k : TokenKind) (t : Text) → is_leaf k t ≡ true → is_leaf k (codes "{") ≡ false → is_leaf k (codes "function") ≡ false → is_leaf k (codes "class") ≡ false → among t heads ≡ false
 no_head_piece k t a b c d = none_of t (not_same t (codes "{") (is_leaf k) a b) (not_same t (codes "function") (is_leaf k) a c) (not_same t (codes "class") (is_leaf k) a d)
 
-token_heads : (k : TokenKind) (t : Text) (x : Place) → is_kind NoToken k ≡ false → among t heads ≡ false → IsTrue (is_found (forth (Tok Operator k t) x)) → forth (Unless heads) x ≡ x
-token_heads k t Lost n h f = refl
-token_heads k t (At q e text) n h f =
+token_clear : (ts : List Text) (k : TokenKind) (t : Text) (x : Place) → is_kind NoToken k ≡ false → among t ts ≡ false → IsTrue (is_found (forth (Tok Operator k t) x)) → forth (Unless ts) x ≡ x
+token_clear ts k t Lost n h f = refl
+token_clear ts k t (At q e text) n h f =
     let m = token Operator (same q []) text in
     let i : is_token m k t ≡ true = found_token (is_token m k t) (At t AfterExpr m.rest) f in
     let raw : (token Operator false text).raw ≡ t = ap (λ x. x.raw) (not_first (λ x. is_token x k t) (λ s. no_token_is k t s n) (same q []) text i) ∙ same_is m.raw t (and_right _ _ i) in
-    go_on _ _ (ap (λ v. among v heads) raw ∙ h)
+    go_on _ _ (ap (λ v. among v ts) raw ∙ h)
 
 piece_heads : (x : Place) → Quote x → forth (Unless heads) x ≡ x
-piece_heads x (whole_there q) = token_heads NoSubstitution q.text x refl (no_head_piece NoSubstitution q.text q.whole refl refl refl) q.found
-piece_heads x (head_there q) = token_heads TemplateHead q.text x refl (no_head_piece TemplateHead q.text q.whole refl refl refl) q.found
+piece_heads x (whole_there q) = token_clear heads NoSubstitution q.text x refl (no_head_piece NoSubstitution q.text q.whole refl refl refl) q.found
+piece_heads x (head_there q) = token_clear heads TemplateHead q.text x refl (no_head_piece TemplateHead q.text q.whole refl refl refl) q.found
 
--- a brace is the one of them that an expression begins with
+-- a brace and the word of a function are those of them that an expression begins with
 abbrev heads_well : Kind → Bool
-heads_well k = grows (row_so_far k) || (is_headless (opening_sign k) || nat_eq (code k) (code (expression Object)))
+heads_well k = grows (row_so_far k) || (is_headless (opening_sign k) || (nat_eq (code k) (code (expression Object)) || nat_eq (code k) (code (function FunctionExpr))))
 
 all_heads_well : every heads_well kinds ≡ true
 all_heads_well = refl
 
-first_heads : {v : Surroundings} {x p : Place} {f : Tree} → Stuck (pun "{") x → First v x f p → forth (Unless heads) x ≡ x
-first_heads {x = x} s (name l {t = t} h w g f) = literal_heads l t x (and_both _ _ h w) (found_at g f)
-first_heads {x = x} s (quoted d q r) = piece_heads x (piece_of q r)
-first_heads {x = x} s (opened d {k} l g r) =
+stuck_lost : {s : Sign} {x : Place} → Stuck s x → IsTrue (is_found (forth s x)) → ⊥
+stuck_lost s f = let bad : IsTrue (is_found Lost) = subst (λ p. IsTrue (is_found p)) s.is f in cc
+
+first_heads : {v : Surroundings} {x p : Place} {f : Tree} → Stuck (pun "{") x → Stuck (key "function") x → First v x f p → forth (Unless heads) x ≡ x
+first_heads {x = x} s o (name l {t = t} h w g f) = literal_heads l t x (and_both _ _ h w) (found_at g f)
+first_heads {x = x} s o (quoted d q r) = piece_heads x (piece_of q r)
+first_heads {x = x} s o (opened d {k} l g r) =
     or_cases (grows (row_so_far k)) _ (of_each heads_well all_heads_well k l) (λ h. absurd (clash _ h g))
-    (λ e. or_cases (is_headless (opening_sign k)) (nat_eq (code k) (code (expression Object))) e (λ h. opener_heads x (opener_of k l g) h there) (λ h. absurd (braced h)))
+    (λ e. or_cases (is_headless (opening_sign k)) _ e (λ h. opener_heads x (opener_of k l g) h there)
+    (λ i. or_cases (nat_eq (code k) (code (expression Object))) (nat_eq (code k) (code (function FunctionExpr))) i (λ h. absurd (braced h)) (λ h. absurd (worded h))))
   where
     there : IsTrue (is_found (forth (opening_sign k) x))
     there = opened_sign k l g r
 
     braced : nat_eq (code k) (code (expression Object)) ≡ true → ⊥
-    braced h =
-        let brace = subst (λ j. IsTrue (is_found (forth (opening_sign j) x))) (one_place k (expression Object) l (listed (expression Object) refl refl refl) h) there in
-        let bad : IsTrue (is_found Lost) = subst (λ p. IsTrue (is_found p)) s.is brace in cc
+    braced h = stuck_lost s (subst (λ j. IsTrue (is_found (forth (opening_sign j) x))) (one_place k (expression Object) l (listed (expression Object) refl refl refl) h) there)
+
+    worded : nat_eq (code k) (code (function FunctionExpr)) ≡ true → ⊥
+    worded h = stuck_lost o (subst (λ j. IsTrue (is_found (forth (opening_sign j) x))) (one_place k (function FunctionExpr) l (listed (function FunctionExpr) refl refl refl) h) there)
 
 -- what a sequence begins with
 pub record Item (v : Surroundings) (x : Place) : Type 0 where
@@ -756,9 +761,35 @@ first_item {v} {s} {x} n (more {y = y} {t = t} m r e all) c = record { tree = t;
 item_of_walk : {v : Surroundings} (us : Forest) {x z : Place} {ts : Forest} → Walk Staged (around v us) (row_so_far (expression Seq)) x ts z → Item v x
 item_of_walk us (next (many e all) w) = first_item e all refl
 
-whole_heads : {v : Surroundings} {x z : Place} {u : Tree} → Stuck (pun "{") x → AtWhole u → Staged v false (Expr 0) x u z → forth (Unless heads) x ≡ x
-whole_heads {u = u} s (single a) r = first_heads s (begun refl u (move at_one a r)).first
-whole_heads s (several {ts}) r = let i = item_of_walk ts (of_so_far.from_node (expression Seq) r).walk in first_heads s (begun refl i.tree i.reads).first
+whole_heads : {v : Surroundings} {x z : Place} {u : Tree} → Stuck (pun "{") x → Stuck (key "function") x → AtWhole u → Staged v false (Expr 0) x u z → forth (Unless heads) x ≡ x
+whole_heads {u = u} s o (single a) r = first_heads s o (begun refl u (move at_one a r)).first
+whole_heads s o (several {ts}) r = let i = item_of_walk ts (of_so_far.from_node (expression Seq) r).walk in first_heads s o (begun refl i.tree i.reads).first
 
-pub no_heads : {v : Surroundings} {x z : Place} {u : Tree} → Stuck (pun "{") x → Staged v false (Expr 0) x u z → forth (Unless heads) x ≡ x
-no_heads {u = u} s r = whole_heads s (at_whole u r) r
+pub no_heads : {v : Surroundings} {x z : Place} {u : Tree} → Stuck (pun "{") x → Stuck (key "function") x → Staged v false (Expr 0) x u z → forth (Unless heads) x ≡ x
+no_heads {u = u} s o r = whole_heads s o (at_whole u r) r
+
+-- ---- nor does one begin as what is exported by itself, but for a function
+
+abbrev pub default_heads : List Text
+default_heads = codes "function" ∷ codes "class" ∷ []
+
+guard_off : (b : Bool) (q : Text) (e : Ending) (text : Text) → cond (not b) (At q e text) Lost ≡ At q e text → b ≡ false
+guard_off true q e text h = let bad : IsTrue (is_found Lost) = subst (λ p. IsTrue (is_found p)) (sym h) refl in cc
+guard_off false q e text h = refl
+
+fewer_heads : (x : Place) → forth (Unless heads) x ≡ x → forth (Unless default_heads) x ≡ x
+fewer_heads Lost h = refl
+fewer_heads (At q e text) h =
+    let raw = (token Operator false text).raw in
+    go_on (among raw default_heads) (At q e text) (not_among raw default_heads heads refl (guard_off (among raw heads) q e text h))
+
+lost_by : (x : Place) → is_found x ≡ false → x ≡ Lost
+lost_by Lost h = refl
+lost_by (At q e text) h = cc
+
+pub no_default : {v : Surroundings} {x z : Place} {u : Tree} → Stuck (key "function") x → Staged v false (Expr 1) x u z → forth (Unless default_heads) x ≡ x
+no_default {x = x} {u = u} o r = by (is_found (forth (pun "{") x)) refl
+  where
+    by : (b : Bool) → is_found (forth (pun "{") x) ≡ b → forth (Unless default_heads) x ≡ x
+    by true h = token_clear default_heads Punctuator (codes "{") x refl refl h
+    by false h = fewer_heads x (first_heads (record { is = lost_by (forth (pun "{") x) h }) o (begun refl u r).first)

@@ -1,5 +1,5 @@
 -- What a node stands in, as the parser keeps it.
-use Rattle.std.specs.Prelude.{List, [], ◌∷◌}
+use Rattle.std.specs.Prelude.{List, [], ◌∷◌, true}
 use Rattle.std.specs.Str.{chars}
 use Rattle.jsx_tree.specs.StaticRules.{Jump, jump, Surroundings}
 use Rattle.jsx_operand.specs.declared.around.Labels.{Labels}
@@ -11,9 +11,10 @@ abbrev pub labels_of : Labels → List Jump
 labels_of None = []
 labels_of (Inside' name on_loop p outer) = jump (chars name.now) on_loop ∷ labels_of outer
 
+-- so far all code is that of modules, which is strict
 abbrev pub around_of : Around → Surroundings
 around_of a =
-    record { module' = a.is_module; strict = a.is_strict; returns = a.returns; target' = a.has_target; super' = a.has_super; super_call = a.calls_super; derived = a.is_derived; loop = a.in_loop; breakable = a.breakable; labels = labels_of a.labels.now }
+    record { module' = a.is_module; strict = true; returns = a.returns; target' = a.has_target; super' = a.has_super; super_call = a.calls_super; derived = a.is_derived; loop = a.in_loop; breakable = a.breakable; labels = labels_of a.labels.now }
 
 -- what the statements of a module stand in, with these labels
 abbrev pub within_module : List Jump → Surroundings

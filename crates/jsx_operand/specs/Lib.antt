@@ -7,3 +7,4 @@ pub mod Links
 pub mod Climbing
 pub mod Openings
 pub mod Templates
+pub mod Bodies

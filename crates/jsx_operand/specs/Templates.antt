@@ -5,7 +5,7 @@ use Rattle.jsx_base.specs.Token.{Text, Piece as Piece', InString, TemplateHead, 
 use Rattle.jsx_base.specs.declared.place.Span.{Span}
 use Rattle.jsx_tree.specs.declared.text.Text.{Text as TreeText}
 use Rattle.jsx_tree.specs.declared.tree.Expr.{Expr}
-use Rattle.jsx_tree.specs.Kinds.{PlainTemplate, SubstitutedTemplate, Kind, expression, Tree, leaf, node, Forest, list, none, part, Tagged}
+use Rattle.jsx_tree.specs.Kinds.{PlainTemplate, SubstitutedTemplate, Kind, expression, Tree, leaf, node, Forest, list, part, Tagged}
 use Rattle.jsx_tree.specs.Nonterminals as grammar
 use Rattle.jsx_tree.specs.Grammar.{Adjacent, Many, Part, Production, p}
 use Rattle.jsx_tree.specs.Reading.{Place, Lost, forth}

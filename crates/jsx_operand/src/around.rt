@@ -1,6 +1,9 @@
 //! What a node stands in, for the early errors that ask (ECMA-262 sections 13 to 16).
 
-ghost use Rattle.std.specs.Prelude.{◌≡◌, true};
+ghost use Rattle.std.specs.Prelude.{◌≡◌, [], true};
+ghost use Rattle.jsx_tree.specs.Kinds.{none};
+ghost use Rattle.jsx_tree.specs.Grammar.{InFunction};
+ghost use Rattle.jsx_tree.specs.StaticRules.{enter};
 ghost use Rattle.jsx_operand.specs.Around.{around_of, labels_of, within_module};
 
 use std::alloc::Global;
@@ -17,7 +20,6 @@ pub enum Labels<'a> {
 #[derive(Clone, Copy)]
 pub struct Around<'a> {
     pub is_module: bool,
-    pub is_strict: bool,
     /// A function that `return` ends.
     pub returns: bool,
     /// What `new.target` speaks of.
@@ -41,7 +43,6 @@ impl<'a> Around<'a> {
     {
         Around {
             is_module: true,
-            is_strict: true,
             returns: false,
             has_target: false,
             has_super: false,
@@ -80,6 +81,26 @@ impl<'a> Context<'a> {
         ensures { around_of result.around ≡ record (around_of self.entry.around) { labels = labels_of labels.now } }
     {
         let around = Around {
+            labels,
+            ..self.around
+        };
+        Context { around, ..self }
+    }
+
+    /// The same in a function, where no label encloses (ECMA-262 section 15.2).
+    pub fn of_function<'b>(self, labels: &'b Labels<'b>) -> Context<'b>
+    where
+        'a: 'b,
+        requires { labels_of labels.now ≡ [] }
+        ensures { around_of result.around ≡ enter none InFunction (around_of self.entry.around) }
+    {
+        let around = Around {
+            returns: true,
+            has_target: true,
+            has_super: false,
+            calls_super: false,
+            in_loop: false,
+            breakable: false,
             labels,
             ..self.around
         };

@@ -3,6 +3,7 @@
 
 pub mod argument;
 mod around;
+mod body;
 mod error;
 pub mod link;
 pub mod operand;
@@ -11,5 +12,6 @@ pub mod proto;
 pub mod template;
 
 pub use around::{Around, Context, Labels};
+pub use body::Body;
 pub use error::ParseError;
 pub use parser::{binding_identifier, expect, give_up, semicolon, span_to};

@@ -2,13 +2,13 @@
 
 ghost use Rattle.std.specs.Prelude.{◌≡◌, ◌<◌, ◌≤◌, IfOk, OnOk};
 ghost use Rattle.std.specs.Str.{chars};
-ghost use Rattle.jsx_base.specs.Token.{IdentifierName, JsxName, Operator, Tag};
+ghost use Rattle.jsx_base.specs.Token.{IdentifierName, JsxName, Operator, StringLiteral, Tag};
 ghost use Rattle.jsx_tree.specs.Signs.{Semicolon, Tok};
 ghost use Rattle.jsx_tree.specs.Spans.{Comes};
-ghost use Rattle.jsx_tree.specs.Told.{told_pat};
+ghost use Rattle.jsx_tree.specs.Told.{told_pat, told_text};
 ghost use Rattle.jsx_tree.specs.Kinds.{Binds, leaf};
 ghost use Rattle.jsx_tree.specs.Nonterminals as grammar;
-ghost use Rattle.jsx_tree.specs.View.{text_of, view_pat};
+ghost use Rattle.jsx_tree.specs.View.{name_of, text_of, view_pat};
 ghost use Rattle.jsx_token.specs.Here.{place_of, left, sign_of};
 ghost use Rattle.jsx_tree.specs.Grammar.{Part, semi};
 ghost use Rattle.jsx_tree.specs.Grammar as symbol;
@@ -93,6 +93,38 @@ pub fn binding_identifier<'s>(
     let lo = lexer.last_place();
     let text = Text::Read(raw, lo);
     Ok(make::bound_name(context.alloc, span_to(lo, lexer), Ident { text })?)
+}
+
+/// A name that is bound, as the name of a function (ECMA-262 section 13.1).
+pub fn bound_name<'s>(context: Context, lexer: &mut Lexer<'s>) -> Result<Ident<'s>, ParseError>
+    ensures read { IfOk result (λ a. Only so_far (around_of context.entry.around) (Part grammar.BindingIdent) (place_of lexer.old) (one (name_of a)) (place_of lexer.new)) }
+    ensures placed { IfOk result (λ a. IsPlaced (told_text a.text) (name_of a) lexer.old lexer.new) }
+    ensures begins { OnOk result (begin_of lexer.new ≡ next_of lexer.old) }
+    ensures shorter { OnOk result (left lexer.new < left lexer.old) }
+    ensures refused { Refused result (Barred so_far (around_of context.entry.around) (Part grammar.BindingIdent) (place_of lexer.old)) }
+{
+    let Some(raw) = lexer.leaf(Leaf::Name) else {
+        return Err(give_up(lexer));
+    };
+    if !is_bound(raw) {
+        return Err(give_up(lexer));
+    }
+    let text = Text::Read(raw, lexer.last_place());
+    Ok(Ident { text })
+}
+
+/// A string, as the specifier of a module (ECMA-262 section 12.9.4).
+pub fn string<'s>(context: Context, lexer: &mut Lexer<'s>) -> Result<Text<'s>, ParseError>
+    ensures read { IfOk result (λ t. Only so_far (around_of context.entry.around) (Part grammar.StringOnly) (place_of lexer.old) (one (leaf StringLiteral (text_of t))) (place_of lexer.new)) }
+    ensures placed { IfOk result (λ t. IsPlaced (told_text t) (leaf StringLiteral (text_of t)) lexer.old lexer.new) }
+    ensures begins { OnOk result (begin_of lexer.new ≡ next_of lexer.old) }
+    ensures shorter { OnOk result (left lexer.new < left lexer.old) }
+    ensures refused { Refused result (Barred so_far (around_of context.entry.around) (Part grammar.StringOnly) (place_of lexer.old)) }
+{
+    match lexer.leaf(Leaf::Str) {
+        Some(raw) => Ok(Text::Read(raw, lexer.last_place())),
+        None => Err(give_up(lexer)),
+    }
 }
 
 /// The name of a tag.

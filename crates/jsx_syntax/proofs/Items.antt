@@ -1,224 +1,426 @@
--- Statements of the language so far.
-use Rattle.std.proofs.Common.{◌≡◌, Bool, true, false, not, cond, List, [], ◌∷◌, refl, sym, ◌∙◌, ap, subst}
-use Rattle.std.specs.Prelude.{IsTrue, codes, ◌&&◌}
-use Rattle.jsx_base.specs.Token.{Operator, IdentifierName, Punctuator, is_token, among, token, same}
-use Rattle.jsx_tree.specs.Signs.{AfterExpr, AfterBinding, Sign, Unless, Ends}
-use Rattle.jsx_tree.specs.Kinds.{DeclareWord, VarWord, LetWord, ConstWord, Var, Declarator, ForDeclaration, ExprStmt, Binds, Kind, statement, Tree, leaf, node, list, Forest, none, part}
-use Rattle.jsx_tree.specs.Nonterminals.{Nonterminal, Expr, Pat, Declarators, leaf_in}
-use Rattle.jsx_tree.specs.Grammar.{NoTrailing, Part, Fixed, Many, pun, heads, semi}
-use Rattle.jsx_tree.specs.Form.{admits}
-use Rattle.jsx_tree.specs.Reading.{Place, Lost, At, forth}
-use Rattle.jsx_tree.specs.StaticRules.{Surroundings, all_of, list_rule, has_init}
-use Rattle.jsx_tree.specs.Walk.{is_found, nothing, one, Piece, piece, tail, Given, Past, sign, tree, Walk, next, steady}
-use Rattle.jsx_tree.specs.Stops.{going}
-use Rattle.jsx_tree.specs.Language.{Language, Whole}
+-- The items of a module: a statement, or what begins with `import` or `export`; which of them stands somewhere, by the words and signs with which they begin.
+use Rattle.std.proofs.Common.{◌≡◌, nat_eq, Bool, true, false, not, List, [], ◌∷◌, refl, sym, ◌∙◌, ap, subst}
+use Rattle.std.specs.Prelude.{IsTrue, codes, ◌&&◌, ◌||◌}
+use Rattle.jsx_base.specs.Token.{Text, Operator, Punctuator, TokenKind, IdentifierName, StringLiteral, same}
+use Rattle.jsx_tree.specs.Signs.{Sign, Tok, Unless}
+use Rattle.jsx_tree.specs.Kinds.{ExprStmt, ImportBare, Import, ImportAll, ImportList, ImportBoth, ExportNames, ExportFrom, ExportAll, ExportAllAs, ExportDecl, ExportDefaultFn, ExportDefaultExpr, ImportCall, ImportMeta, Label, Seq, Kind, program, statement, expression, Tree, leaf, node, list, Forest, none, part}
+use Rattle.jsx_tree.specs.Nonterminals.{Nonterminal, BindingIdent, Expr, ImportClause, Item, Stmt, StringOnly}
+use Rattle.jsx_tree.specs.Grammar.{Context, Fixed, ListShape, Part, TwoOrMore, heads, key, pun}
+use Rattle.jsx_tree.specs.Form.{admits, enough}
+use Rattle.jsx_tree.specs.Reading.{Place, Lost, At, forth, ended_at}
+use Rattle.jsx_tree.specs.StaticRules.{Surroundings}
+use Rattle.jsx_tree.specs.Walk.{Given, Items, Past, Piece, Relation, Walk, around, is_found, is_text, last, many, more, next, nil, one, piece, sign, steady, tail, tree}
+use Rattle.jsx_tree.specs.Language.{Whole}
 use Rattle.jsx_tree.specs.Answers.{Moves, Stuck, Only, Barred, OnlyRow, NoRow, NoNode, BuiltNode}
-use Rattle.jsx_operand.specs.SoFar.{Staged, so_far}
-use Rattle.jsx_token.specs.Marks.{ends_so_far, row_so_far}
-use Rattle.jsx_tree.proofs.Tokens.{and_left, and_right, and_both}
-use Rattle.jsx_tree.proofs.Apart.{clash}
+use Rattle.jsx_tree.proofs.Tokens.{and_both, and_left, and_right}
+use Rattle.jsx_tree.proofs.Apart.{clash, never_both}
 use Rattle.jsx_tree.proofs.Rows.Bridge.{found_at}
-use Rattle.jsx_tree.proofs.Rows.Stopping.{raw_of, not_is, is_not, stays}
-use Rattle.jsx_tree.proofs.Rows.Guarded.{to_grammar}
-use Rattle.jsx_tree.proofs.Rows.Bodies.{plain}
-use Rattle.jsx_tree.proofs.Rows.Steps.{bar, on, then', end, only_sign, both}
-use Rattle.jsx_tree.proofs.Rows.Turns.{Turn, prepend, turn_only, whole_of}
-use Rattle.jsx_tree.proofs.Rows.Lists.{all_with}
-use Rattle.jsx_tree.proofs.Rows.Optionals.{turn_absent, present_last, none_last}
-use Rattle.jsx_tree.proofs.Rows.Laws.{lost_barred, end_found, start_found}
-use Rattle.jsx_tree.proofs.Rows.Placing.{Chosen, OnlyAt, NoneAt, then_at, only_at, barred_at}
-use Rattle.jsx_operand.proofs.OfSoFar.{of_so_far}
-use Rattle.jsx_operand.proofs.Homes.{IsName, patterns, no_list, Taken, taken_by, home_of}
-use Rattle.jsx_syntax.specs.Statements.{has_value}
-use Rattle.jsx_operand.proofs.Inners.{declaration}
-use Rattle.jsx_operand.proofs.Standing.{standing}
 use Rattle.jsx_tree.proofs.Rows.Firsts.{kind_home}
-use Rattle.jsx_token.specs.Growths.{settled}
-use Rattle.jsx_operand.proofs.Values.{settled_token, leaf_full, is_next, found_next, no_heads}
+use Rattle.jsx_tree.proofs.Rows.Guarded.{guarded, loosen, whole_walk}
+use Rattle.jsx_tree.proofs.Rows.Optionals.{end_shut}
+use Rattle.jsx_tree.proofs.Rows.Placing.{free, free_around, moved}
+use Rattle.jsx_tree.proofs.Rows.Stopping.{is_not, never_stops, or_cases, stays}
+use Rattle.jsx_token.specs.Growths.{is_code, lead, opening_sign, same_sign}
+use Rattle.jsx_token.specs.Headings.{Begins, heading_sign}
+use Rattle.jsx_token.specs.Marks.{ends_so_far, row_so_far}
+use Rattle.jsx_token.proofs.Headings.{every_heading, headings, of_heading}
+use Rattle.jsx_token.proofs.Levels.{signed}
+use Rattle.jsx_token.proofs.Listed.{code, every, implied, implies, kinds, listed, of_each, one_place}
+use Rattle.jsx_token.proofs.Lives.{lives}
+use Rattle.jsx_token.proofs.Marks.{one_sign}
+use Rattle.jsx_operand.specs.SoFar.{Staged, so_far}
+use Rattle.jsx_operand.proofs.OfSoFar.{of_so_far}
+use Rattle.jsx_operand.proofs.Homes.{AtWhole, IsName, IsString, Taken, at_whole, bindings, home_of, no_list, several, single, strings, taken_by}
+use Rattle.jsx_operand.proofs.Keys.{mark_none}
+use Rattle.jsx_operand.proofs.Standing.{standing}
+use Rattle.jsx_operand.proofs.Values.{First, at_one, begun, led_sign, leaf_forth, literal_opening, move, name, one_opening, opened, opened_sign, opener, opener_of, opener_piece, piece_of, quoted}
+use Rattle.jsx_statement.proofs.Statements.{coded, end_lost, heading_stands, keyed, lost_if, lost_there, named, none_begins, signed_row, spot_kind, stmts, unlabelled_word, worded_evaluation}
+use Rattle.jsx_syntax.specs.Items.{IsImport, NoImport, elsewhere, called, dotted, NoneBehind, NoneOf, OnlyBehind, OnlyOf, begins_with, behind_word, is_portal}
 
--- ---- a variable and its initializer
+-- ---- signs
 
-abbrev is_declarator : Kind → Bool
-is_declarator (statement Declarator) = true
-is_declarator k = false
+pub stuck_there : (s : Sign) (x : Place) → Stuck s x → IsTrue (is_found (forth s x)) → ⊥
+stuck_there s x k f = lost_there s x k.is f
 
-declarator_is : (k : Kind) → is_declarator k ≡ true → k ≡ statement Declarator
-declarator_is (statement Declarator) h = refl
-declarator_is _ h = cc
+pub there : {s : Sign} {x y : Place} → Moves s x y → IsTrue (is_found (forth s x))
+there m = found_at (sym m.is) m.found
 
-pub bound_kind : (l : Kind) (ts : Forest) → Taken l → admits Declarators (node l ts) ≡ true → l ≡ statement Declarator
-bound_kind l ts t h = declarator_is l (standing Declarators is_declarator refl l t (kind_home Declarators l ts h))
+pub unfound : (x : Place) → is_found x ≡ false → x ≡ Lost
+unfound Lost h = refl
+unfound (At q e text) h = cc
 
-bound_chosen : {v : Surroundings} {x : Place} → Chosen so_far v Declarators (statement Declarator) x
-bound_chosen = record { no_leaf = λ s t y w. let bad = w.reads.staged in cc; kind = λ l ts y w. bound_kind l ts (taken_by w.reads) (home_of w.reads) }
+-- where another one stands, a sign doesn't
+pub sign_lost : (s u : Sign) (x : Place) → is_code s ≡ true → is_code u ≡ true → same_sign s u ≡ false → IsTrue (is_found (forth u x)) → forth s x ≡ Lost
+sign_lost s u x c d n f = lost_if (forth s x) (λ g. clash _ (one_sign s u x c d g f) n)
 
--- where a name that is bound ended, an initializer goes on with it
-pub bound_next : (a : Place) {b : Place} → settled a ≡ true → b ≡ forth (Ends AfterBinding) a → is_next (codes "=") b ≡ true → ends_so_far Declarators b ≡ false
-bound_next (At q AfterExpr text) s e h = subst (λ p. ends_so_far Declarators p ≡ false) (sym e) (stop (subst (λ p. is_next (codes "=") p ≡ true) e h))
+pub sign_stuck : (s u : Sign) {x : Place} → is_code s ≡ true → is_code u ≡ true → same_sign s u ≡ false → IsTrue (is_found (forth u x)) → Stuck s x
+sign_stuck s u {x} c d n f = record { is = sign_lost s u x c d n f }
+
+-- what is known of a place is known of the same one
+pub only_from : {v : Surroundings} {x y z : Place} {g : Given} → x ≡ y → Only so_far v (Part Item) x g z → Only so_far v (Part Item) y g z
+only_from {v} {z = z} {g} e o = subst (λ p. Only so_far v (Part Item) p g z) e o
+
+pub behind_from : {s : Sign} {v : Surroundings} {x y z : Place} {t : Tree} → x ≡ y → OnlyBehind s v t x z → OnlyBehind s v t y z
+behind_from {s} {v} {z = z} {t} e o = subst (λ p. OnlyBehind s v t p z) e o
+
+-- ---- one of some kinds
+
+pub data Other (r : Kind → List Piece) (v : Surroundings) (x : Place) : Kind → Kind → Type 0 where
+  itself : {k : Kind} → Other r v x k k
+  barred : {k j : Kind} → NoNode so_far v (r j) j x → Other r v x k j
+
+pub only_of : {p : Kind → Bool} {r : Kind → List Piece} {v : Surroundings} {t : Tree} {x y : Place} (k : Kind) → p k ≡ true → BuiltNode so_far v (r k) k t x y → ((j : Kind) → p j ≡ true → Other r v x k j) → OnlyOf p r v t x y
+only_of {p} {r} {v} {t} {x} {y} k e b others = record { kind = k; begins = e; built = b; alone = λ j ts z o w keeps. by (others j o) w keeps }
   where
-    stop : is_next (codes "=") (At q AfterBinding text) ≡ true → ends_so_far Declarators (At q AfterBinding text) ≡ false
-    stop h = let x = token Operator false text in (λ i. not (among (raw_of Punctuator (codes "=") x h i) (going 1) && h i))
-bound_next Lost s e h = cc
-bound_next (At q _ text) s e h = cc
+    by : {j : Kind} {ts : Forest} {z : Place} → Other r v x k j → Walk (Whole so_far) (steady v) (r j) x ts z → so_far.keeps j v ts ≡ true → (node j ts ≡ t) × (z ≡ y)
+    by {ts = ts} {z} itself w keeps = let e = b.row.alone ts z w in (ap (node k) (sym e.0) ∙ sym b.is, sym e.1)
+    by {ts = ts} {z} (barred n) w keeps = absurd (n.no ts z w keeps)
 
-not_lost : (b : Bool) (y : Place) → IsTrue (is_found y) → cond b y Lost ≡ Lost → b ≡ false
-not_lost true y f e = let bad : IsTrue (is_found Lost) = subst (λ p. IsTrue (is_found p)) e f in cc
-not_lost false y f e = refl
+-- ---- the words of imports and exports
 
-bound_ends : (a : Place) {b : Place} → settled a ≡ true → b ≡ forth (Ends AfterBinding) a → Stuck (pun "=") b → ends_so_far Declarators b ≡ true
-bound_ends (At q AfterExpr text) s e k = subst (λ p. ends_so_far Declarators p ≡ true) (sym e) (stop (subst (λ p. forth (pun "=") p ≡ Lost) e k.is))
+pub of_portal : (P : Kind → Type 0) → P (program ImportBare) → P (program Import) → P (program ExportNames) → P (program ExportFrom) → P (program ExportAll) → P (program ExportAllAs) → P (program ExportDecl) → P (program ExportDefaultFn) → P (program ExportDefaultExpr) → (k : Kind) → is_portal k ≡ true → P k
+of_portal P a b c d e f g h i (program ImportBare) m = a
+of_portal P a b c d e f g h i (program Import) m = b
+of_portal P a b c d e f g h i (program ExportNames) m = c
+of_portal P a b c d e f g h i (program ExportFrom) m = d
+of_portal P a b c d e f g h i (program ExportAll) m = e
+of_portal P a b c d e f g h i (program ExportAllAs) m = f
+of_portal P a b c d e f g h i (program ExportDecl) m = g
+of_portal P a b c d e f g h i (program ExportDefaultFn) m = h
+of_portal P a b c d e f g h i (program ExportDefaultExpr) m = i
+of_portal P a b c d e f g h i (program _) m = cc
+of_portal P a b c d e f g h i _ m = cc
+
+portal_signed : (k : Kind) → is_portal k ≡ true → signed (row_so_far k) ≡ true
+portal_signed = of_portal (λ k. signed (row_so_far k) ≡ true) refl refl refl refl refl refl refl refl refl
+
+portal_coded : (k : Kind) → is_portal k ≡ true → is_code (opening_sign k) ≡ true
+portal_coded = of_portal (λ k. is_code (opening_sign k) ≡ true) refl refl refl refl refl refl refl refl refl
+
+portal_guarded : (k : Kind) → is_portal k ≡ true → guarded Item (row_so_far k) ≡ true
+portal_guarded = of_portal (λ k. guarded Item (row_so_far k) ≡ true) refl refl refl refl refl refl refl refl refl
+
+portal_free : (k : Kind) → is_portal k ≡ true → free (row_so_far k) ≡ true
+portal_free = of_portal (λ k. free (row_so_far k) ≡ true) refl refl refl refl refl refl refl refl refl
+
+portal_home : (k : Kind) → is_portal k ≡ true → (ts : Forest) → admits Item (node k ts) ≡ true
+portal_home = of_portal (λ k. (ts : Forest) → admits Item (node k ts) ≡ true) (λ ts. refl) (λ ts. refl) (λ ts. refl) (λ ts. refl) (λ ts. refl) (λ ts. refl) (λ ts. refl) (λ ts. refl) (λ ts. refl)
+
+word_stands : {R : Relation} {V : List Context → Surroundings} {x y : Place} {ts : Forest} (k : Kind) → is_portal k ≡ true → Walk R V (row_so_far k) x ts y → IsTrue (is_found (forth (opening_sign k) x))
+word_stands k m w = led_sign (row_so_far k) (portal_signed k m) w
+
+-- ---- what stands where an item does
+
+item_ends : (y : Place) → ends_so_far Item y ≡ true
+item_ends y = of_so_far.ends_there Item y (never_stops Item y refl)
+
+-- a statement, or one of them
+item_kind : {v : Surroundings} {x y : Place} {ts : Forest} (k : Kind) {A : Type 0} → Staged v false Item x (node k ts) y → (lives Stmt k ≡ true → A) → (is_portal k ≡ true → A) → A
+item_kind {ts = ts} k r f g = or_cases (lives Stmt k) (is_portal k) (standing Item (λ j. lives Stmt j || is_portal j) refl k (taken_by r) (kind_home Item k ts (home_of r))) f g
+
+to_item : {v : Surroundings} {x y : Place} (t : Tree) → Staged v false Stmt x t y → Staged v false Item x t y
+to_item (leaf k t) r = absurd (stmts.leafless k t r.staged)
+to_item (list ts) r = absurd (no_list r)
+to_item (node k ts) r = of_so_far.to_node k (standing Stmt (λ j. lives Item j) refl k (taken_by r) (kind_home Stmt k ts (home_of r))) (of_so_far.from_node k r)
+
+from_item : {v : Surroundings} {x y : Place} {k : Kind} {ts : Forest} → lives Stmt k ≡ true → Staged v false Item x (node k ts) y → Staged v false Stmt x (node k ts) y
+from_item {k = k} h r = of_so_far.to_node k h (of_so_far.from_node k r)
+
+-- ---- of statements expressions alone may begin with `import`, and none with `export`
+
+-- a word that begins nothing of its own, and is no name
+record IsWord (s : Sign) : Type 0 where
+  coded : is_code s ≡ true
+  heads : every_heading (λ h. not (same_sign (heading_sign h) s)) headings ≡ true
+  unnamed : named s ≡ false
+
+import_word : IsWord (key "import")
+import_word = record { coded = refl; heads = refl; unnamed = refl }
+
+export_word : IsWord (key "export")
+export_word = record { coded = refl; heads = refl; unnamed = refl }
+
+evaluates : {v : Surroundings} {s : Sign} {x y : Place} {k : Kind} {ts : Forest} → IsWord s → IsTrue (is_found (forth s x)) → Staged v false Stmt x (node k ts) y → k ≡ statement ExprStmt
+evaluates {v} {s} {x} {y} {k} {ts} w f r =
+    spot_kind stmts k ts (taken_by r) (home_of r)
+    (λ g b. absurd (clash _ (one_sign (heading_sign g) s x (coded g) w.coded (heading_stands b (of_so_far.from_node k r).walk) f) (is_not _ (of_heading (λ h. not (same_sign (heading_sign h) s)) w.heads g))))
+    (λ e. e)
+    (λ e. absurd (unlabelled_word s w.coded w.unnamed f (of_so_far.from_node (statement Label) (subst (λ j. Staged v false Stmt x (node j ts) y) e r)).walk))
+
+pub no_exported : {v : Surroundings} {x y : Place} {k : Kind} {ts : Forest} → IsTrue (is_found (forth (key "export") x)) → Staged v false Stmt x (node k ts) y → ⊥
+no_exported {v} {x} {y} {k} {ts} f r = worded_evaluation (keyed (key "export") refl) f (subst (λ j. Staged v false Stmt x (node j ts) y) (evaluates export_word f r) r)
+
+-- what an expression that begins so goes on with
+abbrev imports : Kind → Bool
+imports j = implies (same_sign (opening_sign j) (key "import")) (nat_eq (code j) (code (expression ImportCall)) || nat_eq (code j) (code (expression ImportMeta)))
+
+all_imports : every imports kinds ≡ true
+all_imports = refl
+
+call_goes : {R : Relation} {V : List Context → Surroundings} {x y : Place} {ts : Forest} → Walk R V (row_so_far (expression ImportCall)) x ts y → NoImport x
+call_goes (next (sign e f) (next (sign g h) w)) = called (subst (λ p. IsTrue (is_found (forth (pun "(") p))) (sym e) (found_at g h))
+
+meta_goes : {R : Relation} {V : List Context → Surroundings} {x y : Place} {ts : Forest} → Walk R V (row_so_far (expression ImportMeta)) x ts y → NoImport x
+meta_goes (next (sign e f) (next (sign g h) w)) = dotted (subst (λ p. IsTrue (is_found (forth (pun ".") p))) (sym e) (found_at g h))
+
+first_goes : {v : Surroundings} {x p : Place} {f : Tree} → IsTrue (is_found (forth (key "import") x)) → First v x f p → NoImport x
+first_goes {x = x} f (name l {t} h w g i) = absurd (literal_opening l t (key "import") x (opener (key "import") refl) h (found_at g i) f)
+first_goes {x = x} f (quoted d q r) = absurd (opener_piece x (opener (key "import") refl) f (piece_of q r))
+first_goes {v} {x} {p} f (opened d {k} {ts} l g r) =
+    or_cases (nat_eq (code k) (code (expression ImportCall))) (nat_eq (code k) (code (expression ImportMeta)))
+    (implied (same_sign (opening_sign k) (key "import")) _ (of_each imports all_imports k l) (one_opening (opening_sign k) (key "import") x (opener_of k l g) (opener (key "import") refl) (opened_sign k l g r) f))
+    (λ e. call_goes (of_so_far.from_node (expression ImportCall) (subst (λ j. Staged v false d x (node j ts) p) (one_place k (expression ImportCall) l (listed (expression ImportCall) refl refl refl) e) r)).walk)
+    (λ e. meta_goes (of_so_far.from_node (expression ImportMeta) (subst (λ j. Staged v false d x (node j ts) p) (one_place k (expression ImportMeta) l (listed (expression ImportMeta) refl refl refl) e) r)).walk)
+
+sequence_goes : {v : Surroundings} {s : ListShape} {x z : Place} {ts : Forest} → IsTrue (is_found (forth (key "import") x)) → enough TwoOrMore ts ≡ true → Items Staged v s (Expr 1) x ts z → is_text s ≡ false → NoImport x
+sequence_goes f n (nil g) c = cc
+sequence_goes {v} {x = x} f n (last {y = y} {t = t} r e g) c = first_goes f (begun refl t (subst (λ b. Staged v b (Expr 1) x t y) c r)).first
+sequence_goes {v} {x = x} f n (more {y = y} {t = t} m r e all) c = first_goes f (begun refl t (subst (λ b. Staged v b (Expr 1) x t y) c r)).first
+
+several_goes : {v : Surroundings} {x z : Place} {ts : Forest} → IsTrue (is_found (forth (key "import") x)) → (us : Forest) → Walk Staged (around v us) (row_so_far (expression Seq)) x ts z → NoImport x
+several_goes f us (next (many e all) w) = sequence_goes f e all refl
+
+value_goes : {v : Surroundings} {x y : Place} {u : Tree} → IsTrue (is_found (forth (key "import") x)) → AtWhole u → Staged v false (Expr 0) x u y → NoImport x
+value_goes {u = u} f (single a) r = first_goes f (begun refl u (move at_one a r)).first
+value_goes f (several {ts}) r = several_goes f ts (of_so_far.from_node (expression Seq) r).walk
+
+evaluation_goes : {v : Surroundings} {V : List Context → Surroundings} {x y : Place} {ts : Forest} → V [] ≡ v → IsTrue (is_found (forth (key "import") x)) → Walk Staged V (row_so_far (statement ExprStmt)) x ts y → NoImport x
+evaluation_goes {V = V} {x} e f (next (sign g h) (next {y = z} (tree {t = u} q) w)) =
+    let r : Staged (V []) false (Expr 0) x u z = subst (λ p. Staged (V []) false (Expr 0) p u z) (sym g ∙ stays (Unless heads) x refl (found_at g h)) q in
+    value_goes f (at_whole u r) r
+
+no_import_at : {x y : Place} → IsImport x y → NoImport x → ⊥
+no_import_at {x} i (elsewhere e) = lost_there (key "import") x e (there i.word)
+no_import_at {y = y} i (called f) = stuck_there (pun "(") y i.uncalled (subst (λ p. IsTrue (is_found (forth (pun "(") p))) (sym i.word.is) f)
+no_import_at {y = y} i (dotted f) = stuck_there (pun ".") y i.undotted (subst (λ p. IsTrue (is_found (forth (pun ".") p))) (sym i.word.is) f)
+
+pub no_imported : {v : Surroundings} {x a y : Place} {k : Kind} {ts : Forest} → IsImport x a → Staged v false Stmt x (node k ts) y → ⊥
+no_imported {v} {x} {y = y} {k} {ts} i r = no_import_at i (evaluation_goes refl (there i.word) (of_so_far.from_node (statement ExprStmt) (subst (λ j. Staged v false Stmt x (node j ts) y) (evaluates import_word (there i.word) r) r)).walk)
+
+-- ---- behind a word the item is what its rest says
+
+-- all kinds that begin with the word begin with this sign
+pub record IsOpening (s : Sign) : Type 0 where
+  pub coded : is_code s ≡ true
+  pub sign' : (k : Kind) → begins_with s k ≡ true → opening_sign k ≡ s
+
+import_sign : (k : Kind) → begins_with (key "import") k ≡ true → opening_sign k ≡ key "import"
+import_sign (program ImportBare) h = refl
+import_sign (program Import) h = refl
+import_sign (program _) h = cc
+import_sign _ h = cc
+
+export_sign : (k : Kind) → begins_with (key "export") k ≡ true → opening_sign k ≡ key "export"
+export_sign (program ExportNames) h = refl
+export_sign (program ExportFrom) h = refl
+export_sign (program ExportAll) h = refl
+export_sign (program ExportAllAs) h = refl
+export_sign (program ExportDecl) h = refl
+export_sign (program ExportDefaultFn) h = refl
+export_sign (program ExportDefaultExpr) h = refl
+export_sign (program _) h = cc
+export_sign _ h = cc
+
+pub import_opens : IsOpening (key "import")
+import_opens = record { coded = refl; sign' = import_sign }
+
+pub export_opens : IsOpening (key "export")
+export_opens = record { coded = refl; sign' = export_sign }
+
+-- behind its sign
+pub past_sign : {V : List Context → Surroundings} {x y z : Place} {us : Forest} (ps : List Piece) → signed ps ≡ true → Moves (lead ps) x y → Walk (Whole so_far) V ps x us z → Walk (Whole so_far) V (tail ps) y us z
+past_sign {V} {z = z} (piece [] (Fixed s) ∷ ps) g m (next {ts = us} (sign e f) w) = subst (λ p. Walk (Whole so_far) V ps p us z) (sym e ∙ sym m.is) w
+past_sign _ g m w = cc
+
+whole_portal : {v : Surroundings} {x y : Place} {k : Kind} {ts : Forest} → is_portal k ≡ true → Staged v false Item x (node k ts) y → Walk (Whole so_far) (steady v) (row_so_far k) x ts y
+whole_portal {v} {y = y} {k} {ts} m r = moved (λ a i. free_around a ts v i) (portal_free k m) (whole_walk of_so_far Item (row_so_far k) (portal_guarded k m) (item_ends y) (of_so_far.from_node k r).walk)
+
+-- what begins with the word begins so
+begins_so : {v : Surroundings} {s : Sign} {x a y : Place} {k : Kind} {ts : Forest} → IsOpening s → Moves s x a → is_portal k ≡ true → Staged v false Item x (node k ts) y → begins_with s k ≡ true
+begins_so {s = s} {x} {k = k} o m p r = and_both _ _ p (one_sign (opening_sign k) s x (portal_coded k p) o.coded (word_stands k p (of_so_far.from_node k r).walk) (there m))
+
+behind_so : {v : Surroundings} {s : Sign} {x a y : Place} {k : Kind} {ts : Forest} → IsOpening s → Moves s x a → begins_with s k ≡ true → Staged v false Item x (node k ts) y → Walk (Whole so_far) (steady v) (behind_word k) a ts y
+behind_so {s = s} {x} {a} {k = k} o m b r =
+    let p = and_left (is_portal k) _ b in
+    past_sign (row_so_far k) (portal_signed k p) (subst (λ q. Moves q x a) (sym (o.sign' k b)) m) (whole_portal p r)
+
+pub item_behind : {v : Surroundings} {s : Sign} {x a y : Place} {t : Tree} → IsOpening s → Moves s x a → ((k : Kind) (ts : Forest) (z : Place) → Staged v false Stmt x (node k ts) z → ⊥) → OnlyBehind s v t a y → Only so_far v (Part Item) x (one t) y
+item_behind {v} {s} {x} {a} {y} {t} o m none' b = record {
+  past = tree (subst (λ u. Whole so_far v false Item x u y) (sym b.built.is) (record { reads = of_so_far.to_node b.kind (portal_home b.kind p b.built.parts) (record { walk = moved (λ c i. sym (free_around c b.built.parts v i)) (portal_free b.kind p) (loosen row.walk); keeps = b.built.keeps }); ends_there = item_ends y }));
+  alone = at;
+}
   where
-    and_false : (a : Bool) → (a && false) ≡ false
-    and_false true = refl
-    and_false false = refl
+    p : is_portal b.kind ≡ true
+    p = and_left (is_portal b.kind) _ b.begins
 
-    stop : forth (pun "=") (At q AfterBinding text) ≡ Lost → ends_so_far Declarators (At q AfterBinding text) ≡ true
-    stop h =
-        let same' : token Operator (same q []) text ≡ token Operator false text = ap (λ v. token Operator v text) (is_not _ s) in
-        let n = ap (λ x. is_token x Punctuator (codes "=")) (sym same') ∙ not_lost _ (At (codes "=") AfterExpr (token Operator (same q []) text).rest) refl h in
-        not_is _ (ap (λ b. among (token Operator false text).raw (going 1) && b) n ∙ and_false _)
-bound_ends Lost s e k = cc
-bound_ends (At q _ text) s e k = cc
+    row : OnlyRow so_far v (row_so_far b.kind) x b.built.parts y
+    row = signed_row (row_so_far b.kind) (portal_signed b.kind p) (subst (λ q. Moves q x a) (sym (o.sign' b.kind b.begins)) m) b.built.row
 
-pub pattern_settled : {v : Surroundings} {x y : Place} (t : Tree) → Staged v false (Pat Binds) x t y → settled y ≡ true
-pattern_settled {x = x} (leaf IdentifierName t) r = settled_token Operator IdentifierName t x (leaf_full IsName t (and_right (leaf_in (Pat Binds) IdentifierName t) _ r.reads.is)) r.reads.scans r.reads.found
-pattern_settled (leaf _ t) r = let bad = r.staged in cc
-pattern_settled (node k ts) r = absurd (patterns.node k ts (taken_by r) (home_of r))
-pattern_settled (list ts) r = absurd (no_list r)
+    at : (g : Given) (z : Place) → Past (Whole so_far) v (Part Item) x g z → (one t ≡ g) × (y ≡ z)
+    at g z (tree {t = leaf k r} q) = let bad = q.reads.staged in cc
+    at g z (tree {t = list us} q) = absurd (no_list q.reads)
+    at g z (tree {t = node k us} q) = item_kind k q.reads (λ h. absurd (none' k us z (from_item h q.reads))) (λ h. at_portal h)
+      where
+        at_portal : is_portal k ≡ true → (one t ≡ one (node k us)) × (y ≡ z)
+        at_portal h =
+            let w = begins_so o m h q.reads in
+            let e = b.alone k us z w (behind_so o m w q.reads) (of_so_far.from_node k q.reads).keeps in
+            (ap one (sym e.0), sym e.1)
 
-pub name_ended : {v : Surroundings} {x y : Place} {p : Tree} → Only so_far v (Part (Pat Binds)) x (one p) y → settled y ≡ true
-name_ended {p = p} o = pattern_settled p (whole_of o.past).reads
-
-abbrev bound_keeps : Surroundings → Forest → Type 0
-bound_keeps v ts = so_far.keeps (statement Declarator) v ts ≡ true
-
-kept : {v : Surroundings} {x y : Place} {ts : Forest} → Walk (Whole so_far) (steady v) (row_so_far (statement Declarator)) x ts y → bound_keeps v ts
-kept w = and_both _ _ (plain (row_so_far (statement Declarator)) refl (to_grammar of_so_far w)) refl
-
-one_bound : {v : Surroundings} {x z : Place} {ts : Forest} → OnlyAt so_far v Declarators (row_so_far (statement Declarator)) x ts z → ends_so_far Declarators z ≡ true → Only so_far v (Part Declarators) x (one (node (statement Declarator) ts)) z
-one_bound o e = only_at of_so_far bound_chosen refl refl refl o (kept o.walk) e
-
-pub initialized : {v : Surroundings} {x y y1 y2 z : Place} {p u w : Tree} → Only so_far v (Part (Pat Binds)) x (one p) y → Moves (Ends AfterBinding) y y1 → Moves (pun "=") y1 y2 → Only so_far v (Part (Expr 1)) y2 (one u) z → w ≡ node (statement Declarator) (part p (part (list (part u none)) none)) → Only so_far v (Part Declarators) x (one w) z
-initialized {v} {x} {y} {y1} {z = z} {u = u} o m q r is = subst (λ t. Only so_far v (Part Declarators) x (one t) z) (sym is)
-    (one_bound (then_at o (then_at (only_sign m) (present_last (bound_next y (name_ended o) m.is (found_next 61 [] y1 (found_at (sym q.is) q.found))) (sym q.is) r refl (end_found of_so_far (whole_of r.past).reads)))) (ends (whole_of r.past).ends_there))
+pub item_unread : {v : Surroundings} {s : Sign} {x a : Place} → IsOpening s → Moves s x a → ((k : Kind) (ts : Forest) (z : Place) → Staged v false Stmt x (node k ts) z → ⊥) → NoneBehind s v a → Barred so_far v (Part Item) x
+item_unread {v} {s} {x} {a} o m none' n = record { no = at }
   where
-    same_ends : (p : Place) → ends_so_far (Expr 1) p ≡ ends_so_far Declarators p
-    same_ends Lost = refl
-    same_ends (At q e text) = refl
+    at : (g : Given) (z : Place) → Past (Whole so_far) v (Part Item) x g z → ⊥
+    at g z (tree {t = leaf k r} q) = let bad = q.reads.staged in cc
+    at g z (tree {t = list us} q) = no_list q.reads
+    at g z (tree {t = node k us} q) = item_kind k q.reads (λ h. none' k us z (from_item h q.reads)) (λ h. at_portal h)
+      where
+        at_portal : is_portal k ≡ true → ⊥
+        at_portal h = let w = begins_so o m h q.reads in (n.no k w).no us z (behind_so o m w q.reads) (of_so_far.from_node k q.reads).keeps
 
-    ends : ends_so_far (Expr 1) z ≡ true → ends_so_far Declarators z ≡ true
-    ends h = sym (same_ends z) ∙ h
+-- ---- what an import binds, and with what it begins
 
-of_row : {L : Language} {v : Surroundings} {c : Nonterminal} {ps : List Piece} {x y : Place} {ts : Forest} → OnlyRow L v ps x ts y → OnlyAt L v c ps x ts y
-of_row o = record { walk = o.walk; alone = λ us z w e. o.alone us z w }
+pub data AtClause : Tree → Type 0 where
+  bound : {t : Text} → AtClause (leaf IdentifierName t)
+  all : {ts : Forest} → AtClause (node (program ImportAll) ts)
+  some : {ts : Forest} → AtClause (node (program ImportList) ts)
+  two : {ts : Forest} → AtClause (node (program ImportBoth) ts)
 
-pub unless_none : (x : Place) → IsTrue (is_found x) → forth (Unless []) x ≡ x
-unless_none Lost f = refl
-unless_none (At q e text) f = refl
+abbrev is_clause : Kind → Bool
+is_clause (program ImportAll) = true
+is_clause (program ImportList) = true
+is_clause (program ImportBoth) = true
+is_clause k = false
 
-pub uninitialized : {v : Surroundings} {x y y1 : Place} {p w : Tree} → Only so_far v (Part (Pat Binds)) x (one p) y → Moves (Ends AfterBinding) y y1 → Stuck (pun "=") y1 → w ≡ node (statement Declarator) (part p (part (list none) none)) → Only so_far v (Part Declarators) x (one w) y1
-uninitialized {v} {x} {y} {y1} o m k is = subst (λ t. Only so_far v (Part Declarators) x (one t) y1) (sym is)
-    (one_bound (of_row (then' o (then' (only_sign m) (turn_only (turn_absent (unless_none y1 m.found) m.found (lost_barred of_so_far k.is)) (end m.found))))) (bound_ends y (name_ended o) m.is k))
+clause_is : (k : Kind) (ts : Forest) → is_clause k ≡ true → AtClause (node k ts)
+clause_is (program ImportAll) ts h = all
+clause_is (program ImportList) ts h = some
+clause_is (program ImportBoth) ts h = two
+clause_is (program _) ts h = cc
+clause_is _ ts h = cc
 
-none_bound : {v : Surroundings} {x : Place} → NoneAt so_far v Declarators (row_so_far (statement Declarator)) (statement Declarator) x → Barred so_far v (Part Declarators) x
-none_bound n = barred_at of_so_far bound_chosen refl refl n
+pub at_clause : {v : Surroundings} {x y : Place} (t : Tree) → Staged v false ImportClause x t y → AtClause t
+at_clause (leaf IdentifierName t) r = bound
+at_clause (leaf _ t) r = let bad = r.staged in cc
+at_clause (node k ts) r = clause_is k ts (standing ImportClause is_clause refl k (taken_by r) (kind_home ImportClause k ts (home_of r)))
+at_clause (list ts) r = absurd (no_list r)
 
-pub no_binding : {v : Surroundings} {x : Place} → Barred so_far v (Part (Pat Binds)) x → Barred so_far v (Part Declarators) x
-no_binding b = none_bound (record { no = λ ts y w k e. (bar b).no ts y w })
+-- a name that is bound, by its token
+pub record BoundThere (x : Place) (u : Tree) (z : Place) : Type 0 where
+  pub text : Text
+  pub is : u ≡ leaf IdentifierName text
+  pub moves : forth (Tok Operator IdentifierName text) x ≡ z
+  pub found : IsTrue (is_found z)
 
-pub no_initializer : {v : Surroundings} {x y y1 y2 : Place} {p : Tree} → Only so_far v (Part (Pat Binds)) x (one p) y → Moves (Ends AfterBinding) y y1 → Moves (pun "=") y1 y2 → Barred so_far v (Part (Expr 1)) y2 → Barred so_far v (Part Declarators) x
-no_initializer {v} {x} {y} {y1} {y2} o m q b = none_bound (record { no = at })
+pub bound_there : {v : Surroundings} {x y : Place} (u : Tree) → Staged v false BindingIdent x u y → BoundThere x u y
+bound_there (leaf IdentifierName t) r = record { text = t; is = refl; moves = leaf_forth IsName r; found = r.reads.found }
+bound_there (leaf _ t) r = let bad = r.staged in cc
+bound_there (node k ts) r = absurd (bindings.node k ts (taken_by r) (home_of r))
+bound_there (list ts) r = absurd (no_list r)
+
+-- the kinds begin with a mark, or with a name
+pub data Starts (x : Place) : Type 0 where
+  by_name : (t : Text) → IsTrue (is_found (forth (Tok Operator IdentifierName t) x)) → Starts x
+  by_star : IsTrue (is_found (forth (pun "*") x)) → Starts x
+  by_brace : IsTrue (is_found (forth (pun "{") x)) → Starts x
+
+two_starts : {V : List Context → Surroundings} {x y : Place} {ts : Forest} → Walk Staged V (row_so_far (program ImportBoth)) x ts y → Starts x
+two_starts (next (tree {t = t} q) w) = let n = bound_there t q in by_name n.text (found_at n.moves n.found)
+
+pub clause_starts : {v : Surroundings} {x y : Place} {t : Tree} → AtClause t → Staged v false ImportClause x t y → Starts x
+clause_starts (bound {t}) r = by_name t (found_at (leaf_forth IsName r) r.reads.found)
+clause_starts all r = by_star (led_sign (row_so_far (program ImportAll)) refl (of_so_far.from_node (program ImportAll) r).walk)
+clause_starts some r = by_brace (led_sign (row_so_far (program ImportList)) refl (of_so_far.from_node (program ImportList) r).walk)
+clause_starts two r = two_starts (of_so_far.from_node (program ImportBoth) r).walk
+
+-- no other mark stands there, and no string
+pub unmarked_start : {x : Place} (d : Text) → same (codes "*") d ≡ false → same (codes "{") d ≡ false → Starts x → IsTrue (is_found (forth (Tok Operator Punctuator d) x)) → ⊥
+unmarked_start {x} d n m (by_name t f) g = mark_none IsName t d x refl f g
+unmarked_start {x} d n m (by_star f) g = never_both Punctuator Punctuator (codes "*") d x n f g
+unmarked_start {x} d n m (by_brace f) g = never_both Punctuator Punctuator (codes "{") d x m f g
+
+pub unquoted_start : {x : Place} (t : Text) → Starts x → IsTrue (is_found (forth (Tok Operator StringLiteral t) x)) → ⊥
+unquoted_start {x} t (by_name s f) g = never_both IdentifierName StringLiteral s t x refl f g
+unquoted_start {x} t (by_star f) g = mark_none IsString t (codes "*") x refl g f
+unquoted_start {x} t (by_brace f) g = mark_none IsString t (codes "{") x refl g f
+
+-- a string, by its token
+pub record StringThere (x : Place) (u : Tree) (z : Place) : Type 0 where
+  pub text : Text
+  pub is : u ≡ leaf StringLiteral text
+  pub moves : forth (Tok Operator StringLiteral text) x ≡ z
+  pub found : IsTrue (is_found z)
+
+pub string_there : {v : Surroundings} {x y : Place} (u : Tree) → Staged v false StringOnly x u y → StringThere x u y
+string_there (leaf StringLiteral t) r = record { text = t; is = refl; moves = leaf_forth IsString r; found = r.reads.found }
+string_there (leaf _ t) r = let bad = r.staged in cc
+string_there (node k ts) r = absurd (strings.node k ts (taken_by r) (home_of r))
+string_there (list ts) r = absurd (no_list r)
+
+-- ---- where neither begins, an item is a statement
+
+-- neither `(` nor `.` stands behind the word of an import
+bare_goes : {V : List Context → Surroundings} {x y : Place} {ts : Forest} (d : Text) → Walk Staged V (row_so_far (program ImportBare)) x ts y → IsTrue (is_found (forth (Tok Operator Punctuator d) (forth (key "import") x))) → ⊥
+bare_goes {x = x} d (next {y = z} (sign e f) (next (tree {t = t} q) w)) g =
+    let s = string_there t q in
+    mark_none IsString s.text d z refl (found_at s.moves s.found) (subst (λ p. IsTrue (is_found (forth (Tok Operator Punctuator d) p))) e g)
+
+from_goes : {V : List Context → Surroundings} {x y : Place} {ts : Forest} (d : Text) → same (codes "*") d ≡ false → same (codes "{") d ≡ false → Walk Staged V (row_so_far (program Import)) x ts y → IsTrue (is_found (forth (Tok Operator Punctuator d) (forth (key "import") x))) → ⊥
+from_goes {x = x} d n m (next {y = z} (sign e f) (next (tree {t = t} q) w)) g = unmarked_start d n m (clause_starts (at_clause t q) q) (subst (λ p. IsTrue (is_found (forth (Tok Operator Punctuator d) p))) e g)
+
+no_import : {V : List Context → Surroundings} {x y : Place} {ts : Forest} (k : Kind) → begins_with (key "import") k ≡ true → NoImport x → Walk Staged V (row_so_far k) x ts y → ⊥
+no_import {x = x} (program ImportBare) h (elsewhere e) w = lost_there (key "import") x e (led_sign (row_so_far (program ImportBare)) refl w)
+no_import (program ImportBare) h (called f) w = bare_goes (codes "(") w f
+no_import (program ImportBare) h (dotted f) w = bare_goes (codes ".") w f
+no_import {x = x} (program Import) h (elsewhere e) w = lost_there (key "import") x e (led_sign (row_so_far (program Import)) refl w)
+no_import (program Import) h (called f) w = from_goes (codes "(") refl refl w f
+no_import (program Import) h (dotted f) w = from_goes (codes ".") refl refl w f
+no_import (program _) h n w = cc
+no_import _ h n w = cc
+
+-- one of the two words
+portal_word : (k : Kind) {A : Type 0} → is_portal k ≡ true → (begins_with (key "import") k ≡ true → A) → (begins_with (key "export") k ≡ true → A) → A
+portal_word (program ImportBare) m f g = f refl
+portal_word (program Import) m f g = f refl
+portal_word (program ExportNames) m f g = g refl
+portal_word (program ExportFrom) m f g = g refl
+portal_word (program ExportAll) m f g = g refl
+portal_word (program ExportAllAs) m f g = g refl
+portal_word (program ExportDecl) m f g = g refl
+portal_word (program ExportDefaultFn) m f g = g refl
+portal_word (program ExportDefaultExpr) m f g = g refl
+portal_word (program _) m f g = cc
+portal_word _ m f g = cc
+
+no_portal : {v : Surroundings} {x y : Place} {k : Kind} {ts : Forest} → forth (key "export") x ≡ Lost → NoImport x → is_portal k ≡ true → Staged v false Item x (node k ts) y → ⊥
+no_portal {v} {x} {k = k} e n m r =
+    let w = (of_so_far.from_node k r).walk in
+    portal_word k m (λ h. no_import k h n w) (λ h. lost_there (key "export") x e (subst (λ s. IsTrue (is_found (forth s x))) (export_sign k h) (word_stands k m w)))
+
+pub item_statement : {v : Surroundings} {x y : Place} {t : Tree} → forth (key "export") x ≡ Lost → NoImport x → Only so_far v (Part Stmt) x (one t) y → Only so_far v (Part Item) x (one t) y
+item_statement {v} {x} {y} {t} e n o = record { past = to o.past; alone = at }
   where
-    last : (us : Forest) (u : Place) → Walk (Whole so_far) (steady v) (tail (tail (row_so_far (statement Declarator)))) y1 us u → ends_so_far Declarators u ≡ true → ⊥
-    last us u w h = none_last {o = Declarators} (bound_next y (name_ended o) m.is (found_next 61 [] y1 (found_at (sym q.is) q.found))) (sym q.is) b us u w h
+    to : Past (Whole so_far) v (Part Stmt) x (one t) y → Past (Whole so_far) v (Part Item) x (one t) y
+    to (tree w) = tree (record { reads = to_item t w.reads; ends_there = item_ends y })
 
-    at : (ts : Forest) (z : Place) → Walk (Whole so_far) (steady v) (row_so_far (statement Declarator)) x ts z → so_far.keeps (statement Declarator) v ts ≡ true → ends_so_far Declarators z ≡ true → ⊥
-    at ts z (next r (next {ts = us} (sign e f) w)) k h =
-        let same = o.alone _ _ r in
-        last us z (subst (λ p. Walk (Whole so_far) (steady v) (tail (tail (row_so_far (statement Declarator)))) p us z) (sym e ∙ (ap (forth (Ends AfterBinding)) (sym same.1) ∙ sym m.is)) w) h
+    at : (g : Given) (z : Place) → Past (Whole so_far) v (Part Item) x g z → (one t ≡ g) × (y ≡ z)
+    at g z (tree {t = leaf k r} q) = let bad = q.reads.staged in cc
+    at g z (tree {t = list us} q) = absurd (no_list q.reads)
+    at g z (tree {t = node k us} q) = item_kind k q.reads
+        (λ h. o.alone (one (node k us)) z (tree (record { reads = from_item h q.reads; ends_there = of_so_far.ends_there Stmt z (never_stops Stmt z refl) })))
+        (λ h. absurd (no_portal e n h q.reads))
 
--- ---- a declaration of variables, behind its word
-
-abbrev pub inits : DeclareWord → Forest → Bool
-inits w = all_of (has_init w)
-
-pub inits_more : (w : DeclareWord) (ts : Forest) (t : Tree) → inits w ts ≡ true → has_init w t ≡ true → inits w (both ts (part t none)) ≡ true
-inits_more w none t a b = and_both _ _ b refl
-inits_more w (part u ts) t a b = and_both _ _ (and_left (has_init w u) _ a) (inits_more w ts t (and_right (has_init w u) _ a) b)
-
-without : (w : DeclareWord) (ts : Forest) (t : Tree) (us : Forest) → has_init w t ≡ false → inits w (both ts (part t us)) ≡ true → ⊥
-without w none t us n h = clash _ (and_left (has_init w t) _ h) n
-without w (part u ts) t us n h = without w ts t us n (and_right (has_init w u) _ h)
-
-pub declared_keeps : (w : DeclareWord) (v : Surroundings) (ts : Forest) → inits w ts ≡ true → so_far.keeps (statement (Var w)) v (part (list ts) none) ≡ true
-declared_keeps w v ts i = and_both _ _ (and_both _ _ i refl) refl
-
-pub list_inits : (w : DeclareWord) (v : Surroundings) (ts us : Forest) → so_far.keeps (statement (Var w)) v (part (list ts) us) ≡ true → inits w ts ≡ true
-list_inits w v ts us k = and_left (inits w ts) _ (and_left (all_of (list_rule (inits w)) (part (list ts) us)) _ k)
-
--- the same of what a `for` begins with
-pub head_keeps : (w : DeclareWord) (v : Surroundings) (ts : Forest) → inits w ts ≡ true → so_far.keeps (statement (ForDeclaration w)) v (part (list ts) none) ≡ true
-head_keeps w v ts i = and_both _ _ (and_both _ _ i refl) refl
-
-pub head_inits : (w : DeclareWord) (v : Surroundings) (ts us : Forest) → so_far.keeps (statement (ForDeclaration w)) v (part (list ts) us) ≡ true → inits w ts ≡ true
-head_inits w v ts us k = and_left (inits w ts) _ (and_left (all_of (list_rule (inits w)) (part (list ts) us)) _ k)
-
--- one without an initializer, whatever stands behind the list
-pub no_init : {v : Surroundings} {ps : List Piece} {x y z : Place} {t : Tree} (w : DeclareWord) (k : Kind) (ts : Forest) → ((us ws : Forest) → so_far.keeps k v (part (list us) ws) ≡ true → inits w us ≡ true)
-    → Turn so_far v (piece [] (Many NoTrailing Declarators) ∷ ps) (piece [] (Many NoTrailing Declarators) ∷ ps) x y (prepend ts) → Only so_far v (Part Declarators) y (one t) z → has_init w t ≡ false → NoNode so_far v (piece [] (Many NoTrailing Declarators) ∷ ps) k x
-no_init {v} {ps} {x} {t = t} w k ts asks so o n = record { no = at }
+pub no_statement_item : {v : Surroundings} {x : Place} → forth (key "export") x ≡ Lost → NoImport x → Barred so_far v (Part Stmt) x → Barred so_far v (Part Item) x
+no_statement_item {v} {x} e n b = record { no = at }
   where
-    at : (us : Forest) (z : Place) → Walk (Whole so_far) (steady v) (piece [] (Many NoTrailing Declarators) ∷ ps) x us z → so_far.keeps k v us ≡ true → ⊥
-    at us z walk h =
-        let a = all_with ts so o us z walk in
-        without w ts t a.0 n (asks (both ts (part t a.0)) a.1.0 (subst (λ vs. so_far.keeps k v vs ≡ true) a.1.1 h))
+    at : (g : Given) (z : Place) → Past (Whole so_far) v (Part Item) x g z → ⊥
+    at g z (tree {t = leaf k r} q) = let bad = q.reads.staged in cc
+    at g z (tree {t = list us} q) = no_list q.reads
+    at g z (tree {t = node k us} q) = item_kind k q.reads
+        (λ h. b.no (one (node k us)) z (tree (record { reads = from_item h q.reads; ends_there = of_so_far.ends_there Stmt z (never_stops Stmt z refl) })))
+        (λ h. no_portal e n h q.reads)
 
--- what is bound is a name, which only `const` asks a value of
-name_value : (w : DeclareWord) {v : Surroundings} {x y : Place} (q : Tree) (ts : Forest) → Staged v false (Pat Binds) x q y → has_init w (node (statement Declarator) (part q ts)) ≡ has_value w (node (statement Declarator) (part q ts))
-name_value ConstWord q ts r = refl
-name_value VarWord (leaf IdentifierName t) ts r = refl
-name_value LetWord (leaf IdentifierName t) ts r = refl
-name_value VarWord (leaf _ t) ts r = let bad = r.staged in cc
-name_value LetWord (leaf _ t) ts r = let bad = r.staged in cc
-name_value VarWord (node k us) ts r = absurd (patterns.node k us (taken_by r) (home_of r))
-name_value LetWord (node k us) ts r = absurd (patterns.node k us (taken_by r) (home_of r))
-name_value VarWord (list us) ts r = absurd (no_list r)
-name_value LetWord (list us) ts r = absurd (no_list r)
+-- ---- nothing stands at the end
 
-walk_value : (w : DeclareWord) {V : _} {x y : Place} {ts : Forest} → Walk Staged V (row_so_far (statement Declarator)) x ts y → has_init w (node (statement Declarator) ts) ≡ has_value w (node (statement Declarator) ts)
-walk_value w (next {ts = us} (tree {t = q} r) walk) = name_value w q us r
-
-tree_value : (w : DeclareWord) {v : Surroundings} {x y : Place} (t : Tree) → Staged v false Declarators x t y → has_init w t ≡ has_value w t
-tree_value w (leaf s t) r = let bad = r.staged in cc
-tree_value w (list ts) r = absurd (no_list r)
-tree_value w {v} {x} {y} (node l ts) r =
-    let e = bound_kind l ts (taken_by r) (home_of r) in
-    subst (λ k. has_init w (node k ts) ≡ has_value w (node k ts)) (sym e) (walk_value w (of_so_far.from_node (statement Declarator) (subst (λ k. Staged v false Declarators x (node k ts) y) e r)).walk)
-
-pub read_value : (w : DeclareWord) {v : Surroundings} {x y : Place} {t : Tree} → Only so_far v (Part Declarators) x (one t) y → has_init w t ≡ has_value w t
-read_value w {t = t} o = tree_value w t (whole_of o.past).reads
-
--- ---- an expression statement
-
-heads_only : {v : Surroundings} {x : Place} → IsTrue (is_found x) → forth (Unless heads) x ≡ x → Only so_far v (Fixed (Unless heads)) x nothing x
-heads_only f e = only_sign (record { is = sym e; found = f })
-
-statement_row : {v : Surroundings} {x y z : Place} {t : Tree} → Stuck (pun "{") x → Only so_far v (Part (Expr 0)) x (one t) y → Only so_far v semi y nothing z → OnlyRow so_far v (row_so_far (statement ExprStmt)) x (part t none) z
-statement_row k o s = then' (heads_only (start_found of_so_far (whole_of o.past).reads) (no_heads k (whole_of o.past).reads)) (then' o (then' s (end (sign_found s.past))))
-  where
-    sign_found : {v : Surroundings} {s : Sign} {x y : Place} {g : Given} → Past (Whole so_far) v (Fixed s) x g y → IsTrue (is_found y)
-    sign_found (sign e f) = f
-
-pub statement_built : {v : Surroundings} {x y z : Place} {t w : Tree} → Stuck (pun "{") x → Only so_far v (Part (Expr 0)) x (one t) y → Only so_far v semi y nothing z → w ≡ node (statement ExprStmt) (part t none) → BuiltNode so_far v (row_so_far (statement ExprStmt)) (statement ExprStmt) w x z
-statement_built {v} {t = t} k o s is =
-    let r = statement_row k o s in
-    record { parts = part t none; is = is; row = r; keeps = and_both _ _ (plain (row_so_far (statement ExprStmt)) refl (to_grammar of_so_far r.walk)) refl }
-
-pub no_value_statement : {v : Surroundings} {x : Place} → Barred so_far v (Part (Expr 0)) x → NoRow so_far v (row_so_far (statement ExprStmt)) x
-no_value_statement {v} {x} b = record { no = at }
-  where
-    at : (us : Forest) (w : Place) → Walk (Whole so_far) (steady v) (row_so_far (statement ExprStmt)) x us w → ⊥
-    at us w (next (sign e f) (next {y = z} {g = g} q walk)) = b.no g z (subst (λ p. Past (Whole so_far) v (Part (Expr 0)) p g z) (sym e ∙ stays (Unless heads) x refl (found_at e f)) q)
-
-pub unfinished : {v : Surroundings} {x y : Place} {t : Tree} → Stuck (pun "{") x → Only so_far v (Part (Expr 0)) x (one t) y → Barred so_far v semi y → NoRow so_far v (row_so_far (statement ExprStmt)) x
-unfinished k o s = on (heads_only (start_found of_so_far (whole_of o.past).reads) (no_heads k (whole_of o.past).reads)) (on o (bar s))
+pub none_at_end : {v : Surroundings} {x : Place} → ended_at x ≡ true → Barred so_far v (Part Item) x
+none_at_end {x = x} e = no_statement_item (end_lost (key "export") x refl e) (elsewhere (end_lost (key "import") x refl e)) (none_begins stmts (record { on = λ h. end_lost (heading_sign h) x (coded h) e }) (end_shut x e))

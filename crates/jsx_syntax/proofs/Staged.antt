@@ -3,7 +3,7 @@ use Rattle.std.proofs.Common.{◌≡◌, List, [], ◌∷◌, Bool, true, false,
 use Rattle.std.proofs.lemmas.Bool.{and_parts, and_from, false≢true}
 use Rattle.std.specs.Prelude.{◌&&◌}
 use Rattle.jsx_base.specs.Token.{Text, TokenKind, JsxName}
-use Rattle.jsx_tree.specs.Kinds.{BinaryOp, Nullish, Kind, program, statement, function, expression, jsx, Module, Directive, Block, Var, VarWord, LetWord, ConstWord, Declarator, Empty, ExprStmt, If, Do, While, Continue, Break, Label, Throw, Debugger, Seq, Assign, OpAssign, Binary, Unary, Cond, ImportCall, Call, Member, Index, Parenthesized, ParenTarget, Element, Tree, leaf, node, list, Forest, none, part, PrefixUpdate, PostfixUpdate, For, ForDeclaration, Switch, Case, Default, Array, Spread, Try, Catch, Object, Property, Shorthand, ComputedKey, ImportMeta, New, NewWithoutArguments, NewTarget, ForIn, ForOf, ForBinding, PlainTemplate, SubstitutedTemplate, TemplateSpan, Tagged, Chain, NameLink, IndexLink, CallLink}
+use Rattle.jsx_tree.specs.Kinds.{BinaryOp, Nullish, Kind, program, statement, function, expression, jsx, Module, Directive, Block, Var, VarWord, LetWord, ConstWord, Declarator, Empty, ExprStmt, If, Do, While, Continue, Break, Label, Throw, Debugger, Seq, Assign, OpAssign, Binary, Unary, Cond, ImportCall, Call, Member, Index, Parenthesized, ParenTarget, Element, Tree, leaf, node, list, Forest, none, part, PrefixUpdate, PostfixUpdate, For, ForDeclaration, Switch, Case, Default, Array, Spread, Try, Catch, Object, Property, Shorthand, ComputedKey, ImportMeta, New, NewWithoutArguments, NewTarget, ForIn, ForOf, ForBinding, PlainTemplate, SubstitutedTemplate, TemplateSpan, Tagged, Chain, NameLink, IndexLink, CallLink, Imported, Exported, From, FunctionBody, ImportBare, Import, ImportAll, ImportList, ImportBoth, Specifier, SpecifierAs, ExportNames, ExportFrom, ExportAll, ExportAllAs, ExportDecl, ExportDefaultFn, ExportDefaultExpr, Return, FunctionDecl, FunctionExpr, Binds, WithInit, RestPat}
 use Rattle.jsx_tree.specs.Nonterminals.{Nonterminal, TagName, Attributes, WholeProgram, assigns, expr, in_homes, homes}
 use Rattle.jsx_tree.specs.Form.{Position, position, positions, shaped, last_only, admits, fits_below, fit_slots, fit_each, is}
 use Rattle.jsx_tree.specs.Sound.{each_node, each_nodes}
@@ -32,6 +32,25 @@ assign_no_tag false = (refl, refl)
 no_tag : (k : Kind) → has_kind k ≡ true → NoTag k
 no_tag (program Module) h = record { name = refl; attribute = refl }
 no_tag (program Directive) h = record { name = refl; attribute = refl }
+no_tag (program FunctionBody) h = record { name = refl; attribute = refl }
+no_tag (program ImportBare) h = record { name = refl; attribute = refl }
+no_tag (program Import) h = record { name = refl; attribute = refl }
+no_tag (program ImportAll) h = record { name = refl; attribute = refl }
+no_tag (program ImportList) h = record { name = refl; attribute = refl }
+no_tag (program ImportBoth) h = record { name = refl; attribute = refl }
+no_tag (program (Specifier Imported)) h = record { name = refl; attribute = refl }
+no_tag (program (Specifier Exported)) h = record { name = refl; attribute = refl }
+no_tag (program (Specifier From)) h = record { name = refl; attribute = refl }
+no_tag (program (SpecifierAs Imported)) h = record { name = refl; attribute = refl }
+no_tag (program (SpecifierAs Exported)) h = record { name = refl; attribute = refl }
+no_tag (program (SpecifierAs From)) h = record { name = refl; attribute = refl }
+no_tag (program ExportNames) h = record { name = refl; attribute = refl }
+no_tag (program ExportFrom) h = record { name = refl; attribute = refl }
+no_tag (program ExportAll) h = record { name = refl; attribute = refl }
+no_tag (program ExportAllAs) h = record { name = refl; attribute = refl }
+no_tag (program ExportDecl) h = record { name = refl; attribute = refl }
+no_tag (program ExportDefaultFn) h = record { name = refl; attribute = refl }
+no_tag (program ExportDefaultExpr) h = record { name = refl; attribute = refl }
 no_tag (statement Block) h = record { name = refl; attribute = refl }
 no_tag (statement (Var VarWord)) h = record { name = refl; attribute = refl }
 no_tag (statement (Var LetWord)) h = record { name = refl; attribute = refl }
@@ -59,6 +78,8 @@ no_tag (statement Throw) h = record { name = refl; attribute = refl }
 no_tag (statement Try) h = record { name = refl; attribute = refl }
 no_tag (statement Catch) h = record { name = refl; attribute = refl }
 no_tag (statement Debugger) h = record { name = refl; attribute = refl }
+no_tag (statement Return) h = record { name = refl; attribute = refl }
+no_tag (statement FunctionDecl) h = record { name = refl; attribute = refl }
 no_tag (statement Declarator) h = record { name = refl; attribute = refl }
 no_tag (statement ExprStmt) h = record { name = refl; attribute = refl }
 no_tag (expression Seq) h = record { name = refl; attribute = refl }
@@ -81,6 +102,9 @@ no_tag (expression Property) h = record { name = refl; attribute = refl }
 no_tag (expression Shorthand) h = record { name = refl; attribute = refl }
 no_tag (function ComputedKey) h = record { name = refl; attribute = refl }
 no_tag (function ParenTarget) h = record { name = refl; attribute = refl }
+no_tag (function FunctionExpr) h = record { name = refl; attribute = refl }
+no_tag (function (WithInit Binds)) h = record { name = refl; attribute = refl }
+no_tag (function (RestPat Binds)) h = record { name = refl; attribute = refl }
 no_tag (expression (PlainTemplate true)) h = record { name = refl; attribute = refl }
 no_tag (expression (PlainTemplate false)) h = record { name = refl; attribute = refl }
 no_tag (expression (SubstitutedTemplate true)) h = record { name = refl; attribute = refl }

@@ -1,10 +1,4 @@
-pub mod Statements
-pub mod Seats
-pub mod Within
-pub mod Heads
-pub mod Cases
+pub mod Items
 pub mod Modules
-pub mod Labels
-pub mod Tries
-pub mod OpenIn
 pub mod Parsed
+pub mod Specifiers

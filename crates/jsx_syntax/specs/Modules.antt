@@ -4,15 +4,15 @@ use Rattle.jsx_base.specs.Token.{StringLiteral}
 use Rattle.jsx_base.specs.declared.place.Span.{Span}
 use Rattle.jsx_tree.specs.declared.program.Module.{Module as Parts}
 use Rattle.jsx_tree.specs.declared.text.Text.{Text as TreeText}
-use Rattle.jsx_tree.specs.declared.tree.Stmt.{Stmt}
+use Rattle.jsx_tree.specs.declared.program.Item.{Item as CodeItem}
 use Rattle.jsx_tree.specs.Kinds.{Module, ExprStmt, program, statement, leaf, node, list, Forest, none, part}
 use Rattle.jsx_tree.specs.Nonterminals.{Item, DirectiveOnly}
 use Rattle.jsx_tree.specs.Grammar.{TopLines, Many, Production}
 use Rattle.jsx_tree.specs.Reading.{Place, ended_at}
 use Rattle.jsx_tree.specs.StaticRules.{Surroundings, rule}
 use Rattle.jsx_tree.specs.Spans.{Tales}
-use Rattle.jsx_tree.specs.Told.{tales, told_directive, told_item, told_leaf, told_list, told_node, told_stmt}
-use Rattle.jsx_tree.specs.View.{directive, forest, text_of, view_stmt}
+use Rattle.jsx_tree.specs.Told.{tales, told_directive, told_item, told_leaf, told_list, told_node}
+use Rattle.jsx_tree.specs.View.{directive, forest, text_of}
 use Rattle.jsx_tree.specs.ViewProgram.{view_item}
 use Rattle.jsx_tree.specs.Walk.{Piece, Walk, pieces, steady}
 use Rattle.jsx_tree.specs.Language.{Whole}
@@ -46,9 +46,9 @@ module_parts m = part (list (forest (map directive m.directives.items))) (part (
 abbrev pub module_tales : Parts → Tales
 module_tales m = tales (told_list (map told_directive m.directives.items) ∷ told_list (map told_item m.body.items) ∷ [])
 
--- the statement is this string alone
-pub record IsString (t : TreeText) (s : Stmt) : Type 0 where
-  pub view : view_stmt s ≡ node (statement ExprStmt) (part (leaf StringLiteral (text_of t)) none)
+-- the item is this string alone, as a statement
+pub record IsDirective (t : TreeText) (i : CodeItem) : Type 0 where
+  pub view : view_item i ≡ node (statement ExprStmt) (part (leaf StringLiteral (text_of t)) none)
   pub at : Option Span
   pub inner : Option Span
-  pub told : told_stmt s ≡ told_node at (told_leaf inner t ∷ [])
+  pub told : told_item i ≡ told_node at (told_leaf inner t ∷ [])

@@ -2,15 +2,11 @@
 #![tactic(auto)]
 
 mod bare;
-mod catching;
-mod for_head;
-mod grammar;
-mod iteration;
-mod label;
+mod export;
+mod import;
+mod item;
 mod module;
-mod open_in;
-mod statement;
-mod switch;
+mod specifier;
 
 pub use jsx_operand::ParseError;
 pub use module::parse;

@@ -1,8 +1,8 @@
 -- A guard before a token: whether `=>` comes next.
-use Rattle.std.proofs.Common.{◌≡◌, ℕ, Bool, true, false, cond, not, List, [], ◌∷◌, refl, sym, ◌∙◌, ap, subst}
+use Rattle.std.proofs.Common.{◌≡◌, ℕ, Bool, true, false, cond, not, [], ◌∷◌, refl, sym, ◌∙◌, ap}
 use Rattle.std.specs.Prelude.{codes, ◌||◌, ◌&&◌}
 use Rattle.std.specs.Str.{chars}
-use Rattle.jsx_base.specs.Token.{Text, Mode, Operator, Punctuator, TokenKind, NoToken, NumericLiteral, BigIntLiteral, Lexeme, State, Dead, accepts, last_state, taken, left, no_token, ended, punct, punctuator, lexed, at_front, token, same, among, begins, first_is, is_start, is_digit, is_code, skip, breaks, state}
+use Rattle.jsx_base.specs.Token.{Text, Operator, TokenKind, NoToken, NumericLiteral, BigIntLiteral, Lexeme, State, Dead, accepts, last_state, taken, left, no_token, ended, punct, punctuator, lexed, at_front, token, same, begins, first_is, is_start, is_digit, skip, breaks, state}
 use Rattle.jsx_tree.specs.Signs.{Ending, AfterExpr, Unless}
 use Rattle.jsx_tree.specs.Reading.{Lost, At, forth}
 use Rattle.jsx_lex.specs.declared.lexer.Lexer.{Lexer as Tokens}

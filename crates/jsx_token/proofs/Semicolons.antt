@@ -128,6 +128,7 @@ any_last : (e : code.Ending) (q t : Text) → continues (ending_of e) q t ≡ co
 any_last ending.Expr q t = refl
 any_last ending.Binding q t = refl
 any_last ending.Word q t = refl
+any_last ending.List q t = refl
 any_last ending.Do q t = refl
 
 grouped : (a b c d : Bool) → (((a || b) || c) || d) ≡ (b || (a || (c || d)))

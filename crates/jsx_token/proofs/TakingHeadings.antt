@@ -1,11 +1,11 @@
 -- A token with which a statement begins, taken, and what is known where none is.
-use Rattle.std.proofs.Common.{◌≡◌, ◌<◌, ℕ, Bool, true, false, not, List, [], ◌∷◌, refl, sym, ap, ◌∙◌, subst}
+use Rattle.std.proofs.Common.{◌≡◌, ℕ, Bool, true, false, not, List, [], ◌∷◌, refl, sym, ap, ◌∙◌, subst}
 use Rattle.std.specs.Prelude.{Option, Some, None, MatchOption, cond, codes, ◌&&◌}
-use Rattle.std.specs.Str.{chars, bytes_eq, IsUtf8}
+use Rattle.std.specs.Str.{chars, IsUtf8}
 use Rattle.std.proofs.lemmas.Bool.{false≢true}
 use Rattle.jsx_base.specs.Token.{Text, Operator, IdentifierName, Punctuator, is_kind, same}
-use Rattle.jsx_tree.specs.Signs.{Sign, Tok}
-use Rattle.jsx_tree.specs.Reading.{Lost, forth}
+use Rattle.jsx_tree.specs.Signs.{Tok}
+use Rattle.jsx_tree.specs.Reading.{forth}
 use Rattle.jsx_tree.specs.declared.text.DeclareWord.TheVariants as declare_word
 use Rattle.jsx_tree.proofs.Tokens.{and_left, and_right, and_both}
 use Rattle.jsx_tree.proofs.Rows.Stopping.{is_not}
@@ -16,10 +16,10 @@ use Rattle.jsx_lex.specs.declared.token.TokenKind.TheVariants as token
 use Rattle.jsx_lex.specs.Kinds.{is_punctuator, kind_of, spelling}
 use Rattle.jsx_token.specs.declared.heading.Heading.{Heading}
 use Rattle.jsx_token.specs.declared.heading.Heading.TheVariants as heading
-use Rattle.jsx_token.specs.Here.{Here, place_of, sign_of}
+use Rattle.jsx_token.specs.Here.{Here, place_of}
 use Rattle.jsx_token.specs.Headings.{NoHeading, NoneIsIt, first_bytes, first_word, fixed_of, heading_sign, is_heading, words}
 use Rattle.jsx_token.specs.Seen.{IsNext, NoNext}
-use Rattle.jsx_token.specs.Spelled.{fixed_kind, fixed_text, fixed_mode}
+use Rattle.jsx_token.specs.Spelled.{fixed_kind, fixed_text}
 use Rattle.jsx_token.specs.declared.lexer.Fixed.TheVariants as fixed
 use Rattle.jsx_token.specs.declared.word.Word.TheVariants as word
 use Rattle.jsx_token.proofs.Headings.{every_heading, nth, at_place, some_is}
@@ -44,6 +44,8 @@ signs heading.Break = refl
 signs heading.Throw = refl
 signs heading.Try = refl
 signs heading.Debugger = refl
+signs heading.Return = refl
+signs heading.Function = refl
 
 pub none_heads : {h : Here} → NoNext Operator h → NoHeading (place_of h)
 none_heads {h} n = record { on = λ g. ap (λ s. forth s (place_of h)) (signs g) ∙ none_by (fixed_kind (fixed_of g)) (fixed_text (fixed_of g)) (fixed_some (fixed_of g)) n }
@@ -70,7 +72,7 @@ and_no false = refl
 pub words_chars : (bs : List ℕ) → IsUtf8 bs → first_bytes words bs ≡ first_word words (chars bs)
 words_chars bs u = λ i.
     cond (is_reserved word.Var bs u i) (Some (heading.Var declare_word.Var)) (cond (is_reserved word.Let bs u i) (Some (heading.Var declare_word.Let)) (cond (is_reserved word.Const bs u i) (Some (heading.Var declare_word.Const)) (cond (is_reserved word.If bs u i) (Some heading.If)
-    (cond (is_reserved word.Do bs u i) (Some heading.Do) (cond (is_reserved word.While bs u i) (Some heading.While) (cond (is_reserved word.For bs u i) (Some heading.For) (cond (is_reserved word.Switch bs u i) (Some heading.Switch) (cond (is_reserved word.Continue bs u i) (Some heading.Continue) (cond (is_reserved word.Break bs u i) (Some heading.Break) (cond (is_reserved word.Throw bs u i) (Some heading.Throw) (cond (is_reserved word.Try bs u i) (Some heading.Try) (cond (is_reserved word.Debugger bs u i) (Some heading.Debugger) None))))))))))))
+    (cond (is_reserved word.Do bs u i) (Some heading.Do) (cond (is_reserved word.While bs u i) (Some heading.While) (cond (is_reserved word.For bs u i) (Some heading.For) (cond (is_reserved word.Switch bs u i) (Some heading.Switch) (cond (is_reserved word.Continue bs u i) (Some heading.Continue) (cond (is_reserved word.Break bs u i) (Some heading.Break) (cond (is_reserved word.Throw bs u i) (Some heading.Throw) (cond (is_reserved word.Try bs u i) (Some heading.Try) (cond (is_reserved word.Debugger bs u i) (Some heading.Debugger) (cond (is_reserved word.Return bs u i) (Some heading.Return) (cond (is_reserved word.Function bs u i) (Some heading.Function) None))))))))))))))
 
 abbrev worded : Heading → Bool
 worded h = is_kind IdentifierName (fixed_kind (fixed_of h))
@@ -120,6 +122,8 @@ found_word t k None e = record { on = on }
     on heading.Throw = named_not t 10 heading.Throw a refl
     on heading.Try = named_not t 11 heading.Try a refl
     on heading.Debugger = named_not t 12 heading.Debugger a refl
+    on heading.Return = named_not t 13 heading.Return a refl
+    on heading.Function = named_not t 14 heading.Function a refl
 
 pub found_empty : (t : Token) → t.kind ≡ token.Semicolon → (is_punctuator t.kind ≡ true → chars t.raw.now ≡ spelling t.kind) → is_heading t heading.Empty ≡ true
 found_empty t k s = sym (mark_is true t token.Semicolon fixed.Semicolon ((λ _. k), (λ _. refl)) (record { mark = refl; text = refl; kind = refl }) s)
@@ -153,3 +157,5 @@ no_heading t a b n s = record { on = on }
     on heading.Throw = other heading.Throw refl
     on heading.Try = other heading.Try refl
     on heading.Debugger = other heading.Debugger refl
+    on heading.Return = other heading.Return refl
+    on heading.Function = other heading.Function refl

@@ -67,10 +67,6 @@ word_new : Spelled (codes "new")
 unfolding chars is_utf8 encode
 word_new = record { same = refl; text = IsUtf8-from_is_utf8 (codes "new") refl }
 
-word_import : Spelled (codes "import")
-unfolding chars is_utf8 encode
-word_import = record { same = refl; text = IsUtf8-from_is_utf8 (codes "import") refl }
-
 pub is_in : (raw : List ℕ) → IsUtf8 raw → bytes_eq raw (codes "in") ≡ same (chars raw) (codes "in")
 is_in = is_word (codes "in") word_in
 
@@ -85,9 +81,6 @@ is_typeof = is_word (codes "typeof") word_typeof
 
 pub is_delete : (raw : List ℕ) → IsUtf8 raw → bytes_eq raw (codes "delete") ≡ same (chars raw) (codes "delete")
 is_delete = is_word (codes "delete") word_delete
-
-pub is_import : (raw : List ℕ) → IsUtf8 raw → bytes_eq raw (codes "import") ≡ same (chars raw) (codes "import")
-is_import = is_word (codes "import") word_import
 
 pub is_new : (raw : List ℕ) → IsUtf8 raw → bytes_eq raw (codes "new") ≡ same (chars raw) (codes "new")
 is_new = is_word (codes "new") word_new
@@ -144,6 +137,7 @@ is_proto_string raw u =
 -- each word of the grammar
 reserved : (w : Word) → Spelled (word_text w)
 unfolding chars is_utf8 encode
+reserved word.As = record { same = refl; text = IsUtf8-from_is_utf8 (codes "as") refl }
 reserved word.Async = record { same = refl; text = IsUtf8-from_is_utf8 (codes "async") refl }
 reserved word.Break = record { same = refl; text = IsUtf8-from_is_utf8 (codes "break") refl }
 reserved word.Case = record { same = refl; text = IsUtf8-from_is_utf8 (codes "case") refl }
@@ -154,13 +148,18 @@ reserved word.Debugger = record { same = refl; text = IsUtf8-from_is_utf8 (codes
 reserved word.Default = record { same = refl; text = IsUtf8-from_is_utf8 (codes "default") refl }
 reserved word.Do = record { same = refl; text = IsUtf8-from_is_utf8 (codes "do") refl }
 reserved word.Else = record { same = refl; text = IsUtf8-from_is_utf8 (codes "else") refl }
+reserved word.Export = record { same = refl; text = IsUtf8-from_is_utf8 (codes "export") refl }
 reserved word.Finally = record { same = refl; text = IsUtf8-from_is_utf8 (codes "finally") refl }
 reserved word.For = record { same = refl; text = IsUtf8-from_is_utf8 (codes "for") refl }
+reserved word.From = record { same = refl; text = IsUtf8-from_is_utf8 (codes "from") refl }
+reserved word.Function = record { same = refl; text = IsUtf8-from_is_utf8 (codes "function") refl }
 reserved word.If = record { same = refl; text = IsUtf8-from_is_utf8 (codes "if") refl }
+reserved word.Import = record { same = refl; text = IsUtf8-from_is_utf8 (codes "import") refl }
 reserved word.In = record { same = refl; text = IsUtf8-from_is_utf8 (codes "in") refl }
 reserved word.Of = record { same = refl; text = IsUtf8-from_is_utf8 (codes "of") refl }
 reserved word.Let = record { same = refl; text = IsUtf8-from_is_utf8 (codes "let") refl }
 reserved word.Meta = record { same = refl; text = IsUtf8-from_is_utf8 (codes "meta") refl }
+reserved word.Return = record { same = refl; text = IsUtf8-from_is_utf8 (codes "return") refl }
 reserved word.Switch = record { same = refl; text = IsUtf8-from_is_utf8 (codes "switch") refl }
 reserved word.Target = record { same = refl; text = IsUtf8-from_is_utf8 (codes "target") refl }
 reserved word.Throw = record { same = refl; text = IsUtf8-from_is_utf8 (codes "throw") refl }

@@ -3,7 +3,7 @@ use Rattle.std.specs.Prelude.{◌≡◌, ℕ, List, [], ◌∷◌, Bool, true, f
 use Rattle.std.specs.Str.{bytes_eq}
 use Rattle.jsx_base.specs.Token.{Text, same}
 use Rattle.jsx_tree.specs.Signs.{Sign}
-use Rattle.jsx_tree.specs.Kinds.{Block, Var, Empty, If, Do, While, For, ForIn, ForOf, Switch, Continue, Break, Throw, Debugger, Kind, statement, Try}
+use Rattle.jsx_tree.specs.Kinds.{Block, Var, Empty, If, Do, While, For, ForIn, ForOf, Switch, Continue, Break, Return, Throw, Debugger, FunctionDecl, Kind, statement, Try}
 use Rattle.jsx_tree.specs.View.{word_of}
 use Rattle.jsx_tree.specs.Reading.{Place, Lost, forth}
 use Rattle.jsx_tree.specs.declared.text.DeclareWord as code
@@ -30,9 +30,11 @@ heading_kind heading.For = statement For
 heading_kind heading.Switch = statement Switch
 heading_kind heading.Continue = statement Continue
 heading_kind heading.Break = statement Break
+heading_kind heading.Return = statement Return
 heading_kind heading.Throw = statement Throw
 heading_kind heading.Try = statement Try
 heading_kind heading.Debugger = statement Debugger
+heading_kind heading.Function = statement FunctionDecl
 
 -- what it begins: `for` begins three kinds
 pub data Begins : Heading → Kind → Type 0 where
@@ -44,9 +46,11 @@ pub data Begins : Heading → Kind → Type 0 where
 abbrev pub heading_sign : Heading → Sign
 heading_sign h = opening_sign (heading_kind h)
 
+-- a declaration that stands in lists alone
 abbrev pub is_lexical : Heading → Bool
 is_lexical (heading.Var declare_word.Let) = true
 is_lexical (heading.Var declare_word.Const) = true
+is_lexical heading.Function = true
 is_lexical h = false
 
 abbrev pub declaring : code.DeclareWord → Word
@@ -66,9 +70,11 @@ fixed_of heading.For = fixed.Word word.For
 fixed_of heading.Switch = fixed.Word word.Switch
 fixed_of heading.Continue = fixed.Word word.Continue
 fixed_of heading.Break = fixed.Word word.Break
+fixed_of heading.Return = fixed.Word word.Return
 fixed_of heading.Throw = fixed.Word word.Throw
 fixed_of heading.Try = fixed.Word word.Try
 fixed_of heading.Debugger = fixed.Word word.Debugger
+fixed_of heading.Function = fixed.Word word.Function
 
 abbrev pub is_heading : Token → Heading → Bool
 is_heading t h = is_it t (fixed_kind (fixed_of h)) (fixed_text (fixed_of h))
@@ -78,7 +84,7 @@ pub record NoneIsIt (t : Token) : Type 0 where
 
 -- those that are words, and the first of some that a text is, and that bytes are
 abbrev pub words : List Heading
-words = heading.Var declare_word.Var ∷ heading.Var declare_word.Let ∷ heading.Var declare_word.Const ∷ heading.If ∷ heading.Do ∷ heading.While ∷ heading.For ∷ heading.Switch ∷ heading.Continue ∷ heading.Break ∷ heading.Throw ∷ heading.Try ∷ heading.Debugger ∷ []
+words = heading.Var declare_word.Var ∷ heading.Var declare_word.Let ∷ heading.Var declare_word.Const ∷ heading.If ∷ heading.Do ∷ heading.While ∷ heading.For ∷ heading.Switch ∷ heading.Continue ∷ heading.Break ∷ heading.Throw ∷ heading.Try ∷ heading.Debugger ∷ heading.Return ∷ heading.Function ∷ []
 
 abbrev pub first_word : List Heading → Text → Option Heading
 first_word [] t = None

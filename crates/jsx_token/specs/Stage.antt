@@ -3,14 +3,29 @@ use Rattle.std.specs.Prelude.{List, [], ◌∷◌, codes, Bool, true, false, IsT
 use Rattle.std.specs.Char.{is_ascii_alphabetic}
 use Rattle.jsx_base.specs.Token.{Text, TokenKind, IdentifierName, NumericLiteral, BigIntLiteral, StringLiteral, RegExpLiteral, NoSubstitution, TemplateHead, TemplateMiddle, TemplateTail, JsxName, Elision, same, first_is}
 use Rattle.jsx_tree.specs.declared.text.Goal.TheVariants as goals
-use Rattle.jsx_tree.specs.Kinds.{Module, Directive, Block, Var, Declarator, Empty, ExprStmt, If, Do, While, Continue, Break, Throw, Debugger, Assign, OpAssign, Void, TypeOf, Positive, Negative, Complement, Not, Unary, Binary, Cond, Call, Member, Index, Chain, NameLink, IndexLink, CallLink, ImportCall, Parenthesized, Element, Kind, program, statement, expression, jsx, Tree, leaf, node, list, Forest, none, part, Delete, PrefixUpdate, PostfixUpdate, Seq, For, ForDeclaration, Switch, Case, Default, Array, Spread, Try, Catch, Object, Property, Shorthand, ComputedKey, ParenTarget, function, Label, New, NewWithoutArguments, NewTarget, ImportMeta, ForIn, ForOf, ForBinding, PlainTemplate, SubstitutedTemplate, TemplateSpan, Tagged}
-use Rattle.jsx_tree.specs.Nonterminals.{Nonterminal, Expr, MemberObject, NullishLeft, Name, StringOnly, Pat, SimpleTarget, Argument, TagName, WholeProgram, DotObject, assigns, is_value_word, has_dash, ForInit, ArrayItem, Ident, Key, NewCallee, ForHead, ForOfHead, TemplatePart}
+use Rattle.jsx_tree.specs.Kinds.{Module, Directive, FunctionBody, ImportBare, Import, ImportAll, ImportList, ImportBoth, Specifier, SpecifierAs, ExportNames, ExportFrom, ExportAll, ExportAllAs, ExportDecl, ExportDefaultFn, ExportDefaultExpr, FunctionDecl, Return, Binds, FunctionExpr, WithInit, RestPat, Block, Var, Declarator, Empty, ExprStmt, If, Do, While, Continue, Break, Throw, Debugger, Assign, OpAssign, Void, TypeOf, Positive, Negative, Complement, Not, Unary, Binary, Cond, Call, Member, Index, Chain, NameLink, IndexLink, CallLink, ImportCall, Parenthesized, Element, Kind, program, statement, expression, jsx, Tree, leaf, node, list, Forest, none, part, Delete, PrefixUpdate, PostfixUpdate, Seq, For, ForDeclaration, Switch, Case, Default, Array, Spread, Try, Catch, Object, Property, Shorthand, ComputedKey, ParenTarget, function, Label, New, NewWithoutArguments, NewTarget, ImportMeta, ForIn, ForOf, ForBinding, PlainTemplate, SubstitutedTemplate, TemplateSpan, Tagged}
+use Rattle.jsx_tree.specs.Nonterminals.{Nonterminal, Expr, MemberObject, NullishLeft, Name, StringOnly, Pat, SimpleTarget, Argument, TagName, WholeProgram, DotObject, assigns, is_value_word, has_dash, ForInit, ArrayItem, Ident, BindingIdent, Param, ImportClause, Key, NewCallee, ForHead, ForOfHead, TemplatePart}
 use Rattle.jsx_tree.specs.Form.{Position, position, positions}
 use Rattle.jsx_tree.specs.Program.{Reads}
 
 abbrev pub has_kind : Kind → Bool
 has_kind (program Module) = true
 has_kind (program Directive) = true
+has_kind (program FunctionBody) = true
+has_kind (program ImportBare) = true
+has_kind (program Import) = true
+has_kind (program ImportAll) = true
+has_kind (program ImportList) = true
+has_kind (program ImportBoth) = true
+has_kind (program (Specifier s)) = true
+has_kind (program (SpecifierAs s)) = true
+has_kind (program ExportNames) = true
+has_kind (program ExportFrom) = true
+has_kind (program ExportAll) = true
+has_kind (program ExportAllAs) = true
+has_kind (program ExportDecl) = true
+has_kind (program ExportDefaultFn) = true
+has_kind (program ExportDefaultExpr) = true
 has_kind (statement Block) = true
 has_kind (statement (Var v)) = true
 has_kind (statement Declarator) = true
@@ -29,11 +44,13 @@ has_kind (statement Case) = true
 has_kind (statement Default) = true
 has_kind (statement Continue) = true
 has_kind (statement Break) = true
+has_kind (statement Return) = true
 has_kind (statement Label) = true
 has_kind (statement Throw) = true
 has_kind (statement Try) = true
 has_kind (statement Catch) = true
 has_kind (statement Debugger) = true
+has_kind (statement FunctionDecl) = true
 has_kind (expression Seq) = true
 has_kind (expression (Binary o)) = true
 has_kind (expression Assign) = true
@@ -53,6 +70,9 @@ has_kind (expression ImportMeta) = true
 has_kind (expression New) = true
 has_kind (expression NewWithoutArguments) = true
 has_kind (expression NewTarget) = true
+has_kind (function FunctionExpr) = true
+has_kind (function (WithInit Binds)) = true
+has_kind (function (RestPat Binds)) = true
 has_kind (function ComputedKey) = true
 has_kind (function ParenTarget) = true
 has_kind (expression Array) = true
@@ -101,6 +121,9 @@ abbrev pub leaf_at : Nonterminal → TokenKind → Text → Bool
 leaf_at (Pat r) IdentifierName t = true
 leaf_at SimpleTarget IdentifierName t = true
 leaf_at Ident IdentifierName t = true
+leaf_at BindingIdent IdentifierName t = true
+leaf_at Param IdentifierName t = true
+leaf_at ImportClause IdentifierName t = true
 leaf_at Name IdentifierName t = true
 leaf_at StringOnly StringLiteral t = true
 leaf_at Key k t = key_leaf k

@@ -137,14 +137,6 @@ pub fn is_delete(word: &str) -> bool
     word == "delete"
 }
 
-/// Whether the word is `import`.
-#[inline]
-pub fn is_import(word: &str) -> bool
-    ensures { result ≡ same (chars word.now) (codes "import") }
-{
-    word == "import"
-}
-
 /// Whether the word is `new`.
 #[inline]
 pub fn is_new(word: &str) -> bool

@@ -1,4 +1,4 @@
-//! What a statement begins with that begins as no expression does (ECMA-262 section 14).
+//! What a statement begins with that begins as no expression does (ECMA-262 sections 14 and 15.2).
 
 ghost use Rattle.std.specs.Prelude.{◌≡◌, IsTrue, MatchOption};
 ghost use Rattle.std.specs.Str.{chars};
@@ -31,22 +31,28 @@ pub enum Heading {
     Continue,
     /// `break;`
     Break,
+    /// `return a;`
+    Return,
     /// `throw a;`
     Throw,
     /// `try {} catch (a) {} finally {}`
     Try,
     /// `debugger;`
     Debugger,
+    /// `function f(a) { b; }`
+    Function,
 }
 
 impl Heading {
-    /// Whether the statement is a lexical declaration, which is no body of `if` or of a loop.
+    /// Whether it begins a declaration that stands in lists alone, a lexical one or a function: no body of `if`, of a loop
+    /// or of a label.
     pub fn is_lexical(self) -> bool
         ensures { result ≡ is_lexical self }
     {
         match self {
             Heading::Var(DeclareWord::Let) => true,
             Heading::Var(DeclareWord::Const) => true,
+            Heading::Function => true,
             Heading::Var(DeclareWord::Var) => false,
             Heading::Empty => false,
             Heading::Block => false,
@@ -57,6 +63,7 @@ impl Heading {
             Heading::Switch => false,
             Heading::Continue => false,
             Heading::Break => false,
+            Heading::Return => false,
             Heading::Throw => false,
             Heading::Try => false,
             Heading::Debugger => false,
@@ -89,6 +96,8 @@ fn reserved(raw: &str) -> Option<Heading>
         "throw" => Some(Heading::Throw),
         "try" => Some(Heading::Try),
         "debugger" => Some(Heading::Debugger),
+        "return" => Some(Heading::Return),
+        "function" => Some(Heading::Function),
         _ => None,
     }
 }

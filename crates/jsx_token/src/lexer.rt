@@ -39,6 +39,8 @@ pub enum Ending {
     Binding,
     /// A word that a line end always ends, as `break`, with what it names.
     Word,
+    /// A list of exports: `export { a }`.
+    List,
     /// The `)` of a `do`.
     Do,
 }
@@ -66,6 +68,8 @@ pub enum Fixed {
     Dots,
     /// `?.`
     QuestionDot,
+    /// `*`
+    Star,
     /// `<` where an expression may begin.
     Less,
     /// `/` in a tag.
@@ -132,6 +136,7 @@ impl Fixed {
             Fixed::Dot => TokenKind::Dot,
             Fixed::Dots => TokenKind::Ellipsis,
             Fixed::QuestionDot => TokenKind::QuestionDot,
+            Fixed::Star => TokenKind::Star,
             Fixed::Less => TokenKind::Less,
             Fixed::TagSlash => TokenKind::Slash,
             Fixed::TagGreater => TokenKind::Greater,
@@ -592,7 +597,7 @@ impl<'s> Lexer<'s> {
 
 #[cfg(test)]
 mod tests {
-    use super::{Fixed, Leaf, Lexer};
+    use super::{Ending, Fixed, Leaf, Lexer};
     use crate::word::Word;
 
     fn takes(text: &str, fixed: Fixed) -> bool {
@@ -624,11 +629,69 @@ mod tests {
             ("..a", Fixed::Dot, true),
             ("...a", Fixed::Dot, false),
             (".5", Fixed::Dot, false),
+            ("* as a", Fixed::Star, true),
+            ("** 1", Fixed::Star, false),
+            ("*= 1", Fixed::Star, false),
+            ("from 'm'", Fixed::Word(Word::From), true),
+            ("functional", Fixed::Word(Word::Function), false),
             ("<a", Fixed::Less, true),
             ("<!-- a", Fixed::Less, false),
             (" />", Fixed::TagSlash, true),
         ] {
             assert!(rt; takes(text, *fixed) == *want, "at {text}");
+        }
+    }
+
+    /// Whether a statement begins so, and one that stands in lists alone.
+    fn heading(text: &str) -> (bool, bool) {
+        if text.len() >= 100 {
+            return (false, false);
+        }
+        match Lexer::new(text).heading() {
+            Some(heading) => (true, heading.is_lexical()),
+            None => (false, false),
+        }
+    }
+
+    #[test]
+    fn takes_headings(rt: HostRuntime) {
+        for (text, want) in &[
+            ("function a() {}", (true, true)),
+            ("functional()", (false, false)),
+            ("return a", (true, false)),
+            ("let a", (true, true)),
+            ("var a", (true, false)),
+            ("class A {}", (false, false)),
+            ("export {}", (false, false)),
+        ] {
+            assert!(rt; heading(text) == *want, "at {text}");
+        }
+    }
+
+    fn is_ended(text: &str, ending: Ending) -> bool {
+        if text.len() >= 100 {
+            return false;
+        }
+        let mut lexer = Lexer::new(text);
+        lexer.ends(ending);
+        lexer.semicolon()
+    }
+
+    #[test]
+    fn ends_statements(rt: HostRuntime) {
+        for (text, ending, want) in &[
+            (";", Ending::Expr, true),
+            (" a", Ending::Expr, false),
+            ("\na", Ending::Expr, true),
+            ("\n+ a", Ending::Expr, false),
+            ("\n+ a", Ending::Word, true),
+            ("\n= 1", Ending::Binding, false),
+            ("\nfrom 'm'", Ending::List, false),
+            ("\nfromage", Ending::List, true),
+            ("\n, a", Ending::List, true),
+            (" a", Ending::Do, true),
+        ] {
+            assert!(rt; is_ended(text, *ending) == *want, "at {text}");
         }
     }
 

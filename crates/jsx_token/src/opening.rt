@@ -1,11 +1,12 @@
 //! What an expression begins with that is neither a name, a literal nor an element (ECMA-262 sections 13.2.4, 13.2.5,
-//! 13.2.9, 13.3.5, 13.3.10, 13.3.12, 13.4 and 13.5).
+//! 13.2.9, 13.3.5, 13.3.10, 13.3.12, 13.4, 13.5 and 15.2).
 
 ghost use Rattle.std.specs.Prelude.{◌≡◌};
 ghost use Rattle.std.specs.Str.{chars};
 ghost use Rattle.jsx_token.specs.GrowthTokens.{opening_word, opening_by};
 
-use crate::characters::{is_delete, is_import, is_new, is_typeof, is_void};
+use crate::characters::{is_delete, is_new, is_typeof, is_void};
+use crate::word::Word;
 use jsx_lex::{Token, TokenKind};
 use jsx_tree::{UnaryOp, UpdateOp};
 
@@ -22,6 +23,8 @@ pub enum Opening {
     Array,
     /// `{a: b, c}`
     Object,
+    /// `function f(a) { b; }`
+    Function,
     /// `-a`
     Unary(UnaryOp),
     /// `++a`
@@ -29,7 +32,7 @@ pub enum Opening {
 }
 
 /// What a word begins.
-fn word(raw: &str) -> Option<Opening>
+fn begun_by(raw: &str) -> Option<Opening>
     ensures { result ≡ opening_word (chars raw.now) }
 {
     if is_void(raw) {
@@ -38,7 +41,7 @@ fn word(raw: &str) -> Option<Opening>
     if is_typeof(raw) {
         return Some(Opening::Unary(UnaryOp::TypeOf));
     }
-    if is_import(raw) {
+    if Word::Import.is(raw) {
         return Some(Opening::Import);
     }
     if is_delete(raw) {
@@ -46,6 +49,9 @@ fn word(raw: &str) -> Option<Opening>
     }
     if is_new(raw) {
         return Some(Opening::New);
+    }
+    if Word::Function.is(raw) {
+        return Some(Opening::Function);
     }
     None
 }
@@ -64,7 +70,7 @@ pub fn opening_of(token: &Token) -> Option<Opening>
         TokenKind::LeftParen => Some(Opening::Paren),
         TokenKind::LeftBracket => Some(Opening::Array),
         TokenKind::LeftBrace => Some(Opening::Object),
-        TokenKind::IdentifierName => word(token.raw),
+        TokenKind::IdentifierName => begun_by(token.raw),
         _ => None,
     }
 }

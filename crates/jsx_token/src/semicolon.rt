@@ -9,6 +9,7 @@ ghost use Rattle.jsx_token.specs.Semicolons.{lacks};
 
 use crate::characters::{first, is_comma, is_equals, is_right_brace};
 use crate::lexer::Ending;
+use crate::word::Word;
 
 /// The tokens that go on with an expression from a new line, of those that begin with the byte.
 fn going_on_from(first: u8) -> &'static [&'static str]
@@ -65,6 +66,7 @@ fn continues(ending: Ending, raw: &str) -> bool
         Ending::Expr => is_going_on(raw) || is_template(raw),
         Ending::Binding => is_equals(raw) || is_comma(raw),
         Ending::Word => false,
+        Ending::List => Word::From.is(raw),
         Ending::Do => false,
     }
 }

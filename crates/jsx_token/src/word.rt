@@ -5,9 +5,11 @@ ghost use Rattle.std.specs.Str.{chars};
 ghost use Rattle.jsx_base.specs.Token.{same};
 ghost use Rattle.jsx_token.specs.WordTexts.{word_text};
 
-/// A word that begins a statement or stands in one, or in an expression.
+/// A word that begins an item or a statement, or stands in one or in an expression.
 #[derive(Clone, Copy, Debug, PartialEq, Eq)]
 pub enum Word {
+    /// No reserved word.
+    As,
     /// No reserved word.
     Async,
     Break,
@@ -19,14 +21,20 @@ pub enum Word {
     Default,
     Do,
     Else,
+    Export,
     Finally,
     For,
+    /// No reserved word.
+    From,
+    Function,
     If,
+    Import,
     In,
     Let,
     Meta,
     /// No reserved word.
     Of,
+    Return,
     Switch,
     Target,
     Throw,
@@ -42,6 +50,7 @@ impl Word {
         ensures { result.now ≡ word_text self }
     {
         match self {
+            Word::As => "as",
             Word::Async => "async",
             Word::Break => "break",
             Word::Case => "case",
@@ -52,13 +61,18 @@ impl Word {
             Word::Default => "default",
             Word::Do => "do",
             Word::Else => "else",
+            Word::Export => "export",
             Word::Finally => "finally",
             Word::For => "for",
+            Word::From => "from",
+            Word::Function => "function",
             Word::If => "if",
+            Word::Import => "import",
             Word::In => "in",
             Word::Let => "let",
             Word::Meta => "meta",
             Word::Of => "of",
+            Word::Return => "return",
             Word::Switch => "switch",
             Word::Target => "target",
             Word::Throw => "throw",

@@ -6,7 +6,7 @@ use Rattle.jsx_syntax.proofs.Texts.{whole, unread}
 use Rattle.jsx_base.proofs.FirstLine.{size-chars}
 use Rattle.jsx_tree.proofs.Rows.Lines.{found_end}
 use Rattle.jsx_tree.proofs.Tokens.{and_right}
-use Rattle.jsx_syntax.proofs.PlacedNodes.{module_placed}
+use Rattle.jsx_syntax.proofs.PlacedModules.{module_placed}
 use Rattle.jsx_syntax.proofs.module.written.Goals as goal
 
 pub returns-in-Ok-clause-read : goal.returns-in-Ok-clause-read

@@ -1,4 +1,4 @@
-use Rattle.std.proofs.Common.{◌≡◌, ap, sym, ◌∙◌, rules}
+use Rattle.std.proofs.Common.{ap, sym, ◌∙◌, rules}
 use Rattle.std.specs.Str.{chars}
 use Rattle.jsx_tree.specs.StaticRules.{escapes}
 use Rattle.jsx_lex.specs.Automaton.{state_of}

@@ -82,6 +82,12 @@ open-returns-in_ok-object-in-Object-clause-read g t c = sole_as c.args.opening o
 pub open-returns-in_err-object-in-Object-clause-refused : goal.open-returns-in_err-object-in-Object-clause-refused
 open-returns-in_err-object-in-Object-clause-refused g t c = passed _ c.in_err-object-in-Object.ensures.refused c.from_residual-in_err-object-in-Object.ensures.1 (λ n. no_sole_as c.args.opening opening.Object c.in-Object.is refl n)
 
+pub open-returns-in_ok-function_expression-in-Function-clause-read : goal.open-returns-in_ok-function_expression-in-Function-clause-read
+open-returns-in_ok-function_expression-in-Function-clause-read g t c = sole_as c.args.opening opening.Function c.in-Function.is refl c.in_ok-function_expression-in-Function.ensures.read
+
+pub open-returns-in_err-function_expression-in-Function-clause-refused : goal.open-returns-in_err-function_expression-in-Function-clause-refused
+open-returns-in_err-function_expression-in-Function-clause-refused g t c = passed _ c.in_err-function_expression-in-Function.ensures.refused c.from_residual-in_err-function_expression-in-Function.ensures.1 (λ n. no_sole_as c.args.opening opening.Function c.in-Function.is refl n)
+
 pub open-returns-in_ok-prefix_update-in-Update-clause-read : goal.open-returns-in_ok-prefix_update-in-Update-clause-read
 open-returns-in_ok-prefix_update-in-Update-clause-read g t c = let g = opening.Update c.in-Update.operator in sole_as c.args.opening g c.in-Update.is refl (kept_opening g refl c.in_ok-prefix_update-in-Update.ensures.read)
 

@@ -1,0 +1,16 @@
+use Rattle.std.proofs.Common.{◌∙◌, ap}
+use Rattle.jsx_tree.specs.declared.tree.Expr.TheVariants as expr
+use Rattle.jsx_tree.specs.Kinds.{FunctionExpr, function, node, list, none, part}
+use Rattle.std.specs.Prelude.{map}
+use Rattle.jsx_tree.specs.View.{body, inside, name_of, optional_of, view_expr, view_stmt}
+use Rattle.jsx_tree.specs.Told.{told_expr}
+use Rattle.jsx_tree.proofs.Views.{bound_forest, view-Expr-Function}
+use Rattle.jsx_tree.proofs.Telling.{told-Expr-Function}
+use Rattle.jsx_make.proofs.Making.{shows}
+use Rattle.jsx_make.proofs.functions.function_expression.Goals as goal
+
+pub returns-clause-view : goal.returns-clause-view
+returns-clause-view c = shows view_expr c.boxed.result (expr.Function c.args.at c.args.name c.args.params c.args.directives c.args.statements) c.boxed.ensures (view-Expr-Function c.args.at c.args.name c.args.params c.args.directives c.args.statements ∙ ap (λ ts. node (function FunctionExpr) (part (optional_of name_of c.args.name) (part (list ts) (part (body c.args.directives.items (map (inside view_stmt) c.args.statements.items)) none)))) (bound_forest c.args.params.items))
+
+pub returns-clause-told : goal.returns-clause-told
+returns-clause-told c = shows told_expr c.boxed.result (expr.Function c.args.at c.args.name c.args.params c.args.directives c.args.statements) c.boxed.ensures (told-Expr-Function c.args.at c.args.name c.args.params c.args.directives c.args.statements)

@@ -1,0 +1,149 @@
+-- The three statements that begin with `for`: what stands in the parentheses tells which it is.
+use Rattle.std.proofs.Common.{◌≡◌, true, List, [], ◌∷◌, refl, subst, Option, Box, Global}
+use Rattle.jsx_tree.specs.Signs.{Sign}
+use Rattle.jsx_tree.specs.Kinds.{Assigns, For, ForIn, ForOf, Kind, statement, Tree, node, Forest, none, part}
+use Rattle.jsx_tree.specs.Nonterminals.{Nonterminal, Expr, SubStmt}
+use Rattle.jsx_tree.specs.Grammar.{InLoop, Fixed, Part, pun}
+use Rattle.jsx_tree.specs.Reading.{Place}
+use Rattle.jsx_tree.specs.StaticRules.{Surroundings, enter}
+use Rattle.jsx_tree.specs.Walk.{Piece, piece, nothing, one, sign, tail, Walk, done, next, steady}
+use Rattle.jsx_tree.specs.Language.{Whole}
+use Rattle.jsx_tree.specs.Answers.{Only, Barred, OnlyRow, NoRow, NoNode, BuiltNode}
+use Rattle.jsx_tree.proofs.Tokens.{and_both}
+use Rattle.jsx_tree.proofs.Rows.Laws.{end_found}
+use Rattle.jsx_tree.proofs.Rows.Placing.{no_node}
+use Rattle.jsx_tree.proofs.Rows.Steps.{bar, end, on, on_row, then', then_row}
+use Rattle.jsx_tree.proofs.Rows.Turns.{whole_of}
+use Rattle.jsx_token.specs.Headings.{Begins, own, over_keys, over_items}
+use Rattle.jsx_token.specs.declared.heading.Heading.TheVariants as heading
+use Rattle.jsx_token.specs.Marks.{row_so_far}
+use Rattle.jsx_operand.specs.SoFar.{so_far}
+use Rattle.jsx_operand.proofs.OfSoFar.{of_so_far}
+use Rattle.jsx_statement.specs.declared.for_head.ForHead.{ForHead}
+use Rattle.jsx_statement.specs.declared.for_head.ForHead.TheVariants as head
+use Rattle.jsx_statement.specs.Heads.{Heads, IsInitial, IsItems, IsKeys, IsPlacedHead, NoHeads, NotOver, initial_symbols, items_row, items_symbols, keys_row, keys_symbols, over_row}
+use Rattle.jsx_operand.specs.Spans.{IsPlacedFront}
+use Rattle.jsx_token.specs.Here.{Here}
+use Rattle.jsx_tree.specs.View.{optional_at_of, view_pattern, view_target}
+use Rattle.jsx_tree.specs.Told.{told_optional, told_pat}
+use Rattle.jsx_tree.specs.declared.tree.Pat.{Pat}
+use Rattle.jsx_statement.specs.Statements.{NoneHeaded, OnlyHeaded, loop_row}
+use Rattle.jsx_statement.proofs.Controls.{barred_in, only_in}
+use Rattle.jsx_statement.proofs.Heads.{no_for_initial}
+use Rattle.jsx_statement.proofs.Statements.{of_built, plain_node}
+
+-- ---- which of the three it is
+
+for_kind : (A : Kind → Type 0) {k : Kind} → Begins heading.For k → A (statement For) → A (statement ForIn) → A (statement ForOf) → A k
+for_kind A (own h) a b c = a
+for_kind A over_keys a b c = b
+for_kind A over_items a b c = c
+
+abbrev None : Surroundings → Place → Kind → Type 0
+None v x k = NoNode so_far v (tail (row_so_far k)) k x
+
+pub no_loop : {v : Surroundings} {x : Place} → NoNode so_far v (tail (row_so_far (statement For))) (statement For) x → NoNode so_far v (tail (row_so_far (statement ForIn))) (statement ForIn) x → NoNode so_far v (tail (row_so_far (statement ForOf))) (statement ForOf) x → NoneHeaded v heading.For x
+no_loop {v} {x} a b c = record { on = λ k i. for_kind (None v x) i a b c }
+
+abbrev Others : Surroundings → Place → Kind → Kind → Type 0
+Others v x l k = (us : Forest) (z : Place) → Walk (Whole so_far) (steady v) (tail (row_so_far k)) x us z → so_far.keeps k v us ≡ true → k ≡ l
+
+pub for_only : {v : Surroundings} {x z : Place} {t : Tree} → BuiltNode so_far v (tail (row_so_far (statement For))) (statement For) t x z → NoNode so_far v (tail (row_so_far (statement ForIn))) (statement ForIn) x → NoNode so_far v (tail (row_so_far (statement ForOf))) (statement ForOf) x → OnlyHeaded v heading.For t x z
+for_only {v} {x} n b c = record { kind = statement For; begun = own heading.For; node' = of_built n; others = λ k i. for_kind (Others v x (statement For)) i (λ us z w h. refl) (λ us z w h. absurd (b.no us z w h)) (λ us z w h. absurd (c.no us z w h)) }
+
+pub in_only : {v : Surroundings} {x z : Place} {t : Tree} → BuiltNode so_far v (tail (row_so_far (statement ForIn))) (statement ForIn) t x z → NoNode so_far v (tail (row_so_far (statement For))) (statement For) x → NoNode so_far v (tail (row_so_far (statement ForOf))) (statement ForOf) x → OnlyHeaded v heading.For t x z
+in_only {v} {x} n a c = record { kind = statement ForIn; begun = over_keys; node' = of_built n; others = λ k i. for_kind (Others v x (statement ForIn)) i (λ us z w h. absurd (a.no us z w h)) (λ us z w h. refl) (λ us z w h. absurd (c.no us z w h)) }
+
+pub of_only : {v : Surroundings} {x z : Place} {t : Tree} → BuiltNode so_far v (tail (row_so_far (statement ForOf))) (statement ForOf) t x z → NoNode so_far v (tail (row_so_far (statement For))) (statement For) x → NoNode so_far v (tail (row_so_far (statement ForIn))) (statement ForIn) x → OnlyHeaded v heading.For t x z
+of_only {v} {x} n a b = record { kind = statement ForOf; begun = over_items; node' = of_built n; others = λ k i. for_kind (Others v x (statement ForOf)) i (λ us z w h. absurd (a.no us z w h)) (λ us z w h. absurd (b.no us z w h)) (λ us z w h. refl) }
+
+-- ---- none of a kind, behind its word
+
+over_rest : {v : Surroundings} {c : Nonterminal} {s : Sign} {x : Place} {ps : List Piece} → NoRow so_far v (over_row c s) x → NoRow so_far v (piece [] (Part c) ∷ piece [] (Fixed s) ∷ ps) x
+over_rest {v} {c} {s} {x} {ps} n = record { no = at }
+  where
+    at : (us : Forest) (z : Place) → Walk (Whole so_far) (steady v) (piece [] (Part c) ∷ piece [] (Fixed s) ∷ ps) x us z → ⊥
+    at us z (next w (next (sign d h) rest)) = n.no _ _ (next w (next (sign d h) (done h)))
+
+pub no_keys : {v : Surroundings} {x y : Place} → Only so_far v (Fixed (pun "(")) x nothing y → NoRow so_far v keys_row y → NoNode so_far v (tail (row_so_far (statement ForIn))) (statement ForIn) x
+no_keys o n = no_node (on o (over_rest n))
+
+pub no_items : {v : Surroundings} {x y : Place} → Only so_far v (Fixed (pun "(")) x nothing y → NoRow so_far v items_row y → NoNode so_far v (tail (row_so_far (statement ForOf))) (statement ForOf) x
+no_items o n = no_node (on o (over_rest n))
+
+pub no_bracket : {v : Surroundings} {x : Place} → Barred so_far v (Fixed (pun "(")) x → NoneHeaded v heading.For x
+no_bracket b = no_loop (no_node (bar b)) (no_node (bar b)) (no_node (bar b))
+
+pub no_head : {v : Surroundings} {x y : Place} → Only so_far v (Fixed (pun "(")) x nothing y → NoHeads v y → NoneHeaded v heading.For x
+no_head o n = no_loop (no_for_initial o n.initial) (no_keys o n.over.keys) (no_items o n.over.items)
+
+pub no_other : {v : Surroundings} {x y : Place} → Only so_far v (Fixed (pun "(")) x nothing y → NotOver v y → NoNode so_far v (tail (row_so_far (statement For))) (statement For) x → NoneHeaded v heading.For x
+no_other o n a = no_loop a (no_keys o n.keys) (no_items o n.items)
+
+-- ---- with what is gone over, and the body
+
+pub body_row : {v u : Surroundings} {x y z : Place} {s : Tree} → u ≡ enter none InLoop v → Only so_far v (Fixed (pun ")")) x nothing y → Only so_far u (Part SubStmt) y (one s) z → OnlyRow so_far v loop_row x (part s none) z
+body_row i a b = then' a (then' (only_in i b) (end (end_found of_so_far (whole_of b.past).reads)))
+
+pub no_loop_body : {v u : Surroundings} {x y : Place} → u ≡ enter none InLoop v → Only so_far v (Fixed (pun ")")) x nothing y → Barred so_far u (Part SubStmt) y → NoRow so_far v loop_row x
+no_loop_body i a b = on a (bar (barred_in i b))
+
+pub in_built : {v : Surroundings} {x x1 x2 x3 z : Place} {t e s u : Tree} → Only so_far v (Fixed (pun "(")) x nothing x1 → OnlyRow so_far v keys_row x1 (part t none) x2 → Only so_far v (Part (Expr 0)) x2 (one e) x3 → OnlyRow so_far v loop_row x3 (part s none) z → u ≡ node (statement ForIn) (part t (part e (part s none)))
+    → BuiltNode so_far v (tail (row_so_far (statement ForIn))) (statement ForIn) u x z
+in_built a b c d is = plain_node refl (λ ts h. and_both _ _ h refl) (record { parts = _; is = is; row = then' a (then_row of_so_far keys_row b (then' c d)) })
+
+pub of_node : {v : Surroundings} {x x1 x2 x3 z : Place} {t e s u : Tree} → Only so_far v (Fixed (pun "(")) x nothing x1 → OnlyRow so_far v items_row x1 (part t none) x2 → Only so_far v (Part (Expr 1)) x2 (one e) x3 → OnlyRow so_far v loop_row x3 (part s none) z → u ≡ node (statement ForOf) (part t (part e (part s none)))
+    → BuiltNode so_far v (tail (row_so_far (statement ForOf))) (statement ForOf) u x z
+of_node a b c d is = plain_node refl (λ ts h. and_both _ _ h refl) (record { parts = _; is = is; row = then' a (then_row of_so_far items_row b (then' c d)) })
+
+pub no_object : {v : Surroundings} {x x1 x2 : Place} {t : Tree} → Only so_far v (Fixed (pun "(")) x nothing x1 → OnlyRow so_far v keys_row x1 (part t none) x2 → Barred so_far v (Part (Expr 0)) x2 → NoNode so_far v (tail (row_so_far (statement ForIn))) (statement ForIn) x
+no_object a b n = no_node (on a (on_row of_so_far keys_row b (bar n)))
+
+pub no_in_body : {v : Surroundings} {x x1 x2 x3 : Place} {t e : Tree} → Only so_far v (Fixed (pun "(")) x nothing x1 → OnlyRow so_far v keys_row x1 (part t none) x2 → Only so_far v (Part (Expr 0)) x2 (one e) x3 → NoRow so_far v loop_row x3 → NoNode so_far v (tail (row_so_far (statement ForIn))) (statement ForIn) x
+no_in_body a b c n = no_node (on a (on_row of_so_far keys_row b (on c n)))
+
+pub no_listed : {v : Surroundings} {x x1 x2 : Place} {t : Tree} → Only so_far v (Fixed (pun "(")) x nothing x1 → OnlyRow so_far v items_row x1 (part t none) x2 → Barred so_far v (Part (Expr 1)) x2 → NoNode so_far v (tail (row_so_far (statement ForOf))) (statement ForOf) x
+no_listed a b n = no_node (on a (on_row of_so_far items_row b (bar n)))
+
+pub no_of_body : {v : Surroundings} {x x1 x2 x3 : Place} {t e : Tree} → Only so_far v (Fixed (pun "(")) x nothing x1 → OnlyRow so_far v items_row x1 (part t none) x2 → Only so_far v (Part (Expr 1)) x2 (one e) x3 → NoRow so_far v loop_row x3 → NoNode so_far v (tail (row_so_far (statement ForOf))) (statement ForOf) x
+no_of_body a b c n = no_node (on a (on_row of_so_far items_row b (on c n)))
+
+-- ---- what was read in the parentheses
+
+pub as_initial : {v : Surroundings} {x y : Place} {h : ForHead} {i : Option (Box Pat Global)} → h ≡ head.Initial i → Heads v x h y → IsInitial v x (optional_at_of Assigns view_pattern i) y
+as_initial {v} {x} {y} e r = subst (λ g. Heads v x g y) e r
+
+pub as_keys : {v : Surroundings} {x y : Place} {h : ForHead} {p : Box Pat Global} → h ≡ head.Keys p → Heads v x h y → IsKeys v x (view_target p.value) y
+as_keys {v} {x} {y} e r = subst (λ g. Heads v x g y) e r
+
+pub as_items : {v : Surroundings} {x y : Place} {h : ForHead} {p : Box Pat Global} → h ≡ head.Items p → Heads v x h y → IsItems v x (view_target p.value) y
+as_items {v} {x} {y} e r = subst (λ g. Heads v x g y) e r
+
+pub placed_initial : {x y : Here} {h : ForHead} {i : Option (Box Pat Global)} → h ≡ head.Initial i → IsPlacedHead h x y → IsPlacedFront initial_symbols (told_optional told_pat i) (optional_at_of Assigns view_pattern i) x y
+placed_initial {x} {y} e r = subst (λ g. IsPlacedHead g x y) e r
+
+pub placed_keys : {x y : Here} {h : ForHead} {p : Box Pat Global} → h ≡ head.Keys p → IsPlacedHead h x y → IsPlacedFront keys_symbols (told_pat p.value) (view_target p.value) x y
+placed_keys {x} {y} e r = subst (λ g. IsPlacedHead g x y) e r
+
+pub placed_items : {x y : Here} {h : ForHead} {p : Box Pat Global} → h ≡ head.Items p → IsPlacedHead h x y → IsPlacedFront items_symbols (told_pat p.value) (view_target p.value) x y
+placed_items {x} {y} e r = subst (λ g. IsPlacedHead g x y) e r
+
+-- ---- each exit of the function
+
+pub initial_other : {v : Surroundings} {x y z : Place} {i : Tree} → Only so_far v (Fixed (pun "(")) x nothing y → IsInitial v y i z → NoNode so_far v (tail (row_so_far (statement For))) (statement For) x → NoneHeaded v heading.For x
+initial_other o r n = no_other o r.over n
+
+pub initial_only : {v : Surroundings} {x y z w : Place} {i t : Tree} → Only so_far v (Fixed (pun "(")) x nothing y → IsInitial v y i z → BuiltNode so_far v (tail (row_so_far (statement For))) (statement For) t x w → OnlyHeaded v heading.For t x w
+initial_only o r b = for_only b (no_keys o r.over.keys) (no_items o r.over.items)
+
+pub keys_other : {v : Surroundings} {x y z : Place} {t : Tree} → Only so_far v (Fixed (pun "(")) x nothing y → IsKeys v y t z → NoNode so_far v (tail (row_so_far (statement ForIn))) (statement ForIn) x → NoneHeaded v heading.For x
+keys_other o r n = no_loop (no_for_initial o r.initial) n (no_items o r.items)
+
+pub keys_only : {v : Surroundings} {x y z w : Place} {t u : Tree} → Only so_far v (Fixed (pun "(")) x nothing y → IsKeys v y t z → BuiltNode so_far v (tail (row_so_far (statement ForIn))) (statement ForIn) u x w → OnlyHeaded v heading.For u x w
+keys_only o r b = in_only b (no_for_initial o r.initial) (no_items o r.items)
+
+pub items_other : {v : Surroundings} {x y z : Place} {t : Tree} → Only so_far v (Fixed (pun "(")) x nothing y → IsItems v y t z → NoNode so_far v (tail (row_so_far (statement ForOf))) (statement ForOf) x → NoneHeaded v heading.For x
+items_other o r n = no_loop (no_for_initial o r.initial) (no_keys o r.keys) n
+
+pub items_only : {v : Surroundings} {x y z w : Place} {t u : Tree} → Only so_far v (Fixed (pun "(")) x nothing y → IsItems v y t z → BuiltNode so_far v (tail (row_so_far (statement ForOf))) (statement ForOf) u x w → OnlyHeaded v heading.For u x w
+items_only o r b = of_only b (no_for_initial o r.initial) (no_keys o r.keys)

@@ -1,0 +1,20 @@
+use Rattle.std.proofs.Common.{refl, ◌∙◌}
+use Rattle.jsx_statement.proofs.Items.{no_binding}
+use Rattle.jsx_operand.proofs.Steps.{passed}
+use Rattle.jsx_operand.proofs.Places.{spans_from}
+use Rattle.jsx_statement.proofs.statement.declarator.Goals as goal
+
+pub returns-in_err-name-clause-refused : goal.returns-in_err-name-clause-refused
+returns-in_err-name-clause-refused g c = passed _ c.in_err-name.ensures.refused c.from_residual.ensures.1 (λ b. no_binding b)
+
+pub returns-in_err-initialized-clause-refused : goal.returns-in_err-initialized-clause-refused
+returns-in_err-initialized-clause-refused g c = passed _ c.in_err-initialized.ensures.refused c.from_residual-in_err-initialized.ensures.1 (λ n. n.no _ c.in_ok-name.ensures.read)
+
+pub returns-clause-read : goal.returns-clause-read
+returns-clause-read g c = c.in_ok-initialized.ensures.read.on _ c.in_ok-name.ensures.read
+
+pub returns-clause-span : goal.returns-clause-span
+returns-clause-span g c = spans_from c.in_ok-initialized.ensures.span refl (c.last_place.ensures ∙ c.in_ok-name.ensures.begins) refl
+
+pub returns-clause-placed : goal.returns-clause-placed
+returns-clause-placed g c = c.in_ok-initialized.ensures.placed.on c.args.lexer.now (c.last_place.ensures ∙ c.in_ok-name.ensures.begins) c.in_ok-name.ensures.placed

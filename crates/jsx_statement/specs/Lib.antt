@@ -1,0 +1,10 @@
+pub mod Statements
+pub mod Seats
+pub mod Within
+pub mod Heads
+pub mod Cases
+pub mod Labels
+pub mod Tries
+pub mod OpenIn
+pub mod Directives
+pub mod Functions
