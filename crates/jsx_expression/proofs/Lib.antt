@@ -11,3 +11,6 @@ pub mod Arguments
 pub mod Parts
 pub mod Params
 pub mod Functions
+pub mod Defaults
+pub mod Slots
+pub mod PatternParts

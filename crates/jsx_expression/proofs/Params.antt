@@ -2,10 +2,10 @@
 use Rattle.std.proofs.Common.{◌≡◌, nat_eq, Bool, List, [], ◌∷◌, true, false, not, refl, sym, ◌∙◌, ap, subst}
 use Rattle.std.proofs.lemmas.Bool.{eqb-true, eq-eqb}
 use Rattle.std.specs.Prelude.{IsTrue, codes, ◌&&◌, ◌||◌}
-use Rattle.jsx_base.specs.Token.{Text, Lexeme, Operator, Punctuator, IdentifierName, among, at_front, breaks, first_is, is_token, same, skip, token}
+use Rattle.jsx_base.specs.Token.{Text, Lexeme, Operator, Punctuator, IdentifierName, Elision, among, at_front, breaks, first_is, is_token, same, skip, token}
 use Rattle.jsx_base.proofs.Fronts.{other_ahead}
 use Rattle.jsx_tree.specs.Signs.{AfterExpr, Sign, Tok, TrailingComma, Unless}
-use Rattle.jsx_tree.specs.Kinds.{Assign, Binds, Kind, RestPat, WithInit, expression, function, Tree, leaf, node, list, Forest, none, part}
+use Rattle.jsx_tree.specs.Kinds.{Binds, RestPat, WithInit, function, Tree, leaf, node, list, Forest, none, part}
 use Rattle.jsx_tree.specs.Nonterminals.{Expr, Param, Pat, leaf_in}
 use Rattle.jsx_tree.specs.Grammar.{Commas, Fixed, Many, Part, pun}
 use Rattle.jsx_tree.specs.Form.{admits, is_last, is_leaf}
@@ -17,26 +17,24 @@ use Rattle.jsx_tree.specs.Answers.{Moves, Stuck, Missed, Only, Barred, OnlyRow, 
 use Rattle.jsx_tree.proofs.Tokens.{and_both, and_left, and_right}
 use Rattle.jsx_tree.proofs.Apart.{clash, never_both}
 use Rattle.jsx_tree.proofs.Rows.Bridge.{found_first, found_at}
-use Rattle.jsx_tree.proofs.Rows.Stopping.{never_stops, stays, token_stops}
+use Rattle.jsx_tree.proofs.Rows.Stopping.{stays, token_stops}
 use Rattle.jsx_tree.proofs.Rows.Guarded.{whole_walk, whole_items_found, loosen, to_grammar}
 use Rattle.jsx_tree.proofs.Rows.Bodies.{plain as plain_row}
 use Rattle.jsx_tree.proofs.Rows.Laws.{end_found}
 use Rattle.jsx_tree.proofs.Rows.Lists.{closed, ended_sign}
 use Rattle.jsx_tree.proofs.Rows.Placing.{free_around, moved}
-use Rattle.jsx_tree.proofs.Rows.Steps.{bar, both, end, only_sign, then'}
+use Rattle.jsx_tree.proofs.Rows.Steps.{bar, both}
 use Rattle.jsx_tree.proofs.Rows.Turns.{From, Turn, turn_only, turn_none, turn_as, turn_both, cons, item_of, whole_of, comma_trails, nothing_trails, prepend, prepend_cons}
-use Rattle.jsx_tree.proofs.Rows.Firsts.{kind_home}
 use Rattle.jsx_operand.specs.SoFar.{Staged, so_far}
-use Rattle.jsx_token.specs.Growths.{OnLine, on_line, rung, settled}
 use Rattle.jsx_token.specs.Marks.{ends_so_far, row_so_far}
-use Rattle.jsx_token.proofs.Listed.{listed}
 use Rattle.jsx_operand.proofs.OfSoFar.{of_so_far}
-use Rattle.jsx_operand.proofs.Standing.{standing}
-use Rattle.jsx_operand.proofs.Homes.{IsName, Taken, taken_by, home_of, no_list, patterns}
-use Rattle.jsx_operand.proofs.Values.{leaf_full, leaf_to, led_sign, settled_token}
-use Rattle.jsx_operand.proofs.Climbing.{mark_goes, signed_built, signed_none}
-use Rattle.jsx_operand.proofs.Keys.{mark_none}
+use Rattle.jsx_operand.proofs.Climbing.{signed_built, signed_none}
+use Rattle.jsx_operand.specs.Patterns.{is_compound}
+use Rattle.jsx_operand.proofs.Patterns.{pattern_early, pattern_unmarked, pattern_word, unresting}
+use Rattle.jsx_expression.specs.Elements.{is_hole}
 use Rattle.jsx_expression.specs.Functions.{OnlyParam}
+use Rattle.jsx_expression.specs.Patterns.{IsElement, NoElement, OnlyFilled}
+use Rattle.jsx_expression.proofs.Defaults.{AtDefault, pattern, valued, rest, hole, at_default, rest_led, rest_row, unled, value_whole}
 
 stuck_not : {s : Sign} {x : Place} → Stuck s x → IsTrue (is_found (forth s x)) → ⊥
 stuck_not k f = let bad : IsTrue (is_found Lost) = subst (λ p. IsTrue (is_found p)) k.is f in cc
@@ -93,179 +91,60 @@ comma_unless (At q e text) f =
 
 -- ---- what stands there
 
-pub data AtParam : Tree → Type 0 where
-  named : {t : Text} → AtParam (leaf IdentifierName t)
-  valued : {ts : Forest} → AtParam (node (function (WithInit Binds)) ts)
-  rest : {ts : Forest} → AtParam (node (function (RestPat Binds)) ts)
+unholed : {v : Surroundings} {x y : Place} (t : Tree) → Staged v false Param x t y → is_hole t ≡ false
+unholed (leaf Elision t) r = let bad = r.staged in cc
+unholed (leaf _ t) r = refl
+unholed (node k ts) r = refl
+unholed (list ts) r = refl
 
-abbrev is_param : Kind → Bool
-is_param (function (WithInit Binds)) = true
-is_param (function (RestPat Binds)) = true
-is_param k = false
-
-param_is : (k : Kind) (ts : Forest) → is_param k ≡ true → AtParam (node k ts)
-param_is (function (WithInit Binds)) ts h = valued
-param_is (function (RestPat Binds)) ts h = rest
-param_is _ ts h = cc
-
-param_kind : (k : Kind) (ts : Forest) → Taken k → admits Param (node k ts) ≡ true → AtParam (node k ts)
-param_kind k ts t h = param_is k ts (standing Param is_param refl k t (kind_home Param k ts h))
-
-at_param : {v : Surroundings} {x y : Place} (t : Tree) → Staged v false Param x t y → AtParam t
-at_param (leaf IdentifierName t) r = named
-at_param (leaf _ t) r = let bad = r.staged in cc
-at_param (node k ts) r = param_kind k ts (taken_by r) (home_of r)
-at_param (list ts) r = absurd (no_list r)
-
-barred_by : {v : Surroundings} {x : Place} → ((u : Tree) (z : Place) → AtParam u → Whole so_far v false Param x u z → ⊥) → Barred so_far v (Part Param) x
+barred_by : {v : Surroundings} {x : Place} → ((u : Tree) (z : Place) → AtDefault v x z u → Whole so_far v false Param x u z → ⊥) → Barred so_far v (Part Param) x
 barred_by {v} {x} f = record { no = at }
   where
     at : (g : Given) (z : Place) → Past (Whole so_far) v (Part Param) x g z → ⊥
-    at g z (tree {t = u} w) = f u z (at_param u w.reads) w
-
--- ---- a name, here and as a pattern
-
-as_pattern : {v : Surroundings} {x z : Place} {t : Text} → Staged v false Param x (leaf IdentifierName t) z → Whole so_far v false (Pat Binds) x (leaf IdentifierName t) z
-as_pattern {z = z} {t} r = record { reads = leaf_to (Pat Binds) IsName (and_left (leaf_in Param IdentifierName t) (is_leaf IdentifierName t) r.reads.is) refl r; ends_there = of_so_far.ends_there (Pat Binds) z (never_stops (Pat Binds) z refl) }
-
-as_param : {v : Surroundings} {x z : Place} (t : Tree) → Staged v false (Pat Binds) x t z → Staged v false Param x t z
-as_param (leaf IdentifierName t) r = leaf_to Param IsName (and_left (leaf_in (Pat Binds) IdentifierName t) (is_leaf IdentifierName t) r.reads.is) refl r
-as_param (leaf _ t) r = let bad = r.staged in cc
-as_param (node k ts) r = absurd (patterns.node k ts (taken_by r) (home_of r))
-as_param (list ts) r = absurd (no_list r)
-
--- where a mark stands none does
-pattern_unmarked : {v : Surroundings} {x z : Place} (t : Tree) (d : Text) → Staged v false (Pat Binds) x t z → IsTrue (is_found (forth (Tok Operator Punctuator d) x)) → ⊥
-pattern_unmarked {x = x} (leaf IdentifierName t) d r f = mark_none IsName t d x refl (found_at r.reads.scans r.reads.found) f
-pattern_unmarked (leaf _ t) d r f = let bad = r.staged in cc
-pattern_unmarked (node k ts) d r f = patterns.node k ts (taken_by r) (home_of r)
-pattern_unmarked (list ts) d r f = no_list r
-
-pattern_settled : {v : Surroundings} {x y : Place} (t : Tree) → Staged v false (Pat Binds) x t y → settled y ≡ true
-pattern_settled {x = x} (leaf IdentifierName t) r = settled_token Operator IdentifierName t x (leaf_full IsName t (and_right (leaf_in (Pat Binds) IdentifierName t) _ r.reads.is)) r.reads.scans r.reads.found
-pattern_settled (leaf _ t) r = let bad = r.staged in cc
-pattern_settled (node k ts) r = absurd (patterns.node k ts (taken_by r) (home_of r))
-pattern_settled (list ts) r = absurd (no_list r)
+    at g z (tree {t = u} w) = f u z (at_default Param u refl w.reads) w
 
 pub pattern_found : {v : Surroundings} {x y : Place} {t : Tree} → Only so_far v (Part (Pat Binds)) x (one t) y → IsTrue (is_found y)
 pattern_found o = end_found of_so_far (whole_of o.past).reads
 
-pub name_is_word : {v : Surroundings} {x y : Place} {t : Tree} → Only so_far v (Part (Pat Binds)) x (one t) y → is_word t ≡ true
-name_is_word {v} {x} {y} {t} o = at t (whole_of o.past).reads
-  where
-    at : (u : Tree) → Staged v false (Pat Binds) x u y → is_word u ≡ true
-    at (leaf IdentifierName s) r = refl
-    at (leaf _ s) r = let bad = r.staged in cc
-    at (node k ts) r = absurd (patterns.node k ts (taken_by r) (home_of r))
-    at (list ts) r = absurd (no_list r)
-
--- ---- the rows of the two kinds, read to the ends of their parts
-
-abbrev value_row : List Piece
-value_row = row_so_far (function (WithInit Binds))
-
-abbrev rest_row : List Piece
-rest_row = row_so_far (function (RestPat Binds))
-
-value_whole : {v : Surroundings} {x z : Place} {ts : Forest} → Whole so_far v false Param x (node (function (WithInit Binds)) ts) z → Walk (Whole so_far) (steady v) value_row x ts z
-value_whole {v} {ts = ts} w = moved (λ a h. free_around a ts v h) refl (whole_walk of_so_far Param value_row refl w.ends_there (of_so_far.from_node (function (WithInit Binds)) w.reads).walk)
-
 rest_whole : {v : Surroundings} {x z : Place} {ts : Forest} → Whole so_far v false Param x (node (function (RestPat Binds)) ts) z → Walk (Whole so_far) (steady v) rest_row x ts z
 rest_whole {v} {ts = ts} w = moved (λ a h. free_around a ts v h) refl (whole_walk of_so_far Param rest_row refl w.ends_there (of_so_far.from_node (function (RestPat Binds)) w.reads).walk)
 
-dots_led : {v : Surroundings} {x z : Place} {ts : Forest} → Staged v false Param x (node (function (RestPat Binds)) ts) z → IsTrue (is_found (forth (pun "...") x))
-dots_led r = led_sign rest_row refl (of_so_far.from_node (function (RestPat Binds)) r).walk
+-- ---- a pattern, with a default or without one
 
--- no mark with which neither begins
-unled : {v : Surroundings} {x z : Place} {ts : Forest} (d : Text) → Walk (Whole so_far) (steady v) value_row x ts z → IsTrue (is_found (forth (Tok Operator Punctuator d) x)) → ⊥
-unled d (next (tree {t = t} q) w) f = pattern_unmarked t d q.reads f
-
--- ---- a name that was read
-
--- before its value a name has not come to its end
-param_ends : (y : Place) → ends_so_far Param y ≡ ends_so_far (Expr 1) y
-param_ends Lost = refl
-param_ends (At q e text) = refl
-
-value_on : (y : Place) → settled y ≡ true → IsTrue (is_found (forth (pun "=") y)) → ends_so_far Param y ≡ false
-value_on y s f = param_ends y ∙ mark_goes (rung 1) (expression Assign) y refl (listed (expression Assign) refl refl refl) refl s (record { stays = λ o. absurd (clash (on_line (expression Assign)) o refl) }) f
-
-pub named_param : {v : Surroundings} {x x' y y' : Place} {t : Tree} → Missed (pun "...") x x' → Only so_far v (Part (Pat Binds)) x' (one t) y → Missed (pun "=") y y' → OnlyParam v x t y'
-named_param {v} {x} {y = y} {y'} {t} m given k = record {
-  reads = subst (Staged v false Param x t) k.same (as_param t (whole_of o.past).reads);
-  alone = λ u z w. at (at_param u w.reads) w;
-}
+pub element_param : {v : Surroundings} {x x' y : Place} {t : Tree} → Missed (pun "...") x x' → IsElement v x' t y → OnlyParam v x t y
+element_param {v} {x} {y = y} {t} m given = record { reads = o.reads; alone = λ u z w. o.alone u z (unholed u w.reads) w }
   where
-    o : Only so_far v (Part (Pat Binds)) x (one t) y
-    o = subst (λ p. Only so_far v (Part (Pat Binds)) p (one t) y) (sym m.same) given
+    o : OnlyFilled v Param x t y
+    o = subst (λ p. OnlyFilled v Param p t y) (sym m.same) (given.on Param refl)
 
-    unvalued : {us : Forest} {z : Place} → Walk (Whole so_far) (steady v) value_row x us z → ⊥
-    unvalued (next q (next (sign e f) w)) = let s = o.alone _ _ q in stuck_not k.stuck (subst (λ p. IsTrue (is_found (forth (pun "=") p))) (sym s.1) (found_at e f))
-
-    at : {u : Tree} {z : Place} → AtParam u → Whole so_far v false Param x u z → (t ≡ u) × (y' ≡ z)
-    at {z = z} (named {t = s}) w = let e = o.alone (one (leaf IdentifierName s)) z (tree (as_pattern w.reads)) in (ap item_of e.0, sym k.same ∙ e.1)
-    at valued w = absurd (unvalued (value_whole w))
-    at rest w = absurd (pattern_unmarked t (codes "...") (whole_of o.past).reads (dots_led w.reads))
-
-pub no_name : {v : Surroundings} {x x' : Place} → Missed (pun "...") x x' → Barred so_far v (Part (Pat Binds)) x' → Barred so_far v (Part Param) x
-no_name {v} {x} m given = barred_by (λ u z p w. at p w)
+pub no_element : {v : Surroundings} {x x' : Place} → Missed (pun "...") x x' → NoElement v x' → Barred so_far v (Part Param) x
+no_element {v} {x} m given = barred_by (λ u z p w. at p w)
   where
-    b : Barred so_far v (Part (Pat Binds)) x
-    b = subst (Barred so_far v (Part (Pat Binds))) (sym m.same) given
+    n : NoElement v x
+    n = subst (NoElement v) (sym m.same) given
 
-    unvalued : {us : Forest} {z : Place} → Walk (Whole so_far) (steady v) value_row x us z → ⊥
-    unvalued (next q w) = b.no _ _ q
+    at : {u : Tree} {z : Place} → AtDefault v x z u → Whole so_far v false Param x u z → ⊥
+    at {u} {z} (pattern r) w = n.no Param refl u z (unholed u w.reads) (unresting u r) w
+    at {z = z} (valued {ts}) w = n.no Param refl (node (function (WithInit Binds)) ts) z refl refl w
+    at rest w = stuck_not m.stuck (rest_led w.reads)
+    at hole w = let bad = w.reads.staged in cc
 
-    at : {u : Tree} {z : Place} → AtParam u → Whole so_far v false Param x u z → ⊥
-    at {z = z} (named {t = s}) w = b.no (one (leaf IdentifierName s)) z (tree (as_pattern w.reads))
-    at valued w = unvalued (value_whole w)
-    at rest w = stuck_not m.stuck (dots_led w.reads)
-
--- ---- one with a value
-
-pub valued_param : {v : Surroundings} {x x' y a z : Place} {t e w : Tree} → Missed (pun "...") x x' → Only so_far v (Part (Pat Binds)) x' (one t) y → Moves (pun "=") y a → Only so_far v (Part (Expr 1)) a (one e) z → w ≡ node (function (WithInit Binds)) (part t (part e none)) → OnlyParam v x w z
-valued_param {v} {x} {y = y} {a} {z} {t} {e} {w} m given k value is = record {
-  reads = subst (λ u. Staged v false Param x u z) (sym is) (of_so_far.to_node (function (WithInit Binds)) refl (record { walk = loosen (moved (λ b h. sym (free_around b (part t (part e none)) v h)) refl row.walk); keeps = and_both _ _ (plain_row value_row refl (to_grammar of_so_far row.walk)) refl }));
-  alone = λ u p q. at (at_param u q.reads) q;
-}
+-- whether it is a name alone
+pub element_word : {v : Surroundings} {x y : Place} {t : Tree} → IsElement v x t y → is_word t ≡ not (is_compound t)
+element_word {v} {x} {y} {t} o = at (at_default Param t refl (o.on Param refl).reads) (o.on Param refl).filled
   where
-    o : Only so_far v (Part (Pat Binds)) x (one t) y
-    o = subst (λ p. Only so_far v (Part (Pat Binds)) p (one t) y) (sym m.same) given
-
-    row : OnlyRow so_far v value_row x (part t (part e none)) z
-    row = then' o (then' (only_sign k) (then' value (end (end_found of_so_far (whole_of value.past).reads))))
-
-    at : {u : Tree} {p : Place} → AtParam u → Whole so_far v false Param x u p → (w ≡ u) × (z ≡ p)
-    at {p = p} (named {t = s}) q =
-        let same = o.alone (one (leaf IdentifierName s)) p (tree (as_pattern q.reads)) in
-        absurd (clash _ (subst (λ b. ends_so_far Param b ≡ true) (sym same.1) q.ends_there) (value_on y (pattern_settled t (whole_of o.past).reads) (found_at (sym k.is) k.found)))
-    at {p = p} (valued {ts = us}) q = let s = row.alone us p (value_whole q) in (is ∙ ap (node (function (WithInit Binds))) s.0, s.1)
-    at rest q = absurd (pattern_unmarked t (codes "...") (whole_of o.past).reads (dots_led q.reads))
-
-pub no_value : {v : Surroundings} {x x' y a : Place} {t : Tree} → Missed (pun "...") x x' → Only so_far v (Part (Pat Binds)) x' (one t) y → Moves (pun "=") y a → Barred so_far v (Part (Expr 1)) a → Barred so_far v (Part Param) x
-no_value {v} {x} {y = y} {a} {t} m given k b = barred_by (λ u z p w. at p w)
-  where
-    o : Only so_far v (Part (Pat Binds)) x (one t) y
-    o = subst (λ p. Only so_far v (Part (Pat Binds)) p (one t) y) (sym m.same) given
-
-    unvalued : {us : Forest} {z : Place} → Walk (Whole so_far) (steady v) value_row x us z → ⊥
-    unvalued (next q (next (sign e f) (next r w))) =
-        let s = o.alone _ _ q in
-        (subst (Barred so_far v (Part (Expr 1))) (k.is ∙ (ap (forth (pun "=")) s.1 ∙ e)) b).no _ _ r
-
-    at : {u : Tree} {p : Place} → AtParam u → Whole so_far v false Param x u p → ⊥
-    at {p = p} (named {t = s}) q =
-        let same = o.alone (one (leaf IdentifierName s)) p (tree (as_pattern q.reads)) in
-        clash _ (subst (λ b. ends_so_far Param b ≡ true) (sym same.1) q.ends_there) (value_on y (pattern_settled t (whole_of o.past).reads) (found_at (sym k.is) k.found))
-    at valued q = unvalued (value_whole q)
-    at rest q = pattern_unmarked t (codes "...") (whole_of o.past).reads (dots_led q.reads)
+    at : {u : Tree} → AtDefault v x y u → is_hole u ≡ false → is_word u ≡ not (is_compound u)
+    at {u} (pattern r) f = pattern_word u r
+    at valued f = refl
+    at rest f = refl
+    at hole f = cc
 
 -- ---- a rest
 
-pub rest_param : {v : Surroundings} {x a y : Place} {t : Tree} → Moves (pun "...") x a → Built so_far v (tail (row_so_far (function (RestPat Binds)))) (function (RestPat Binds)) (λ ts. ts) t a y → OnlyParam v x t y
+pub rest_param : {v : Surroundings} {x a y : Place} {t : Tree} → Moves (pun "...") x a → Built so_far v (tail rest_row) (function (RestPat Binds)) (λ ts. ts) t a y → OnlyParam v x t y
 rest_param {v} {x} {a} {y} {t} m b = record {
   reads = subst (λ u. Staged v false Param x u y) (sym w.is) (of_so_far.to_node (function (RestPat Binds)) refl (record { walk = loosen (moved (λ c h. sym (free_around c w.parts v h)) refl w.row.walk); keeps = and_both _ _ (plain_row rest_row refl (to_grammar of_so_far w.row.walk)) refl }));
-  alone = λ u p q. at (at_param u q.reads) q;
+  alone = λ u p q. at (at_default Param u refl q.reads) q;
 }
   where
     w : Built so_far v rest_row (function (RestPat Binds)) (λ ts. ts) t x y
@@ -274,21 +153,23 @@ rest_param {v} {x} {a} {y} {t} m b = record {
     there : IsTrue (is_found (forth (pun "...") x))
     there = found_at (sym m.is) m.found
 
-    at : {u : Tree} {p : Place} → AtParam u → Whole so_far v false Param x u p → (t ≡ u) × (y ≡ p)
-    at (named {t = s}) q = absurd (pattern_unmarked (leaf IdentifierName s) (codes "...") (as_pattern q.reads).reads there)
-    at valued q = absurd (unled (codes "...") (value_whole q) there)
+    at : {u : Tree} {p : Place} → AtDefault v x p u → Whole so_far v false Param x u p → (t ≡ u) × (y ≡ p)
+    at {u} (pattern r) q = absurd (pattern_unmarked u (codes "...") refl refl r there)
+    at valued q = absurd (unled (codes "...") refl refl (value_whole Param refl q) there)
     at {p = p} (rest {ts}) q = let e = w.row.alone ts p (rest_whole q) in (w.is ∙ ap (node (function (RestPat Binds))) e.0, e.1)
+    at hole q = let bad = q.reads.staged in cc
 
-pub no_rest_param : {v : Surroundings} {x a : Place} → Moves (pun "...") x a → NoRow so_far v (tail (row_so_far (function (RestPat Binds)))) a → Barred so_far v (Part Param) x
+pub no_rest_param : {v : Surroundings} {x a : Place} → Moves (pun "...") x a → NoRow so_far v (tail rest_row) a → Barred so_far v (Part Param) x
 no_rest_param {v} {x} m n = barred_by (λ u z p w. at p w)
   where
     there : IsTrue (is_found (forth (pun "...") x))
     there = found_at (sym m.is) m.found
 
-    at : {u : Tree} {p : Place} → AtParam u → Whole so_far v false Param x u p → ⊥
-    at (named {t = s}) q = pattern_unmarked (leaf IdentifierName s) (codes "...") (as_pattern q.reads).reads there
-    at valued q = unled (codes "...") (value_whole q) there
+    at : {u : Tree} {p : Place} → AtDefault v x p u → Whole so_far v false Param x u p → ⊥
+    at {u} (pattern r) q = pattern_unmarked u (codes "...") refl refl r there
+    at valued q = unled (codes "...") refl refl (value_whole Param refl q) there
     at {p = p} (rest {ts}) q = (signed_none rest_row refl m n).no ts p (rest_whole q)
+    at hole q = let bad = q.reads.staged in cc
 
 -- ---- the list, and what closes it
 
@@ -302,13 +183,14 @@ closing_found : {v : Surroundings} {x w : Place} {us : Forest} → Walk (Whole s
 closing_found (next (sign e f) walk) = found_at e f
 
 -- where another mark stands, no parameter does
-unmarked : {v : Surroundings} {x z : Place} {u : Tree} (d : Text) → same (codes "...") d ≡ false → IsTrue (is_found (forth (Tok Operator Punctuator d) x)) → Whole so_far v false Param x u z → ⊥
-unmarked {v} {x} {z} {u} d m f w = at (at_param u w.reads) w
+unmarked : {v : Surroundings} {x z : Place} {u : Tree} (d : Text) → same (codes "...") d ≡ false → same (codes "[") d ≡ false → same (codes "{") d ≡ false → IsTrue (is_found (forth (Tok Operator Punctuator d) x)) → Whole so_far v false Param x u z → ⊥
+unmarked {v} {x} {z} {u} d m k l f w = at (at_default Param u refl w.reads) w
   where
-    at : {t : Tree} → AtParam t → Whole so_far v false Param x t z → ⊥
-    at (named {t = s}) q = pattern_unmarked (leaf IdentifierName s) d (as_pattern q.reads).reads f
-    at valued q = unled d (value_whole q) f
-    at rest q = never_both Punctuator Punctuator (codes "...") d x m (dots_led q.reads) f
+    at : {t : Tree} → AtDefault v x z t → Whole so_far v false Param x t z → ⊥
+    at {t} (pattern r) q = pattern_unmarked t d k l r f
+    at valued q = unled d k l (value_whole Param refl q) f
+    at rest q = never_both Punctuator Punctuator (codes "...") d x m (rest_led q.reads) f
+    at hole q = let bad = q.reads.staged in cc
 
 comma_ends : (y : Place) → IsTrue (is_found (forth (pun ",") y)) → ends_so_far Param y ≡ true
 comma_ends y f = of_so_far.ends_there Param y (token_stops Param Punctuator 44 [] y refl f)
@@ -320,19 +202,20 @@ whole_before : {v : Surroundings} {x y : Place} {t : Tree} → OnlyParam v x t y
 whole_before o e = record { reads = o.reads; ends_there = e }
 
 -- no comma stands behind a rest
-rest_guard : {v : Surroundings} {x y : Place} {ts us : Forest} → Walk Staged (around v us) rest_row x ts y → IsTrue (is_found (forth (pun ",") y)) → ⊥
+pub rest_guard : {v : Surroundings} {x y : Place} {ts us : Forest} → Walk Staged (around v us) rest_row x ts y → IsTrue (is_found (forth (pun ",") y)) → ⊥
 rest_guard (next d (next q (next {x = p} (sign e f) (done g)))) c =
     let there = sym e ∙ stays (Unless (codes "," ∷ [])) p refl (found_at e f) in
     let gone : forth (Unless (codes "," ∷ [])) p ≡ Lost = comma_unless p (subst (λ b. IsTrue (is_found (forth (pun ",") b))) there c) in
     let bad : IsTrue (is_found Lost) = subst (λ b. IsTrue (is_found b)) (sym e ∙ gone) f in cc
 
 not_last : {v : Surroundings} {x y : Place} {t : Tree} → Staged v false Param x t y → IsTrue (is_found (forth (pun ",") y)) → is_last t ≡ false
-not_last {v} {x} {y} {t} r c = at (at_param t r) r
+not_last {v} {x} {y} {t} r c = at (at_default Param t refl r) r
   where
-    at : {u : Tree} → AtParam u → Staged v false Param x u y → is_last u ≡ false
-    at named q = refl
+    at : {u : Tree} → AtDefault v x y u → Staged v false Param x u y → is_last u ≡ false
+    at {u} (pattern r) q = pattern_early u r
     at valued q = refl
     at (rest {ts}) q = absurd (rest_guard {us = ts} (of_so_far.from_node (function (RestPat Binds)) q).walk c)
+    at hole q = refl
 
 -- ---- a parameter and a comma
 
@@ -396,8 +279,8 @@ turn_shut {v} {x} {z} m = record { to = λ ts w walk. next (many refl (nil (foun
 
     inner : (ts : Forest) (p : Place) → Items (Whole so_far) v Commas Param x ts p → (us : Forest) (w : Place) → Walk (Whole so_far) (steady v) closing p us w → From so_far v closing x (part (list none)) (part (list ts) us) w
     inner ts p (nil f) us w walk = record { parts = us; is = refl; walk = walk }
-    inner ts p (last r e f) us w walk = absurd (unmarked (codes ")") refl there r)
-    inner ts p (more n r e all) us w walk = absurd (unmarked (codes ")") refl there r)
+    inner ts p (last r e f) us w walk = absurd (unmarked (codes ")") refl refl refl there r)
+    inner ts p (more n r e all) us w walk = absurd (unmarked (codes ")") refl refl refl there r)
 
     back : (us : Forest) (w : Place) → Walk (Whole so_far) (steady v) inside x us w → From so_far v closing x (part (list none)) us w
     back us w (next {ts = vs} (many {ts = ts} e all) walk) = inner ts _ all vs w walk

@@ -1,7 +1,7 @@
 //! Functions, with their parameters and their bodies (ECMA-262 sections 15.1 and 15.2).
 
 ghost use Rattle.std.specs.Prelude.{◌≡◌, ◌<◌, ◌≤◌, ◌||◌, IfOk, OnOk, IsTrue, false, map, not, suc, true};
-ghost use Rattle.jsx_tree.specs.Kinds.{Binds, FunctionExpr, RestPat, function, list, none, part};
+ghost use Rattle.jsx_tree.specs.Kinds.{FunctionExpr, function, list, none, part};
 ghost use Rattle.jsx_tree.specs.Nonterminals as grammar;
 ghost use Rattle.jsx_tree.specs.Grammar.{Part};
 ghost use Rattle.jsx_tree.specs.StaticRules.{all_of, has_plain_params, is_strict_body, is_word};
@@ -9,7 +9,7 @@ ghost use Rattle.jsx_tree.specs.Spans.{no_tales, tale};
 ghost use Rattle.jsx_tree.specs.Told.{told_expr, told_ident, told_list, told_name, told_optional, told_pat};
 ghost use Rattle.jsx_tree.specs.View.{forest, inside, name_of, optional_name, optional_of, view_expr, view_pat};
 ghost use Rattle.jsx_tree.specs.Walk.{tail};
-ghost use Rattle.jsx_tree.specs.Answers.{Barred, Built, BuiltNode, NoNode, NoRow, OnlyRow};
+ghost use Rattle.jsx_tree.specs.Answers.{Barred, BuiltNode, NoNode, NoRow, OnlyRow};
 ghost use Rattle.jsx_make.specs.NodeSpans.{expr_at};
 ghost use Rattle.jsx_operand.specs.Around.{around_of};
 ghost use Rattle.jsx_operand.specs.Answers.{Refused};
@@ -17,8 +17,7 @@ ghost use Rattle.jsx_operand.specs.Bodies.{ReadsBodies, body_row, body_symbols, 
 ghost use Rattle.jsx_operand.specs.SoFar.{so_far};
 ghost use Rattle.jsx_operand.specs.Spans.{IsPlaced, IsPlacedBehind, IsPlacedFront, IsPlacedRow, Spans};
 ghost use Rattle.jsx_token.specs.Growths.{opening_sign, settled};
-ghost use Rattle.jsx_token.specs.Here.{left, place_of, sign_of};
-ghost use Rattle.jsx_token.specs.declared.lexer.Fixed.TheVariants as fixed;
+ghost use Rattle.jsx_token.specs.Here.{left, place_of};
 ghost use Rattle.jsx_token.specs.Marks.{row_so_far};
 ghost use Rattle.jsx_token.specs.Places.{begin_of, end_of};
 ghost use Rattle.jsx_expression.specs.Functions.{IsNamed, NoCode, NoNamed, NoOwnCode, OnlyParam, code_row, code_symbols, name_symbols, named_parts, named_row, named_symbols, own_row, params_row, params_symbols, parts_of, told_named, told_parts};
@@ -27,8 +26,8 @@ ghost use Rattle.jsx_expression.specs.Within.{ReadsWithin};
 use crate::expression::expression;
 use crate::grammar::Expressions;
 use jsx_make::make;
-use jsx_operand::operand::ASSIGNMENT;
-use jsx_operand::parser::{binding_identifier, bound_name, expect, give_up, span_to};
+use jsx_operand::parser::{bound_name, expect, give_up, span_to};
+use jsx_operand::pattern::is_compound;
 use jsx_operand::{Body, Context, Labels, ParseError};
 use jsx_token::{Fixed, Lexer};
 use jsx_tree::{Expr, Ident, Pat};
@@ -60,21 +59,6 @@ pub(crate) struct Parameter<'s> {
 pub(crate) struct Parameters<'s> {
     pub(crate) all: Vec<Box<Pat<'s>>>,
     pub(crate) are_simple: bool,
-}
-
-/// A rest parameter behind its `...`: `...a`. No comma stands behind it.
-fn rest_parameter<'s>(context: Context, lexer: &mut Lexer<'s>) -> Result<Box<Pat<'s>>, ParseError>
-    ensures read { IfOk result (λ p. Built so_far (around_of context.entry.around) (tail (row_so_far (function (RestPat Binds)))) (function (RestPat Binds)) (λ ts. ts) (view_pat p.value) (place_of lexer.old) (place_of lexer.new)) }
-    ensures placed { IfOk result (λ p. IsPlacedBehind (sign_of fixed.Dots) lexer.old (told_pat p.value) (view_pat p.value) lexer.new) }
-    ensures shorter { OnOk result (left lexer.new < left lexer.old) }
-    ensures refused { Refused result (NoRow so_far (around_of context.entry.around) (tail (row_so_far (function (RestPat Binds)))) (place_of lexer.old)) }
-{
-    let lo = lexer.last_place();
-    let name = binding_identifier(context, lexer)?;
-    if lexer.is_before(Fixed::Comma) {
-        return Err(give_up(lexer));
-    }
-    Ok(make::rest(context.alloc, span_to(lo, lexer), name)?)
 }
 
 /// Whether parameters may stand before a body: those before one that a directive of its own makes strict are names alone.
@@ -137,7 +121,7 @@ impl<
         (self.body)(context, lexer)
     }
 
-    /// A parameter: a name, one with a default, or a rest, behind which no comma stands: `a`, `a = b`, `...a` (ECMA-262
+    /// A parameter: a pattern, one with a default, or a rest, behind which no comma stands: `a`, `[a] = b`, `...a` (ECMA-262
     /// section 15.1).
     pub(crate) fn parameter<'s>(
         &self,
@@ -153,26 +137,15 @@ impl<
         ensures refused { Refused result (Barred so_far (around_of context.entry.around) (Part grammar.Param) (place_of lexer.old)) }
     {
         if lexer.take(Fixed::Dots) {
-            let pattern = rest_parameter(context, lexer)?;
+            let pattern = self.rest_pattern(context, lexer)?;
             return Ok(Parameter {
                 pattern,
                 is_simple: false,
             });
         }
-        let name = binding_identifier(context, lexer)?;
-        let lo = lexer.last_place();
-        if !lexer.take(Fixed::Equals) {
-            return Ok(Parameter {
-                pattern: name,
-                is_simple: true,
-            });
-        }
-        let value = self.inner(context, lexer, ASSIGNMENT)?;
-        let pattern = make::with_default(context.alloc, span_to(lo, lexer), name, value)?;
-        Ok(Parameter {
-            pattern,
-            is_simple: false,
-        })
+        let pattern = self.element(context, lexer)?;
+        let is_simple = !is_compound(&pattern);
+        Ok(Parameter { pattern, is_simple })
     }
 
     /// Parameters behind their `(`, with the `)`: `a, b = c, ...d)`.

@@ -8,4 +8,5 @@ pub mod function;
 mod grammar;
 mod literals;
 mod operations;
+pub mod pattern;
 mod quoted;

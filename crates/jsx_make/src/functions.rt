@@ -1,14 +1,16 @@
-//! The makers of functions, of what stands among their parameters, and of `return`.
+//! The makers of functions, of patterns and what stands among parameters, and of `return`.
 
 ghost use Rattle.std.specs.Prelude.{◌≡◌, [], ◌∷◌, IfOk, map};
-ghost use Rattle.jsx_tree.specs.Kinds.{Role, FunctionExpr, FunctionDecl, Return, WithInit, RestPat, statement, function, node, list, none, part};
-ghost use Rattle.jsx_tree.specs.View.{name_of, inside, forest, body, optional_of, view_expr, view_pattern, view_pat, view_stmt};
-ghost use Rattle.jsx_tree.specs.Told.{told_list, told_optional, told_ident, told_text, told_body, told_node, told_expr, told_pat, told_stmt};
+ghost use Rattle.jsx_tree.specs.Kinds.{Role, FunctionExpr, FunctionDecl, Return, WithInit, RestPat, ArrayPat, ObjectPat, PropertyPat, ShorthandPat, ShorthandInit, RestProperty, Binds, leaf, statement, function, node, list, none, part};
+ghost use Rattle.jsx_tree.specs.View.{name_of, inside, forest, body, optional_of, view_expr, view_key, view_pattern, view_pat, view_stmt};
+ghost use Rattle.jsx_tree.specs.Told.{told_list, told_optional, told_ident, told_text, told_body, told_node, told_expr, told_key, told_pat, told_stmt};
+ghost use Rattle.jsx_base.specs.Token.{Elision};
+ghost use Rattle.jsx_tree.specs.Spans.{no_tales, tells};
 ghost use Rattle.jsx_make.specs.NodeSpans.{expr_at, pat_at, stmt_at};
 
 use crate::make::boxed;
 use jsx_base::Span;
-use jsx_tree::{Expr, Ident, Pat, Stmt, Text};
+use jsx_tree::{Expr, Ident, Key, Pat, Stmt, Text};
 use std::alloc::{AllocError, Global};
 
 /// `function f(a) {}` as an expression, with a name or without.
@@ -87,4 +89,92 @@ pub fn rest<'s>(
     ensures span { IfOk result (λ p. pat_at p.value ≡ at) }
 {
     boxed(alloc, Pat::Rest(at, target))
+}
+
+/// `[a, , ...b]` as a pattern that binds.
+pub fn array_pattern<'s>(
+    alloc: Global,
+    at: Option<Span>,
+    slots: Vec<Box<Pat<'s>>>,
+) -> Result<Box<Pat<'s>>, AllocError>
+    ensures view { IfOk result (λ p. view_pat p.value ≡ node (function (ArrayPat Binds)) (part (list (forest (map (inside view_pat) slots.entry.items))) none)) }
+    ensures told { IfOk result (λ p. told_pat p.value ≡ told_node at (told_list (map (inside told_pat) slots.entry.items) ∷ [])) }
+    ensures span { IfOk result (λ p. pat_at p.value ≡ at) }
+{
+    boxed(alloc, Pat::Array(at, slots))
+}
+
+/// Nothing, between two commas of an array.
+pub fn pattern_hole<'s>(alloc: Global) -> Result<Box<Pat<'s>>, AllocError>
+    ensures view { IfOk result (λ p. (r : Role) → view_pattern p.value r ≡ leaf Elision []) }
+    ensures told { IfOk result (λ p. told_pat p.value ≡ tells [] no_tales) }
+{
+    boxed(alloc, Pat::Hole)
+}
+
+/// `{ a, b: c }` as a pattern that binds.
+pub fn object_pattern<'s>(
+    alloc: Global,
+    at: Option<Span>,
+    parts: Vec<Box<Pat<'s>>>,
+) -> Result<Box<Pat<'s>>, AllocError>
+    ensures view { IfOk result (λ p. view_pat p.value ≡ node (function (ObjectPat Binds)) (part (list (forest (map (inside view_pat) parts.entry.items))) none)) }
+    ensures told { IfOk result (λ p. told_pat p.value ≡ told_node at (told_list (map (inside told_pat) parts.entry.items) ∷ [])) }
+    ensures span { IfOk result (λ p. pat_at p.value ≡ at) }
+{
+    boxed(alloc, Pat::Object(at, parts))
+}
+
+/// `a: b` in a pattern.
+pub fn pair_pattern<'s>(
+    alloc: Global,
+    at: Option<Span>,
+    key: Key<'s>,
+    value: Box<Pat<'s>>,
+) -> Result<Box<Pat<'s>>, AllocError>
+    ensures view { IfOk result (λ p. (r : Role) → view_pattern p.value r ≡ node (function (PropertyPat r)) (part (view_key key.entry) (part (view_pattern value.entry.value r) none))) }
+    ensures told { IfOk result (λ p. told_pat p.value ≡ told_node at (told_key key.entry ∷ told_pat value.entry.value ∷ [])) }
+    ensures span { IfOk result (λ p. pat_at p.value ≡ at) }
+{
+    boxed(alloc, Pat::Pair(at, key, value))
+}
+
+/// `a` in a pattern.
+pub fn short_pattern<'s>(
+    alloc: Global,
+    at: Option<Span>,
+    name: Ident<'s>,
+) -> Result<Box<Pat<'s>>, AllocError>
+    ensures view { IfOk result (λ p. (r : Role) → view_pattern p.value r ≡ node (function (ShorthandPat r)) (part (name_of name.entry) none)) }
+    ensures told { IfOk result (λ p. told_pat p.value ≡ told_node at (told_text name.entry.text ∷ [])) }
+    ensures span { IfOk result (λ p. pat_at p.value ≡ at) }
+{
+    boxed(alloc, Pat::Shorthand(at, name, None))
+}
+
+/// `a = 1` in a pattern.
+pub fn short_default<'s>(
+    alloc: Global,
+    at: Option<Span>,
+    name: Ident<'s>,
+    value: Box<Expr<'s>>,
+) -> Result<Box<Pat<'s>>, AllocError>
+    ensures view { IfOk result (λ p. (r : Role) → view_pattern p.value r ≡ node (function (ShorthandInit r)) (part (name_of name.entry) (part (view_expr value.entry.value) none))) }
+    ensures told { IfOk result (λ p. told_pat p.value ≡ told_node at (told_text name.entry.text ∷ told_expr value.entry.value ∷ [])) }
+    ensures span { IfOk result (λ p. pat_at p.value ≡ at) }
+{
+    boxed(alloc, Pat::Shorthand(at, name, Some(value)))
+}
+
+/// `...a` in an object's pattern.
+pub fn rest_property<'s>(
+    alloc: Global,
+    at: Option<Span>,
+    name: Ident<'s>,
+) -> Result<Box<Pat<'s>>, AllocError>
+    ensures view { IfOk result (λ p. (r : Role) → view_pattern p.value r ≡ node (function (RestProperty r)) (part (name_of name.entry) none)) }
+    ensures told { IfOk result (λ p. told_pat p.value ≡ told_node at (told_text name.entry.text ∷ [])) }
+    ensures span { IfOk result (λ p. pat_at p.value ≡ at) }
+{
+    boxed(alloc, Pat::RestProperty(at, name))
 }

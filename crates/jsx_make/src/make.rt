@@ -12,7 +12,9 @@ ghost use Rattle.jsx_make.specs.NodeSpans.{expr_at, member_at, pat_at};
 ghost use Rattle.jsx_make.specs.Members.{view_prop};
 
 pub use crate::functions::{
-    function_declaration, function_expression, rest, return_statement, with_default,
+    array_pattern, function_declaration, function_expression, object_pattern, pair_pattern,
+    pattern_hole, rest, rest_property, return_statement, short_default, short_pattern,
+    with_default,
 };
 pub use crate::statements::{
     block, break_statement, case_clause, catch_clause, continue_statement, debugger_statement,

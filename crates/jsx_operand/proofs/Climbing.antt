@@ -4,7 +4,7 @@ use Rattle.std.specs.Prelude.{IsTrue, Some, ◌&&◌, ◌||◌}
 use Rattle.std.proofs.lemmas.Bool.{leb-true, le-leb}
 use Rattle.jsx_base.specs.Token.{Lexeme, Text, Operator, IdentifierName, NumericLiteral, BigIntLiteral, StringLiteral, TokenKind, breaks, token, same, RegExpLiteral, NoSubstitution, TemplateHead}
 use Rattle.jsx_tree.specs.Signs.{Ending, AfterExpr, SameLine, Sign}
-use Rattle.jsx_tree.specs.Kinds.{Imported, Exported, From, Specifier, SpecifierAs, FunctionBody, FunctionExpr, Binds, WithInit, RestPat, Module, Var, ConstWord, Declarator, ExprStmt, Assigns, Assign, OpAssign, Delete, Void, TypeOf, Positive, Negative, Complement, Not, Unary, Binary, Cond, Call, Member, Index, New, NewWithoutArguments, ImportCall, Parenthesized, Element, Kind, program, statement, expression, jsx, Tree, leaf, node, Forest, part, PrefixUpdate, PostfixUpdate, Seq, Spread, Array, ComputedKey, function, PlainTemplate, SubstitutedTemplate, TemplateSpan, Tagged, Chain, NameLink, IndexLink, CallLink, list}
+use Rattle.jsx_tree.specs.Kinds.{Imported, Exported, From, Specifier, SpecifierAs, FunctionBody, FunctionExpr, Binds, WithInit, RestPat, ArrayPat, ObjectPat, PropertyPat, ShorthandPat, ShorthandInit, RestProperty, Module, Var, ConstWord, Declarator, ExprStmt, Assigns, Assign, OpAssign, Delete, Void, TypeOf, Positive, Negative, Complement, Not, Unary, Binary, Cond, Call, Member, Index, New, NewWithoutArguments, ImportCall, Parenthesized, Element, Kind, program, statement, expression, jsx, Tree, leaf, node, Forest, part, PrefixUpdate, PostfixUpdate, Seq, Spread, Array, ComputedKey, function, PlainTemplate, SubstitutedTemplate, TemplateSpan, Tagged, Chain, NameLink, IndexLink, CallLink, list}
 use Rattle.jsx_tree.specs.Nonterminals.{Nonterminal, Expr, NullishLeft, MemberObject, DotObject, SimpleTarget, Pat, homes, in_homes, leaf_in, is_value_word, TemplatePart, ChainLink, TagName}
 use Rattle.jsx_tree.specs.Grammar.{Context, Fixed, Part, pun, OneOrMore}
 use Rattle.jsx_tree.specs.Form.{admits, fits_below, enough}
@@ -527,6 +527,12 @@ plain_kind (program (SpecifierAs From)) ts v n h a p = cc
 plain_kind (function FunctionExpr) ts v n h a p = cc
 plain_kind (function (WithInit Binds)) ts v n h a p = cc
 plain_kind (function (RestPat Binds)) ts v n h a p = cc
+plain_kind (function (ArrayPat Binds)) ts v n h a p = cc
+plain_kind (function (ObjectPat Binds)) ts v n h a p = cc
+plain_kind (function (PropertyPat Binds)) ts v n h a p = cc
+plain_kind (function (ShorthandPat Binds)) ts v n h a p = cc
+plain_kind (function (ShorthandInit Binds)) ts v n h a p = cc
+plain_kind (function (RestProperty Binds)) ts v n h a p = cc
 plain_kind (function ComputedKey) ts v n h a p = cc
 plain_kind (statement ExprStmt) ts v n h a p = cc
 plain_kind (statement Declarator) ts v n h a p = cc

@@ -3,8 +3,8 @@ use Rattle.std.proofs.Common.{◌≡◌, Bool, true, false, not, refl, sym, ◌�
 use Rattle.std.specs.Prelude.{IsTrue, codes, [], ◌∷◌, ◌&&◌, ◌||◌}
 use Rattle.jsx_base.specs.Token.{Text, Operator, TokenKind, IdentifierName, NumericLiteral, BigIntLiteral, StringLiteral, NoSubstitution, TemplateHead, TemplateMiddle, TemplateTail, JsxName, Elision, RegExpLiteral, among}
 use Rattle.jsx_tree.specs.Signs.{Tok}
-use Rattle.jsx_tree.specs.Kinds.{VarWord, LetWord, ConstWord, FunctionBody, ImportBare, Import, ImportAll, ImportList, ImportBoth, Specifier, SpecifierAs, ExportNames, ExportFrom, ExportAll, ExportAllAs, ExportDecl, ExportDefaultFn, ExportDefaultExpr, Return, FunctionDecl, FunctionExpr, WithInit, RestPat, Block, Empty, If, Do, While, Continue, Break, Label, Throw, Debugger, Module, Directive, Var, Declarator, ExprStmt, Binds, Assigns, Assign, OpAssign, Nullish, Or, And, BitOr, BitXor, BitAnd, ShiftLeft, ShiftRight, ShiftOut, Add, Subtract, Multiply, Divide, Remainder, Exponentiate, Void, TypeOf, Positive, Negative, Complement, Not, Unary, Binary, Cond, Call, Member, Index, ImportCall, Parenthesized, Element, Kind, program, statement, expression, jsx, Tree, leaf, node, list, Forest, Delete, PrefixUpdate, PostfixUpdate, Increment, Decrement, Seq, For, ForDeclaration, Switch, Case, Default, Array, Spread, Try, Catch, Object, Property, Shorthand, ComputedKey, function, New, NewWithoutArguments, NewTarget, ImportMeta, ForIn, ForOf, ForBinding, PlainTemplate, SubstitutedTemplate, TemplateSpan, Tagged, Chain, NameLink, IndexLink, CallLink, ParenTarget}
-use Rattle.jsx_tree.specs.Nonterminals.{Nonterminal, Expr, NullishLeft, MemberObject, DotObject, SimpleTarget, Argument, Ident, BindingIdent, Param, Name, StringOnly, Pat, TagName, Attributes, is_ident, is_bound, is_value_word, leaf_in, homes, NewCallee, TemplatePart}
+use Rattle.jsx_tree.specs.Kinds.{VarWord, LetWord, ConstWord, FunctionBody, ImportBare, Import, ImportAll, ImportList, ImportBoth, Specifier, SpecifierAs, ExportNames, ExportFrom, ExportAll, ExportAllAs, ExportDecl, ExportDefaultFn, ExportDefaultExpr, Return, FunctionDecl, FunctionExpr, WithInit, RestPat, ArrayPat, ObjectPat, PropertyPat, ShorthandPat, ShorthandInit, RestProperty, Block, Empty, If, Do, While, Continue, Break, Label, Throw, Debugger, Module, Directive, Var, Declarator, ExprStmt, Binds, Assigns, Assign, OpAssign, Nullish, Or, And, BitOr, BitXor, BitAnd, ShiftLeft, ShiftRight, ShiftOut, Add, Subtract, Multiply, Divide, Remainder, Exponentiate, Void, TypeOf, Positive, Negative, Complement, Not, Unary, Binary, Cond, Call, Member, Index, ImportCall, Parenthesized, Element, Kind, program, statement, expression, jsx, Tree, leaf, node, list, Forest, Delete, PrefixUpdate, PostfixUpdate, Increment, Decrement, Seq, For, ForDeclaration, Switch, Case, Default, Array, Spread, Try, Catch, Object, Property, Shorthand, ComputedKey, function, New, NewWithoutArguments, NewTarget, ImportMeta, ForIn, ForOf, ForBinding, PlainTemplate, SubstitutedTemplate, TemplateSpan, Tagged, Chain, NameLink, IndexLink, CallLink, ParenTarget}
+use Rattle.jsx_tree.specs.Nonterminals.{Nonterminal, Expr, NullishLeft, MemberObject, DotObject, SimpleTarget, Argument, Ident, BindingIdent, Param, Name, StringOnly, Pat, PatElement, Slot, TagName, Attributes, is_ident, is_bound, is_value_word, leaf_in, homes, NewCallee, TemplatePart}
 use Rattle.jsx_tree.specs.Grammar.{Part}
 use Rattle.jsx_tree.specs.Form.{admits, fits_below, is_leaf}
 use Rattle.jsx_tree.specs.Spelling.{mode_of, spelled}
@@ -29,7 +29,7 @@ use Rattle.jsx_token.specs.declared.heading.Heading.{Heading}
 use Rattle.jsx_token.specs.declared.heading.Heading.TheVariants as heading
 use Rattle.jsx_token.specs.Headings.{Begins, own, over_keys, over_items}
 use Rattle.jsx_token.proofs.Headings.{every_begun, of_begun}
-use Rattle.jsx_operand.proofs.Inners.{Inner, import_bare, import_from, export_names, export_from, export_all, export_all_as, export_declared, export_function, export_value, function_body, with_init, rest_part, import_all, import_list, import_both, specifier, specifier_as, portal, directive, declarator, declaration, binding, case', default', inner_kind, every_inner, of_inner, catch', property, shorthand, computed, span, tagged_plain, tagged_substituted, name_link, index_link, call_link}
+use Rattle.jsx_operand.proofs.Inners.{Inner, import_bare, import_from, export_names, export_from, export_all, export_all_as, export_declared, export_function, export_value, function_body, with_init, rest_part, array_pattern, object_pattern, pair_pattern, short_pattern, short_default, rest_property, import_all, import_list, import_both, specifier, specifier_as, portal, directive, declarator, declaration, binding, case', default', inner_kind, every_inner, of_inner, catch', property, shorthand, computed, span, tagged_plain, tagged_substituted, name_link, index_link, call_link}
 use Rattle.jsx_token.proofs.Listed.{Listed, listed, listed_binary, kinds, every, of_each}
 use Rattle.jsx_token.proofs.Lives.{is_lone, is_single, lives}
 
@@ -96,6 +96,12 @@ taken (function ParenTarget) h = aimed
 taken (function FunctionExpr) h = operand (listed (function FunctionExpr) refl refl refl)
 taken (function (WithInit Binds)) h = inner with_init
 taken (function (RestPat Binds)) h = inner rest_part
+taken (function (ArrayPat Binds)) h = inner array_pattern
+taken (function (ObjectPat Binds)) h = inner object_pattern
+taken (function (PropertyPat Binds)) h = inner pair_pattern
+taken (function (ShorthandPat Binds)) h = inner short_pattern
+taken (function (ShorthandInit Binds)) h = inner short_default
+taken (function (RestProperty Binds)) h = inner rest_property
 taken (expression (Binary o)) h = operand (listed_binary o)
 taken (expression Assign) h = operand (listed (expression Assign) refl refl refl)
 taken (expression (OpAssign Nullish)) h = operand (listed (expression (OpAssign Nullish)) refl refl refl)
@@ -265,10 +271,6 @@ tag_kind : (l : TokenKind) (t : Text) → leaf_at TagName l t ≡ true → l ≡
 tag_kind JsxName t h = refl
 tag_kind _ t h = cc
 
-pattern_kind : (l : TokenKind) (t : Text) → leaf_at (Pat Binds) l t ≡ true → l ≡ IdentifierName
-pattern_kind IdentifierName t h = refl
-pattern_kind _ t h = cc
-
 name_kind : (l : TokenKind) (t : Text) → leaf_at Name l t ≡ true → l ≡ IdentifierName
 name_kind IdentifierName t h = refl
 name_kind _ t h = cc
@@ -287,9 +289,6 @@ binding_kind _ t h = cc
 
 pub tags : LeafOnly TagName JsxName
 tags = record { token = refl; never = refl; node = λ l ts. nowhere TagName refl refl refl refl refl refl refl; kind = tag_kind }
-
-pub patterns : LeafOnly (Pat Binds) IdentifierName
-patterns = record { token = refl; never = refl; node = λ l ts. nowhere (Pat Binds) refl refl refl refl refl refl refl; kind = pattern_kind }
 
 pub bindings : LeafOnly BindingIdent IdentifierName
 bindings = record { token = refl; never = refl; node = λ l ts. nowhere BindingIdent refl refl refl refl refl refl refl; kind = binding_kind }
@@ -402,6 +401,8 @@ operand_leaf Ident IdentifierName t o i h = ap (λ b. b || among t (codes "this"
 operand_leaf (TemplatePart j) k t o i h = absurd (no_piece j o)
 operand_leaf (Pat Binds) k t o i h = cc
 operand_leaf Param k t o i h = cc
+operand_leaf (PatElement Binds) k t o i h = cc
+operand_leaf (Slot Binds) k t o i h = cc
 operand_leaf Name k t o i h = cc
 operand_leaf StringOnly k t o i h = cc
 operand_leaf TagName k t o i h = cc

@@ -1,7 +1,7 @@
 -- The kinds that stand within statements, before them, in functions, in objects, in templates, in chains or in modules alone, in one list: what a test finds of all of them holds of each.
 use Rattle.std.proofs.Common.{◌≡◌, Bool, true, false}
 use Rattle.std.specs.Prelude.{◌&&◌}
-use Rattle.jsx_tree.specs.Kinds.{DeclareWord, VarWord, LetWord, ConstWord, Side, Imported, Exported, From, FunctionBody, Directive, ImportBare, Import, ImportAll, ImportList, ImportBoth, Specifier, SpecifierAs, ExportNames, ExportFrom, ExportAll, ExportAllAs, ExportDecl, ExportDefaultFn, ExportDefaultExpr, Declarator, ForDeclaration, ForBinding, Case, Default, Catch, Binds, ComputedKey, WithInit, RestPat, Property, Shorthand, NameLink, IndexLink, CallLink, Kind, program, statement, function, expression, PlainTemplate, SubstitutedTemplate, TemplateSpan}
+use Rattle.jsx_tree.specs.Kinds.{DeclareWord, VarWord, LetWord, ConstWord, Side, Imported, Exported, From, FunctionBody, Directive, ImportBare, Import, ImportAll, ImportList, ImportBoth, Specifier, SpecifierAs, ExportNames, ExportFrom, ExportAll, ExportAllAs, ExportDecl, ExportDefaultFn, ExportDefaultExpr, Declarator, ForDeclaration, ForBinding, Case, Default, Catch, Binds, ComputedKey, WithInit, RestPat, ArrayPat, ObjectPat, PropertyPat, ShorthandPat, ShorthandInit, RestProperty, Property, Shorthand, NameLink, IndexLink, CallLink, Kind, program, statement, function, expression, PlainTemplate, SubstitutedTemplate, TemplateSpan}
 use Rattle.jsx_tree.proofs.Tokens.{and_left, and_right}
 
 -- imports and exports, the items of a module that are no statements
@@ -47,6 +47,12 @@ pub data Inner : Type 0 where
   function_body : Inner
   with_init : Inner
   rest_part : Inner
+  array_pattern : Inner
+  object_pattern : Inner
+  pair_pattern : Inner
+  short_pattern : Inner
+  short_default : Inner
+  rest_property : Inner
   import_all : Inner
   import_list : Inner
   import_both : Inner
@@ -74,6 +80,12 @@ inner_kind (call_link q) = expression (CallLink q)
 inner_kind function_body = program FunctionBody
 inner_kind with_init = function (WithInit Binds)
 inner_kind rest_part = function (RestPat Binds)
+inner_kind array_pattern = function (ArrayPat Binds)
+inner_kind object_pattern = function (ObjectPat Binds)
+inner_kind pair_pattern = function (PropertyPat Binds)
+inner_kind short_pattern = function (ShorthandPat Binds)
+inner_kind short_default = function (ShorthandInit Binds)
+inner_kind rest_property = function (RestProperty Binds)
 inner_kind import_all = program ImportAll
 inner_kind import_list = program ImportList
 inner_kind import_both = program ImportBoth
@@ -120,6 +132,10 @@ every_link p = every_form (λ q. p (name_link q)) && (every_form (λ q. p (index
 abbrev pub every_of_function : (Inner → Bool) → Bool
 every_of_function p = p function_body && (p with_init && p rest_part)
 
+-- those of patterns
+abbrev pub every_of_pattern : (Inner → Bool) → Bool
+every_of_pattern p = p array_pattern && (p object_pattern && (p pair_pattern && (p short_pattern && (p short_default && p rest_property))))
+
 abbrev pub every_side : (Side → Bool) → Bool
 every_side p = p Imported && (p Exported && p From)
 
@@ -136,7 +152,7 @@ abbrev pub every_portal : (Portal → Bool) → Bool
 every_portal p = p import_bare && (p import_from && (p export_names && (p export_from && (p export_all && (p export_all_as && (p export_declared && (p export_function && p export_value)))))))
 
 abbrev pub every_inner : (Inner → Bool) → Bool
-every_inner p = p directive && (every_part p && (every_member p && (every_piece p && (every_link p && (every_of_function p && (every_clause p && every_portal (λ q. p (portal q))))))))
+every_inner p = p directive && (every_part p && (every_member p && (every_piece p && (every_link p && (every_of_function p && (every_of_pattern p && (every_clause p && every_portal (λ q. p (portal q)))))))))
 
 record Part (p : Inner → Bool) : Type 0 where
   declarator' : p declarator ≡ true
@@ -201,6 +217,22 @@ of_function p a =
     let b = and_right (p function_body) _ a in
     record { of_body = and_left (p function_body) _ a; of_init = and_left (p with_init) _ b; of_rest = and_right (p with_init) _ b }
 
+record OfPattern (p : Inner → Bool) : Type 0 where
+  of_array : p array_pattern ≡ true
+  of_object : p object_pattern ≡ true
+  of_pair : p pair_pattern ≡ true
+  of_short : p short_pattern ≡ true
+  of_default : p short_default ≡ true
+  of_rest_property : p rest_property ≡ true
+
+of_pattern : (p : Inner → Bool) → every_of_pattern p ≡ true → OfPattern p
+of_pattern p a =
+    let b = and_right (p array_pattern) _ a in
+    let c = and_right (p object_pattern) _ b in
+    let d = and_right (p pair_pattern) _ c in
+    let e = and_right (p short_pattern) _ d in
+    record { of_array = and_left (p array_pattern) _ a; of_object = and_left (p object_pattern) _ b; of_pair = and_left (p pair_pattern) _ c; of_short = and_left (p short_pattern) _ d; of_default = and_left (p short_default) _ e; of_rest_property = and_right (p short_default) _ e }
+
 record Clause (p : Inner → Bool) : Type 0 where
   of_all : p import_all ≡ true
   of_list : p import_list ≡ true
@@ -245,33 +277,40 @@ of_inner p a i =
     let d = and_right (every_member p) _ c in
     let e = and_right (every_piece p) _ d in
     let f = and_right (every_link p) _ e in
-    let g = and_right (every_of_function p) _ f in
-    by i (and_left (p directive) _ a) (of_part p (and_left (every_part p) _ b)) (of_member p (and_left (every_member p) _ c)) (of_piece p (and_left (every_piece p) _ d)) (of_link p (and_left (every_link p) _ e)) (of_function p (and_left (every_of_function p) _ f)) (of_clause p (and_left (every_clause p) _ g))
+    let h = and_right (every_of_function p) _ f in
+    let g = and_right (every_of_pattern p) _ h in
+    by i (and_left (p directive) _ a) (of_part p (and_left (every_part p) _ b)) (of_member p (and_left (every_member p) _ c)) (of_piece p (and_left (every_piece p) _ d)) (of_link p (and_left (every_link p) _ e)) (of_function p (and_left (every_of_function p) _ f)) (of_pattern p (and_left (every_of_pattern p) _ h)) (of_clause p (and_left (every_clause p) _ g))
     (of_portal (λ q. p (portal q)) (and_right (every_clause p) _ g))
   where
-    by : (j : Inner) → p directive ≡ true → Part p → Member p → Piece p → Link p → OfFunction p → Clause p → ((q : Portal) → p (portal q) ≡ true) → p j ≡ true
-    by directive d q m r l f k o = d
-    by declarator d q m r l f k o = q.declarator'
-    by (declaration w) d q m r l f k o = of_word (λ x. p (declaration x)) q.word w
-    by (binding w) d q m r l f k o = of_word (λ x. p (binding x)) q.bound w
-    by case' d q m r l f k o = q.of_case
-    by default' d q m r l f k o = q.of_default
-    by catch' d q m r l f k o = q.of_catch
-    by property d q m r l f k o = m.of_property
-    by shorthand d q m r l f k o = m.of_shorthand
-    by computed d q m r l f k o = m.of_computed
-    by (span b) d q m r l f k o = r.of_span b
-    by tagged_plain d q m r l f k o = r.of_plain
-    by tagged_substituted d q m r l f k o = r.of_substituted
-    by (name_link q) d s m r l f k o = l.of_name q
-    by (index_link q) d s m r l f k o = l.of_index q
-    by (call_link q) d s m r l f k o = l.of_call q
-    by function_body d q m r l f k o = f.of_body
-    by with_init d q m r l f k o = f.of_init
-    by rest_part d q m r l f k o = f.of_rest
-    by import_all d q m r l f k o = k.of_all
-    by import_list d q m r l f k o = k.of_list
-    by import_both d q m r l f k o = k.of_both
-    by (specifier s) d q m r l f k o = k.of_single s
-    by (specifier_as s) d q m r l f k o = k.of_renamed s
-    by (portal s) d q m r l f k o = o s
+    by : (j : Inner) → p directive ≡ true → Part p → Member p → Piece p → Link p → OfFunction p → OfPattern p → Clause p → ((q : Portal) → p (portal q) ≡ true) → p j ≡ true
+    by directive d q m r l f n k o = d
+    by declarator d q m r l f n k o = q.declarator'
+    by (declaration w) d q m r l f n k o = of_word (λ x. p (declaration x)) q.word w
+    by (binding w) d q m r l f n k o = of_word (λ x. p (binding x)) q.bound w
+    by case' d q m r l f n k o = q.of_case
+    by default' d q m r l f n k o = q.of_default
+    by catch' d q m r l f n k o = q.of_catch
+    by property d q m r l f n k o = m.of_property
+    by shorthand d q m r l f n k o = m.of_shorthand
+    by computed d q m r l f n k o = m.of_computed
+    by (span b) d q m r l f n k o = r.of_span b
+    by tagged_plain d q m r l f n k o = r.of_plain
+    by tagged_substituted d q m r l f n k o = r.of_substituted
+    by (name_link q) d s m r l f n k o = l.of_name q
+    by (index_link q) d s m r l f n k o = l.of_index q
+    by (call_link q) d s m r l f n k o = l.of_call q
+    by function_body d q m r l f n k o = f.of_body
+    by with_init d q m r l f n k o = f.of_init
+    by rest_part d q m r l f n k o = f.of_rest
+    by array_pattern d q m r l f n k o = n.of_array
+    by object_pattern d q m r l f n k o = n.of_object
+    by pair_pattern d q m r l f n k o = n.of_pair
+    by short_pattern d q m r l f n k o = n.of_short
+    by short_default d q m r l f n k o = n.of_default
+    by rest_property d q m r l f n k o = n.of_rest_property
+    by import_all d q m r l f n k o = k.of_all
+    by import_list d q m r l f n k o = k.of_list
+    by import_both d q m r l f n k o = k.of_both
+    by (specifier s) d q m r l f n k o = k.of_single s
+    by (specifier_as s) d q m r l f n k o = k.of_renamed s
+    by (portal s) d q m r l f n k o = o s

@@ -29,3 +29,5 @@ pub mod Spanning
 pub mod Templates
 pub mod Entering
 pub mod Bodies
+pub mod Compounds
+pub mod Patterns

@@ -8,3 +8,4 @@ pub mod Climbing
 pub mod Openings
 pub mod Templates
 pub mod Bodies
+pub mod Patterns

@@ -8,6 +8,7 @@ mod error;
 pub mod link;
 pub mod operand;
 pub mod parser;
+pub mod pattern;
 pub mod proto;
 pub mod template;
 

@@ -6,7 +6,7 @@ ghost use Rattle.jsx_base.specs.Token.{IdentifierName, JsxName, Operator, String
 ghost use Rattle.jsx_tree.specs.Signs.{Semicolon, Tok};
 ghost use Rattle.jsx_tree.specs.Spans.{Comes};
 ghost use Rattle.jsx_tree.specs.Told.{told_pat, told_text};
-ghost use Rattle.jsx_tree.specs.Kinds.{Binds, leaf};
+ghost use Rattle.jsx_tree.specs.Kinds.{leaf};
 ghost use Rattle.jsx_tree.specs.Nonterminals as grammar;
 ghost use Rattle.jsx_tree.specs.View.{name_of, text_of, view_pat};
 ghost use Rattle.jsx_token.specs.Here.{place_of, left, sign_of};
@@ -72,17 +72,16 @@ pub fn semicolon(context: Context, lexer: &mut Lexer) -> Result<(), ParseError>
     }
 }
 
-/// A binding identifier (ECMA-262 section 13.1).
+/// A name that is bound, as a pattern (ECMA-262 section 13.1).
 pub fn binding_identifier<'s>(
     context: Context,
     lexer: &mut Lexer<'s>,
 ) -> Result<Box<Pat<'s>>, ParseError>
-    ensures read { IfOk result (λ p. Only so_far (around_of context.entry.around) (Part (grammar.Pat Binds)) (place_of lexer.old) (one (view_pat p.value)) (place_of lexer.new)) }
+    ensures read { IfOk result (λ p. Only so_far (around_of context.entry.around) (Part grammar.BindingIdent) (place_of lexer.old) (one (view_pat p.value)) (place_of lexer.new)) }
     ensures span { IfOk result (λ p. Spans (pat_at p.value) (next_of lexer.old) (end_of lexer.new)) }
     ensures placed { IfOk result (λ p. IsPlaced (told_pat p.value) (view_pat p.value) lexer.old lexer.new) }
-    ensures begins { OnOk result (begin_of lexer.new ≡ next_of lexer.old) }
     ensures shorter { OnOk result (left lexer.new < left lexer.old) }
-    ensures refused { Refused result (Barred so_far (around_of context.entry.around) (Part (grammar.Pat Binds)) (place_of lexer.old)) }
+    ensures refused { Refused result (Barred so_far (around_of context.entry.around) (Part grammar.BindingIdent) (place_of lexer.old)) }
 {
     let Some(raw) = lexer.leaf(Leaf::Name) else {
         return Err(give_up(lexer));

@@ -9,7 +9,7 @@ use Rattle.jsx_tree.specs.Grammar.{NoTrailing, Part, Fixed, Many, key, pun, head
 use Rattle.jsx_tree.specs.Form.{admits}
 use Rattle.jsx_tree.specs.Reading.{Place, Lost, At, forth}
 use Rattle.jsx_tree.specs.StaticRules.{Surroundings, all_of, list_rule, has_init}
-use Rattle.jsx_tree.specs.Walk.{is_found, nothing, one, Piece, piece, tail, Given, Past, sign, tree, Walk, next, steady}
+use Rattle.jsx_tree.specs.Walk.{is_found, nothing, one, Piece, piece, tail, Given, Past, sign, tree, absent, present, Walk, done, next, around, steady}
 use Rattle.jsx_tree.specs.Stops.{going}
 use Rattle.jsx_tree.specs.Language.{Language, Whole}
 use Rattle.jsx_tree.specs.Answers.{Moves, Stuck, Only, Barred, OnlyRow, NoRow, NoNode, BuiltNode}
@@ -28,7 +28,8 @@ use Rattle.jsx_tree.proofs.Rows.Optionals.{turn_absent, present_last, none_last}
 use Rattle.jsx_tree.proofs.Rows.Laws.{lost_barred, end_found, start_found}
 use Rattle.jsx_tree.proofs.Rows.Placing.{Chosen, OnlyAt, NoneAt, then_at, only_at, barred_at}
 use Rattle.jsx_operand.proofs.OfSoFar.{of_so_far}
-use Rattle.jsx_operand.proofs.Homes.{IsName, patterns, no_list, Taken, taken_by, home_of}
+use Rattle.jsx_operand.proofs.Patterns.{AtPattern, named, array, object, at_pattern, pattern_settled}
+use Rattle.jsx_operand.proofs.Homes.{IsName, no_list, Taken, taken_by, home_of}
 use Rattle.jsx_statement.specs.Statements.{has_value}
 use Rattle.jsx_operand.proofs.Inners.{declaration}
 use Rattle.jsx_operand.proofs.Standing.{standing}
@@ -79,12 +80,6 @@ bound_ends (At q AfterExpr text) s e k = subst (λ p. ends_so_far Declarators p 
         not_is _ (ap (λ b. among (token Operator false text).raw (going 1) && b) n ∙ and_false _)
 bound_ends Lost s e k = cc
 bound_ends (At q _ text) s e k = cc
-
-pub pattern_settled : {v : Surroundings} {x y : Place} (t : Tree) → Staged v false (Pat Binds) x t y → settled y ≡ true
-pattern_settled {x = x} (leaf IdentifierName t) r = settled_token Operator IdentifierName t x (leaf_full IsName t (and_right (leaf_in (Pat Binds) IdentifierName t) _ r.reads.is)) r.reads.scans r.reads.found
-pattern_settled (leaf _ t) r = let bad = r.staged in cc
-pattern_settled (node k ts) r = absurd (patterns.node k ts (taken_by r) (home_of r))
-pattern_settled (list ts) r = absurd (no_list r)
 
 pub name_ended : {v : Surroundings} {x y : Place} {p : Tree} → Only so_far v (Part (Pat Binds)) x (one p) y → settled y ≡ true
 name_ended {p = p} o = pattern_settled p (whole_of o.past).reads
@@ -173,27 +168,35 @@ no_init {v} {ps} {x} {t = t} w k ts asks so o n = record { no = at }
         let a = all_with ts so o us z walk in
         without w ts t a.0 n (asks (both ts (part t a.0)) a.1.0 (subst (λ vs. so_far.keeps k v vs ≡ true) a.1.1 h))
 
--- what is bound is a name, which only `const` asks a value of
-name_value : (w : DeclareWord) {v : Surroundings} {x y : Place} (q : Tree) (ts : Forest) → Staged v false (Pat Binds) x q y → has_init w (node (statement Declarator) (part q ts)) ≡ has_value w (node (statement Declarator) (part q ts))
-name_value ConstWord q ts r = refl
-name_value VarWord (leaf IdentifierName t) ts r = refl
-name_value LetWord (leaf IdentifierName t) ts r = refl
-name_value VarWord (leaf _ t) ts r = let bad = r.staged in cc
-name_value LetWord (leaf _ t) ts r = let bad = r.staged in cc
-name_value VarWord (node k us) ts r = absurd (patterns.node k us (taken_by r) (home_of r))
-name_value LetWord (node k us) ts r = absurd (patterns.node k us (taken_by r) (home_of r))
-name_value VarWord (list us) ts r = absurd (no_list r)
-name_value LetWord (list us) ts r = absurd (no_list r)
+-- only `const` asks a value of a name that is bound, and all words do of a pattern in brackets
+bare_value : (w : DeclareWord) {q : Tree} → AtPattern q → has_init w (node (statement Declarator) (part q (part (list none) none))) ≡ has_value w (node (statement Declarator) (part q (part (list none) none)))
+bare_value ConstWord a = refl
+bare_value VarWord named = refl
+bare_value VarWord array = refl
+bare_value VarWord object = refl
+bare_value LetWord named = refl
+bare_value LetWord array = refl
+bare_value LetWord object = refl
 
-walk_value : (w : DeclareWord) {V : _} {x y : Place} {ts : Forest} → Walk Staged V (row_so_far (statement Declarator)) x ts y → has_init w (node (statement Declarator) ts) ≡ has_value w (node (statement Declarator) ts)
-walk_value w (next {ts = us} (tree {t = q} r) walk) = name_value w q us r
+given_value : (w : DeclareWord) {q : Tree} (u : Tree) → AtPattern q → has_init w (node (statement Declarator) (part q (part (list (part u none)) none))) ≡ true
+given_value ConstWord u a = refl
+given_value VarWord u named = refl
+given_value VarWord u array = refl
+given_value VarWord u object = refl
+given_value LetWord u named = refl
+given_value LetWord u array = refl
+given_value LetWord u object = refl
+
+walk_value : (w : DeclareWord) {v : Surroundings} {us : Forest} {x y : Place} {ts : Forest} → Walk Staged (around v us) (row_so_far (statement Declarator)) x ts y → has_init w (node (statement Declarator) ts) ≡ has_value w (node (statement Declarator) ts)
+walk_value w (next (tree {t = q} r) (next (sign e f) (next (absent d g) (done h)))) = bare_value w (at_pattern q r)
+walk_value w (next (tree {t = q} r) (next (sign e f) (next (present {t = u} d s g h) (done k)))) = given_value w u (at_pattern q r)
 
 tree_value : (w : DeclareWord) {v : Surroundings} {x y : Place} (t : Tree) → Staged v false Declarators x t y → has_init w t ≡ has_value w t
 tree_value w (leaf s t) r = let bad = r.staged in cc
 tree_value w (list ts) r = absurd (no_list r)
 tree_value w {v} {x} {y} (node l ts) r =
     let e = bound_kind l ts (taken_by r) (home_of r) in
-    subst (λ k. has_init w (node k ts) ≡ has_value w (node k ts)) (sym e) (walk_value w (of_so_far.from_node (statement Declarator) (subst (λ k. Staged v false Declarators x (node k ts) y) e r)).walk)
+    subst (λ k. has_init w (node k ts) ≡ has_value w (node k ts)) (sym e) (walk_value w {us = ts} (of_so_far.from_node (statement Declarator) (subst (λ k. Staged v false Declarators x (node k ts) y) e r)).walk)
 
 pub read_value : (w : DeclareWord) {v : Surroundings} {x y : Place} {t : Tree} → Only so_far v (Part Declarators) x (one t) y → has_init w t ≡ has_value w t
 read_value w {t = t} o = tree_value w t (whole_of o.past).reads

@@ -20,3 +20,4 @@ pub mod Directives
 pub mod PlacedRuns
 pub mod Returns
 pub mod Declarations
+pub mod Initials

@@ -33,8 +33,9 @@ use Rattle.jsx_operand.specs.Templates.{IsOf, plain, substituted}
 use Rattle.jsx_token.specs.Marks.{row_so_far}
 use Rattle.jsx_statement.specs.OpenIn.{spreads, fronts, opens, any_of, first_of, is_several, opens_listed, opens_whole, some_of, opens_declared, any_opens}
 use Rattle.jsx_operand.proofs.OfSoFar.{of_so_far}
+use Rattle.jsx_operand.proofs.Patterns.{pattern_shut}
 use Rattle.jsx_token.proofs.Listed.{Listed, kinds, every, of_each}
-use Rattle.jsx_operand.proofs.Homes.{Value, literal, made, operand_kind, nowhere, patterns, wholes, heads, tails, taken, taken_by, home_of, no_list, AtWhole, single, several, at_whole}
+use Rattle.jsx_operand.proofs.Homes.{Value, literal, made, operand_kind, nowhere, wholes, heads, tails, taken, taken_by, home_of, no_list, AtWhole, single, several, at_whole}
 use Rattle.jsx_token.proofs.Lives.{is_lone}
 use Rattle.jsx_operand.proofs.Values.{at_one, move}
 use Rattle.jsx_operand.proofs.Climbing.{is_link}
@@ -385,15 +386,10 @@ whole_opened {t = t} r = whole_tree (at_whole t r) r
 
 -- ---- declarators
 
-bound_shut : {v : Surroundings} {x y : Place} (t : Tree) → Staged v false (Pat Binds) x t y → open_in t ≡ false
-bound_shut (leaf k r) q = refl
-bound_shut (node k ts) q = absurd (patterns.node k ts (taken_by q) (home_of q))
-bound_shut (list ts) q = absurd (no_list q)
-
 declarator_opened : {V : _} {x y : Place} {ts : Forest} → Walk Staged V (row_so_far (statement Declarator)) x ts y → opens_declared (node (statement Declarator) ts) ≡ open_in (node (statement Declarator) ts)
-declarator_opened (next (tree {t = p} q) (next (sign e f) (next (absent d g) (done h)))) = let name = bound_shut p q in sym (λ i. name i || (false || false))
+declarator_opened (next (tree {t = p} q) (next (sign e f) (next (absent d g) (done h)))) = let name = pattern_shut p q in sym (λ i. name i || (false || false))
 declarator_opened (next (tree {t = p} q) (next (sign e f) (next (present {t = u} d r g h) (done k)))) =
-    let name = bound_shut p q in
+    let name = pattern_shut p q in
     let value = value_opened refl r in
     sym ((λ i. name i || ((sym value i || false) || false)) ∙ (or_false (opens u || false) ∙ or_false (opens u)))
 

@@ -24,8 +24,9 @@ ghost use Rattle.jsx_operand.specs.Bodies.{ReadsBodies};
 
 use crate::grammar::Statements;
 use crate::statement::{Seat, has_part};
+use jsx_expression::pattern::binding;
 use jsx_make::make;
-use jsx_operand::{Body, Context, ParseError, binding_identifier, expect, give_up, span_to};
+use jsx_operand::{Body, Context, ParseError, expect, give_up, span_to};
 use jsx_token::{Fixed, Lexer, Word};
 use jsx_tree::{Control, Stmt};
 
@@ -50,7 +51,7 @@ impl<
         Ok(self.block(context, lexer)?)
     }
 
-    /// What is caught, behind the `(` of its name: `(a) { b; }`. So far only names are bound.
+    /// What is caught, behind the `(` of its name or its pattern: `(a) { b; }`.
     pub(crate) fn catch_name<'s>(
         &self,
         context: Context,
@@ -64,7 +65,7 @@ impl<
         ensures refused { Refused result (NoRow so_far (around_of context.entry.around) catch_row (place_of lexer.old)) }
     {
         let lo = lexer.last_place();
-        let name = binding_identifier(context, lexer)?;
+        let name = binding(context, lexer, self.body)?;
         expect(context, lexer, Fixed::Close)?;
         let body = self.block_only(context, lexer)?;
         let span = span_to(lo, lexer);

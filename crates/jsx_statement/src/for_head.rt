@@ -21,9 +21,11 @@ ghost use Rattle.jsx_operand.specs.Bodies.{ReadsBodies};
 use crate::open_in::{any_has_open_in, head_has_open_in};
 use crate::statement::{initialized, more_declarators};
 use jsx_expression::expression::{beginning, grow, more_items, sequence, tagged};
+use jsx_expression::pattern::binding;
 use jsx_make::make;
 use jsx_operand::operand::{ASSIGNMENT, fits, is_target, level, target_of};
-use jsx_operand::{Body, Context, ParseError, binding_identifier, expect, give_up, span_to};
+use jsx_operand::pattern::start_of_pattern;
+use jsx_operand::{Body, Context, ParseError, expect, give_up, span_to};
 use jsx_token::{Fixed, Lexer, Word};
 use jsx_tree::{DeclareWord, Expr, Pat, Text};
 
@@ -75,7 +77,8 @@ where
     ensures refused { Refused result (DeclaresNoHead (around_of context.entry.around) word (place_of lexer.old)) }
 {
     let lo = lexer.last_place();
-    let name = binding_identifier(context, lexer)?;
+    let name = binding(context, lexer, body)?;
+    let start = start_of_pattern(&name);
     let span = span_to(lo, lexer);
     if lexer.take(Fixed::Word(Word::In)) {
         return Ok(ForHead::Keys(make::head(context.alloc, span, word, name)?));
@@ -83,7 +86,7 @@ where
     if lexer.take(Fixed::Word(Word::Of)) {
         return Ok(ForHead::Items(make::head(context.alloc, span, word, name)?));
     }
-    let first = initialized(context, lexer, lexer.last_place(), name, body)?;
+    let first = initialized(context, lexer, start, name, body)?;
     let all = more_declarators(context, lexer, word, first, body)?;
     if any_has_open_in(&all) {
         return Err(give_up(lexer));

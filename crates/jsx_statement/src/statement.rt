@@ -15,7 +15,7 @@ ghost use Rattle.jsx_token.specs.Marks.{row_so_far};
 ghost use Rattle.jsx_operand.specs.SoFar.{so_far};
 ghost use Rattle.jsx_token.specs.Here.{place_of, left};
 ghost use Rattle.jsx_token.specs.Growths.{opening_sign};
-ghost use Rattle.jsx_statement.specs.Statements.{has_value};
+ghost use Rattle.jsx_statement.specs.Statements.{has_value, wants_value};
 ghost use Rattle.jsx_token.specs.Headings.{NoHeading};
 ghost use Rattle.jsx_statement.specs.Heads.{Declares, NotDeclared, AllDeclare, Initializes, NoneDeclare, NotInitialized};
 ghost use Rattle.jsx_operand.specs.Answers.{Refused};
@@ -31,9 +31,11 @@ use crate::grammar::Statements;
 use crate::label::{jump_label, may_break, may_continue, target};
 use jsx_base::BytePos;
 use jsx_expression::expression::{expression, sequence};
+use jsx_expression::pattern::binding;
 use jsx_make::make;
 use jsx_operand::operand::{ASSIGNMENT, start_of};
-use jsx_operand::{Body, Context, ParseError, binding_identifier, give_up, semicolon, span_to};
+use jsx_operand::pattern::{is_compound, start_of_pattern};
+use jsx_operand::{Body, Context, ParseError, give_up, semicolon, span_to};
 use jsx_token::{Ending, Fixed, Lexer, Word};
 use jsx_tree::{Control, DeclareWord, Pat, Stmt};
 
@@ -46,7 +48,7 @@ pub enum Seat {
     Part,
 }
 
-/// A variable behind its name, which begins at a place: with an initializer, or without one.
+/// A variable behind its name or its pattern, which begins at a place: with an initializer, or without one.
 pub fn initialized<'s, B>(
     context: Context,
     lexer: &mut Lexer<'s>,
@@ -88,18 +90,43 @@ where
     ensures behind { OnOk result (IsTrue (in_list (place_of lexer.new))) }
     ensures refused { Refused result (Barred so_far (around_of context.entry.around) (Part grammar.Declarators) (place_of lexer.old)) }
 {
-    let name = binding_identifier(context, lexer)?;
-    Ok(initialized(context, lexer, lexer.last_place(), name, body)?)
+    let target = binding(context, lexer, body)?;
+    let lo = start_of_pattern(&target);
+    Ok(initialized(context, lexer, lo, target, body)?)
 }
 
-/// Whether a variable has an initializer where its word wants one: so far only names are bound.
+/// Whether what a variable binds wants an initializer: a pattern in brackets does, and all that `const` binds.
+fn wants_value(word: DeclareWord, target: &Pat) -> bool
+    ensures { result ≡ wants_value (word_of word) (view_pat target.now) }
+{
+    match word {
+        DeclareWord::Const => true,
+        DeclareWord::Var => is_compound(target),
+        DeclareWord::Let => is_compound(target),
+    }
+}
+
+/// Whether a variable has an initializer where it wants one.
+#[tactic(auto, using(crate::proofs::Initials::initializing))]
 fn is_initialized(word: DeclareWord, declarator: &Pat) -> bool
     ensures { result ≡ has_value (word_of word) (view_pat declarator.now) }
 {
-    match word {
-        DeclareWord::Const => !matches!(declarator, Pat::Binding(_, _, None)),
-        DeclareWord::Var => true,
-        DeclareWord::Let => true,
+    match declarator {
+        Pat::Binding(_, target, None) => !wants_value(word, target),
+        Pat::Binding(_, _, Some(_))
+        | Pat::Ident(..)
+        | Pat::Array(..)
+        | Pat::Object(..)
+        | Pat::Target(..)
+        | Pat::Paren(..)
+        | Pat::WithInit(..)
+        | Pat::Rest(..)
+        | Pat::Hole
+        | Pat::Pair(..)
+        | Pat::Shorthand(..)
+        | Pat::RestProperty(..)
+        | Pat::Declaration(..)
+        | Pat::Head(..) => true,
     }
 }
 

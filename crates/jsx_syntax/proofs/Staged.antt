@@ -3,7 +3,7 @@ use Rattle.std.proofs.Common.{◌≡◌, List, [], ◌∷◌, Bool, true, false,
 use Rattle.std.proofs.lemmas.Bool.{and_parts, and_from, false≢true}
 use Rattle.std.specs.Prelude.{◌&&◌}
 use Rattle.jsx_base.specs.Token.{Text, TokenKind, JsxName}
-use Rattle.jsx_tree.specs.Kinds.{BinaryOp, Nullish, Kind, program, statement, function, expression, jsx, Module, Directive, Block, Var, VarWord, LetWord, ConstWord, Declarator, Empty, ExprStmt, If, Do, While, Continue, Break, Label, Throw, Debugger, Seq, Assign, OpAssign, Binary, Unary, Cond, ImportCall, Call, Member, Index, Parenthesized, ParenTarget, Element, Tree, leaf, node, list, Forest, none, part, PrefixUpdate, PostfixUpdate, For, ForDeclaration, Switch, Case, Default, Array, Spread, Try, Catch, Object, Property, Shorthand, ComputedKey, ImportMeta, New, NewWithoutArguments, NewTarget, ForIn, ForOf, ForBinding, PlainTemplate, SubstitutedTemplate, TemplateSpan, Tagged, Chain, NameLink, IndexLink, CallLink, Imported, Exported, From, FunctionBody, ImportBare, Import, ImportAll, ImportList, ImportBoth, Specifier, SpecifierAs, ExportNames, ExportFrom, ExportAll, ExportAllAs, ExportDecl, ExportDefaultFn, ExportDefaultExpr, Return, FunctionDecl, FunctionExpr, Binds, WithInit, RestPat}
+use Rattle.jsx_tree.specs.Kinds.{BinaryOp, Nullish, Kind, program, statement, function, expression, jsx, Module, Directive, Block, Var, VarWord, LetWord, ConstWord, Declarator, Empty, ExprStmt, If, Do, While, Continue, Break, Label, Throw, Debugger, Seq, Assign, OpAssign, Binary, Unary, Cond, ImportCall, Call, Member, Index, Parenthesized, ParenTarget, Element, Tree, leaf, node, list, Forest, none, part, PrefixUpdate, PostfixUpdate, For, ForDeclaration, Switch, Case, Default, Array, Spread, Try, Catch, Object, Property, Shorthand, ComputedKey, ImportMeta, New, NewWithoutArguments, NewTarget, ForIn, ForOf, ForBinding, PlainTemplate, SubstitutedTemplate, TemplateSpan, Tagged, Chain, NameLink, IndexLink, CallLink, Imported, Exported, From, FunctionBody, ImportBare, Import, ImportAll, ImportList, ImportBoth, Specifier, SpecifierAs, ExportNames, ExportFrom, ExportAll, ExportAllAs, ExportDecl, ExportDefaultFn, ExportDefaultExpr, Return, FunctionDecl, FunctionExpr, Binds, WithInit, RestPat, ArrayPat, ObjectPat, PropertyPat, ShorthandPat, ShorthandInit, RestProperty}
 use Rattle.jsx_tree.specs.Nonterminals.{Nonterminal, TagName, Attributes, WholeProgram, assigns, expr, in_homes, homes}
 use Rattle.jsx_tree.specs.Form.{Position, position, positions, shaped, last_only, admits, fits_below, fit_slots, fit_each, is}
 use Rattle.jsx_tree.specs.Sound.{each_node, each_nodes}
@@ -105,6 +105,12 @@ no_tag (function ParenTarget) h = record { name = refl; attribute = refl }
 no_tag (function FunctionExpr) h = record { name = refl; attribute = refl }
 no_tag (function (WithInit Binds)) h = record { name = refl; attribute = refl }
 no_tag (function (RestPat Binds)) h = record { name = refl; attribute = refl }
+no_tag (function (ArrayPat Binds)) h = record { name = refl; attribute = refl }
+no_tag (function (ObjectPat Binds)) h = record { name = refl; attribute = refl }
+no_tag (function (PropertyPat Binds)) h = record { name = refl; attribute = refl }
+no_tag (function (ShorthandPat Binds)) h = record { name = refl; attribute = refl }
+no_tag (function (ShorthandInit Binds)) h = record { name = refl; attribute = refl }
+no_tag (function (RestProperty Binds)) h = record { name = refl; attribute = refl }
 no_tag (expression (PlainTemplate true)) h = record { name = refl; attribute = refl }
 no_tag (expression (PlainTemplate false)) h = record { name = refl; attribute = refl }
 no_tag (expression (SubstitutedTemplate true)) h = record { name = refl; attribute = refl }

@@ -2,7 +2,7 @@
 use Rattle.std.proofs.Common.{◌≡◌, ℕ, zero, suc, nat_eq, Bool, true, false, not, List, [], ◌∷◌, refl, sym, ◌∙◌, ap, subst}
 use Rattle.std.specs.Prelude.{Option, Some, None, ◌&&◌}
 use Rattle.std.proofs.lemmas.Bool.{eqb-true}
-use Rattle.jsx_tree.specs.Kinds.{ConstWord, Imported, Exported, From, Module, Specifier, SpecifierAs, Var, Declarator, ExprStmt, Assign, OpAssign, BinaryOp, Nullish, Or, And, BitOr, BitXor, BitAnd, Equal, Unequal, StrictEqual, StrictUnequal, Less, Greater, AtMost, AtLeast, InOp, InstanceOf, ShiftLeft, ShiftRight, ShiftOut, Add, Subtract, Multiply, Divide, Remainder, Exponentiate, Void, TypeOf, Positive, Negative, Complement, Not, Unary, Binary, Cond, Call, Member, Index, New, NewWithoutArguments, NewTarget, ImportCall, ImportMeta, Parenthesized, Element, Kind, program, statement, expression, jsx, Delete, PrefixUpdate, PostfixUpdate, Increment, Decrement, Seq, Array, Object, Spread, ComputedKey, ParenTarget, Binds, Assigns, FunctionExpr, WithInit, RestPat, function, PlainTemplate, SubstitutedTemplate, TemplateSpan, Tagged, Chain, NameLink, IndexLink, CallLink}
+use Rattle.jsx_tree.specs.Kinds.{ConstWord, Imported, Exported, From, Module, Specifier, SpecifierAs, Var, Declarator, ExprStmt, Assign, OpAssign, BinaryOp, Nullish, Or, And, BitOr, BitXor, BitAnd, Equal, Unequal, StrictEqual, StrictUnequal, Less, Greater, AtMost, AtLeast, InOp, InstanceOf, ShiftLeft, ShiftRight, ShiftOut, Add, Subtract, Multiply, Divide, Remainder, Exponentiate, Void, TypeOf, Positive, Negative, Complement, Not, Unary, Binary, Cond, Call, Member, Index, New, NewWithoutArguments, NewTarget, ImportCall, ImportMeta, Parenthesized, Element, Kind, program, statement, expression, jsx, Delete, PrefixUpdate, PostfixUpdate, Increment, Decrement, Seq, Array, Object, Spread, ComputedKey, ParenTarget, Binds, Assigns, FunctionExpr, WithInit, RestPat, ArrayPat, ObjectPat, PropertyPat, ShorthandPat, ShorthandInit, RestProperty, function, PlainTemplate, SubstitutedTemplate, TemplateSpan, Tagged, Chain, NameLink, IndexLink, CallLink}
 use Rattle.jsx_tree.specs.Nonterminals.{homes}
 use Rattle.jsx_token.specs.Stage.{has_kind}
 use Rattle.jsx_tree.proofs.Tokens.{and_left, and_right}
@@ -193,6 +193,18 @@ listed (function (WithInit Binds)) h a s = cc
 listed (function (WithInit Assigns)) h a s = cc
 listed (function (RestPat Binds)) h a s = cc
 listed (function (RestPat Assigns)) h a s = cc
+listed (function (ArrayPat Binds)) h a s = cc
+listed (function (ArrayPat Assigns)) h a s = cc
+listed (function (ObjectPat Binds)) h a s = cc
+listed (function (ObjectPat Assigns)) h a s = cc
+listed (function (PropertyPat Binds)) h a s = cc
+listed (function (PropertyPat Assigns)) h a s = cc
+listed (function (ShorthandPat Binds)) h a s = cc
+listed (function (ShorthandPat Assigns)) h a s = cc
+listed (function (ShorthandInit Binds)) h a s = cc
+listed (function (ShorthandInit Assigns)) h a s = cc
+listed (function (RestProperty Binds)) h a s = cc
+listed (function (RestProperty Assigns)) h a s = cc
 listed (program Module) h a s = cc
 listed (function ComputedKey) h a s = cc
 listed (statement (Var ConstWord)) h a s = cc

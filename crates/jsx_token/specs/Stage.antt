@@ -3,8 +3,8 @@ use Rattle.std.specs.Prelude.{List, [], ◌∷◌, codes, Bool, true, false, IsT
 use Rattle.std.specs.Char.{is_ascii_alphabetic}
 use Rattle.jsx_base.specs.Token.{Text, TokenKind, IdentifierName, NumericLiteral, BigIntLiteral, StringLiteral, RegExpLiteral, NoSubstitution, TemplateHead, TemplateMiddle, TemplateTail, JsxName, Elision, same, first_is}
 use Rattle.jsx_tree.specs.declared.text.Goal.TheVariants as goals
-use Rattle.jsx_tree.specs.Kinds.{Module, Directive, FunctionBody, ImportBare, Import, ImportAll, ImportList, ImportBoth, Specifier, SpecifierAs, ExportNames, ExportFrom, ExportAll, ExportAllAs, ExportDecl, ExportDefaultFn, ExportDefaultExpr, FunctionDecl, Return, Binds, FunctionExpr, WithInit, RestPat, Block, Var, Declarator, Empty, ExprStmt, If, Do, While, Continue, Break, Throw, Debugger, Assign, OpAssign, Void, TypeOf, Positive, Negative, Complement, Not, Unary, Binary, Cond, Call, Member, Index, Chain, NameLink, IndexLink, CallLink, ImportCall, Parenthesized, Element, Kind, program, statement, expression, jsx, Tree, leaf, node, list, Forest, none, part, Delete, PrefixUpdate, PostfixUpdate, Seq, For, ForDeclaration, Switch, Case, Default, Array, Spread, Try, Catch, Object, Property, Shorthand, ComputedKey, ParenTarget, function, Label, New, NewWithoutArguments, NewTarget, ImportMeta, ForIn, ForOf, ForBinding, PlainTemplate, SubstitutedTemplate, TemplateSpan, Tagged}
-use Rattle.jsx_tree.specs.Nonterminals.{Nonterminal, Expr, MemberObject, NullishLeft, Name, StringOnly, Pat, SimpleTarget, Argument, TagName, WholeProgram, DotObject, assigns, is_value_word, has_dash, ForInit, ArrayItem, Ident, BindingIdent, Param, ImportClause, Key, NewCallee, ForHead, ForOfHead, TemplatePart}
+use Rattle.jsx_tree.specs.Kinds.{Module, Directive, FunctionBody, ImportBare, Import, ImportAll, ImportList, ImportBoth, Specifier, SpecifierAs, ExportNames, ExportFrom, ExportAll, ExportAllAs, ExportDecl, ExportDefaultFn, ExportDefaultExpr, FunctionDecl, Return, Binds, FunctionExpr, WithInit, RestPat, ArrayPat, ObjectPat, PropertyPat, ShorthandPat, ShorthandInit, RestProperty, Block, Var, Declarator, Empty, ExprStmt, If, Do, While, Continue, Break, Throw, Debugger, Assign, OpAssign, Void, TypeOf, Positive, Negative, Complement, Not, Unary, Binary, Cond, Call, Member, Index, Chain, NameLink, IndexLink, CallLink, ImportCall, Parenthesized, Element, Kind, program, statement, expression, jsx, Tree, leaf, node, list, Forest, none, part, Delete, PrefixUpdate, PostfixUpdate, Seq, For, ForDeclaration, Switch, Case, Default, Array, Spread, Try, Catch, Object, Property, Shorthand, ComputedKey, ParenTarget, function, Label, New, NewWithoutArguments, NewTarget, ImportMeta, ForIn, ForOf, ForBinding, PlainTemplate, SubstitutedTemplate, TemplateSpan, Tagged}
+use Rattle.jsx_tree.specs.Nonterminals.{Nonterminal, Expr, MemberObject, NullishLeft, Name, StringOnly, Pat, Slot, PatElement, SimpleTarget, Argument, TagName, WholeProgram, DotObject, assigns, is_value_word, has_dash, ForInit, ArrayItem, Ident, BindingIdent, Param, ImportClause, Key, NewCallee, ForHead, ForOfHead, TemplatePart}
 use Rattle.jsx_tree.specs.Form.{Position, position, positions}
 use Rattle.jsx_tree.specs.Program.{Reads}
 
@@ -73,6 +73,12 @@ has_kind (expression NewTarget) = true
 has_kind (function FunctionExpr) = true
 has_kind (function (WithInit Binds)) = true
 has_kind (function (RestPat Binds)) = true
+has_kind (function (ArrayPat Binds)) = true
+has_kind (function (ObjectPat Binds)) = true
+has_kind (function (PropertyPat Binds)) = true
+has_kind (function (ShorthandPat Binds)) = true
+has_kind (function (ShorthandInit Binds)) = true
+has_kind (function (RestProperty Binds)) = true
 has_kind (function ComputedKey) = true
 has_kind (function ParenTarget) = true
 has_kind (expression Array) = true
@@ -123,6 +129,9 @@ leaf_at SimpleTarget IdentifierName t = true
 leaf_at Ident IdentifierName t = true
 leaf_at BindingIdent IdentifierName t = true
 leaf_at Param IdentifierName t = true
+leaf_at (PatElement Binds) IdentifierName t = true
+leaf_at (Slot Binds) IdentifierName t = true
+leaf_at (Slot Binds) Elision t = true
 leaf_at ImportClause IdentifierName t = true
 leaf_at Name IdentifierName t = true
 leaf_at StringOnly StringLiteral t = true

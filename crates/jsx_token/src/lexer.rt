@@ -629,6 +629,8 @@ mod tests {
             ("..a", Fixed::Dot, true),
             ("...a", Fixed::Dot, false),
             (".5", Fixed::Dot, false),
+            ("...a", Fixed::Dots, true),
+            ("..a", Fixed::Dots, false),
             ("* as a", Fixed::Star, true),
             ("** 1", Fixed::Star, false),
             ("*= 1", Fixed::Star, false),

@@ -11,4 +11,5 @@ pub mod Tags
 pub mod Quoted
 pub mod Quoting
 pub mod Refusals
+pub mod Walking
 pub mod Lowering

@@ -1,17 +1,19 @@
--- Errors of the parser as errors of the compiler.
-use Rattle.std.proofs.Common.{◌≡◌, ℕ, List, refl, sym, ◌∙◌, subst}
-use Rattle.std.specs.Prelude.{Result, Err, IsOkUnless}
-use Rattle.std.specs.Result.{IsErrAnd}
-use Rattle.std.specs.Str.{chars}
+-- Errors of the parser, and of bytes that aren't UTF-8, as errors of the compiler.
+use Rattle.std.proofs.Common.{◌≡◌, ℕ, List, length, refl, sym, ap, ◌∙◌, subst}
+use Rattle.std.specs.Prelude.{Result, Ok, Err, IsOkUnless}
+use Rattle.std.specs.Result.{IsErrAnd, IsOk, MatchResult}
+use Rattle.std.specs.Str.{IsUtf8, IsValidUpTo, chars}
+use Rattle.std.proofs.Math.Seq.{take-length}
+use Rattle.std.proofs.lemmas.Str.{utf8_valid_len-IsValidUpTo}
 use Rattle.std.proofs.lemmas.Result.{err_from_is_err_and}
 use Rattle.jsx_tree.specs.Kinds.{Tree}
 use Rattle.jsx_operand.specs.Answers.{Refused, NoTree}
 use Rattle.jsx_operand.specs.declared.error.ParseError.{ParseError}
 use Rattle.jsx_operand.specs.declared.error.ParseError.TheVariants as parse
 use Rattle.react_compile.specs.declared.compiler.CompileError.{CompileError}
-use Rattle.react_compile.specs.declared.compiler.CompileError.TheVariants.{Syntax, Memory}
+use Rattle.react_compile.specs.declared.compiler.CompileError.TheVariants.{NotUtf8, Syntax, Memory}
 use Rattle.react_compile.specs.Compiles.{IsSource}
-use Rattle.react_compile.specs.ParseErrors.{compile_error}
+use Rattle.react_compile.specs.ParseErrors.{compile_error, IsNotUtf8}
 
 none_reads : {T : Type 0} (e : ParseError) (bytes : List ℕ) → Refused {T = T} (Err e) (NoTree (chars bytes)) → (at : ℕ) → compile_error e ≡ Syntax at → (tree : Tree) → IsSource bytes tree → ⊥
 none_reads (parse.Syntax p) bytes nope at is tree source = (nope.bars p refl).no tree source.reads
@@ -32,3 +34,68 @@ pub complete_by : {T U : Type 0} (r : Result U CompileError) (e : ParseError) (t
 complete_by r e text bytes whole nope is tree source =
     let p = err_from_is_err_and r is in
     subst (λ x. IsOkUnless x Memory) (sym p.1) (p.2 ∙ unless e text nope tree (subst (λ xs. IsSource xs tree) (sym whole) source))
+
+parsed : (e : ParseError) (n : ℕ) → compile_error e ≡ NotUtf8 n → ⊥
+parsed (parse.Syntax p) n is = cc
+parsed parse.Memory n is = cc
+
+-- an error of the parser doesn't say that the bytes aren't UTF-8
+pub parsed_by : {U : Type 0} (r : Result U CompileError) (e : ParseError) → IsErrAnd r (λ y. y ≡ compile_error e) → (n : ℕ) → r ≡ Err (NotUtf8 n) → ⊥
+parsed_by r e is n same = let p = err_from_is_err_and r is in parsed e n (let k : p.0 ≡ NotUtf8 n = cc in sym p.2 ∙ k)
+
+-- ---- bytes that aren't UTF-8
+
+-- what is UTF-8 has no longest front that is shorter
+pub no_front : (bytes : List ℕ) (n : ℕ) → IsUtf8 bytes → IsValidUpTo bytes n → ⊥
+no_front bytes n u v = v.longest (length bytes) v.short (subst IsUtf8 (sym (take-length bytes)) u)
+
+same_front : (bytes : List ℕ) (m n : ℕ) → IsValidUpTo bytes m → IsValidUpTo bytes n → m ≡ n
+same_front bytes m n v w = sym (utf8_valid_len-IsValidUpTo bytes m v) ∙ utf8_valid_len-IsValidUpTo bytes n w
+
+-- what such an error is
+pub record Broken (bytes : List ℕ) (e : CompileError) : Type 0 where
+  pub at : ℕ
+  pub is : e ≡ NotUtf8 at
+  pub valid : IsValidUpTo bytes at
+
+broken : (e : CompileError) (bytes : List ℕ) → IsNotUtf8 bytes e → Broken bytes e
+broken (NotUtf8 n) bytes v = record { at = n; is = refl; valid = v }
+broken (Syntax at) bytes v = absurd v
+broken Memory bytes v = absurd v
+
+-- the same of what the exit of a `?` returns
+pub record Told {U : Type 0} (r : Result U CompileError) (bytes : List ℕ) : Type 0 where
+  pub at : ℕ
+  pub is : r ≡ Err (NotUtf8 at)
+  pub valid : IsValidUpTo bytes at
+
+told : {U : Type 0} (r : Result U CompileError) (e : CompileError) (bytes : List ℕ) → IsNotUtf8 bytes e → IsErrAnd r (λ y. y ≡ e) → Told r bytes
+told r e bytes v is =
+    let p = err_from_is_err_and r is in
+    let b = broken e bytes v in
+    record { at = b.at; is = p.1 ∙ ap Err (p.2 ∙ b.is); valid = b.valid }
+
+pub told_not_utf8 : {U : Type 0} (r : Result U CompileError) (e : CompileError) (bytes : List ℕ) → IsNotUtf8 bytes e → IsErrAnd r (λ y. y ≡ e) → (n : ℕ) → r ≡ Err (NotUtf8 n) → IsValidUpTo bytes n
+told_not_utf8 r e bytes v is n same =
+    let t = told r e bytes v is in
+    let k : t.at ≡ n = cc in
+    subst (λ m. IsValidUpTo bytes m) k t.valid
+
+pub told_up_to : {U : Type 0} (r : Result U CompileError) (e : CompileError) (bytes : List ℕ) → IsNotUtf8 bytes e → IsErrAnd r (λ y. y ≡ e) → (n : ℕ) → IsValidUpTo bytes n → r ≡ Err (NotUtf8 n)
+told_up_to r e bytes v is n w =
+    let t = told r e bytes v is in
+    t.is ∙ ap (λ m. Err (NotUtf8 m)) (same_front bytes t.at n t.valid w)
+
+pub told_no_syntax : {A U : Type 0} (r : Result U CompileError) (e : CompileError) (bytes : List ℕ) → IsNotUtf8 bytes e → IsErrAnd r (λ y. y ≡ e) → (at : ℕ) → r ≡ Err (Syntax at) → A
+told_no_syntax r e bytes v is at same =
+    let t = told r e bytes v is in
+    let k : r ≡ Err (NotUtf8 t.at) = t.is in
+    absurd (cc)
+
+pub told_no_source : {U : Type 0} (r : Result U CompileError) (e : CompileError) (bytes : List ℕ) → IsNotUtf8 bytes e → IsErrAnd r (λ y. y ≡ e) → (tree : Tree) → IsSource bytes tree → IsOkUnless r Memory
+told_no_source r e bytes v is tree source = let t = told r e bytes v is in absurd (no_front bytes t.at source.utf8 t.valid)
+
+-- the question whether bytes are UTF-8 is answered well where they are
+pub is_text : {T E A : Type 0} (P : T → Type 0) (Q : E → Type 0) (r : Result T E) → A → MatchResult r P (λ e. (A → ⊥) × Q e) → IsOk r
+is_text P Q (Ok x) a m = refl
+is_text P Q (Err e) a m = absurd (m.0 a)

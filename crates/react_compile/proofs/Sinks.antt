@@ -1,11 +1,13 @@
 -- What a sink gains.
-use Rattle.std.proofs.Common.{◌≡◌, ℕ, ◌≤◌, List, [], ◌∷◌, ◌++◌, append-nil, length, refl, sym, ap, ◌∙◌, inl, inr, Option, Some, None, ◌⊎◌}
+use Rattle.std.proofs.Common.{◌≡◌, ℕ, ◌≤◌, List, [], ◌∷◌, ◌++◌, append-nil, length, refl, sym, ap, subst, ◌∙◌, inl, inr, Option, Some, None, ◌⊎◌}
 use Rattle.std.specs.Io.KnownBytes.{append_known}
 use Rattle.jsx_base.specs.Faults.{Rose}
 use Rattle.jsx_base.specs.Sink.{Gains, GainsPrefix}
+use Rattle.std.specs.Str.{IsUtf8, IsValidUpTo}
 use Rattle.jsx_tree.specs.Kinds.{Tree}
 use Rattle.react_compile.specs.Compiles.{IsSource}
-use Rattle.react_compile.specs.Run.{TakesAll, TakesTooMany, KeepsTold, TellsPrefix, TellsSyntaxPrefix, bad_words, read_fault, out_of_memory, syntax_error, input_too_big, max_source}
+use Rattle.react_compile.specs.Lines.{bad_words, read_fault, out_of_memory, input_too_big, not_utf8, syntax_error}
+use Rattle.react_compile.specs.Run.{TakesAll, TakesTooMany, KeepsTold, TellsWhy, TellsTooBig, TellsPrefix, GainsWhy, GainsWhyPrefix, max_source}
 
 pub gains_nothing : (held : Option (List ℕ)) → Gains held held []
 gains_nothing None = refl
@@ -34,15 +36,43 @@ tells_too_big words left rest a b held holds t (inl g) = record { line = input_t
 tells_too_big words left rest a b held holds t (inr g) = tells_memory words left rest a b held holds g
 
 pub tells_of_source : (words : Type 0) (left rest : Option (List ℕ)) (a b : ℕ) (held holds : Option (List ℕ)) (source : List ℕ) → TakesAll left rest source → length source ≤ max_source
-    → GainsPrefix held holds out_of_memory ⊎ TellsSyntaxPrefix source held holds → TellsPrefix words left rest a b held holds
+    → GainsPrefix held holds out_of_memory ⊎ GainsWhyPrefix source held holds → TellsPrefix words left rest a b held holds
 tells_of_source words left rest a b held holds source all few (inl g) = tells_memory words left rest a b held holds g
 tells_of_source words left rest a b held holds source all few (inr t) =
-    record { line = syntax_error; cause = inr (inr (inr (inl (refl, record { source = source; taken = all; few = few; no_tree = t.no_tree })))); gains = t.gains }
+    record { line = t.line; cause = inr (inr (inr (inl (record { source = source; taken = all; few = few; why = t.why })))); gains = t.gains }
 
--- the line of a syntax error, or of want of memory, as far as it went out
-pub tells_syntax_prefix : (source : List ℕ) (held holds : Option (List ℕ)) → ((tree : Tree) → IsSource source tree → ⊥) → Either held holds syntax_error → GainsPrefix held holds out_of_memory ⊎ TellsSyntaxPrefix source held holds
-tells_syntax_prefix source held holds none_reads (inl g) = inr (record { no_tree = none_reads; gains = g })
-tells_syntax_prefix source held holds none_reads (inr g) = inl g
+pub tells_why : (left rest held holds : Option (List ℕ)) (source : List ℕ) → TakesAll left rest source → length source ≤ max_source → GainsWhy source held holds
+    → TellsWhy left rest held holds ⊎ TellsTooBig left rest held holds
+tells_why left rest held holds source all few t = inl (record { line = t.line; cause = record { source = source; taken = all; few = few; why = t.why }; says = t.gains })
+
+-- the line of bytes that aren't UTF-8, whole or as far as it went out
+
+pub gains_not_utf8 : (source : List ℕ) (held holds : Option (List ℕ)) (n : ℕ) → IsValidUpTo source n → Gains held holds (not_utf8 n) → GainsWhy source held holds
+gains_not_utf8 source held holds n v g = record { line = not_utf8 n; why = inl (record { at = n; valid = v; line_is = refl }); gains = g }
+
+pub gains_not_utf8_prefix : (source : List ℕ) (held holds : Option (List ℕ)) (n : ℕ) → IsValidUpTo source n → Either held holds (not_utf8 n) → GainsPrefix held holds out_of_memory ⊎ GainsWhyPrefix source held holds
+gains_not_utf8_prefix source held holds n v (inl g) = inr (record { line = not_utf8 n; why = inl (record { at = n; valid = v; line_is = refl }); gains = g })
+gains_not_utf8_prefix source held holds n v (inr g) = inl g
+
+-- the line of a syntax error, whole or as far as it went out
+
+pub gains_syntax : (source : List ℕ) (held holds : Option (List ℕ)) (at : ℕ) → IsUtf8 source → ((tree : Tree) → IsSource source tree → ⊥) → at ≤ length source → Gains held holds (syntax_error source at) → GainsWhy source held holds
+gains_syntax source held holds at u none_reads within g =
+    record { line = syntax_error source at; why = inr (record { at = at; utf8 = u; no_tree = none_reads; within = within; line_is = refl }); gains = g }
+
+pub gains_syntax_prefix : (source : List ℕ) (held holds : Option (List ℕ)) (at : ℕ) → IsUtf8 source → ((tree : Tree) → IsSource source tree → ⊥) → at ≤ length source → Either held holds (syntax_error source at)
+    → GainsPrefix held holds out_of_memory ⊎ GainsWhyPrefix source held holds
+gains_syntax_prefix source held holds at u none_reads within (inl g) =
+    inr (record { line = syntax_error source at; why = inr (record { at = at; utf8 = u; no_tree = none_reads; within = within; line_is = refl }); gains = g })
+gains_syntax_prefix source held holds at u none_reads within (inr g) = inl g
+
+-- a line that was made is the one that is promised
+
+pub gains_same : (held holds : Option (List ℕ)) (made line : List ℕ) → made ≡ line → Gains held holds made → Gains held holds line
+gains_same held holds made line same g = subst (λ xs. Gains held holds xs) same g
+
+pub gains_same_prefix : (held holds : Option (List ℕ)) (made line : List ℕ) → made ≡ line → Either held holds made → Either held holds line
+gains_same_prefix held holds made line same g = subst (λ xs. Either held holds xs) same g
 
 -- a sink that tells its bytes gained none only of an empty code
 pub gains_none : (held holds : Option (List ℕ)) (code : List ℕ) → KeepsTold held holds → Gains held holds code → code ≡ []
@@ -52,4 +82,4 @@ gains_none held holds code k g = let e : Some k.bytes ≡ Some (k.bytes ++ code)
     none_more [] ys e = sym e
     none_more (x ∷ xs) ys e = none_more xs ys (let f : xs ≡ xs ++ ys = cc in f)
 
-pub ruleset telling = (gains_nothing, gains_no_prefix, tells_memory, tells_bad_words, tells_read_fault, tells_too_big, tells_of_source, tells_syntax_prefix)
+pub ruleset telling = (gains_nothing, gains_no_prefix, tells_memory, tells_bad_words, tells_read_fault, tells_too_big, tells_of_source, tells_why)

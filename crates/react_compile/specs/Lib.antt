@@ -2,6 +2,8 @@ pub mod Made
 pub mod Element
 pub mod StandsFor
 pub mod Compiles
+pub mod Lines
+pub mod Spots
 pub mod Run
 pub mod Status
 pub mod ParseErrors

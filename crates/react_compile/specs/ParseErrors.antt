@@ -1,5 +1,6 @@
 -- Errors of syntax, of the parser and of the compiler.
-use Rattle.std.specs.Prelude.{ℕ, ◌≤◌}
+use Rattle.std.specs.Prelude.{ℕ, List}
+use Rattle.std.specs.Str.{IsValidUpTo}
 use Rattle.jsx_operand.specs.declared.error.ParseError.{ParseError}
 use Rattle.jsx_operand.specs.declared.error.ParseError.TheVariants as parse
 use Rattle.react_compile.specs.declared.compiler.CompileError.{CompileError}
@@ -9,7 +10,8 @@ abbrev pub compile_error : ParseError → CompileError
 compile_error (parse.Syntax at) = compile.Syntax at.0
 compile_error parse.Memory = compile.Memory
 
--- an error of syntax at a place within this many bytes
-abbrev pub SyntaxWithin : CompileError → ℕ → Type 0
-SyntaxWithin (compile.Syntax at) n = at ≤ n
-SyntaxWithin compile.Memory n = ⊥
+-- the error of bytes that aren't UTF-8, with the length of their longest front that is
+abbrev pub IsNotUtf8 : List ℕ → CompileError → Type 0
+IsNotUtf8 bytes (compile.NotUtf8 n) = IsValidUpTo bytes n
+IsNotUtf8 bytes (compile.Syntax at) = ⊥
+IsNotUtf8 bytes compile.Memory = ⊥

@@ -1,10 +1,11 @@
 -- What a run leaves: what it took of its source, and what its sinks gained.
-use Rattle.std.specs.Prelude.{◌≡◌, ◌⊎◌, ℕ, ◌+◌, ◌<◌, ◌≤◌, List, [], codes, Option, Some, IfSome, length}
+use Rattle.std.specs.Prelude.{◌≡◌, ◌⊎◌, ℕ, ◌+◌, ◌<◌, ◌≤◌, List, [], Option, Some, IfSome, length}
 use Rattle.jsx_base.specs.Faults.{Rose}
 use Rattle.jsx_base.specs.Source.{Gives}
 use Rattle.jsx_base.specs.Sink.{Gains, GainsPrefix}
 use Rattle.jsx_tree.specs.Kinds.{Tree}
 use Rattle.react_compile.specs.Compiles.{IsSource, Compiles}
+use Rattle.react_compile.specs.Lines.{SaysWhy, bad_words, read_fault, out_of_memory, input_too_big}
 
 -- the greatest number of bytes that a source may have
 abbrev pub max_source : ℕ
@@ -13,22 +14,6 @@ max_source = 16777216
 -- how many bytes are asked for in one read
 abbrev pub read_size : ℕ
 read_size = 65536
-
--- the lines that a run writes to its second sink
-abbrev pub bad_words : List ℕ
-bad_words = codes "error: bad words\n"
-
-abbrev pub read_fault : List ℕ
-read_fault = codes "error: read fault\n"
-
-abbrev pub out_of_memory : List ℕ
-out_of_memory = codes "error: out of memory\n"
-
-abbrev pub syntax_error : List ℕ
-syntax_error = codes "input.js: syntax error\n"
-
-abbrev pub input_too_big : List ℕ
-input_too_big = codes "input.js: input too big\n"
 
 -- nothing is left of what a source tells
 abbrev pub IsAtEnd : Option (List ℕ) → Type 0
@@ -51,12 +36,12 @@ pub record TakesTooMany (left rest : Option (List ℕ)) : Type 0 where
   pub gives : Gives left rest bytes
   pub too_many : max_source < length bytes
 
--- the whole source was taken, and no tree reads it
-pub record TakesNoModule (left rest : Option (List ℕ)) : Type 0 where
+-- the whole source was taken, and the line says why it isn't compiled
+pub record TakesNoModule (left rest : Option (List ℕ)) (line : List ℕ) : Type 0 where
   pub source : List ℕ
   pub taken : TakesAll left rest source
   pub few : length source ≤ max_source
-  pub no_tree : (tree : Tree) → IsSource source tree → ⊥
+  pub why : SaysWhy source line
 
 -- the sink tells its bytes, and they are as they were
 pub record KeepsTold (held holds : Option (List ℕ)) : Type 0 where
@@ -90,10 +75,11 @@ pub record WritesPrefix (left rest held holds : Option (List ℕ)) : Type 0 wher
   pub few : length source ≤ max_source
   pub code : GainsCodePrefix source held holds
 
--- no tree reads the source, which the second sink is told
-pub record TellsSyntaxError (left rest held holds : Option (List ℕ)) : Type 0 where
-  pub cause : TakesNoModule left rest
-  pub says : Gains held holds syntax_error
+-- the source isn't compiled, and the second sink is told why
+pub record TellsWhy (left rest held holds : Option (List ℕ)) : Type 0 where
+  pub line : List ℕ
+  pub cause : TakesNoModule left rest line
+  pub says : Gains held holds line
 
 -- the source has too many bytes, which the second sink is told
 pub record TellsTooBig (left rest held holds : Option (List ℕ)) : Type 0 where
@@ -104,7 +90,7 @@ pub record TellsTooBig (left rest held holds : Option (List ℕ)) : Type 0 where
 abbrev pub HasCause : Type 0 → Option (List ℕ) → Option (List ℕ) → ℕ → ℕ → List ℕ → Type 0
 HasCause are_words left rest reads_old reads_new line =
     ((line ≡ bad_words) × are_words) ⊎ (((line ≡ read_fault) × Rose reads_old reads_new) ⊎ ((line ≡ out_of_memory) ⊎
-    (((line ≡ syntax_error) × TakesNoModule left rest) ⊎ ((line ≡ input_too_big) × TakesTooMany left rest))))
+    (TakesNoModule left rest line ⊎ ((line ≡ input_too_big) × TakesTooMany left rest))))
 
 -- a prefix of a line for which there is a cause, or nothing
 pub record TellsPrefix (are_words : Type 0) (left rest : Option (List ℕ)) (reads_old reads_new : ℕ) (held holds : Option (List ℕ)) : Type 0 where
@@ -112,10 +98,17 @@ pub record TellsPrefix (are_words : Type 0) (left rest : Option (List ℕ)) (rea
   pub cause : HasCause are_words left rest reads_old reads_new line
   pub gains : GainsPrefix held holds line
 
--- no tree reads the source, and the second sink gained a prefix of the line that says so
-pub record TellsSyntaxPrefix (source : List ℕ) (held holds : Option (List ℕ)) : Type 0 where
-  pub no_tree : (tree : Tree) → IsSource source tree → ⊥
-  pub gains : GainsPrefix held holds syntax_error
+-- the second sink gained the line that says why the bytes aren't compiled
+pub record GainsWhy (source : List ℕ) (held holds : Option (List ℕ)) : Type 0 where
+  pub line : List ℕ
+  pub why : SaysWhy source line
+  pub gains : Gains held holds line
+
+-- the same of a prefix of the line
+pub record GainsWhyPrefix (source : List ℕ) (held holds : Option (List ℕ)) : Type 0 where
+  pub line : List ℕ
+  pub why : SaysWhy source line
+  pub gains : GainsPrefix held holds line
 
 -- what a run without words is given so that it has to give code: a source that tells its bytes, few enough, which read, and no fault in this call
 pub record IsValid (left : Option (List ℕ)) (reads_old reads_new out_old out_new err_old err_new : ℕ) : Type 0 where

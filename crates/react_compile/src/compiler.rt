@@ -1,8 +1,8 @@
 //! A source's bytes to its code.
 
-ghost use Rattle.std.specs.Prelude.{◌≡◌, ◌<◌, ◌≤◌, ℕ, IfOk, IfErr, OnOk, OnErr, IsOkUnless, length, string_bytes};
-ghost use Rattle.std.specs.Str.{IsUtf8};
-ghost use Rattle.react_compile.specs.ParseErrors.{SyntaxWithin};
+ghost use Rattle.std.specs.Prelude.{◌≡◌, ◌<◌, ◌≤◌, ℕ, IfOk, IfErr, OnOk, IsOkUnless, length, string_bytes};
+ghost use Rattle.std.specs.Str.{IsUtf8, IsValidUpTo};
+ghost use Rattle.react_compile.specs.ParseErrors.{IsNotUtf8};
 ghost use Rattle.jsx_tree.specs.Kinds.{Tree};
 ghost use Rattle.jsx_base.specs.Token as token;
 ghost use Rattle.jsx_token.specs.Stage.{ReadsSoFar};
@@ -27,7 +27,9 @@ pub struct Output {
 /// Why a source wasn't compiled.
 #[derive(Clone, Copy, Debug, PartialEq, Eq)]
 pub enum CompileError {
-    /// The bytes aren't UTF-8, or no tree reads them. The number is the place, in bytes, at which this was seen.
+    /// The bytes aren't UTF-8. The number is how many of them are the longest front that is.
+    NotUtf8(usize),
+    /// No tree reads the text. The number is the place, in bytes, at which this was seen.
     Syntax(u32),
     /// There was too little memory.
     Memory,
@@ -60,15 +62,13 @@ impl From<ParseError> for CompileError {
 
 /// The text that the bytes are.
 fn text_of(source: &[u8]) -> Result<&str, CompileError>
-    requires { length source.now < 4294901760 }
     ensures same { IfOk result (λ text. text.now ≡ source.now) }
     ensures utf8 { OnOk result (IsUtf8 source.now) }
-    ensures refused { OnErr result (IsUtf8 source.now → ⊥) }
-    ensures place { IfErr result (λ e. SyntaxWithin e (length source.now)) }
+    ensures not_utf8 { IfErr result (IsNotUtf8 source.now) }
 {
     match str::from_utf8(source) {
         Ok(text) => Ok(text),
-        Err(e) => Err(CompileError::Syntax(e.valid_up_to() as u32)),
+        Err(e) => Err(CompileError::NotUtf8(e.valid_up_to())),
     }
 }
 
@@ -87,10 +87,14 @@ fn code_of(alloc: Global, program: &mut Program<'_>) -> Result<String, AllocErro
 ///
 /// # Errors
 ///
-/// `Syntax` exactly where the bytes aren't UTF-8 or no tree reads them, and `Memory` for want of memory.
+/// `NotUtf8` exactly where the bytes aren't UTF-8, before the text is looked at; `Syntax` where no tree reads the text, and
+/// `Memory` for want of memory.
 pub fn compile(alloc: Global, source: &[u8]) -> Result<Output, CompileError>
     requires { length source.now < 4294901760 }
     ensures compiled { IfOk result (λ output. Compiles source.now (string_bytes output.code)) }
+    ensures not_utf8 { (n : ℕ) → result ≡ Err (CompileError.NotUtf8 n) → IsValidUpTo source.now n }
+    ensures up_to { (n : ℕ) → IsValidUpTo source.now n → result ≡ Err (CompileError.NotUtf8 n) }
+    ensures text { (at : ℕ) → result ≡ Err (CompileError.Syntax at) → IsUtf8 source.now }
     ensures refused { (at : ℕ) → result ≡ Err (CompileError.Syntax at) → (tree : Tree) → IsSource source.now tree → ⊥ }
     ensures place { (at : ℕ) → result ≡ Err (CompileError.Syntax at) → at ≤ length source.now }
     ensures complete { (tree : Tree) → IsSource source.now tree → IsOkUnless result CompileError.Memory }

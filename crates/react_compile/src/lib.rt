@@ -3,10 +3,12 @@
 
 mod calls;
 mod compiler;
+mod error_line;
 mod input;
 mod literal;
 mod lower;
 mod program;
+mod spot;
 mod tag;
 
 pub use compiler::{CompileError, Output, compile};

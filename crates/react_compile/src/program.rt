@@ -1,14 +1,17 @@
 //! The program: its words, a source and two sinks.
 
 ghost use Rattle.std.specs.Prelude.{◌≡◌, ◌⊎◌, ◌≢◌, ◌≤◌, ℕ, List, [], Option, Some, length};
+ghost use Rattle.std.specs.Str.{IsUtf8};
 ghost use Rattle.jsx_base.specs.Faults.{Rose};
 ghost use Rattle.jsx_base.specs.Sink.{Gains, GainsPrefix};
 ghost use Rattle.jsx_tree.specs.Kinds.{Tree};
 ghost use Rattle.react_compile.specs.Status.{exit_code, IsTold};
 ghost use Rattle.react_compile.specs.Compiles.{IsSource};
-ghost use Rattle.react_compile.specs.Run.{WritesCode, WritesPrefix, TakesFew, KeepsTold, TellsSyntaxError, TellsTooBig, TellsPrefix, TellsSyntaxPrefix, GainsCode, GainsCodePrefix, IsValid, bad_words, read_fault, out_of_memory, syntax_error, max_source};
+ghost use Rattle.react_compile.specs.Lines.{bad_words, read_fault, out_of_memory, not_utf8, syntax_error};
+ghost use Rattle.react_compile.specs.Run.{WritesCode, WritesPrefix, TakesFew, KeepsTold, TellsWhy, TellsTooBig, TellsPrefix, GainsCode, GainsCodePrefix, GainsWhy, GainsWhyPrefix, IsValid, max_source};
 
 use crate::compiler::{CompileError, compile};
+use crate::error_line::{not_utf8_line, syntax_line};
 #[cfg(test)]
 use crate::input::MAX_SOURCE;
 use crate::input::{InputError, read_all};
@@ -52,8 +55,6 @@ const READ_FAULT: &str = "error: read fault\n";
 
 const OUT_OF_MEMORY: &str = "error: out of memory\n";
 
-const SYNTAX_ERROR: &str = "input.js: syntax error\n";
-
 const TOO_BIG: &str = "input.js: input too big\n";
 
 /// Says that memory is wanting, within the room that there is.
@@ -86,6 +87,38 @@ fn tell<E: Sink>(err: &mut E, line: &str, status: Status) -> Status
     match err.write(line.as_bytes()) {
         Ok(()) => status,
         Err(_) => Status::Write,
+    }
+}
+
+/// Says that the bytes aren't UTF-8, of which so many are.
+fn tell_not_utf8<E: Sink>(alloc: Global, at: usize, err: &mut E) -> Status
+    requires { 64 ≤ E.room err.old }
+    ensures ends { (result ≡ Status.Fault) ⊎ ((result ≡ Status.Memory) ⊎ (result ≡ Status.Write)) }
+    ensures said { result ≡ Status.Fault → Gains (E.holds err.old) (E.holds err.new) (not_utf8 at) }
+    ensures memory { result ≡ Status.Memory → Gains (E.holds err.old) (E.holds err.new) out_of_memory }
+    ensures prefix { result ≡ Status.Write → GainsPrefix (E.holds err.old) (E.holds err.new) (not_utf8 at) ⊎ GainsPrefix (E.holds err.old) (E.holds err.new) out_of_memory }
+    ensures write { result ≡ Status.Write → Rose (E.faults err.old) (E.faults err.new) }
+{
+    match not_utf8_line(alloc, at) {
+        Ok(line) => tell(err, line.as_str(), Status::Fault),
+        Err(_) => short_of_memory(err),
+    }
+}
+
+/// Says that no tree reads the source, with the place at which this was seen.
+fn tell_syntax<E: Sink>(alloc: Global, source: &[u8], at: u32, err: &mut E) -> Status
+    requires room { 64 ≤ E.room err.old }
+    requires short { length source.now ≤ max_source }
+    requires utf8 { IsUtf8 source.now }
+    ensures ends { (result ≡ Status.Fault) ⊎ ((result ≡ Status.Memory) ⊎ (result ≡ Status.Write)) }
+    ensures said { result ≡ Status.Fault → Gains (E.holds err.old) (E.holds err.new) (syntax_error source.now at) }
+    ensures memory { result ≡ Status.Memory → Gains (E.holds err.old) (E.holds err.new) out_of_memory }
+    ensures prefix { result ≡ Status.Write → GainsPrefix (E.holds err.old) (E.holds err.new) (syntax_error source.now at) ⊎ GainsPrefix (E.holds err.old) (E.holds err.new) out_of_memory }
+    ensures write { result ≡ Status.Write → Rose (E.faults err.old) (E.faults err.new) }
+{
+    match syntax_line(alloc, source, at) {
+        Ok(line) => tell(err, line.as_str(), Status::Fault),
+        Err(_) => short_of_memory(err),
     }
 }
 
@@ -130,19 +163,20 @@ fn compile_to<O: Sink, E: Sink>(alloc: Global, source: &[u8], out: &mut O, err: 
 
     ensures fault { result ≡ Status.Fault → (tree : Tree) → IsSource source.now tree → ⊥ }
     ensures fault_out { result ≡ Status.Fault → out.new ≡ out.old }
-    ensures fault_says { result ≡ Status.Fault → Gains (E.holds err.old) (E.holds err.new) syntax_error }
+    ensures fault_says { result ≡ Status.Fault → GainsWhy source.now (E.holds err.old) (E.holds err.new) }
 
     ensures memory { result ≡ Status.Memory → O.holds out.new ≡ O.holds out.old }
     ensures memory_says { result ≡ Status.Memory → Gains (E.holds err.old) (E.holds err.new) out_of_memory }
 
     ensures write { result ≡ Status.Write → Rose (O.faults out.old) (O.faults out.new) ⊎ Rose (E.faults err.old) (E.faults err.new) }
     ensures prefix { result ≡ Status.Write → (O.holds out.new ≡ O.holds out.old) ⊎ GainsCodePrefix source.now (O.holds out.old) (O.holds out.new) }
-    ensures prefix_says { result ≡ Status.Write → GainsPrefix (E.holds err.old) (E.holds err.new) out_of_memory ⊎ TellsSyntaxPrefix source.now (E.holds err.old) (E.holds err.new) }
+    ensures prefix_says { result ≡ Status.Write → GainsPrefix (E.holds err.old) (E.holds err.new) out_of_memory ⊎ GainsWhyPrefix source.now (E.holds err.old) (E.holds err.new) }
     ensures one_sink { result ≡ Status.Write → (O.holds out.new ≡ O.holds out.old) ⊎ (err.new ≡ err.old) }
 {
     match compile(alloc, source) {
         Ok(output) => emit(output.code.as_bytes(), out, err),
-        Err(CompileError::Syntax(_)) => tell(err, SYNTAX_ERROR, Status::Fault),
+        Err(CompileError::NotUtf8(at)) => tell_not_utf8(alloc, at, err),
+        Err(CompileError::Syntax(at)) => tell_syntax(alloc, source, at, err),
         Err(CompileError::Memory) => short_of_memory(err),
     }
 }
@@ -151,7 +185,8 @@ fn compile_to<O: Sink, E: Sink>(alloc: Global, source: &[u8], out: &mut O, err: 
 ///
 /// No words are taken so far, and with words the source isn't read. The code goes out in one write, for which room is
 /// reserved before; an empty code isn't written. After a write that fails nothing more is written. A line on `err` ends
-/// with LF. A source has at most 16,777,216 bytes, and no more than one read beyond them is taken.
+/// with LF. The one of a source that isn't UTF-8 names the byte, and the one of a syntax error the line and the column, in
+/// characters, from 1. A source has at most 16,777,216 bytes, and no more than one read beyond them is taken.
 #[tactic(auto, using(crate::proofs::Sinks::telling))]
 pub fn run<S: Source, O: Sink, E: Sink>(
     alloc: Global,
@@ -176,7 +211,7 @@ pub fn run<S: Source, O: Sink, E: Sink>(
     ensures bounded { TakesFew (S.left input.old) (S.left input.new) }
 
     // Each other status has its cause, and its line.
-    ensures fault { result ≡ Status.Fault → TellsSyntaxError (S.left input.old) (S.left input.new) (E.holds err.old) (E.holds err.new) ⊎ TellsTooBig (S.left input.old) (S.left input.new) (E.holds err.old) (E.holds err.new) }
+    ensures fault { result ≡ Status.Fault → TellsWhy (S.left input.old) (S.left input.new) (E.holds err.old) (E.holds err.new) ⊎ TellsTooBig (S.left input.old) (S.left input.new) (E.holds err.old) (E.holds err.new) }
     ensures usage { result ≡ Status.Usage → words.now ≢ [] }
     ensures usage_says { result ≡ Status.Usage → Gains (E.holds err.old) (E.holds err.new) bad_words }
     ensures words { words.now ≢ [] → (result ≡ Status.Usage) ⊎ ((result ≡ Status.Memory) ⊎ (result ≡ Status.Write)) }

@@ -1,5 +1,5 @@
 -- A visit that lowers each element lowers the tree, where all elements are ones that can be lowered.
-use Rattle.std.proofs.Common.{◌≡◌, true, false, refl, ap, ◌∙◌}
+use Rattle.std.proofs.Common.{◌≡◌, true, false, refl}
 use Rattle.std.proofs.lemmas.Bool.{and_parts, and_from, true≢false, false≢true}
 use Rattle.jsx_base.specs.Token.{Text, JsxName}
 use Rattle.jsx_tree.specs.Kinds.{Kind, function, expression, jsx, ParenTarget, Parenthesized, Element, Tree, leaf, node, list, Forest, none, part}

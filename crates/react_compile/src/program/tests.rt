@@ -226,6 +226,26 @@ fn code_of_sources(rt: HostRuntime) -> Result<(), Fail> {
             "function f() {\n    return;\n    a;\n}\n(function () {}());\n(function () {}.b);\n",
         ),
         (
+            "let[]=a,[,b,,...c]=d,[e=<f/>,,]=g;const[...[h]]=i",
+            "let [] = a, [, b, , ...c] = d, [e = /*#__PURE__*/ React.createElement(\"f\", null), ,] = g;\nconst [...[h]] = i;\n",
+        ),
+        (
+            "let{}=a,{b,c=1,...d}=e;var{f:[g]=h,if:{i},'j':k,2:l,[m+(n)]:o,}=p",
+            "let {} = a, { b, c = 1, ...d } = e;\nvar { f: [g] = h, if: { i }, 'j': k, 2: l, [m + n]: o } = p;\n",
+        ),
+        (
+            "function f([a],{b}={},...[c,d]){}x=function({a=(b,c)}){return a}",
+            "function f([a], { b } = {}, ...[c, d]) {}\nx = function ({ a = (b, c) }) {\n    return a;\n};\n",
+        ),
+        (
+            "try{}catch([a,b=1]){}try{}catch({c:d}){}for(let[e]of f);for(const{g}in h);for(var[i]=j,{k=(l in m)}=n;;);",
+            "try {} catch ([a, b = 1]) {}\ntry {} catch ({ c: d }) {}\nfor (let [e] of f) ;\nfor (const { g } in h) ;\nfor (var [i] = j, { k = l in m } = n;;) ;\n",
+        ),
+        (
+            "export const[a]=b;export default function({c},...[d]){}",
+            "export const [a] = b;\nexport default function ({ c }, ...[d]) {}\n",
+        ),
+        (
             "import'a';import b from\"c\";import*as d from'e';import{f,g as h,}from'i';import j,{k}from'l';import{}from'm'",
             "import 'a';\nimport b from \"c\";\nimport * as d from 'e';\nimport { f, g as h } from 'i';\nimport j, { k } from 'l';\nimport {} from 'm';\n",
         ),
@@ -253,6 +273,19 @@ fn code_of_sources(rt: HostRuntime) -> Result<(), Fail> {
         }
     }
     Ok(())
+}
+
+/// Whether the source is refused with a line that names some place of it.
+fn is_refused(alloc: Global, source: &[u8]) -> Result<bool, AllocError> {
+    let mut out = MemSink::new(alloc, &[])?;
+    let mut err = MemSink::new(alloc, &[])?;
+    let status = run_into(alloc, &plain(source), &mut out, &mut err)?;
+    Ok(
+        status == Status::Fault
+            && has(&out, "")
+            && err.bytes().starts_with(b"input.js:")
+            && err.bytes().ends_with(b": syntax error\n"),
+    )
 }
 
 #[test]
@@ -320,7 +353,19 @@ fn sources_that_do_not_read(rt: HostRuntime) -> Result<(), Fail> {
         b"delete (a);",
         b"const a;",
         b"const a = 1,;",
-        b"const {a} = b;",
+        b"const {a};",
+        b"let [a];",
+        b"let [...a,] = b;",
+        b"let {...[a]} = b;",
+        b"let {a.b} = c;",
+        b"let {if} = a;",
+        b"function f(...[a], b) {}",
+        b"function f([a]) {'use strict'}",
+        b"try {} catch ([a] = b) {}",
+        b"for (let [a] = b of c);",
+        b"for ([a] of b);",
+        b"[a] = b;",
+        b"({a = 1});",
         b"(a",
         b"()",
         b"(a) => b;",
@@ -330,14 +375,48 @@ fn sources_that_do_not_read(rt: HostRuntime) -> Result<(), Fail> {
         b"const x = <a/> const y = <b/>;",
         b"f(\"a\nb\");",
         b"<a></a>;",
-        b"\xff",
-        b"const x = <\xc3/>;",
-        b"const x = <a/>;\xe2\x82",
     ];
     for source in rows {
-        assert_runs(&rt, &plain(source), (Status::Fault, "", SYNTAX_ERROR))?;
+        assert!(rt;
+            is_refused(rt.alloc(), source) == Ok(true),
+            "the bytes {:?}",
+            source
+        );
     }
     Ok(())
+}
+
+#[test]
+fn places_of_syntax_errors(rt: HostRuntime) -> Result<(), Fail> {
+    // The place is the begin of the last token that was taken, and its column is counted in characters.
+    for (source, line) in &[
+        ("a b", "input.js:1:1: syntax error\n"),
+        ("x;\n\na b;", "input.js:3:1: syntax error\n"),
+        (
+            "'\u{e9}\u{20ac}\u{1f600}';a b",
+            "input.js:1:7: syntax error\n",
+        ),
+        ("'\u{e9}'\r\n;a b", "input.js:2:2: syntax error\n"),
+        ("/*\u{2028}*/a b", "input.js:1:6: syntax error\n"),
+    ] {
+        assert_refused(&rt, source.as_bytes(), line)?;
+    }
+    Ok(())
+}
+
+fn assert_refused(rt: &(impl Abort + AllocGlobal), source: &[u8], line: &str) -> Result<(), Fail> {
+    assert_runs(rt, &plain(source), (Status::Fault, "", line))
+}
+
+#[test]
+fn bytes_that_are_not_utf8(rt: HostRuntime) -> Result<(), Fail> {
+    assert_refused(&rt, b"\xff", "input.js: not UTF-8 at byte 0\n")?;
+    let middle = b"const x = <\xc3/>;";
+    assert_refused(&rt, middle, "input.js: not UTF-8 at byte 11\n")?;
+    let end = b"const x = <a/>;\xe2\x82";
+    assert_refused(&rt, end, "input.js: not UTF-8 at byte 15\n")?;
+    // The bytes are looked at before the text.
+    assert_refused(&rt, b"a b;\xc3\xa9\x80", "input.js: not UTF-8 at byte 6\n")
 }
 
 const CODE: &str = "const x = /*#__PURE__*/ React.createElement(\"a\", null);\n";
@@ -415,7 +494,11 @@ fn a_line_goes_out_in_one_write(rt: HostRuntime) -> Result<(), Fail> {
         bad_writes: &[0],
         ..WELL
     };
-    assert_runs(&rt, &later_write, (Status::Fault, "", SYNTAX_ERROR))
+    assert_runs(
+        &rt,
+        &later_write,
+        (Status::Fault, "", "input.js:1:1: syntax error\n"),
+    )
 }
 
 #[test]

@@ -1,11 +1,13 @@
-use Rattle.std.proofs.Common.{refl, sym, ◌∙◌, ap, map}
+use Rattle.std.proofs.Common.{refl, subst, sym, ◌∙◌, ap, map}
 use Rattle.jsx_tree.specs.Kinds.{Assigns}
 use Rattle.jsx_tree.specs.Grammar.{key}
 use Rattle.jsx_tree.specs.View.{forest, inside, view_pat, view_target, word_of}
 use Rattle.jsx_tree.specs.Reading.{forth}
 use Rattle.jsx_tree.specs.StaticRules.{open_in}
 use Rattle.jsx_token.specs.Here.{place_of}
-use Rattle.jsx_token.specs.Places.{begin_of}
+use Rattle.jsx_token.specs.Places.{end_of, next_of}
+use Rattle.jsx_make.specs.NodeSpans.{pat_at}
+use Rattle.jsx_operand.specs.Spans.{Spans}
 use Rattle.jsx_operand.specs.Around.{around_of}
 use Rattle.jsx_statement.specs.OpenIn.{any_opens}
 use Rattle.jsx_statement.proofs.Items.{head_keeps}
@@ -53,28 +55,28 @@ more_declarators-requires-clause-listed g c = c.in_ok-first.ensures.behind
 pub returns-in_err-all-clause-refused : goal.returns-in_err-all-clause-refused
 returns-in_err-all-clause-refused g c =
     let e = c.take-2.ensures.stays c.if-take-2.false ∙ c.take.ensures.stays c.if-take.false in
-    let f = first_read c.in_ok-name.name.value c.in_ok-first.first.value e c.in_ok-name.ensures.read c.in_ok-name.ensures.placed (c.last_place.ensures ∙ (ap begin_of e ∙ c.in_ok-name.ensures.begins)) c.in_ok-first.ensures.read c.in_ok-first.ensures.placed in
+    let f = first_read c.in_ok-name.name.value c.in_ok-first.first.value e c.in_ok-name.ensures.read c.in_ok-name.ensures.placed (c.start_of_pattern-start.ensures.on _ _ (subst (λ p. Spans (pat_at p) (next_of c.args.lexer.now) (end_of c.binding.new.lexer)) (sym c.deref.ensures) c.in_ok-name.ensures.span)) c.in_ok-first.ensures.read c.in_ok-first.ensures.placed in
     passed _ c.in_err-all.ensures.refused c.from_residual-in_err-all.ensures.1
     (λ n. record { no = λ x m. none_more c.args.word m c.in_ok-name.ensures.read (c.take.ensures.missing c.if-take.false) (lost_from (key "of") (c.take.ensures.stays c.if-take.false) (c.take-2.ensures.missing c.if-take-2.false)) (n.no c.args.lexer.now f) })
 
 pub returns-then-any_has_open_in-clause-refused : goal.returns-then-any_has_open_in-clause-refused
 returns-then-any_has_open_in-clause-refused g c =
     let e = c.take-2.ensures.stays c.if-take-2.false ∙ c.take.ensures.stays c.if-take.false in
-    let f = first_read c.in_ok-name.name.value c.in_ok-first.first.value e c.in_ok-name.ensures.read c.in_ok-name.ensures.placed (c.last_place.ensures ∙ (ap begin_of e ∙ c.in_ok-name.ensures.begins)) c.in_ok-first.ensures.read c.in_ok-first.ensures.placed in
+    let f = first_read c.in_ok-name.name.value c.in_ok-first.first.value e c.in_ok-name.ensures.read c.in_ok-name.ensures.placed (c.start_of_pattern-start.ensures.on _ _ (subst (λ p. Spans (pat_at p) (next_of c.args.lexer.now) (end_of c.binding.new.lexer)) (sym c.deref.ensures) c.in_ok-name.ensures.span)) c.in_ok-first.ensures.read c.in_ok-first.ensures.placed in
     record {
       bars = λ _ _. record {
         no = λ x m.
             open_more _ c.args.word m c.in_ok-name.ensures.read (c.take.ensures.missing c.if-take.false) (lost_from (key "of") (c.take.ensures.stays c.if-take.false) (c.take-2.ensures.missing c.if-take-2.false))
-            (c.in_ok-all.ensures.read.on c.args.lexer.now f).declares (ap (λ xs. any_opens (forest (map (inside view_pat) xs))) (sym c.deref.ensures.value) ∙ (sym c.any_has_open_in.ensures ∙ c.if-any_has_open_in.true));
+            (c.in_ok-all.ensures.read.on c.args.lexer.now f).declares (ap (λ xs. any_opens (forest (map (inside view_pat) xs))) (sym c.deref-2.ensures.value) ∙ (sym c.any_has_open_in.ensures ∙ c.if-any_has_open_in.true));
       };
     }
 
 pub returns-in_err-expect-clause-refused : goal.returns-in_err-expect-clause-refused
 returns-in_err-expect-clause-refused g c =
     let e = c.take-2.ensures.stays c.if-take-2.false ∙ c.take.ensures.stays c.if-take.false in
-    let f = first_read c.in_ok-name.name.value c.in_ok-first.first.value e c.in_ok-name.ensures.read c.in_ok-name.ensures.placed (c.last_place.ensures ∙ (ap begin_of e ∙ c.in_ok-name.ensures.begins)) c.in_ok-first.ensures.read c.in_ok-first.ensures.placed in
+    let f = first_read c.in_ok-name.name.value c.in_ok-first.first.value e c.in_ok-name.ensures.read c.in_ok-name.ensures.placed (c.start_of_pattern-start.ensures.on _ _ (subst (λ p. Spans (pat_at p) (next_of c.args.lexer.now) (end_of c.binding.new.lexer)) (sym c.deref.ensures) c.in_ok-name.ensures.span)) c.in_ok-first.ensures.read c.in_ok-first.ensures.placed in
     let all = c.in_ok-all.ensures.read.on c.args.lexer.now f in
-    let closed = ap (λ xs. any_opens (forest (map (inside view_pat) xs))) (sym c.deref.ensures.value) ∙ (sym c.any_has_open_in.ensures ∙ c.if-any_has_open_in.false) in
+    let closed = ap (λ xs. any_opens (forest (map (inside view_pat) xs))) (sym c.deref-2.ensures.value) ∙ (sym c.any_has_open_in.ensures ∙ c.if-any_has_open_in.false) in
     passed _ c.in_err-expect.ensures.refused c.from_residual-in_err-expect.ensures.1
     (λ b. record {
       no = λ x m.
@@ -85,9 +87,9 @@ returns-in_err-expect-clause-refused g c =
 pub returns-clause-read : goal.returns-clause-read
 returns-clause-read g c =
     let e = c.take-2.ensures.stays c.if-take-2.false ∙ c.take.ensures.stays c.if-take.false in
-    let f = first_read c.in_ok-name.name.value c.in_ok-first.first.value e c.in_ok-name.ensures.read c.in_ok-name.ensures.placed (c.last_place.ensures ∙ (ap begin_of e ∙ c.in_ok-name.ensures.begins)) c.in_ok-first.ensures.read c.in_ok-first.ensures.placed in
+    let f = first_read c.in_ok-name.name.value c.in_ok-first.first.value e c.in_ok-name.ensures.read c.in_ok-name.ensures.placed (c.start_of_pattern-start.ensures.on _ _ (subst (λ p. Spans (pat_at p) (next_of c.args.lexer.now) (end_of c.binding.new.lexer)) (sym c.deref.ensures) c.in_ok-name.ensures.span)) c.in_ok-first.ensures.read c.in_ok-first.ensures.placed in
     let all = c.in_ok-all.ensures.read.on c.args.lexer.now f in
-    let closed = ap (λ xs. any_opens (forest (map (inside view_pat) xs))) (sym c.deref.ensures.value) ∙ (sym c.any_has_open_in.ensures ∙ c.if-any_has_open_in.false) in
+    let closed = ap (λ xs. any_opens (forest (map (inside view_pat) xs))) (sym c.deref-2.ensures.value) ∙ (sym c.any_has_open_in.ensures ∙ c.if-any_has_open_in.false) in
     record {
       on = λ x m.
           declared_initial {t = view_target c.in_ok-init.init.value} c.args.word m c.in_ok-name.ensures.read (c.take.ensures.missing c.if-take.false) (lost_from (key "of") (c.take.ensures.stays c.if-take.false) (c.take-2.ensures.missing c.if-take-2.false))
@@ -97,7 +99,7 @@ returns-clause-read g c =
 pub returns-clause-placed : goal.returns-clause-placed
 returns-clause-placed g c =
     let e = c.take-2.ensures.stays c.if-take-2.false ∙ c.take.ensures.stays c.if-take.false in
-    let f = first_read c.in_ok-name.name.value c.in_ok-first.first.value e c.in_ok-name.ensures.read c.in_ok-name.ensures.placed (c.last_place.ensures ∙ (ap begin_of e ∙ c.in_ok-name.ensures.begins)) c.in_ok-first.ensures.read c.in_ok-first.ensures.placed in
+    let f = first_read c.in_ok-name.name.value c.in_ok-first.first.value e c.in_ok-name.ensures.read c.in_ok-name.ensures.placed (c.start_of_pattern-start.ensures.on _ _ (subst (λ p. Spans (pat_at p) (next_of c.args.lexer.now) (end_of c.binding.new.lexer)) (sym c.deref.ensures) c.in_ok-name.ensures.span)) c.in_ok-first.ensures.read c.in_ok-first.ensures.placed in
     let all = c.in_ok-all.ensures.read.on c.args.lexer.now f in
     record {
       on = λ w word begins.

@@ -1,0 +1,13 @@
+use Rattle.jsx_tree.specs.declared.tree.Pat.TheVariants as pat
+use Rattle.jsx_tree.specs.View.{view_pattern}
+use Rattle.jsx_tree.specs.Told.{told_pat}
+use Rattle.jsx_tree.proofs.Views.{view-Pat-RestProperty}
+use Rattle.jsx_tree.proofs.Telling.{told-Pat-RestProperty}
+use Rattle.jsx_make.proofs.Making.{shows, shows_at}
+use Rattle.jsx_make.proofs.functions.rest_property.Goals as goal
+
+pub returns-clause-view : goal.returns-clause-view
+returns-clause-view c = shows_at view_pattern c.boxed.result (pat.RestProperty c.args.at c.args.name) c.boxed.ensures (view-Pat-RestProperty c.args.at c.args.name)
+
+pub returns-clause-told : goal.returns-clause-told
+returns-clause-told c = shows told_pat c.boxed.result (pat.RestProperty c.args.at c.args.name) c.boxed.ensures (told-Pat-RestProperty c.args.at c.args.name)

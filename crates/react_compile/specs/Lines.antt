@@ -1,0 +1,48 @@
+-- The lines that a run writes to its second sink.
+use Rattle.std.specs.Prelude.{◌≡◌, ◌⊎◌, ℕ, ◌+◌, ◌≤◌, List, ◌++◌, codes, decimal, length}
+use Rattle.std.specs.Str.{IsUtf8, IsValidUpTo, chars}
+use Rattle.jsx_base.specs.Lines.{front, line_of, col_of}
+use Rattle.jsx_tree.specs.Kinds.{Tree}
+use Rattle.react_compile.specs.Compiles.{IsSource}
+
+abbrev pub bad_words : List ℕ
+bad_words = codes "error: bad words\n"
+
+abbrev pub read_fault : List ℕ
+read_fault = codes "error: read fault\n"
+
+abbrev pub out_of_memory : List ℕ
+out_of_memory = codes "error: out of memory\n"
+
+abbrev pub input_too_big : List ℕ
+input_too_big = codes "input.js: input too big\n"
+
+-- the bytes aren't UTF-8: so many come before the first character that isn't whole
+abbrev pub not_utf8 : ℕ → List ℕ
+not_utf8 n = codes "input.js: not UTF-8 at byte " ++ (decimal n ++ codes "\n")
+
+-- a syntax error on a line, and in a column of it
+abbrev pub placed_error : ℕ → ℕ → List ℕ
+placed_error line column = codes "input.js:" ++ (decimal line ++ (codes ":" ++ (decimal column ++ codes ": syntax error\n")))
+
+-- a syntax error behind so many bytes of a source: on which line, and in which column, in characters, both from 1
+abbrev pub syntax_error : List ℕ → ℕ → List ℕ
+syntax_error source at = placed_error (line_of (front (chars source) at)) (col_of (front (chars source) at) + 1)
+
+-- the bytes aren't UTF-8, and the line says where
+pub record SaysNotUtf8 (source line : List ℕ) : Type 0 where
+  pub at : ℕ
+  pub valid : IsValidUpTo source at
+  pub line_is : line ≡ not_utf8 at
+
+-- the bytes are a text that no tree reads, and the line names a place in it
+pub record SaysSyntaxError (source line : List ℕ) : Type 0 where
+  pub at : ℕ
+  pub utf8 : IsUtf8 source
+  pub no_tree : (tree : Tree) → IsSource source tree → ⊥
+  pub within : at ≤ length source
+  pub line_is : line ≡ syntax_error source at
+
+-- the line says why the bytes aren't compiled
+abbrev pub SaysWhy : List ℕ → List ℕ → Type 0
+SaysWhy source line = SaysNotUtf8 source line ⊎ SaysSyntaxError source line
