@@ -4,7 +4,7 @@ use Rattle.std.specs.Prelude.{IsTrue, codes}
 use Rattle.jsx_base.specs.Token.{Text, TokenKind, Operator, Punctuator, IdentifierName, Elision, same}
 use Rattle.jsx_tree.specs.Signs.{Sign, Tok}
 use Rattle.jsx_tree.specs.Kinds.{ArrayPat, Assign, Binds, Kind, ObjectPat, RestPat, WithInit, expression, function, Tree, leaf, node, list, Forest, none, part}
-use Rattle.jsx_tree.specs.Nonterminals.{Nonterminal, Expr, Param, Pat, PatElement, Slot, leaf_in}
+use Rattle.jsx_tree.specs.Nonterminals.{Nonterminal, Expr, Param, Pat, PatElement, SetterParam, Slot, leaf_in}
 use Rattle.jsx_tree.specs.Grammar.{Part, pun}
 use Rattle.jsx_tree.specs.Form.{admits, is_leaf}
 use Rattle.jsx_tree.specs.Reading.{Place, Lost, At, forth}
@@ -64,6 +64,7 @@ place_kind : (c : Nonterminal) (k : Kind) (ts : Forest) → takes_default c ≡ 
 place_kind Param k ts h t a = standing Param is_default_kind refl k t (kind_home Param k ts a)
 place_kind (PatElement Binds) k ts h t a = standing (PatElement Binds) is_default_kind refl k t (kind_home (PatElement Binds) k ts a)
 place_kind (Slot Binds) k ts h t a = standing (Slot Binds) is_default_kind refl k t (kind_home (Slot Binds) k ts a)
+place_kind SetterParam k ts h t a = standing SetterParam is_default_kind refl k t (kind_home SetterParam k ts a)
 place_kind _ k ts h t a = cc
 
 node_default : {v : Surroundings} {c : Nonterminal} {x y : Place} (k : Kind) (ts : Forest) → is_default_kind k ≡ true → Staged v false c x (node k ts) y → AtDefault v x y (node k ts)
@@ -78,9 +79,11 @@ leaf_default Param IdentifierName t h r = pattern (leaf_to (Pat Binds) IsName (a
 leaf_default (PatElement Binds) IdentifierName t h r = pattern (leaf_to (Pat Binds) IsName (and_left (leaf_in (PatElement Binds) IdentifierName t) (is_leaf IdentifierName t) r.reads.is) refl r)
 leaf_default (Slot Binds) IdentifierName t h r = pattern (leaf_to (Pat Binds) IsName (and_left (leaf_in (Slot Binds) IdentifierName t) (is_leaf IdentifierName t) r.reads.is) refl r)
 leaf_default (Slot Binds) Elision t h r = hole
+leaf_default SetterParam IdentifierName t h r = pattern (leaf_to (Pat Binds) IsName (and_left (leaf_in SetterParam IdentifierName t) (is_leaf IdentifierName t) r.reads.is) refl r)
 leaf_default Param _ t h r = let bad = r.staged in cc
 leaf_default (PatElement Binds) _ t h r = let bad = r.staged in cc
 leaf_default (Slot Binds) _ t h r = let bad = r.staged in cc
+leaf_default SetterParam _ t h r = let bad = r.staged in cc
 leaf_default _ k t h r = cc
 
 pub at_default : {v : Surroundings} {x y : Place} (c : Nonterminal) (t : Tree) → takes_default c ≡ true → Staged v false c x t y → AtDefault v x y t
@@ -94,24 +97,28 @@ named_there : {v : Surroundings} {x y : Place} {t : Text} (c : Nonterminal) → 
 named_there {t = t} Param h r = leaf_to Param IsName (and_left (leaf_in (Pat Binds) IdentifierName t) (is_leaf IdentifierName t) r.reads.is) refl r
 named_there {t = t} (PatElement Binds) h r = leaf_to (PatElement Binds) IsName (and_left (leaf_in (Pat Binds) IdentifierName t) (is_leaf IdentifierName t) r.reads.is) refl r
 named_there {t = t} (Slot Binds) h r = leaf_to (Slot Binds) IsName (and_left (leaf_in (Pat Binds) IdentifierName t) (is_leaf IdentifierName t) r.reads.is) refl r
+named_there {t = t} SetterParam h r = leaf_to SetterParam IsName (and_left (leaf_in (Pat Binds) IdentifierName t) (is_leaf IdentifierName t) r.reads.is) refl r
 named_there _ h r = cc
 
 array_home : (c : Nonterminal) (ts : Forest) → takes_default c ≡ true → admits c (node (function (ArrayPat Binds)) ts) ≡ true
 array_home Param ts h = refl
 array_home (PatElement Binds) ts h = refl
 array_home (Slot Binds) ts h = refl
+array_home SetterParam ts h = refl
 array_home _ ts h = cc
 
 object_home : (c : Nonterminal) (ts : Forest) → takes_default c ≡ true → admits c (node (function (ObjectPat Binds)) ts) ≡ true
 object_home Param ts h = refl
 object_home (PatElement Binds) ts h = refl
 object_home (Slot Binds) ts h = refl
+object_home SetterParam ts h = refl
 object_home _ ts h = cc
 
 value_home : (c : Nonterminal) (ts : Forest) → takes_default c ≡ true → admits c (node (function (WithInit Binds)) ts) ≡ true
 value_home Param ts h = refl
 value_home (PatElement Binds) ts h = refl
 value_home (Slot Binds) ts h = refl
+value_home SetterParam ts h = refl
 value_home _ ts h = cc
 
 pub pattern_there : {v : Surroundings} {x y : Place} (c : Nonterminal) (t : Tree) → takes_default c ≡ true → Staged v false (Pat Binds) x t y → Staged v false c x t y
@@ -136,6 +143,7 @@ pub value_whole : {v : Surroundings} {x z : Place} {ts : Forest} (c : Nontermina
 value_whole {v} {ts = ts} Param h w = moved (λ a g. free_around a ts v g) refl (whole_walk of_so_far Param value_row refl w.ends_there (of_so_far.from_node (function (WithInit Binds)) w.reads).walk)
 value_whole {v} {ts = ts} (PatElement Binds) h w = moved (λ a g. free_around a ts v g) refl (whole_walk of_so_far (PatElement Binds) value_row refl w.ends_there (of_so_far.from_node (function (WithInit Binds)) w.reads).walk)
 value_whole {v} {ts = ts} (Slot Binds) h w = moved (λ a g. free_around a ts v g) refl (whole_walk of_so_far (Slot Binds) value_row refl w.ends_there (of_so_far.from_node (function (WithInit Binds)) w.reads).walk)
+value_whole {v} {ts = ts} SetterParam h w = moved (λ a g. free_around a ts v g) refl (whole_walk of_so_far SetterParam value_row refl w.ends_there (of_so_far.from_node (function (WithInit Binds)) w.reads).walk)
 value_whole _ h w = cc
 
 pub rest_led : {v : Surroundings} {c : Nonterminal} {x z : Place} {ts : Forest} → Staged v false c x (node (function (RestPat Binds)) ts) z → IsTrue (is_found (forth (pun "...") x))
@@ -149,6 +157,8 @@ default_ends (PatElement Binds) Lost h = refl
 default_ends (PatElement Binds) (At q e text) h = refl
 default_ends (Slot Binds) Lost h = refl
 default_ends (Slot Binds) (At q e text) h = refl
+default_ends SetterParam Lost h = refl
+default_ends SetterParam (At q e text) h = refl
 default_ends _ y h = cc
 
 value_on : (c : Nonterminal) (y : Place) → takes_default c ≡ true → settled y ≡ true → IsTrue (is_found (forth (pun "=") y)) → ends_so_far c y ≡ false

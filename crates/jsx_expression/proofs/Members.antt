@@ -1,11 +1,11 @@
--- What stands in an object, up to its `}`: as a loop of the parser reads it (ECMA-262 section 13.2.5). A name alone and the key of a property may be read from one place, so it is what stands behind that tells.
+-- What stands in an object, up to its `}`: as a loop of the parser reads it (ECMA-262 section 13.2.5). A name alone and the key of a property or a method may be read from one place, and so may `get` and `set` as words and as keys; so it is what stands behind that tells.
 use Rattle.std.proofs.Common.{◌≡◌, Bool, List, [], ◌∷◌, true, false, not, refl, sym, ◌∙◌, ap, subst}
 use Rattle.std.specs.Prelude.{IsTrue, codes, ◌||◌}
 use Rattle.jsx_base.specs.Token.{Text, Operator, Punctuator, IdentifierName, among, same}
 use Rattle.jsx_tree.specs.Signs.{Sign, Tok, TrailingComma}
-use Rattle.jsx_tree.specs.Kinds.{Kind, Property, Shorthand, Spread, expression, Tree, leaf, node, list, Forest, none, part}
+use Rattle.jsx_tree.specs.Kinds.{Getter, InClass, InObject, Kind, Method, Property, Setter, Shorthand, Spread, Static, expression, function, Tree, leaf, node, list, Forest, none, part}
 use Rattle.jsx_tree.specs.Nonterminals.{Expr, Ident, Key, ObjectMember, is_ident, leaf_in, reserved}
-use Rattle.jsx_tree.specs.Grammar.{Commas, Fixed, Many, Part, pun}
+use Rattle.jsx_tree.specs.Grammar.{Commas, Context, Fixed, Many, Part, pun}
 use Rattle.jsx_tree.specs.Form.{admits, is_leaf}
 use Rattle.jsx_tree.specs.Reading.{Place, Lost, At, forth}
 use Rattle.jsx_tree.specs.StaticRules.{Surroundings}
@@ -22,19 +22,23 @@ use Rattle.jsx_tree.proofs.Rows.Laws.{end_found}
 use Rattle.jsx_tree.proofs.Rows.Lists.{closed, ended_sign}
 use Rattle.jsx_tree.proofs.Rows.Placing.{free_around, moved}
 use Rattle.jsx_tree.proofs.Rows.Steps.{bar, both}
-use Rattle.jsx_tree.proofs.Rows.Turns.{From, Turn, turn_symbol, turn_only, turn_none, turn_as, turn_both, cons, early, item_of, whole_of, comma_trails, nothing_trails, prepend, prepend_cons}
+use Rattle.jsx_tree.proofs.Rows.Turns.{From, Turn, turn_only, turn_none, turn_as, turn_both, cons, early, item_of, comma_trails, nothing_trails, prepend, prepend_cons}
 use Rattle.jsx_operand.specs.SoFar.{Staged, so_far}
-use Rattle.jsx_operand.specs.Members.{OnlyMember, NoMember, is_word}
+use Rattle.jsx_operand.specs.Members.{Closed, OnlyMember, NoMember, by_brace, by_comma, is_word}
+use Rattle.jsx_token.specs.Here.{Here, place_of}
 use Rattle.jsx_token.specs.Marks.{ends_so_far, row_so_far}
 use Rattle.jsx_operand.proofs.OfSoFar.{of_so_far}
-use Rattle.jsx_operand.proofs.Inners.{property}
 use Rattle.jsx_tree.proofs.Rows.Firsts.{kind_home}
 use Rattle.jsx_operand.proofs.Standing.{standing}
-use Rattle.jsx_operand.proofs.Homes.{IsName, Taken, inner, spread, taken_by, home_of, no_list, idents, only_leaf}
-use Rattle.jsx_operand.proofs.Values.{leaf_to, led_sign}
+use Rattle.jsx_operand.proofs.Homes.{IsName, Taken, taken_by, home_of, no_list, idents, only_leaf}
+use Rattle.jsx_operand.proofs.Values.{leaf_to}
 use Rattle.jsx_operand.proofs.Climbing.{signed_built, signed_none}
+use Rattle.jsx_operand.proofs.Keys.{literal_key, mark_none}
+use Rattle.jsx_expression.specs.Methods.{IsBare, IsPrefix, NoPrefix, NoneFromKey, NoneKeyed, OnlyFromKey, OnlyKeyed, behind_key, from_key, keyed_in_object}
 use Rattle.jsx_expression.proofs.Elements.{dots_led, spread_whole}
-use Rattle.jsx_operand.proofs.Keys.{key_unmarked, literal_key, mark_none}
+use Rattle.jsx_expression.proofs.Keyed.{past}
+use Rattle.jsx_expression.proofs.Prefixes.{key_before}
+use Rattle.jsx_expression.proofs.Worded.{accessor_is, accessor_key, accessor_kind, accessor_row, accessor_self, accessor_sign, accessor_word, behind_word, is_accessor, key_there, one_accessor, unworded, word_marked, word_there, worded_led}
 
 stuck_not : {s : Sign} {x : Place} → Stuck s x → IsTrue (is_found (forth s x)) → ⊥
 stuck_not k f = let bad : IsTrue (is_found Lost) = subst (λ p. IsTrue (is_found p)) k.is f in cc
@@ -43,23 +47,34 @@ lost_from : (x : Place) → (IsTrue (is_found x) → ⊥) → x ≡ Lost
 lost_from Lost n = refl
 lost_from (At q e text) n = absurd (n refl)
 
+bare_word : {x : Place} → IsBare x → (b : Bool) → NoPrefix (accessor_sign b) x
+bare_word n true = n.getting
+bare_word n false = n.setting
+
 -- ---- what stands there
 
 pub data AtMember : Tree → Type 0 where
-  paired : {ts : Forest} → AtMember (node (expression Property) ts)
+  keyed : {k : Kind} {ts : Forest} → keyed_in_object k ≡ true → AtMember (node k ts)
   short : {ts : Forest} → AtMember (node (expression Shorthand) ts)
   spreads : {ts : Forest} → AtMember (node (expression Spread) ts)
+  worded : (b : Bool) {ts : Forest} → AtMember (node (accessor_kind InObject b) ts)
 
 abbrev is_member : Kind → Bool
 is_member (expression Property) = true
 is_member (expression Shorthand) = true
 is_member (expression Spread) = true
+is_member (function (Method InObject)) = true
+is_member (function (Getter InObject)) = true
+is_member (function (Setter InObject)) = true
 is_member k = false
 
 member_is : (k : Kind) (ts : Forest) → is_member k ≡ true → AtMember (node k ts)
-member_is (expression Property) ts h = paired
+member_is (expression Property) ts h = keyed refl
 member_is (expression Shorthand) ts h = short
 member_is (expression Spread) ts h = spreads
+member_is (function (Method InObject)) ts h = keyed refl
+member_is (function (Getter InObject)) ts h = worded true
+member_is (function (Setter InObject)) ts h = worded false
 member_is _ ts h = cc
 
 member_kind : (k : Kind) (ts : Forest) → Taken k → admits ObjectMember (node k ts) ≡ true → AtMember (node k ts)
@@ -70,20 +85,58 @@ at_member (leaf k t) r = let bad = r.staged in cc
 at_member (node k ts) r = member_kind k ts (taken_by r) (home_of r)
 at_member (list ts) r = absurd (no_list r)
 
--- ---- a property, along its row
+-- ---- a property or a method, along its row
 
 member_ends : (y : Place) → ends_so_far ObjectMember y ≡ ends_so_far (Expr 1) y
 member_ends Lost = refl
 member_ends (At q e text) = refl
 
-property_whole : {v : Surroundings} {x z : Place} {ts : Forest} → Whole so_far v false ObjectMember x (node (expression Property) ts) z → Walk (Whole so_far) (steady v) (row_so_far (expression Property)) x ts z
-property_whole {v} {z = z} {ts} w = moved (λ a h. free_around a ts v h) refl (whole_walk of_so_far (Expr 1) (row_so_far (expression Property)) refl (sym (member_ends z) ∙ w.ends_there) (of_so_far.from_node (expression Property) w.reads).walk)
+keyed_walk : {v : Surroundings} {x z : Place} {ts : Forest} (k : Kind) → keyed_in_object k ≡ true → Whole so_far v false ObjectMember x (node k ts) z → Walk (Whole so_far) (around v ts) (from_key k) x ts z
+keyed_walk {z = z} (expression Property) e w = whole_walk of_so_far (Expr 1) (row_so_far (expression Property)) refl (sym (member_ends z) ∙ w.ends_there) (of_so_far.from_node (expression Property) w.reads).walk
+keyed_walk (function (Method InObject)) e w = whole_walk of_so_far ObjectMember (row_so_far (function (Method InObject))) refl w.ends_there (of_so_far.from_node (function (Method InObject)) w.reads).walk
+keyed_walk (function (Method InClass)) e w = cc
+keyed_walk (function (Method Static)) e w = cc
+keyed_walk _ e w = cc
 
-key_there : {v : Surroundings} {x z : Place} {ts : Forest} (d : Text) → same (codes "[") d ≡ false → Walk (Whole so_far) (steady v) (row_so_far (expression Property)) x ts z → IsTrue (is_found (forth (Tok Operator Punctuator d) x)) → ⊥
-key_there d n (next (tree q) w) f = key_unmarked d n q.reads f
+keyed_row : (k : Kind) → keyed_in_object k ≡ true → row_so_far k ≡ from_key k
+keyed_row (expression Property) e = refl
+keyed_row (function (Method InObject)) e = refl
+keyed_row (function (Method InClass)) e = cc
+keyed_row (function (Method Static)) e = cc
+keyed_row _ e = cc
 
-no_keyed : {v : Surroundings} {x z : Place} {ts : Forest} → Barred so_far v (Part Key) x → Walk (Whole so_far) (steady v) (row_so_far (expression Property)) x ts z → ⊥
-no_keyed b (next q w) = b.no _ _ q
+keyed_home : (k : Kind) (ts : Forest) → keyed_in_object k ≡ true → admits ObjectMember (node k ts) ≡ true
+keyed_home (expression Property) ts e = refl
+keyed_home (function (Method InObject)) ts e = refl
+keyed_home (function (Method InClass)) ts e = cc
+keyed_home (function (Method Static)) ts e = cc
+keyed_home _ ts e = cc
+
+no_keyed : {v : Surroundings} {x z : Place} {us ts : Forest} (k : Kind) → Barred so_far v (Part Key) x → Walk (Whole so_far) (around v us) (from_key k) x ts z → ⊥
+no_keyed k b (next q w) = b.no _ _ q
+
+-- behind the key neither a comma nor the brace stands
+shut_not : {x : Place} (d : Text) → same (codes ",") d ≡ false → same (codes "}") d ≡ false → Closed x → IsTrue (is_found (forth (Tok Operator Punctuator d) x)) → ⊥
+shut_not {x} d n m (by_comma f) g = never_both Punctuator Punctuator (codes ",") d x n f g
+shut_not {x} d n m (by_brace f) g = never_both Punctuator Punctuator (codes "}") d x m f g
+
+-- a `:` stands there, or a `(`
+goes_by : {V : List Context → Surroundings} {y z : Place} {ts : Forest} (k : Kind) → keyed_in_object k ≡ true → (IsTrue (is_found (forth (pun ":") y)) → ⊥) → (IsTrue (is_found (forth (pun "(") y)) → ⊥) → Walk (Whole so_far) V (behind_key k) y ts z → ⊥
+goes_by (expression Property) e c o (next (sign g f) w) = c (found_at g f)
+goes_by (function (Method InObject)) e c o (next (sign g f) w) = o (found_at g f)
+goes_by (function (Method InClass)) e c o w = cc
+goes_by (function (Method Static)) e c o w = cc
+goes_by _ e c o w = cc
+
+-- ---- one behind its word
+
+accessor_home : (b : Bool) (ts : Forest) → admits ObjectMember (node (accessor_kind InObject b) ts) ≡ true
+accessor_home true ts = refl
+accessor_home false ts = refl
+
+worded_walk : {v : Surroundings} {x z : Place} {ts : Forest} (b : Bool) → Whole so_far v false ObjectMember x (node (accessor_kind InObject b) ts) z → Walk (Whole so_far) (around v ts) (piece [] (Fixed (accessor_sign b)) ∷ from_key (accessor_kind InObject b)) x ts z
+worded_walk true w = whole_walk of_so_far ObjectMember (row_so_far (function (Getter InObject))) refl w.ends_there (of_so_far.from_node (function (Getter InObject)) w.reads).walk
+worded_walk false w = whole_walk of_so_far ObjectMember (row_so_far (function (Setter InObject))) refl w.ends_there (of_so_far.from_node (function (Setter InObject)) w.reads).walk
 
 -- ---- a name alone
 
@@ -113,98 +166,118 @@ unmarked : {v : Surroundings} {x z : Place} {u : Tree} (d : Text) → same (code
 unmarked {v} {x} {z} {u} d n m f w = at (at_member u w.reads) w
   where
     at : {t : Tree} → AtMember t → Whole so_far v false ObjectMember x t z → ⊥
-    at paired q = key_there d n (property_whole q) f
+    at (keyed {k = k} e) q = key_there k d n (keyed_walk k e q) f
     at short q = name_marked d q.reads f
     at spreads q = never_both Punctuator Punctuator (codes "...") d x m (dots_led q.reads) f
+    at (worded b) q = word_marked x b d (worded_led (worded_walk b q)) f
 
--- ---- a property that was read
+-- ---- a property or a method that was read
 
-pub property_member : {v : Surroundings} {x y z : Place} {t u : Tree} → Only so_far v (Part Key) x (one t) y → Built so_far v (tail (row_so_far (expression Property))) (expression Property) (part t) u y z → OnlyMember v x u z
-property_member {v} {x} {y} {z} {t} {u} o b = record {
-  reads = subst (λ w. Staged v false ObjectMember x w z) (sym b.is) (of_so_far.to_node (expression Property) refl (record { walk = loosen (moved (λ a h. sym (free_around a (part t b.parts) v h)) refl whole); keeps = and_both _ _ (plain_row (row_so_far (expression Property)) refl (to_grammar of_so_far whole)) refl }));
+-- is what is read as one from its key on
+same_keyed : {v : Surroundings} {x y z p : Place} {c u : Tree} {ts : Forest} (k : Kind) → keyed_in_object k ≡ true → Only so_far v (Part Key) x (one c) y → OnlyKeyed keyed_in_object v c u y z → Whole so_far v false ObjectMember x (node k ts) p → (u ≡ node k ts) × (z ≡ p)
+same_keyed {v} {p = p} k e o d q =
+    let r = past {k = k} o (keyed_walk k e q) in
+    let s = d.alone k r.parts p e r.walk (subst (λ f. so_far.keeps k v f ≡ true) (sym r.is) (of_so_far.from_node k q.reads).keeps) in
+    (sym s.0 ∙ ap (node k) r.is, sym s.1)
+
+pub keyed_member : {v : Surroundings} {x y z : Place} {c u : Tree} → IsBare x → Only so_far v (Part Key) x (one c) y → OnlyKeyed keyed_in_object v c u y z → OnlyMember v x u z
+keyed_member {v} {x} {y} {z} {c} {u} n o d = record {
+  reads = subst (λ w. Staged v false ObjectMember x w z) (sym d.is) (of_so_far.to_node d.kind (keyed_home d.kind (part c d.parts) d.keyed) (record { walk = subst (λ ps. Walk Staged (around v (part c d.parts)) ps x (part c d.parts) z) (sym (keyed_row d.kind d.keyed)) (loosen (next o.past d.walk)); keeps = d.keeps }));
   alone = λ w p s q. at s (at_member w q.reads) q;
 }
   where
-    whole : Walk (Whole so_far) (steady v) (row_so_far (expression Property)) x (part t b.parts) z
-    whole = next o.past b.row.walk
+    at : {w : Tree} {p : Place} → Closed p → AtMember w → Whole so_far v false ObjectMember x w p → (u ≡ w) × (z ≡ p)
+    at s (keyed {k = k} e) q = same_keyed k e o d q
+    at {p = p} s short q =
+        let m = name_of q.reads in
+        let here : Closed y = subst Closed (sym (o.alone (one (leaf IdentifierName m.text)) p (tree (as_key m.reads))).1) s in
+        absurd (goes_by d.kind d.keyed (shut_not (codes ":") refl refl here) (shut_not (codes "(") refl refl here) d.walk)
+    at s spreads q = absurd (stuck_not n.dots (dots_led q.reads))
+    at s (worded b) q = absurd (unworded (accessor_kind InObject b) (bare_word n b) (worded_walk b q))
 
-    colon : IsTrue (is_found (forth (pun ":") y))
-    colon = led_sign (tail (row_so_far (expression Property))) refl b.row.walk
-
-    at : {w : Tree} {p : Place} → Stuck (pun ":") p → AtMember w → Whole so_far v false ObjectMember x w p → (u ≡ w) × (z ≡ p)
-    at {p = p} s (paired {ts}) q =
-        let f = (turn_symbol o).from ts p (property_whole q) in
-        let e = b.row.alone f.parts p f.walk in
-        (b.is ∙ ap (node (expression Property)) (ap (part t) e.0 ∙ f.is), e.1)
-    at {p = p} s short q = let n = name_of q.reads in absurd (stuck_not s (subst (λ a. IsTrue (is_found (forth (pun ":") a))) (o.alone (one (leaf IdentifierName n.text)) p (tree (as_key n.reads))).1 colon))
-    at s spreads q = absurd (key_unmarked (codes "...") refl (whole_of o.past).reads (dots_led q.reads))
-
--- none that begins with the key, which is no name that may stand alone, or before a `:`
-pub no_property : {v : Surroundings} {x y : Place} {t : Tree} → Only so_far v (Part Key) x (one t) y → ((s : Text) → t ≡ leaf IdentifierName s → is_ident s ≡ true → IsTrue (is_found (forth (pun ":") y))) → NoRow so_far v (tail (row_so_far (expression Property))) y → NoMember v x
-no_property {v} {x} {y} {t} o c n = record { no = λ w p s q. at s (at_member w q.reads) q }
+-- none that begins with the key, which is no name that may stand alone, or before `:` or `(`
+pub no_keyed_member : {v : Surroundings} {x y : Place} {t : Tree} → IsBare x → Only so_far v (Part Key) x (one t) y → ((s : Text) → t ≡ leaf IdentifierName s → is_ident s ≡ true → Closed y → ⊥) → NoneKeyed keyed_in_object v t y → NoMember v x
+no_keyed_member {v} {x} {y} {t} b o c n = record { no = λ w p s q. at s (at_member w q.reads) q }
   where
     tree_is : {s : Text} → one t ≡ one (leaf IdentifierName s) → t ≡ leaf IdentifierName s
     tree_is e = ap item_of e
 
-    at : {w : Tree} {p : Place} → Stuck (pun ":") p → AtMember w → Whole so_far v false ObjectMember x w p → ⊥
-    at {p = p} s (paired {ts}) q = let f = (turn_symbol o).from ts p (property_whole q) in n.no f.parts p f.walk
+    at : {w : Tree} {p : Place} → Closed p → AtMember w → Whole so_far v false ObjectMember x w p → ⊥
+    at {p = p} s (keyed {k = k} e) q =
+        let r = past {k = k} o (keyed_walk k e q) in
+        n.no k r.parts p e r.walk (subst (λ f. so_far.keeps k v f ≡ true) (sym r.is) (of_so_far.from_node k q.reads).keeps)
     at {p = p} s short q =
         let m = name_of q.reads in
         let e = o.alone (one (leaf IdentifierName m.text)) p (tree (as_key m.reads)) in
-        stuck_not s (subst (λ a. IsTrue (is_found (forth (pun ":") a))) e.1 (c m.text (tree_is e.0) (and_left (leaf_in Ident IdentifierName m.text) (is_leaf IdentifierName m.text) m.reads.reads.is)))
-    at s spreads q = key_unmarked (codes "...") refl (whole_of o.past).reads (dots_led q.reads)
+        c m.text (tree_is e.0) (and_left (leaf_in Ident IdentifierName m.text) (is_leaf IdentifierName m.text) m.reads.reads.is) (subst Closed (sym e.1) s)
+    at s spreads q = stuck_not b.dots (dots_led q.reads)
+    at s (worded d) q = unworded (accessor_kind InObject d) (bare_word b d) (worded_walk d q)
 
 -- the same of a key that is no name
-pub no_wordless : {v : Surroundings} {x y : Place} {t : Tree} → Only so_far v (Part Key) x (one t) y → is_word t ≡ false → NoRow so_far v (tail (row_so_far (expression Property))) y → NoMember v x
-no_wordless o w n = no_property o (λ s e i. let bad : true ≡ false = ap is_word (sym e) ∙ w in cc) n
+pub no_wordless : {v : Surroundings} {x y : Place} {t : Tree} → IsBare x → Only so_far v (Part Key) x (one t) y → is_word t ≡ false → NoneKeyed keyed_in_object v t y → NoMember v x
+no_wordless b o w n = no_keyed_member b o (λ s e i f. let bad : true ≡ false = ap is_word (sym e) ∙ w in cc) n
 
--- one that is a name is reserved, or stands before a `:`; or neither
-pub paired_word : {y p : Place} {u : Tree} (t : Text) → u ≡ leaf IdentifierName t → y ≡ p → (among t reserved || is_found (forth (pun ":") p)) ≡ true → (s : Text) → u ≡ leaf IdentifierName s → is_ident s ≡ true → IsTrue (is_found (forth (pun ":") y))
-paired_word {y} {p} t e same h s f i = ap (λ q. is_found (forth (pun ":") q)) same ∙ or_cases (among t reserved) _ h (λ r. absurd (clash _ r (is_not _ (ap is_ident (text_is (sym e ∙ f)) ∙ i)))) (λ r. r)
+-- one that is a name is reserved, or stands before a `:` or a `(`; or neither
+pub keyed_word : {y p : Place} {u : Tree} (t : Text) → u ≡ leaf IdentifierName t → y ≡ p → (among t reserved || (is_found (forth (pun ":") p) || is_found (forth (pun "(") p))) ≡ true → (s : Text) → u ≡ leaf IdentifierName s → is_ident s ≡ true → Closed y → ⊥
+keyed_word {y} {p} t e same h s f i g =
+    let here : Closed p = subst Closed same g in
+    or_cases (among t reserved) _ h (λ r. clash _ r (is_not _ (ap is_ident (text_is (sym e ∙ f)) ∙ i)))
+    (λ r. or_cases (is_found (forth (pun ":") p)) _ r (λ a. shut_not (codes ":") refl refl here a) (λ a. shut_not (codes "(") refl refl here a))
   where
     text_is : {a b : Text} → leaf IdentifierName a ≡ leaf IdentifierName b → a ≡ b
     text_is g = cc
 
-pub unpaired : {y p : Place} (t : Text) → y ≡ p → (among t reserved || is_found (forth (pun ":") p)) ≡ false → (is_ident t ≡ true) × Stuck (pun ":") y
-unpaired {y} {p} t same h = let n = neither _ _ h in (ap not n.0, record { is = lost_from _ (λ g. clash _ (ap (λ q. is_found (forth (pun ":") q)) (sym same) ∙ g) n.1) })
+-- a name behind which neither stands
+pub record ShortName (t : Text) (y : Place) : Type 0 where
+  pub ident : is_ident t ≡ true
+  pub colon : Stuck (pun ":") y
+  pub bracket : Stuck (pun "(") y
+
+pub unkeyed : {y p : Place} (t : Text) → y ≡ p → (among t reserved || (is_found (forth (pun ":") p) || is_found (forth (pun "(") p))) ≡ false → ShortName t y
+unkeyed {y} {p} t same h =
+    let n = neither (among t reserved) _ h in
+    let m = neither (is_found (forth (pun ":") p)) _ n.1 in
+    record { ident = ap not n.0; colon = record { is = lost_from _ (λ g. clash _ (ap (λ q. is_found (forth (pun ":") q)) (sym same) ∙ g) m.0) }; bracket = record { is = lost_from _ (λ g. clash _ (ap (λ q. is_found (forth (pun "(") q)) (sym same) ∙ g) m.1) } }
   where
     neither : (a b : Bool) → (a || b) ≡ false → (a ≡ false) × (b ≡ false)
     neither true b e = cc
     neither false b e = (refl, e)
 
 -- no key stands there, and no dots
-pub no_key : {v : Surroundings} {x : Place} → Stuck (pun "...") x → Barred so_far v (Part Key) x → NoMember v x
-no_key {v} {x} k b = record { no = λ w p s q. at (at_member w q.reads) q }
+pub no_key : {v : Surroundings} {x : Place} → IsBare x → Barred so_far v (Part Key) x → NoMember v x
+no_key {v} {x} n b = record { no = λ w p s q. at (at_member w q.reads) q }
   where
     at : {w : Tree} {p : Place} → AtMember w → Whole so_far v false ObjectMember x w p → ⊥
-    at paired q = no_keyed b (property_whole q)
+    at (keyed {k = k} e) q = no_keyed k b (keyed_walk k e q)
     at {p = p} short q = let m = name_of q.reads in b.no (one (leaf IdentifierName m.text)) p (tree (as_key m.reads))
-    at spreads q = stuck_not k (dots_led q.reads)
+    at spreads q = stuck_not n.dots (dots_led q.reads)
+    at (worded c) q = unworded (accessor_kind InObject c) (bare_word n c) (worded_walk c q)
 
 -- ---- a name alone that was read
 
-pub short_member : {v : Surroundings} {x y : Place} {t : Text} {u : Tree} → is_ident t ≡ true → is_leaf IdentifierName t ≡ true → y ≡ forth (Tok Operator IdentifierName t) x → IsTrue (is_found y) → Stuck (pun ":") y → u ≡ node (expression Shorthand) (part (leaf IdentifierName t) none) → OnlyMember v x u y
-short_member {v} {x} {y} {t} {u} i w e f c is = record {
+pub short_member : {v : Surroundings} {x y : Place} {t : Text} {u : Tree} → IsBare x → ShortName t y → is_leaf IdentifierName t ≡ true → y ≡ forth (Tok Operator IdentifierName t) x → IsTrue (is_found y) → u ≡ node (expression Shorthand) (part (leaf IdentifierName t) none) → OnlyMember v x u y
+short_member {v} {x} {y} {t} {u} n a w e f is = record {
   reads = subst (λ w. Staged v false ObjectMember x w y) (sym is) (of_so_far.to_node (expression Shorthand) refl (record { walk = loosen (moved (λ a h. sym (free_around a (part (leaf IdentifierName t) none) v h)) refl whole); keeps = and_both _ _ (plain_row (row_so_far (expression Shorthand)) refl (to_grammar of_so_far whole)) refl }));
   alone = λ w p s q. at (at_member w q.reads) q;
 }
   where
     name : Only so_far v (Part Ident) x (one (leaf IdentifierName t)) y
-    name = only_leaf idents i refl w e f
+    name = only_leaf idents a.ident refl w e f
 
-    key : Only so_far v (Part Key) x (one (leaf IdentifierName t)) y
-    key = literal_key IsName t refl w e f
+    literal : Only so_far v (Part Key) x (one (leaf IdentifierName t)) y
+    literal = literal_key IsName t refl w e f
 
     whole : Walk (Whole so_far) (steady v) (row_so_far (expression Shorthand)) x (part (leaf IdentifierName t) none) y
     whole = next name.past (done f)
 
     at : {w : Tree} {p : Place} → AtMember w → Whole so_far v false ObjectMember x w p → (u ≡ w) × (y ≡ p)
-    at {p = p} (paired {ts}) q = let r = (turn_symbol key).from ts p (property_whole q) in absurd (stuck_not c (led_sign (tail (row_so_far (expression Property))) refl r.walk))
+    at {p = p} (keyed {k = k} h) q = let r = past {k = k} literal (keyed_walk k h q) in absurd (goes_by k h (stuck_not a.colon) (stuck_not a.bracket) r.walk)
     at {p = p} (short {ts}) q =
         let m = name_of q.reads in
-        let s = key.alone (one (leaf IdentifierName m.text)) p (tree (as_key m.reads)) in
+        let s = literal.alone (one (leaf IdentifierName m.text)) p (tree (as_key m.reads)) in
         (is ∙ ((λ j. node (expression Shorthand) (part (item_of (s.0 j)) none)) ∙ ap (node (expression Shorthand)) (sym m.is)), s.1)
-    at spreads q = absurd (key_unmarked (codes "...") refl (whole_of key.past).reads (dots_led q.reads))
+    at spreads q = absurd (stuck_not n.dots (dots_led q.reads))
+    at (worded b) q = absurd (unworded (accessor_kind InObject b) (bare_word n b) (worded_walk b q))
 
 -- ---- a spread
 
@@ -221,9 +294,10 @@ spread_read {v} {x} {a} {y} {t} m b = record {
     there = found_at (sym m.is) m.found
 
     at : {u : Tree} {p : Place} → AtMember u → Whole so_far v false ObjectMember x u p → (t ≡ u) × (y ≡ p)
-    at paired q = absurd (key_there (codes "...") refl (property_whole q) there)
+    at (keyed {k = k} e) q = absurd (key_there k (codes "...") refl (keyed_walk k e q) there)
     at short q = absurd (name_marked (codes "...") q.reads there)
     at {p = p} (spreads {ts}) q = let e = w.row.alone ts p (spread_whole q.reads (sym (member_ends p) ∙ q.ends_there)) in (w.is ∙ ap (node (expression Spread)) e.0, e.1)
+    at (worded c) q = absurd (word_marked x c (codes "...") (worded_led (worded_walk c q)) there)
 
 pub no_spread : {v : Surroundings} {x a : Place} → Moves (pun "...") x a → NoRow so_far v (tail (row_so_far (expression Spread))) a → NoMember v x
 no_spread {v} {x} m n = record { no = λ u p s q. at (at_member u q.reads) q }
@@ -232,9 +306,74 @@ no_spread {v} {x} m n = record { no = λ u p s q. at (at_member u q.reads) q }
     there = found_at (sym m.is) m.found
 
     at : {u : Tree} {p : Place} → AtMember u → Whole so_far v false ObjectMember x u p → ⊥
-    at paired q = key_there (codes "...") refl (property_whole q) there
+    at (keyed {k = k} e) q = key_there k (codes "...") refl (keyed_walk k e q) there
     at short q = name_marked (codes "...") q.reads there
     at {p = p} (spreads {ts}) q = (signed_none (row_so_far (expression Spread)) refl m n).no ts p (spread_whole q.reads (sym (member_ends p) ∙ q.ends_there))
+    at (worded c) q = word_marked x c (codes "...") (worded_led (worded_walk c q)) there
+
+-- ---- a getter or a setter
+
+-- the word is no key there, and no name alone
+no_word_key : {v : Surroundings} {x y p : Place} {ts : Forest} (b : Bool) (k : Kind) → keyed_in_object k ≡ true → IsPrefix (accessor_sign b) x y → Whole so_far v false ObjectMember x (node k ts) p → ⊥
+no_word_key {v} {x} {y} b k e i q =
+    let literal : Only so_far v (Part Key) x (one (leaf IdentifierName (accessor_word b))) y = accessor_key b i.word in
+    let r = past {k = k} literal (keyed_walk k e q) in
+    goes_by k e (key_before (codes ":") refl i.before) (key_before (codes "(") refl i.before) r.walk
+
+no_word_name : {v : Surroundings} {x y p : Place} {ts : Forest} (b : Bool) → Closed p → IsPrefix (accessor_sign b) x y → Staged v false ObjectMember x (node (expression Shorthand) ts) p → ⊥
+no_word_name {v} {x} {y} {p} b s i r =
+    let literal : Only so_far v (Part Key) x (one (leaf IdentifierName (accessor_word b))) y = accessor_key b i.word in
+    let m = name_of r in
+    at (subst Closed (sym (literal.alone (one (leaf IdentifierName m.text)) p (tree (as_key m.reads))).1) s)
+  where
+    at : Closed y → ⊥
+    at (by_comma f) = key_before (codes ",") refl i.before f
+    at (by_brace f) = key_before (codes "}") refl i.before f
+
+no_word_dots : {v : Surroundings} {x y p : Place} {ts : Forest} (b : Bool) → Moves (accessor_sign b) x y → Staged v false ObjectMember x (node (expression Spread) ts) p → ⊥
+no_word_dots {x = x} b m r = word_marked x b (codes "...") (found_at (sym m.is) m.found) (dots_led r)
+
+pub accessor_member : {v : Surroundings} {x y z : Place} {u : Tree} (b : Bool) → IsPrefix (accessor_sign b) x y → OnlyFromKey (is_accessor InObject b) v u y z → OnlyMember v x u z
+accessor_member {v} {x} {y} {z} {u} b i d = record { reads = reads; alone = λ w p s q. at s (at_member w q.reads) q }
+  where
+    kind : accessor_kind InObject b ≡ d.kind
+    kind = accessor_is InObject b d.kind d.keyed
+
+    walk : Walk (Whole so_far) (around v d.parts) (piece [] (Fixed (accessor_sign b)) ∷ from_key (accessor_kind InObject b)) x d.parts z
+    walk = next (sign (sym i.word.is) i.word.found) (subst (λ k. Walk (Whole so_far) (around v d.parts) (from_key k) y d.parts z) (sym kind) d.walk)
+
+    reads : Staged v false ObjectMember x u z
+    reads = subst (λ w. Staged v false ObjectMember x w z) (ap (λ k. node k d.parts) kind ∙ sym d.is)
+        (of_so_far.to_node (accessor_kind InObject b) (accessor_home b d.parts) (record { walk = subst (λ ps. Walk Staged (around v d.parts) ps x d.parts z) (sym (accessor_row InObject b)) (loosen walk); keeps = subst (λ k. so_far.keeps k v d.parts ≡ true) (sym kind) d.keeps }))
+
+    same : {ts : Forest} {p : Place} → Whole so_far v false ObjectMember x (node (accessor_kind InObject b) ts) p → (u ≡ node (accessor_kind InObject b) ts) × (z ≡ p)
+    same {ts} {p} q = let s = d.alone (accessor_kind InObject b) ts p (accessor_self InObject b) (behind_word i.word (worded_walk b q)).walk (of_so_far.from_node (accessor_kind InObject b) q.reads).keeps in (sym s.0, sym s.1)
+
+    at : {w : Tree} {p : Place} → Closed p → AtMember w → Whole so_far v false ObjectMember x w p → (u ≡ w) × (z ≡ p)
+    at s (keyed {k = k} e) q = absurd (no_word_key b k e i q)
+    at s short q = absurd (no_word_name b s i q.reads)
+    at s spreads q = absurd (no_word_dots b i.word q.reads)
+    at {p = p} s (worded c {ts}) q = subst (λ k. Whole so_far v false ObjectMember x (node (accessor_kind InObject k) ts) p → (u ≡ node (accessor_kind InObject k) ts) × (z ≡ p)) (one_accessor b c x (word_there b i) (worded_led (worded_walk c q))) same q
+
+pub no_accessor : {v : Surroundings} {x y : Place} (b : Bool) → IsPrefix (accessor_sign b) x y → NoneFromKey (is_accessor InObject b) v y → NoMember v x
+no_accessor {v} {x} {y} b i n = record { no = λ w p s q. at s (at_member w q.reads) q }
+  where
+    same : {ts : Forest} {p : Place} → Whole so_far v false ObjectMember x (node (accessor_kind InObject b) ts) p → ⊥
+    same {ts} {p} q = n.no (accessor_kind InObject b) ts p (accessor_self InObject b) (behind_word i.word (worded_walk b q)).walk (of_so_far.from_node (accessor_kind InObject b) q.reads).keeps
+
+    at : {w : Tree} {p : Place} → Closed p → AtMember w → Whole so_far v false ObjectMember x w p → ⊥
+    at s (keyed {k = k} e) q = no_word_key b k e i q
+    at s short q = no_word_name b s i q.reads
+    at s spreads q = no_word_dots b i.word q.reads
+    at {p = p} s (worded c {ts}) q = subst (λ k. Whole so_far v false ObjectMember x (node (accessor_kind InObject k) ts) p → ⊥) (one_accessor b c x (word_there b i) (worded_led (worded_walk c q))) same q
+
+-- ---- from a place that is another
+
+pub member_from : {v : Surroundings} {x y : Here} {t : Tree} {z : Place} → x ≡ y → OnlyMember v (place_of x) t z → OnlyMember v (place_of y) t z
+member_from {v} {t = t} {z} e o = subst (λ h. OnlyMember v (place_of h) t z) e o
+
+pub no_member_from : {v : Surroundings} {x y : Here} → x ≡ y → NoMember v (place_of x) → NoMember v (place_of y)
+no_member_from {v} e n = subst (λ h. NoMember v (place_of h)) e n
 
 -- ---- the list, and what closes it
 
@@ -247,19 +386,16 @@ inside = piece [] (Many Commas ObjectMember) ∷ closing
 closing_found : {v : Surroundings} {x w : Place} {us : Forest} → Walk (Whole so_far) (steady v) closing x us w → IsTrue (is_found (forth (pun "}") x))
 closing_found (next (sign e f) walk) = found_at e f
 
--- behind a member of the list no `:` stands
-uncoloned : (d : Text) (x : Place) → same (codes ":") d ≡ false → IsTrue (is_found (forth (Tok Operator Punctuator d) x)) → Stuck (pun ":") x
-uncoloned d x n f = record { is = lost_from _ (λ g. never_both Punctuator Punctuator (codes ":") d x n g f) }
+-- behind a member of the list stands a comma, or the brace
+before_comma : {x z : Place} → forth (pun ",") x ≡ z → IsTrue (is_found z) → Closed x
+before_comma e f = by_comma (found_at e f)
 
-before_comma : {x z : Place} → forth (pun ",") x ≡ z → IsTrue (is_found z) → Stuck (pun ":") x
-before_comma {x} e f = uncoloned (codes ",") x refl (found_at e f)
-
-before_close : {y p : Place} → forth TrailingComma y ≡ p → IsTrue (is_found (forth (pun "}") p)) → Stuck (pun ":") y
+before_close : {y p : Place} → forth TrailingComma y ≡ p → IsTrue (is_found (forth (pun "}") p)) → Closed y
 before_close {y} {p} e f = by (is_found (forth (pun ",") y)) refl
   where
-    by : (b : Bool) → is_found (forth (pun ",") y) ≡ b → Stuck (pun ":") y
-    by true h = uncoloned (codes ",") y refl h
-    by false h = uncoloned (codes "}") y refl (subst (λ q. IsTrue (is_found (forth (pun "}") q))) (sym e ∙ nothing_trails y (record { is = lost_from _ (λ g. clash _ g h) })) f)
+    by : (b : Bool) → is_found (forth (pun ",") y) ≡ b → Closed y
+    by true h = by_comma h
+    by false h = by_brace (subst (λ q. IsTrue (is_found (forth (pun "}") q))) (sym e ∙ nothing_trails y (record { is = lost_from _ (λ g. clash _ g h) })) f)
 
 whole_before : {v : Surroundings} {x y : Place} {t : Tree} → OnlyMember v x t y → ends_so_far ObjectMember y ≡ true → Whole so_far v false ObjectMember x t y
 whole_before o e = record { reads = o.reads; ends_there = e }

@@ -25,11 +25,11 @@ use Rattle.jsx_token.specs.Marks.{row_so_far}
 use Rattle.jsx_token.specs.Growths.{opening_sign, same_sign}
 use Rattle.jsx_token.proofs.Listed.{listed, code, kinds, every, of_each, one_place, implies, implied}
 use Rattle.jsx_operand.specs.SoFar.{so_far}
-use Rattle.jsx_operand.specs.Openings.{opens_with, OnlyOpened, NoneOpened}
+use Rattle.jsx_operand.specs.Openings.{opens_with, NoParts, OnlyOpened, NoneOpened}
 use Rattle.jsx_operand.proofs.OfSoFar.{of_so_far}
 use Rattle.jsx_token.proofs.Levels.{grows_on}
 use Rattle.jsx_operand.proofs.Values.{First, name, opened, begun, led_sign, literal_opening, one_opening, opened_sign, opener, opener_of, quoted, piece_of, opener_piece}
-use Rattle.jsx_operand.proofs.Openings.{Other, itself, barred, kept_behind, opened_by, opens_listed}
+use Rattle.jsx_operand.proofs.Openings.{Other, itself, barred, free_none, kept_behind, opened_by, opens_listed}
 
 -- ---- which kinds begin so
 
@@ -75,29 +75,32 @@ untargeted n = bar (no_sign (record { is = n }))
 
 -- ---- `import`
 
+none_import : {v : Surroundings} {a : Place} → NoNode so_far v (tail (row_so_far (expression ImportCall))) (expression ImportCall) a → NoNode so_far v (tail (row_so_far (expression ImportMeta))) (expression ImportMeta) a → NoneOpened v (key "import") a
+none_import {v} {a} p q = record { no = of_import (λ j. NoParts v j a) (free_none (expression ImportCall) refl p) (free_none (expression ImportMeta) refl q) }
+
 pub import_called : {v : Surroundings} {a a' y : Place} {t : Tree} → Missed (pun ".") a a' → Built so_far v (tail (row_so_far (expression ImportCall))) (expression ImportCall) (λ ts. ts) t a' y → OnlyOpened v (key "import") t a y
 import_called {v} {a} {y = y} {t} m given =
     let b = subst (λ p. Built so_far v (tail (row_so_far (expression ImportCall))) (expression ImportCall) (λ ts. ts) t p y) (sym m.same) given in
-    opened_by (expression ImportCall) refl (kept_behind (expression ImportCall) (listed (expression ImportCall) refl refl refl) refl refl b)
-    (of_import (Other v a (expression ImportCall)) itself (barred (no_node (undotted m.stuck.is))))
+    opened_by (expression ImportCall) refl refl (kept_behind (expression ImportCall) (listed (expression ImportCall) refl refl refl) refl refl b)
+    (of_import (Other v a (expression ImportCall)) itself (barred refl (no_node (undotted m.stuck.is))))
 
 pub import_uncalled : {v : Surroundings} {a a' : Place} → Missed (pun ".") a a' → NoRow so_far v (tail (row_so_far (expression ImportCall))) a' → NoneOpened v (key "import") a
-import_uncalled {v} {a} m n = record { no = of_import (λ j. NoNode so_far v (tail (row_so_far j)) j a) (no_node (subst (NoRow so_far v (tail (row_so_far (expression ImportCall)))) (sym m.same) n)) (no_node (undotted m.stuck.is)) }
+import_uncalled {v} {a} m n = none_import (no_node (subst (NoRow so_far v (tail (row_so_far (expression ImportCall)))) (sym m.same) n)) (no_node (undotted m.stuck.is))
 
 dotted_call : {v : Surroundings} {a b : Place} → Moves (pun ".") a b → NoRow so_far v (tail (row_so_far (expression ImportCall))) a
 dotted_call {a = a} m = record { no = λ ts y w. paren_dot a (led_sign (tail (row_so_far (expression ImportCall))) refl w) (found_at (sym m.is) m.found) }
 
 pub meta_opened : {v : Surroundings} {a b y : Place} {t : Tree} → v.module' ≡ true → Moves (pun ".") a b → Only so_far v (Fixed (key "meta")) b nothing y → IsTrue (is_found y) → t ≡ node (expression ImportMeta) none → OnlyOpened v (key "import") t a y
-meta_opened {v} {a} {y = y} {t} h m o f e = opened_by (expression ImportMeta) refl built (of_import (Other v a (expression ImportMeta)) (barred (no_node (dotted_call m))) itself)
+meta_opened {v} {a} {y = y} {t} h m o f e = opened_by (expression ImportMeta) refl refl built (of_import (Other v a (expression ImportMeta)) (barred refl (no_node (dotted_call m))) itself)
   where
     built : BuiltNode so_far v (tail (row_so_far (expression ImportMeta))) (expression ImportMeta) t a y
     built = record { parts = none; is = e; row = then' (only_sign m) (then' o (end f)); keeps = h }
 
 pub meta_unread : {v : Surroundings} {a b : Place} → Moves (pun ".") a b → Barred so_far v (Fixed (key "meta")) b → NoneOpened v (key "import") a
-meta_unread {v} {a} m n = record { no = of_import (λ j. NoNode so_far v (tail (row_so_far j)) j a) (no_node (dotted_call m)) (no_node (on (only_sign m) (bar n))) }
+meta_unread {v} {a} m n = none_import (no_node (dotted_call m)) (no_node (on (only_sign m) (bar n)))
 
 pub meta_outside : {v : Surroundings} {a b : Place} → v.module' ≡ false → Moves (pun ".") a b → NoneOpened v (key "import") a
-meta_outside {v} {a} h m = record { no = of_import (λ j. NoNode so_far v (tail (row_so_far j)) j a) (no_node (dotted_call m)) (record { no = λ ts y w k. clash _ (and_right (rule (expression ImportMeta) ts) _ k) h }) }
+meta_outside {v} {a} h m = none_import (no_node (dotted_call m)) (record { no = λ ts y w k. clash _ (and_right (rule (expression ImportMeta) ts) _ k) h })
 
 -- ---- what stands before `(`, or not
 
@@ -171,13 +174,13 @@ dotted_callee {v} {a} m = record { no = at }
     at h z (tree {t = u} q) = dotted_first (found_at (sym m.is) m.found) (begun {c = NewCallee} refl u q.reads).first
 
 pub target_opened : {v : Surroundings} {a b y : Place} {t : Tree} → v.target' ≡ true → Moves (pun ".") a b → Only so_far v (Fixed (key "target")) b nothing y → IsTrue (is_found y) → t ≡ node (expression NewTarget) none → OnlyOpened v (key "new") t a y
-target_opened {v} {a} {y = y} {t} h m o f e = opened_by (expression NewTarget) refl built (of_new (Other v a (expression NewTarget)) (barred (no_node (bar (dotted_callee m)))) (barred (no_node (bar (dotted_callee m)))) itself)
+target_opened {v} {a} {y = y} {t} h m o f e = opened_by (expression NewTarget) refl refl built (of_new (Other v a (expression NewTarget)) (barred refl (no_node (bar (dotted_callee m)))) (barred refl (no_node (bar (dotted_callee m)))) itself)
   where
     built : BuiltNode so_far v (tail (row_so_far (expression NewTarget))) (expression NewTarget) t a y
     built = record { parts = none; is = e; row = then' (only_sign m) (then' o (end f)); keeps = h }
 
 none_new : {v : Surroundings} {a : Place} → NoNode so_far v (tail (row_so_far (expression New))) (expression New) a → NoNode so_far v (tail (row_so_far (expression NewWithoutArguments))) (expression NewWithoutArguments) a → NoNode so_far v (tail (row_so_far (expression NewTarget))) (expression NewTarget) a → NoneOpened v (key "new") a
-none_new {v} {a} p q r = record { no = of_new (λ j. NoNode so_far v (tail (row_so_far j)) j a) p q r }
+none_new {v} {a} p q r = record { no = of_new (λ j. NoParts v j a) (free_none (expression New) refl p) (free_none (expression NewWithoutArguments) refl q) (free_none (expression NewTarget) refl r) }
 
 pub target_unread : {v : Surroundings} {a b : Place} → Moves (pun ".") a b → Barred so_far v (Fixed (key "target")) b → NoneOpened v (key "new") a
 target_unread m n = none_new (no_node (bar (dotted_callee m))) (no_node (bar (dotted_callee m))) (no_node (on (only_sign m) (bar n)))
@@ -195,8 +198,8 @@ callee_here {v} {b = b} {t} m o = subst (λ p. Only so_far v (Part NewCallee) p 
 pub without_opened : {v : Surroundings} {a a' b b' : Place} {t u : Tree} → Missed (pun ".") a a' → Only so_far v (Part NewCallee) a' (one t) b → Missed (pun "(") b b' → u ≡ node (expression NewWithoutArguments) (part t none) → OnlyOpened v (key "new") u a b'
 without_opened {v} {a} {b = b} {t = t} {u} m given p e =
     subst (OnlyOpened v (key "new") u a) p.same
-    (opened_by (expression NewWithoutArguments) refl (kept_behind (expression NewWithoutArguments) (listed (expression NewWithoutArguments) refl refl refl) refl refl (built_2 here callee (only_sign (record { is = sym (unless_paren b p.stuck.is here); found = here })) e))
-    (of_new (Other v a (expression NewWithoutArguments)) (barred (no_node (on callee (bar (no_sign p.stuck))))) itself (barred (no_node (untargeted m.stuck.is)))))
+    (opened_by (expression NewWithoutArguments) refl refl (kept_behind (expression NewWithoutArguments) (listed (expression NewWithoutArguments) refl refl refl) refl refl (built_2 here callee (only_sign (record { is = sym (unless_paren b p.stuck.is here); found = here })) e))
+    (of_new (Other v a (expression NewWithoutArguments)) (barred refl (no_node (on callee (bar (no_sign p.stuck))))) itself (barred refl (no_node (untargeted m.stuck.is)))))
   where
     callee : Only so_far v (Part NewCallee) a (one t) b
     callee = callee_here m given
@@ -210,8 +213,8 @@ unguarded {b = b} o p = on o (bar (no_sign (record { is = paren_unless b (found_
 -- with its arguments
 pub with_opened : {v : Surroundings} {a a' b c y : Place} {t u : Tree} {us : Forest} → Missed (pun ".") a a' → Only so_far v (Part NewCallee) a' (one t) b → Moves (pun "(") b c → OnlyRow so_far v (tail (tail (row_so_far (expression Call)))) c us y → u ≡ node (expression New) (part t us) → OnlyOpened v (key "new") u a y
 with_opened {v} {a} {b = b} {y = y} {t = t} {u} {us} m given p r e =
-    opened_by (expression New) refl (kept_behind (expression New) (listed (expression New) refl refl refl) refl refl built)
-    (of_new (Other v a (expression New)) itself (barred (no_node (unguarded callee p))) (barred (no_node (untargeted m.stuck.is))))
+    opened_by (expression New) refl refl (kept_behind (expression New) (listed (expression New) refl refl refl) refl refl built)
+    (of_new (Other v a (expression New)) itself (barred refl (no_node (unguarded callee p))) (barred refl (no_node (untargeted m.stuck.is))))
   where
     callee : Only so_far v (Part NewCallee) a (one t) b
     callee = callee_here m given

@@ -3,3 +3,5 @@ pub mod Elements
 pub mod Gathering
 pub mod Functions
 pub mod Patterns
+pub mod Methods
+pub mod Classes

@@ -2,7 +2,7 @@
 use Rattle.std.specs.Prelude.{◌≡◌, [], ◌∷◌, Bool, true, false}
 use Rattle.jsx_tree.specs.Signs.{Pad}
 use Rattle.jsx_tree.specs.Kinds.{Binds, PropertyPat, function, Tree, node, none, part}
-use Rattle.jsx_tree.specs.Nonterminals.{Nonterminal, BindingIdent, Param, PatElement, PatProp, Slot}
+use Rattle.jsx_tree.specs.Nonterminals.{Nonterminal, BindingIdent, Param, PatElement, PatProp, SetterParam, Slot}
 use Rattle.jsx_tree.specs.Grammar.{Commas, Elisions, Fixed, Many, Part, Production, p, pun}
 use Rattle.jsx_tree.specs.Reading.{Place}
 use Rattle.jsx_tree.specs.StaticRules.{Surroundings}
@@ -27,6 +27,7 @@ abbrev pub takes_default : Nonterminal → Bool
 takes_default Param = true
 takes_default (PatElement Binds) = true
 takes_default (Slot Binds) = true
+takes_default SetterParam = true
 takes_default c = false
 
 -- The text is this one, and of all that may stand there, have come to their ends and are no hole it is no other: a name alone is read too before what goes on with an expression

@@ -62,7 +62,7 @@ pub(crate) struct Parameters<'s> {
 }
 
 /// Whether parameters may stand before a body: those before one that a directive of its own makes strict are names alone.
-fn suits(are_simple: bool, body: &Body) -> bool
+pub(crate) fn suits(are_simple: bool, body: &Body) -> bool
     ensures { result ≡ (are_simple || not (is_strict_body (view_body body.now))) }
 {
     are_simple || !body.is_strict()
@@ -86,7 +86,7 @@ pub(crate) fn function_name<'s>(
 }
 
 /// A name in a box, where there is one.
-fn boxed_name<'s>(
+pub(crate) fn boxed_name<'s>(
     alloc: Global,
     name: Option<Ident<'s>>,
 ) -> Result<Option<Box<Ident<'s>>>, AllocError>

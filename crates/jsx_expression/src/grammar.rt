@@ -152,6 +152,8 @@ impl<
             Opening::Array => Ok(self.array(context, lexer)?),
             Opening::Object => Ok(self.object(context, lexer)?),
             Opening::Function => Ok(self.function_expression(context, lexer)?),
+            Opening::Class => Ok(self.class_expression(context, lexer)?),
+            Opening::Super => Ok(self.super_expression(context, lexer)?),
             Opening::Unary(operator) => Ok(self.unary(context, lexer, operator)?),
             Opening::Update(operator) => Ok(self.prefix_update(context, lexer, operator)?),
         }

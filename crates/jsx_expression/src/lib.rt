@@ -3,10 +3,12 @@
 
 mod access;
 mod chains;
+pub mod class;
 pub mod expression;
 pub mod function;
 mod grammar;
 mod literals;
+mod method;
 mod operations;
 pub mod pattern;
 mod quoted;

@@ -22,17 +22,19 @@ ghost use Rattle.jsx_token.specs.Growths.{opening_sign, settled};
 ghost use Rattle.jsx_make.specs.NodeSpans.{expr_at};
 ghost use Rattle.jsx_operand.specs.Spans.{IsPlaced, IsPlacedBehind, IsPlacedPast, IsPlacedRow, Spans};
 ghost use Rattle.jsx_token.specs.Places.{begin_of, end_of};
+ghost use Rattle.jsx_expression.specs.Methods.{IsBare};
 ghost use Rattle.jsx_expression.specs.Within.{ReadsWithin};
 ghost use Rattle.jsx_operand.specs.Bodies.{ReadsBodies};
 
 use crate::grammar::Expressions;
+use crate::method::{Home, take_prefix};
 use jsx_base::BytePos;
 use jsx_make::make;
-use jsx_operand::operand::{ASSIGNMENT, is_paired, literal_key};
+use jsx_operand::operand::{ASSIGNMENT, is_keyed, literal_key};
 use jsx_operand::parser::{expect, give_up, span_to};
 use jsx_operand::proto::has_two_protos;
 use jsx_operand::{Body, Context, ParseError};
-use jsx_token::{Fixed, Leaf, Lexer};
+use jsx_token::{Fixed, Leaf, Lexer, Word};
 use jsx_tree::{Expr, Ident, Key, Prop, Text};
 
 impl<
@@ -185,7 +187,8 @@ impl<
         Ok(make::property(context.alloc, span_to(lo, lexer), key, value)?)
     }
 
-    /// What stands in an object: a property, a name for one and its value, or a spread (ECMA-262 section 13.2.5).
+    /// What stands in an object: a property, a name for one and its value, a method, a getter, a setter, or a spread (ECMA-262
+    /// section 13.2.5).
     pub(crate) fn object_member<'s>(
         &self,
         context: Context,
@@ -201,21 +204,46 @@ impl<
         if lexer.take(Fixed::Dots) {
             return Ok(self.spread_member(context, lexer)?);
         }
+        if take_prefix(lexer, Word::Get) {
+            let lo = lexer.last_place();
+            return Ok(self.getter_member(context, lexer, lo, Home::Object)?);
+        }
+        if take_prefix(lexer, Word::Set) {
+            let lo = lexer.last_place();
+            return Ok(self.setter_member(context, lexer, lo, Home::Object)?);
+        }
+        Ok(self.bare_member(context, lexer)?)
+    }
+
+    /// What stands in an object where its key comes first: a property, a name for one and its value, or a method.
+    pub(crate) fn bare_member<'s>(
+        &self,
+        context: Context,
+        lexer: &mut Lexer<'s>,
+    ) -> Result<Box<Prop<'s>>, ParseError>
+        requires nests { ReadsWithin (suc (left lexer.old)) (F.pre self.now.inner) (F.post self.now.inner) self.now.body }
+        requires bodies { ReadsBodies (left lexer.old) (B.pre self.now.body) (B.post self.now.body) }
+        requires bare { IsBare (place_of lexer.old) }
+        ensures read { IfOk result (λ p. OnlyMember (around_of context.entry.around) (place_of lexer.old) (view_prop p.value) (place_of lexer.new)) }
+        ensures placed { IfOk result (λ p. IsPlaced (told_prop p.value) (view_prop p.value) lexer.old lexer.new) }
+        ensures shorter { OnOk result (left lexer.new < left lexer.old) }
+        ensures refused { Refused result (NoMember (around_of context.entry.around) (place_of lexer.old)) }
+    {
         if lexer.take(Fixed::OpenBracket) {
             let lo = lexer.last_place();
             let key = self.computed_key(context, lexer)?;
-            return Ok(self.property(context, lexer, lo, key)?);
+            return Ok(self.object_keyed(context, lexer, lo, key)?);
         }
         if let Some(raw) = lexer.leaf(Leaf::Name) {
             let lo = lexer.last_place();
             let text = Text::Read(raw, lo);
-            if is_paired(lexer, raw) {
-                return Ok(self.property(context, lexer, lo, make::name_key(text))?);
+            if is_keyed(lexer, raw) {
+                return Ok(self.object_keyed(context, lexer, lo, make::name_key(text))?);
             }
             return Ok(make::shorthand(context.alloc, span_to(lo, lexer), Ident { text })?);
         }
         let key = literal_key(context, lexer)?;
-        Ok(self.property(context, lexer, lexer.last_place(), key)?)
+        Ok(self.object_keyed(context, lexer, lexer.last_place(), key)?)
     }
 
     /// What stands in an object behind its `{`, with the `}`: `a, b: c, ...d}`.

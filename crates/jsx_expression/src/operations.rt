@@ -32,7 +32,7 @@ use jsx_tree::{AssignOp, BinaryOp, Expr, UnaryOp, UpdateOp};
 const UNARY: u8 = 15;
 
 /// The level of calls and members, and of what may be assigned to.
-const MEMBER: u8 = 17;
+pub(crate) const MEMBER: u8 = 17;
 
 impl<
     F: for<'c, 's> Fn(Context<'c>, &mut Lexer<'s>, u8, B) -> Result<Box<Expr<'s>>, ParseError>,

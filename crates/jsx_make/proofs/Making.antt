@@ -3,8 +3,8 @@ use Rattle.std.proofs.Common.{◌≡◌, List, [], ◌∷◌, map, refl, ap, ◌
 use Rattle.std.proofs.lemmas.Result.{IfOk-weaker}
 use Rattle.jsx_tree.specs.declared.tree.Prop.{Prop}
 use Rattle.jsx_tree.specs.Kinds.{part}
-use Rattle.jsx_tree.specs.View.{forest, inside, members_of_object, view_member}
-use Rattle.jsx_make.specs.Members.{view_prop}
+use Rattle.jsx_tree.specs.View.{forest, inside, members_of_class, members_of_object, view_member}
+use Rattle.jsx_make.specs.Members.{view_class_member, view_prop}
 
 pub shows : {T V E : Type 0} {u : V} (f : T → V) (r : Result (Box T Global) E) (x : T) → IfOk r (λ b. b.value ≡ x) → f x ≡ u → IfOk r (λ b. f b.value ≡ u)
 shows {u = u} f r x made e = IfOk-weaker r (λ b. b.value ≡ x) (λ b. f b.value ≡ u) (λ b is. ap f is ∙ e) made
@@ -17,3 +17,7 @@ shows_at {R = R} {u = u} f r x made e = IfOk-weaker r (λ b. b.value ≡ x) (λ 
 pub members_forest : (ms : List (Box Prop Global)) → members_of_object (map (inside view_member) ms) ≡ forest (map (inside view_prop) ms)
 members_forest [] = refl
 members_forest (m ∷ ms) = ap (part (view_prop m.value)) (members_forest ms)
+
+pub class_forest : (ms : List (Box Prop Global)) → members_of_class (map (inside view_member) ms) ≡ forest (map (inside view_class_member) ms)
+class_forest [] = refl
+class_forest (m ∷ ms) = ap (part (view_class_member m.value)) (class_forest ms)

@@ -1,4 +1,4 @@
-//! The makers of nodes, those of functions and of statements by name. Each node is in a box: a function that holds boxes costs a check little, and one that holds a node
+//! The makers of nodes, those of classes, of functions and of statements by name. Each node is in a box: a function that holds boxes costs a check little, and one that holds a node
 //! by value much.
 
 ghost use Rattle.std.specs.Prelude.{◌≡◌, [], ◌∷◌, IfOk, map, false, true};
@@ -11,6 +11,10 @@ ghost use Rattle.jsx_tree.specs.Spans.{no_tales, tells};
 ghost use Rattle.jsx_make.specs.NodeSpans.{expr_at, member_at, pat_at};
 ghost use Rattle.jsx_make.specs.Members.{view_prop};
 
+pub use crate::classes::{
+    class_declaration, class_expression, field, getter, method, setter, super_call, super_index,
+    super_member,
+};
 pub use crate::functions::{
     array_pattern, function_declaration, function_expression, object_pattern, pair_pattern,
     pattern_hole, rest, rest_property, return_statement, short_default, short_pattern,

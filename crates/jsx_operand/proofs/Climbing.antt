@@ -4,7 +4,7 @@ use Rattle.std.specs.Prelude.{IsTrue, Some, ◌&&◌, ◌||◌}
 use Rattle.std.proofs.lemmas.Bool.{leb-true, le-leb}
 use Rattle.jsx_base.specs.Token.{Lexeme, Text, Operator, IdentifierName, NumericLiteral, BigIntLiteral, StringLiteral, TokenKind, breaks, token, same, RegExpLiteral, NoSubstitution, TemplateHead}
 use Rattle.jsx_tree.specs.Signs.{Ending, AfterExpr, SameLine, Sign}
-use Rattle.jsx_tree.specs.Kinds.{Imported, Exported, From, Specifier, SpecifierAs, FunctionBody, FunctionExpr, Binds, WithInit, RestPat, ArrayPat, ObjectPat, PropertyPat, ShorthandPat, ShorthandInit, RestProperty, Module, Var, ConstWord, Declarator, ExprStmt, Assigns, Assign, OpAssign, Delete, Void, TypeOf, Positive, Negative, Complement, Not, Unary, Binary, Cond, Call, Member, Index, New, NewWithoutArguments, ImportCall, Parenthesized, Element, Kind, program, statement, expression, jsx, Tree, leaf, node, Forest, part, PrefixUpdate, PostfixUpdate, Seq, Spread, Array, ComputedKey, function, PlainTemplate, SubstitutedTemplate, TemplateSpan, Tagged, Chain, NameLink, IndexLink, CallLink, list}
+use Rattle.jsx_tree.specs.Kinds.{Imported, Exported, From, Specifier, SpecifierAs, FunctionBody, FunctionExpr, ClassExpr, InObject, InClass, Static, Method, Getter, Setter, Field, SuperCall, SuperMember, SuperIndex, Binds, WithInit, RestPat, ArrayPat, ObjectPat, PropertyPat, ShorthandPat, ShorthandInit, RestProperty, Module, Var, ConstWord, Declarator, ExprStmt, Assigns, Assign, OpAssign, Delete, Void, TypeOf, Positive, Negative, Complement, Not, Unary, Binary, Cond, Call, Member, Index, New, NewWithoutArguments, ImportCall, Parenthesized, Element, Kind, program, statement, expression, jsx, Tree, leaf, node, Forest, part, PrefixUpdate, PostfixUpdate, Seq, Spread, Array, ComputedKey, function, PlainTemplate, SubstitutedTemplate, TemplateSpan, Tagged, Chain, NameLink, IndexLink, CallLink, list}
 use Rattle.jsx_tree.specs.Nonterminals.{Nonterminal, Expr, NullishLeft, MemberObject, DotObject, SimpleTarget, Pat, homes, in_homes, leaf_in, is_value_word, TemplatePart, ChainLink, TagName}
 use Rattle.jsx_tree.specs.Grammar.{Context, Fixed, Part, pun, OneOrMore}
 use Rattle.jsx_tree.specs.Form.{admits, fits_below, enough}
@@ -525,6 +525,22 @@ plain_kind (program (SpecifierAs Imported)) ts v n h a p = cc
 plain_kind (program (SpecifierAs Exported)) ts v n h a p = cc
 plain_kind (program (SpecifierAs From)) ts v n h a p = cc
 plain_kind (function FunctionExpr) ts v n h a p = cc
+plain_kind (function ClassExpr) ts v n h a p = cc
+plain_kind (function (Method InObject)) ts v n h a p = cc
+plain_kind (function (Method InClass)) ts v n h a p = cc
+plain_kind (function (Method Static)) ts v n h a p = cc
+plain_kind (function (Getter InObject)) ts v n h a p = cc
+plain_kind (function (Getter InClass)) ts v n h a p = cc
+plain_kind (function (Getter Static)) ts v n h a p = cc
+plain_kind (function (Setter InObject)) ts v n h a p = cc
+plain_kind (function (Setter InClass)) ts v n h a p = cc
+plain_kind (function (Setter Static)) ts v n h a p = cc
+plain_kind (function (Field InObject)) ts v n h a p = cc
+plain_kind (function (Field InClass)) ts v n h a p = cc
+plain_kind (function (Field Static)) ts v n h a p = cc
+plain_kind (expression SuperCall) ts v n h a p = cc
+plain_kind (expression SuperMember) ts v n h a p = cc
+plain_kind (expression SuperIndex) ts v n h a p = cc
 plain_kind (function (WithInit Binds)) ts v n h a p = cc
 plain_kind (function (RestPat Binds)) ts v n h a p = cc
 plain_kind (function (ArrayPat Binds)) ts v n h a p = cc

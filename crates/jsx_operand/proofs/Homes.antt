@@ -3,7 +3,7 @@ use Rattle.std.proofs.Common.{◌≡◌, Bool, true, false, not, refl, sym, ◌�
 use Rattle.std.specs.Prelude.{IsTrue, codes, [], ◌∷◌, ◌&&◌, ◌||◌}
 use Rattle.jsx_base.specs.Token.{Text, Operator, TokenKind, IdentifierName, NumericLiteral, BigIntLiteral, StringLiteral, NoSubstitution, TemplateHead, TemplateMiddle, TemplateTail, JsxName, Elision, RegExpLiteral, among}
 use Rattle.jsx_tree.specs.Signs.{Tok}
-use Rattle.jsx_tree.specs.Kinds.{VarWord, LetWord, ConstWord, FunctionBody, ImportBare, Import, ImportAll, ImportList, ImportBoth, Specifier, SpecifierAs, ExportNames, ExportFrom, ExportAll, ExportAllAs, ExportDecl, ExportDefaultFn, ExportDefaultExpr, Return, FunctionDecl, FunctionExpr, WithInit, RestPat, ArrayPat, ObjectPat, PropertyPat, ShorthandPat, ShorthandInit, RestProperty, Block, Empty, If, Do, While, Continue, Break, Label, Throw, Debugger, Module, Directive, Var, Declarator, ExprStmt, Binds, Assigns, Assign, OpAssign, Nullish, Or, And, BitOr, BitXor, BitAnd, ShiftLeft, ShiftRight, ShiftOut, Add, Subtract, Multiply, Divide, Remainder, Exponentiate, Void, TypeOf, Positive, Negative, Complement, Not, Unary, Binary, Cond, Call, Member, Index, ImportCall, Parenthesized, Element, Kind, program, statement, expression, jsx, Tree, leaf, node, list, Forest, Delete, PrefixUpdate, PostfixUpdate, Increment, Decrement, Seq, For, ForDeclaration, Switch, Case, Default, Array, Spread, Try, Catch, Object, Property, Shorthand, ComputedKey, function, New, NewWithoutArguments, NewTarget, ImportMeta, ForIn, ForOf, ForBinding, PlainTemplate, SubstitutedTemplate, TemplateSpan, Tagged, Chain, NameLink, IndexLink, CallLink, ParenTarget}
+use Rattle.jsx_tree.specs.Kinds.{VarWord, LetWord, ConstWord, FunctionBody, ImportBare, Import, ImportAll, ImportList, ImportBoth, Specifier, SpecifierAs, ExportNames, ExportFrom, ExportAll, ExportAllAs, ExportDecl, ExportDefaultFn, ExportDefaultExpr, Return, FunctionDecl, FunctionExpr, WithInit, RestPat, ArrayPat, ObjectPat, PropertyPat, ShorthandPat, ShorthandInit, RestProperty, Block, Empty, If, Do, While, Continue, Break, Label, Throw, Debugger, Module, Directive, Var, Declarator, ExprStmt, Binds, Assigns, Assign, OpAssign, Nullish, Or, And, BitOr, BitXor, BitAnd, ShiftLeft, ShiftRight, ShiftOut, Add, Subtract, Multiply, Divide, Remainder, Exponentiate, Void, TypeOf, Positive, Negative, Complement, Not, Unary, Binary, Cond, Call, Member, Index, ImportCall, Parenthesized, Element, Kind, program, statement, expression, jsx, Tree, leaf, node, list, Forest, Delete, PrefixUpdate, PostfixUpdate, Increment, Decrement, Seq, For, ForDeclaration, Switch, Case, Default, Array, Spread, Try, Catch, Object, Property, Shorthand, ComputedKey, function, New, NewWithoutArguments, NewTarget, ImportMeta, ForIn, ForOf, ForBinding, PlainTemplate, SubstitutedTemplate, TemplateSpan, Tagged, Chain, NameLink, IndexLink, CallLink, ParenTarget, ExportDefaultClass, ClassDecl, ClassExpr, InClass, Static, Method, Getter, Setter, Field, SuperCall, SuperMember, SuperIndex}
 use Rattle.jsx_tree.specs.Nonterminals.{Nonterminal, Expr, NullishLeft, MemberObject, DotObject, SimpleTarget, Argument, Ident, BindingIdent, Param, Name, StringOnly, Pat, PatElement, Slot, TagName, Attributes, is_ident, is_bound, is_value_word, leaf_in, homes, NewCallee, TemplatePart}
 use Rattle.jsx_tree.specs.Grammar.{Part}
 use Rattle.jsx_tree.specs.Form.{admits, fits_below, is_leaf}
@@ -29,7 +29,7 @@ use Rattle.jsx_token.specs.declared.heading.Heading.{Heading}
 use Rattle.jsx_token.specs.declared.heading.Heading.TheVariants as heading
 use Rattle.jsx_token.specs.Headings.{Begins, own, over_keys, over_items}
 use Rattle.jsx_token.proofs.Headings.{every_begun, of_begun}
-use Rattle.jsx_operand.proofs.Inners.{Inner, import_bare, import_from, export_names, export_from, export_all, export_all_as, export_declared, export_function, export_value, function_body, with_init, rest_part, array_pattern, object_pattern, pair_pattern, short_pattern, short_default, rest_property, import_all, import_list, import_both, specifier, specifier_as, portal, directive, declarator, declaration, binding, case', default', inner_kind, every_inner, of_inner, catch', property, shorthand, computed, span, tagged_plain, tagged_substituted, name_link, index_link, call_link}
+use Rattle.jsx_operand.proofs.Inners.{Inner, import_bare, import_from, export_names, export_from, export_all, export_all_as, export_declared, export_function, export_value, function_body, with_init, rest_part, array_pattern, object_pattern, pair_pattern, short_pattern, short_default, rest_property, import_all, import_list, import_both, specifier, specifier_as, portal, directive, declarator, declaration, binding, case', default', inner_kind, every_inner, of_inner, catch', property, shorthand, computed, span, tagged_plain, tagged_substituted, name_link, index_link, call_link, export_class, method, getter, setter, field, static_field}
 use Rattle.jsx_token.proofs.Listed.{Listed, listed, listed_binary, kinds, every, of_each}
 use Rattle.jsx_token.proofs.Lives.{is_lone, is_single, lives}
 
@@ -62,6 +62,7 @@ taken (program ExportAll) h = inner (portal export_all)
 taken (program ExportAllAs) h = inner (portal export_all_as)
 taken (program ExportDecl) h = inner (portal export_declared)
 taken (program ExportDefaultFn) h = inner (portal export_function)
+taken (program ExportDefaultClass) h = inner (portal export_class)
 taken (program ExportDefaultExpr) h = inner (portal export_value)
 taken (statement (Var VarWord)) h = headed (own (heading.Var declare_word.Var))
 taken (statement (Var LetWord)) h = headed (own (heading.Var declare_word.Let))
@@ -82,6 +83,7 @@ taken (statement Try) h = headed (own heading.Try)
 taken (statement Debugger) h = headed (own heading.Debugger)
 taken (statement Return) h = headed (own heading.Return)
 taken (statement FunctionDecl) h = headed (own heading.Function)
+taken (statement ClassDecl) h = headed (own heading.Class)
 taken (statement Declarator) h = inner declarator
 taken (statement (ForDeclaration w)) h = inner (declaration w)
 taken (statement (ForBinding w)) h = inner (binding w)
@@ -94,6 +96,15 @@ taken (expression Seq) h = sequence
 taken (expression Spread) h = spread
 taken (function ParenTarget) h = aimed
 taken (function FunctionExpr) h = operand (listed (function FunctionExpr) refl refl refl)
+taken (function ClassExpr) h = operand (listed (function ClassExpr) refl refl refl)
+taken (function (Method o)) h = inner (method o)
+taken (function (Getter o)) h = inner (getter o)
+taken (function (Setter o)) h = inner (setter o)
+taken (function (Field InClass)) h = inner field
+taken (function (Field Static)) h = inner static_field
+taken (expression SuperCall) h = operand (listed (expression SuperCall) refl refl refl)
+taken (expression SuperMember) h = operand (listed (expression SuperMember) refl refl refl)
+taken (expression SuperIndex) h = operand (listed (expression SuperIndex) refl refl refl)
 taken (function (WithInit Binds)) h = inner with_init
 taken (function (RestPat Binds)) h = inner rest_part
 taken (function (ArrayPat Binds)) h = inner array_pattern

@@ -1,7 +1,7 @@
--- The kinds that stand within statements, before them, in functions, in objects, in templates, in chains or in modules alone, in one list: what a test finds of all of them holds of each.
+-- The kinds that stand within statements, before them, in functions, in objects, in classes, in templates, in chains or in modules alone, in one list: what a test finds of all of them holds of each.
 use Rattle.std.proofs.Common.{◌≡◌, Bool, true, false}
 use Rattle.std.specs.Prelude.{◌&&◌}
-use Rattle.jsx_tree.specs.Kinds.{DeclareWord, VarWord, LetWord, ConstWord, Side, Imported, Exported, From, FunctionBody, Directive, ImportBare, Import, ImportAll, ImportList, ImportBoth, Specifier, SpecifierAs, ExportNames, ExportFrom, ExportAll, ExportAllAs, ExportDecl, ExportDefaultFn, ExportDefaultExpr, Declarator, ForDeclaration, ForBinding, Case, Default, Catch, Binds, ComputedKey, WithInit, RestPat, ArrayPat, ObjectPat, PropertyPat, ShorthandPat, ShorthandInit, RestProperty, Property, Shorthand, NameLink, IndexLink, CallLink, Kind, program, statement, function, expression, PlainTemplate, SubstitutedTemplate, TemplateSpan}
+use Rattle.jsx_tree.specs.Kinds.{DeclareWord, VarWord, LetWord, ConstWord, Side, Imported, Exported, From, FunctionBody, Directive, ImportBare, Import, ImportAll, ImportList, ImportBoth, Specifier, SpecifierAs, ExportNames, ExportFrom, ExportAll, ExportAllAs, ExportDecl, ExportDefaultFn, ExportDefaultExpr, Declarator, ForDeclaration, ForBinding, Case, Default, Catch, Binds, ComputedKey, WithInit, RestPat, ArrayPat, ObjectPat, PropertyPat, ShorthandPat, ShorthandInit, RestProperty, Property, Shorthand, NameLink, IndexLink, CallLink, Kind, program, statement, function, expression, PlainTemplate, SubstitutedTemplate, TemplateSpan, Field, Setter, Getter, Method, Static, InClass, InObject, Holder, ExportDefaultClass}
 use Rattle.jsx_tree.proofs.Tokens.{and_left, and_right}
 
 -- imports and exports, the items of a module that are no statements
@@ -14,6 +14,7 @@ pub data Portal : Type 0 where
   export_all_as : Portal
   export_declared : Portal
   export_function : Portal
+  export_class : Portal
   export_value : Portal
 
 abbrev pub portal_kind : Portal → Kind
@@ -25,6 +26,7 @@ portal_kind export_all = program ExportAll
 portal_kind export_all_as = program ExportAllAs
 portal_kind export_declared = program ExportDecl
 portal_kind export_function = program ExportDefaultFn
+portal_kind export_class = program ExportDefaultClass
 portal_kind export_value = program ExportDefaultExpr
 
 pub data Inner : Type 0 where
@@ -53,6 +55,11 @@ pub data Inner : Type 0 where
   short_pattern : Inner
   short_default : Inner
   rest_property : Inner
+  method : Holder → Inner
+  getter : Holder → Inner
+  setter : Holder → Inner
+  field : Inner
+  static_field : Inner
   import_all : Inner
   import_list : Inner
   import_both : Inner
@@ -86,6 +93,11 @@ inner_kind pair_pattern = function (PropertyPat Binds)
 inner_kind short_pattern = function (ShorthandPat Binds)
 inner_kind short_default = function (ShorthandInit Binds)
 inner_kind rest_property = function (RestProperty Binds)
+inner_kind (method h) = function (Method h)
+inner_kind (getter h) = function (Getter h)
+inner_kind (setter h) = function (Setter h)
+inner_kind field = function (Field InClass)
+inner_kind static_field = function (Field Static)
 inner_kind import_all = program ImportAll
 inner_kind import_list = program ImportList
 inner_kind import_both = program ImportBoth
@@ -136,6 +148,18 @@ every_of_function p = p function_body && (p with_init && p rest_part)
 abbrev pub every_of_pattern : (Inner → Bool) → Bool
 every_of_pattern p = p array_pattern && (p object_pattern && (p pair_pattern && (p short_pattern && (p short_default && p rest_property))))
 
+abbrev pub every_holder : (Holder → Bool) → Bool
+every_holder p = p InObject && (p InClass && p Static)
+
+of_holder : (p : Holder → Bool) → every_holder p ≡ true → (h : Holder) → p h ≡ true
+of_holder p a InObject = and_left (p InObject) _ a
+of_holder p a InClass = and_left (p InClass) _ (and_right (p InObject) _ a)
+of_holder p a Static = and_right (p InClass) _ (and_right (p InObject) _ a)
+
+-- those that stand in a class, and in an object too
+abbrev pub every_element : (Inner → Bool) → Bool
+every_element p = every_holder (λ h. p (method h)) && (every_holder (λ h. p (getter h)) && (every_holder (λ h. p (setter h)) && (p field && p static_field)))
+
 abbrev pub every_side : (Side → Bool) → Bool
 every_side p = p Imported && (p Exported && p From)
 
@@ -149,10 +173,10 @@ abbrev pub every_clause : (Inner → Bool) → Bool
 every_clause p = p import_all && (p import_list && (p import_both && (every_side (λ s. p (specifier s)) && every_side (λ s. p (specifier_as s)))))
 
 abbrev pub every_portal : (Portal → Bool) → Bool
-every_portal p = p import_bare && (p import_from && (p export_names && (p export_from && (p export_all && (p export_all_as && (p export_declared && (p export_function && p export_value)))))))
+every_portal p = p import_bare && (p import_from && (p export_names && (p export_from && (p export_all && (p export_all_as && (p export_declared && (p export_function && (p export_class && p export_value))))))))
 
 abbrev pub every_inner : (Inner → Bool) → Bool
-every_inner p = p directive && (every_part p && (every_member p && (every_piece p && (every_link p && (every_of_function p && (every_of_pattern p && (every_clause p && every_portal (λ q. p (portal q)))))))))
+every_inner p = p directive && (every_part p && (every_member p && (every_piece p && (every_link p && (every_of_function p && (every_of_pattern p && (every_element p && (every_clause p && every_portal (λ q. p (portal q))))))))))
 
 record Part (p : Inner → Bool) : Type 0 where
   declarator' : p declarator ≡ true
@@ -233,6 +257,23 @@ of_pattern p a =
     let e = and_right (p short_pattern) _ d in
     record { of_array = and_left (p array_pattern) _ a; of_object = and_left (p object_pattern) _ b; of_pair = and_left (p pair_pattern) _ c; of_short = and_left (p short_pattern) _ d; of_default = and_left (p short_default) _ e; of_rest_property = and_right (p short_default) _ e }
 
+record Element (p : Inner → Bool) : Type 0 where
+  of_method : (h : Holder) → p (method h) ≡ true
+  of_getter : (h : Holder) → p (getter h) ≡ true
+  of_setter : (h : Holder) → p (setter h) ≡ true
+  of_field : p field ≡ true
+  of_static_field : p static_field ≡ true
+
+of_element : (p : Inner → Bool) → every_element p ≡ true → Element p
+of_element p a =
+    let methods = every_holder (λ h. p (method h)) in
+    let getters = every_holder (λ h. p (getter h)) in
+    let setters = every_holder (λ h. p (setter h)) in
+    let b = and_right methods _ a in
+    let c = and_right getters _ b in
+    let d = and_right setters _ c in
+    record { of_method = of_holder (λ h. p (method h)) (and_left methods _ a); of_getter = of_holder (λ h. p (getter h)) (and_left getters _ b); of_setter = of_holder (λ h. p (setter h)) (and_left setters _ c); of_field = and_left (p field) _ d; of_static_field = and_right (p field) _ d }
+
 record Clause (p : Inner → Bool) : Type 0 where
   of_all : p import_all ≡ true
   of_list : p import_list ≡ true
@@ -257,18 +298,20 @@ of_portal p a q =
     let f = and_right (p export_all) _ e in
     let g = and_right (p export_all_as) _ f in
     let h = and_right (p export_declared) _ g in
-    by q (and_left (p import_bare) _ a) (and_left (p import_from) _ b) (and_left (p export_names) _ c) (and_left (p export_from) _ d) (and_left (p export_all) _ e) (and_left (p export_all_as) _ f) (and_left (p export_declared) _ g) (and_left (p export_function) _ h) (and_right (p export_function) _ h)
+    let i = and_right (p export_function) _ h in
+    by q (and_left (p import_bare) _ a) (and_left (p import_from) _ b) (and_left (p export_names) _ c) (and_left (p export_from) _ d) (and_left (p export_all) _ e) (and_left (p export_all_as) _ f) (and_left (p export_declared) _ g) (and_left (p export_function) _ h) (and_left (p export_class) _ i) (and_right (p export_class) _ i)
   where
-    by : (r : Portal) → p import_bare ≡ true → p import_from ≡ true → p export_names ≡ true → p export_from ≡ true → p export_all ≡ true → p export_all_as ≡ true → p export_declared ≡ true → p export_function ≡ true → p export_value ≡ true → p r ≡ true
-    by import_bare a b c d e f g h i = a
-    by import_from a b c d e f g h i = b
-    by export_names a b c d e f g h i = c
-    by export_from a b c d e f g h i = d
-    by export_all a b c d e f g h i = e
-    by export_all_as a b c d e f g h i = f
-    by export_declared a b c d e f g h i = g
-    by export_function a b c d e f g h i = h
-    by export_value a b c d e f g h i = i
+    by : (r : Portal) → p import_bare ≡ true → p import_from ≡ true → p export_names ≡ true → p export_from ≡ true → p export_all ≡ true → p export_all_as ≡ true → p export_declared ≡ true → p export_function ≡ true → p export_class ≡ true → p export_value ≡ true → p r ≡ true
+    by import_bare a b c d e f g h i j = a
+    by import_from a b c d e f g h i j = b
+    by export_names a b c d e f g h i j = c
+    by export_from a b c d e f g h i j = d
+    by export_all a b c d e f g h i j = e
+    by export_all_as a b c d e f g h i j = f
+    by export_declared a b c d e f g h i j = g
+    by export_function a b c d e f g h i j = h
+    by export_class a b c d e f g h i j = i
+    by export_value a b c d e f g h i j = j
 
 pub of_inner : (p : Inner → Bool) → every_inner p ≡ true → (i : Inner) → p i ≡ true
 of_inner p a i =
@@ -278,39 +321,45 @@ of_inner p a i =
     let e = and_right (every_piece p) _ d in
     let f = and_right (every_link p) _ e in
     let h = and_right (every_of_function p) _ f in
-    let g = and_right (every_of_pattern p) _ h in
-    by i (and_left (p directive) _ a) (of_part p (and_left (every_part p) _ b)) (of_member p (and_left (every_member p) _ c)) (of_piece p (and_left (every_piece p) _ d)) (of_link p (and_left (every_link p) _ e)) (of_function p (and_left (every_of_function p) _ f)) (of_pattern p (and_left (every_of_pattern p) _ h)) (of_clause p (and_left (every_clause p) _ g))
+    let s = and_right (every_of_pattern p) _ h in
+    let g = and_right (every_element p) _ s in
+    by i (and_left (p directive) _ a) (of_part p (and_left (every_part p) _ b)) (of_member p (and_left (every_member p) _ c)) (of_piece p (and_left (every_piece p) _ d)) (of_link p (and_left (every_link p) _ e)) (of_function p (and_left (every_of_function p) _ f)) (of_pattern p (and_left (every_of_pattern p) _ h)) (of_element p (and_left (every_element p) _ s)) (of_clause p (and_left (every_clause p) _ g))
     (of_portal (λ q. p (portal q)) (and_right (every_clause p) _ g))
   where
-    by : (j : Inner) → p directive ≡ true → Part p → Member p → Piece p → Link p → OfFunction p → OfPattern p → Clause p → ((q : Portal) → p (portal q) ≡ true) → p j ≡ true
-    by directive d q m r l f n k o = d
-    by declarator d q m r l f n k o = q.declarator'
-    by (declaration w) d q m r l f n k o = of_word (λ x. p (declaration x)) q.word w
-    by (binding w) d q m r l f n k o = of_word (λ x. p (binding x)) q.bound w
-    by case' d q m r l f n k o = q.of_case
-    by default' d q m r l f n k o = q.of_default
-    by catch' d q m r l f n k o = q.of_catch
-    by property d q m r l f n k o = m.of_property
-    by shorthand d q m r l f n k o = m.of_shorthand
-    by computed d q m r l f n k o = m.of_computed
-    by (span b) d q m r l f n k o = r.of_span b
-    by tagged_plain d q m r l f n k o = r.of_plain
-    by tagged_substituted d q m r l f n k o = r.of_substituted
-    by (name_link q) d s m r l f n k o = l.of_name q
-    by (index_link q) d s m r l f n k o = l.of_index q
-    by (call_link q) d s m r l f n k o = l.of_call q
-    by function_body d q m r l f n k o = f.of_body
-    by with_init d q m r l f n k o = f.of_init
-    by rest_part d q m r l f n k o = f.of_rest
-    by array_pattern d q m r l f n k o = n.of_array
-    by object_pattern d q m r l f n k o = n.of_object
-    by pair_pattern d q m r l f n k o = n.of_pair
-    by short_pattern d q m r l f n k o = n.of_short
-    by short_default d q m r l f n k o = n.of_default
-    by rest_property d q m r l f n k o = n.of_rest_property
-    by import_all d q m r l f n k o = k.of_all
-    by import_list d q m r l f n k o = k.of_list
-    by import_both d q m r l f n k o = k.of_both
-    by (specifier s) d q m r l f n k o = k.of_single s
-    by (specifier_as s) d q m r l f n k o = k.of_renamed s
-    by (portal s) d q m r l f n k o = o s
+    by : (j : Inner) → p directive ≡ true → Part p → Member p → Piece p → Link p → OfFunction p → OfPattern p → Element p → Clause p → ((q : Portal) → p (portal q) ≡ true) → p j ≡ true
+    by directive d q m r l f n u k o = d
+    by declarator d q m r l f n u k o = q.declarator'
+    by (declaration w) d q m r l f n u k o = of_word (λ x. p (declaration x)) q.word w
+    by (binding w) d q m r l f n u k o = of_word (λ x. p (binding x)) q.bound w
+    by case' d q m r l f n u k o = q.of_case
+    by default' d q m r l f n u k o = q.of_default
+    by catch' d q m r l f n u k o = q.of_catch
+    by property d q m r l f n u k o = m.of_property
+    by shorthand d q m r l f n u k o = m.of_shorthand
+    by computed d q m r l f n u k o = m.of_computed
+    by (span b) d q m r l f n u k o = r.of_span b
+    by tagged_plain d q m r l f n u k o = r.of_plain
+    by tagged_substituted d q m r l f n u k o = r.of_substituted
+    by (name_link q) d s m r l f n u k o = l.of_name q
+    by (index_link q) d s m r l f n u k o = l.of_index q
+    by (call_link q) d s m r l f n u k o = l.of_call q
+    by function_body d q m r l f n u k o = f.of_body
+    by with_init d q m r l f n u k o = f.of_init
+    by rest_part d q m r l f n u k o = f.of_rest
+    by array_pattern d q m r l f n u k o = n.of_array
+    by object_pattern d q m r l f n u k o = n.of_object
+    by pair_pattern d q m r l f n u k o = n.of_pair
+    by short_pattern d q m r l f n u k o = n.of_short
+    by short_default d q m r l f n u k o = n.of_default
+    by rest_property d q m r l f n u k o = n.of_rest_property
+    by import_all d q m r l f n u k o = k.of_all
+    by import_list d q m r l f n u k o = k.of_list
+    by import_both d q m r l f n u k o = k.of_both
+    by (specifier s) d q m r l f n u k o = k.of_single s
+    by (specifier_as s) d q m r l f n u k o = k.of_renamed s
+    by (portal s) d q m r l f n u k o = o s
+    by (method h) d q m r l f n u k o = u.of_method h
+    by (getter h) d q m r l f n u k o = u.of_getter h
+    by (setter h) d q m r l f n u k o = u.of_setter h
+    by field d q m r l f n u k o = u.of_field
+    by static_field d q m r l f n u k o = u.of_static_field

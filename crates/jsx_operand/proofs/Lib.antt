@@ -15,6 +15,7 @@ pub mod PlacedTargets
 pub mod Operators
 pub mod Keys
 pub mod Protos
+pub mod MemberNames
 pub mod Leveling
 pub mod Targeting
 pub mod Calling

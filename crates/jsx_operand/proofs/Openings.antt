@@ -4,14 +4,15 @@ use Rattle.std.specs.Prelude.{IsTrue, ◌&&◌, ◌||◌}
 use Rattle.std.proofs.lemmas.Bool.{eqb-true}
 use Rattle.jsx_base.specs.Token.{Text, Operator, Punctuator, kind_number, token, same}
 use Rattle.jsx_tree.specs.Signs.{AfterExpr, Sign, Tok}
-use Rattle.jsx_tree.specs.Kinds.{ImportCall, ImportMeta, New, NewWithoutArguments, NewTarget, Seq, Spread, ParenTarget, Element, Kind, function, expression, jsx, Tree, node, Forest, PlainTemplate, SubstitutedTemplate}
+use Rattle.jsx_tree.specs.Kinds.{ImportCall, ImportMeta, New, NewWithoutArguments, NewTarget, SuperCall, SuperMember, SuperIndex, Seq, Spread, ParenTarget, Element, Kind, function, expression, jsx, Tree, leaf, node, list, Forest, PlainTemplate, SubstitutedTemplate}
 use Rattle.jsx_tree.specs.Nonterminals.{Nonterminal, Expr, homes, in_homes}
 use Rattle.jsx_tree.specs.Grammar.{Fixed, Part, Context}
 use Rattle.jsx_tree.specs.Reading.{Place, Lost, At, forth, go_if}
 use Rattle.jsx_tree.specs.StaticRules.{Surroundings}
-use Rattle.jsx_tree.specs.Walk.{is_found, Given, Past, Piece, piece, sign, tree, tail, Walk, next, steady}
+use Rattle.jsx_tree.specs.Form.{admits}
+use Rattle.jsx_tree.specs.Walk.{is_found, one, Given, Past, Piece, piece, sign, tree, tail, Walk, next, around, steady}
 use Rattle.jsx_tree.specs.Language.{Whole}
-use Rattle.jsx_tree.specs.Answers.{Moves, Barred, NoRow, NoNode, Built, BuiltNode}
+use Rattle.jsx_tree.specs.Answers.{Moves, Only, Barred, NoRow, NoNode, Built, BuiltNode}
 use Rattle.jsx_tree.specs.Grows.{Onward}
 use Rattle.jsx_token.specs.Stage.{has_kind, value_leaf}
 use Rattle.jsx_operand.specs.SoFar.{Staged, so_far}
@@ -19,22 +20,22 @@ use Rattle.jsx_token.specs.Marks.{row_so_far}
 use Rattle.jsx_tree.proofs.Tokens.{and_left, and_right, and_both, same_is}
 use Rattle.jsx_tree.proofs.Apart.{clash}
 use Rattle.jsx_tree.proofs.Rows.Bridge.{found_at}
-use Rattle.jsx_tree.proofs.Rows.Stopping.{or_cases}
+use Rattle.jsx_tree.proofs.Rows.Stopping.{is_never, never_stops, or_cases}
 use Rattle.jsx_tree.proofs.Rows.Guarded.{guarded, whole_walk, loosen, to_grammar}
 use Rattle.jsx_tree.proofs.Rows.Bodies.{bodiless, plain as plain_row}
 use Rattle.jsx_tree.proofs.Rows.Closers.{any_operand, homes_operand}
 use Rattle.jsx_tree.proofs.Rows.Spines.{grows}
-use Rattle.jsx_tree.proofs.Rows.Placing.{free, free_around, moved}
+use Rattle.jsx_tree.proofs.Rows.Placing.{Chosen, free, free_around, moved}
 use Rattle.jsx_operand.proofs.OfSoFar.{of_so_far}
 use Rattle.jsx_token.specs.Growths.{Rung, rung, is_rung, level_of_kind, reaches, seat, lead, settled, opening_sign, opening_signs, same_sign, has_sign, is_code, NoOpening}
 use Rattle.jsx_operand.specs.Climbing.{Begins, NoneBegins, rises}
-use Rattle.jsx_operand.specs.Openings.{opens_with, OnlyOpened, NoneOpened}
+use Rattle.jsx_operand.specs.Openings.{opens_with, OnlyParts, NoParts, OnlyOpened, NoneOpened}
 use Rattle.jsx_token.proofs.Listed.{Listed, listed, code, is_apart, kinds, every, every_two, of_each, of_two, one_place, implies, implied}
-use Rattle.jsx_operand.proofs.Homes.{Literal, IsName, IsNumber, IsLong, IsString, token_kind, IsPattern, Value, made}
-use Rattle.jsx_operand.proofs.Values.{First, name, opened, less_literal, led_sign, Opener, angle, plain, SameFirst, begun, onto, same_both, literal_sign, literal_opening, one_opening, opener_of, opened_sign, opened_led, quoted, Quote, one_piece, whole_row, head_row, piece_row, piece_of, literal_piece, opener_piece}
+use Rattle.jsx_operand.proofs.Homes.{Literal, IsName, IsNumber, IsLong, IsString, token_kind, IsPattern, Value, made, no_list}
+use Rattle.jsx_operand.proofs.Values.{First, name, opened, less_literal, lead_row, led_sign, Opener, angle, plain, SameFirst, begun, onto, same_both, literal_sign, literal_opening, one_opening, opener_of, opened_sign, opened_led, quoted, Quote, one_piece, whole_row, head_row, piece_row, piece_of, literal_piece, opener_piece}
 use Rattle.jsx_operand.proofs.Rungs.{clear_first, leads_as, reaches_level, rises_node, rung_operand, rung_single, seat_admits, clear}
 use Rattle.jsx_token.proofs.Levels.{grows_on, edge, at_level, is_ruled, signed, Quoted, undivided, divided, is_template}
-use Rattle.jsx_operand.proofs.Climbing.{edge_on, low, node_reaches, plain_kind, signed_node}
+use Rattle.jsx_operand.proofs.Climbing.{edge_on, low, node_reaches, plain_kind}
 
 -- ---- of each kind
 
@@ -42,7 +43,7 @@ use Rattle.jsx_operand.proofs.Climbing.{edge_on, low, node_reaches, plain_kind, 
 abbrev opens_formed : Kind → Bool
 opens_formed k =
     grows_on k
-    || (((guarded (edge k) (row_so_far k) && free (row_so_far k)) && (is_ruled k || bodiless (tail (row_so_far k)))) && ((has_kind k && any_operand (homes k)) && (nat_eq (code k) (code (jsx Element)) || (is_code (opening_sign k) && has_sign (opening_sign k) opening_signs))))
+    || ((guarded (edge k) (row_so_far k) && (is_ruled k || bodiless (tail (row_so_far k)))) && ((has_kind k && any_operand (homes k)) && (nat_eq (code k) (code (jsx Element)) || (is_code (opening_sign k) && has_sign (opening_sign k) opening_signs))))
 
 all_opens_formed : every opens_formed kinds ≡ true
 unfolding opening_signs
@@ -55,6 +56,9 @@ is_shared (expression ImportMeta) = true
 is_shared (expression New) = true
 is_shared (expression NewWithoutArguments) = true
 is_shared (expression NewTarget) = true
+is_shared (expression SuperCall) = true
+is_shared (expression SuperMember) = true
+is_shared (expression SuperIndex) = true
 is_shared k = false
 
 abbrev opens_apart : Kind → Kind → Bool
@@ -65,7 +69,6 @@ all_opens_apart = refl
 
 record Opens (k : Kind) : Type 0 where
   closed : guarded (edge k) (row_so_far k) ≡ true
-  freed : free (row_so_far k) ≡ true
   bare : is_ruled k ≡ false → bodiless (tail (row_so_far k)) ≡ true
   taken : has_kind k ≡ true
   stood : any_operand (homes k) ≡ true
@@ -73,16 +76,13 @@ record Opens (k : Kind) : Type 0 where
 
 opens : (k : Kind) → Listed k → grows_on k ≡ false → Opens k
 opens k l g =
-    let a : (((guarded (edge k) (row_so_far k) && free (row_so_far k)) && (is_ruled k || bodiless (tail (row_so_far k)))) && ((has_kind k && any_operand (homes k)) && (nat_eq (code k) (code (jsx Element)) || (is_code (opening_sign k) && has_sign (opening_sign k) opening_signs)))) ≡ true = or_cases (grows_on k) _ (of_each opens_formed all_opens_formed k l) (λ h. absurd (clash _ h g)) (λ e. e) in
-    let b = and_left ((guarded (edge k) (row_so_far k) && free (row_so_far k)) && (is_ruled k || bodiless (tail (row_so_far k)))) _ a in
-    let c = and_right ((guarded (edge k) (row_so_far k) && free (row_so_far k)) && (is_ruled k || bodiless (tail (row_so_far k)))) _ a in
-    let b1 = and_left (guarded (edge k) (row_so_far k) && free (row_so_far k)) _ b in
-    let b2 = and_right (guarded (edge k) (row_so_far k) && free (row_so_far k)) _ b in
+    let a : ((guarded (edge k) (row_so_far k) && (is_ruled k || bodiless (tail (row_so_far k)))) && ((has_kind k && any_operand (homes k)) && (nat_eq (code k) (code (jsx Element)) || (is_code (opening_sign k) && has_sign (opening_sign k) opening_signs)))) ≡ true = or_cases (grows_on k) _ (of_each opens_formed all_opens_formed k l) (λ h. absurd (clash _ h g)) (λ e. e) in
+    let b = and_left (guarded (edge k) (row_so_far k) && (is_ruled k || bodiless (tail (row_so_far k)))) _ a in
+    let c = and_right (guarded (edge k) (row_so_far k) && (is_ruled k || bodiless (tail (row_so_far k)))) _ a in
     let c1 = and_left (has_kind k && any_operand (homes k)) _ c in
     record {
-      closed = and_left (guarded (edge k) (row_so_far k)) _ b1;
-      freed = and_right (guarded (edge k) (row_so_far k)) _ b1;
-      bare = λ n. or_cases (is_ruled k) _ b2 (λ h. absurd (clash _ h n)) (λ e. e);
+      closed = and_left (guarded (edge k) (row_so_far k)) _ b;
+      bare = λ n. or_cases (is_ruled k) _ (and_right (guarded (edge k) (row_so_far k)) _ b) (λ h. absurd (clash _ h n)) (λ e. e);
       taken = and_left (has_kind k) _ c1;
       stood = and_right (has_kind k) _ c1;
       begins = and_right (has_kind k && any_operand (homes k)) _ c;
@@ -93,32 +93,101 @@ sole_kind j k m h l g n e =
     one_place j k m l
     (or_cases (nat_eq (code j) (code k)) (is_shared k) (implied (same_sign (opening_sign j) (opening_sign k)) _ (implied (not (grows_on j) && not (grows_on k)) _ (of_two opens_apart all_opens_apart j k m l) (and_both _ _ (ap not h) (ap not g))) e) (λ i. i) (λ i. absurd (clash _ i n)))
 
--- ---- its row, read to the ends of its parts
+-- ---- its row, each part in what the node makes of its surroundings
 
-pub kind_whole : {v : Surroundings} (r : Rung) {d : Nonterminal} {x y z : Place} {u : Tree} {ts : Forest} (k : Kind) → is_rung r ≡ true → Listed k → guarded (edge k) (row_so_far k) ≡ true → free (row_so_far k) ≡ true → Staged v false d x (node k ts) y → Onward so_far v x (node k ts) y u z → Whole so_far v false (seat r) x u z → Walk (Whole so_far) (steady v) (row_so_far k) x ts y
-kind_whole {v} r {ts = ts} k i l c f q o w = moved (λ a h. free_around a ts v h) f (whole_walk of_so_far (edge k) (row_so_far k) c (edge_on r k (node k ts) i l refl o w) (of_so_far.from_node k q).walk)
+-- a row in this way alone, of all parts that keep the rules of the kind
+pub record OnlyIn (v : Surroundings) (ps : List Piece) (k : Kind) (t : Tree) (x y : Place) : Type 0 where
+  pub parts : Forest
+  pub is : t ≡ node k parts
+  pub walk : Walk (Whole so_far) (around v parts) ps x parts y
+  pub keeps : so_far.keeps k v parts ≡ true
+  pub alone : (us : Forest) (z : Place) → Walk (Whole so_far) (around v us) ps x us z → so_far.keeps k v us ≡ true → (parts ≡ us) × (y ≡ z)
 
-opened_whole : {v : Surroundings} (r : Rung) {d : Nonterminal} {x y z : Place} {u : Tree} {ts : Forest} (k : Kind) → is_rung r ≡ true → Listed k → grows_on k ≡ false → Staged v false d x (node k ts) y → Onward so_far v x (node k ts) y u z → Whole so_far v false (seat r) x u z → Walk (Whole so_far) (steady v) (row_so_far k) x ts y
-opened_whole r k i l g q o w = let f = opens k l g in kind_whole r k i l f.closed f.freed q o w
+-- the same where the surroundings don't hang on the parts
+steadied : {v : Surroundings} {ps : List Piece} {x y : Place} (ts : Forest) → free ps ≡ true → Walk (Whole so_far) (around v ts) ps x ts y → Walk (Whole so_far) (steady v) ps x ts y
+steadied {v} ts f w = moved (λ a h. free_around a ts v h) f w
+
+unsteadied : {v : Surroundings} {ps : List Piece} {x y : Place} (ts : Forest) → free ps ≡ true → Walk (Whole so_far) (steady v) ps x ts y → Walk (Whole so_far) (around v ts) ps x ts y
+unsteadied {v} ts f w = moved (λ a h. sym (free_around a ts v h)) f w
+
+free_in : {v : Surroundings} {ps : List Piece} {x y : Place} {t : Tree} (k : Kind) → free ps ≡ true → BuiltNode so_far v ps k t x y → OnlyIn v ps k t x y
+free_in k f b = record { parts = b.parts; is = b.is; walk = unsteadied b.parts f b.row.walk; keeps = b.keeps; alone = λ us z w h. b.row.alone us z (steadied us f w) }
+
+pub free_parts : {v : Surroundings} {x y : Place} {t : Tree} (k : Kind) → free (tail (row_so_far k)) ≡ true → BuiltNode so_far v (tail (row_so_far k)) k t x y → OnlyParts v k t x y
+free_parts k f b = record { parts = b.parts; is = b.is; walk = unsteadied b.parts f b.row.walk; keeps = b.keeps; alone = λ us z w h. b.row.alone us z (steadied us f w) }
+
+pub free_none : {v : Surroundings} {x : Place} (k : Kind) → free (tail (row_so_far k)) ≡ true → NoNode so_far v (tail (row_so_far k)) k x → NoParts v k x
+free_none k f n = record { no = λ us z w h. n.no us z (steadied us f w) h }
+
+-- a row without the sign that it begins with
+pub peel : {V : List Context → Surroundings} (ps : List Piece) {x a z : Place} {ts : Forest} → signed ps ≡ true → forth (lead ps) x ≡ a → Walk (Whole so_far) V ps x ts z → Walk (Whole so_far) V (tail ps) a ts z
+peel {V} (piece [] (Fixed s) ∷ ps) {z = z} l e (next {ts = us} (sign d f) w) = subst (λ p. Walk (Whole so_far) V ps p us z) (sym d ∙ e) w
+peel _ l e w = cc
+
+-- and with it
+put_on : {V : List Context → Surroundings} (ps : List Piece) {x a z : Place} {ts : Forest} → signed ps ≡ true → Moves (lead ps) x a → Walk (Whole so_far) V (tail ps) a ts z → Walk (Whole so_far) V ps x ts z
+put_on {V} ps {x} {z = z} {ts} l m w = subst (λ qs. Walk (Whole so_far) V qs x ts z) (lead_row ps l) (next (sign (sym m.is) m.found) w)
+
+pub signed_in : {v : Surroundings} {x a y : Place} {t : Tree} (k : Kind) → signed (row_so_far k) ≡ true → Moves (lead (row_so_far k)) x a → OnlyParts v k t a y → OnlyIn v (row_so_far k) k t x y
+signed_in k l m b = record { parts = b.parts; is = b.is; walk = put_on (row_so_far k) l m b.walk; keeps = b.keeps; alone = λ us z w h. b.alone us z (peel (row_so_far k) l (sym m.is) w) h }
+
+-- what stands at a nonterminal, where no other kind does
+pub parts_only : {v : Surroundings} {c : Nonterminal} {k : Kind} {x a y : Place} {t : Tree} → Chosen so_far v c k x → guarded c (row_so_far k) ≡ true → signed (row_so_far k) ≡ true → ((ts : Forest) → admits c (node k ts) ≡ true) → is_never c ≡ true → Moves (lead (row_so_far k)) x a → OnlyParts v k t a y → Only so_far v (Part c) x (one t) y
+parts_only {v} {c} {k} {x} {a} {y} {t} ch g l home e m b = record {
+  past = tree (subst (λ u. Whole so_far v false c x u y) (sym n.is) (record { reads = of_so_far.to_node k (home n.parts) (record { walk = loosen n.walk; keeps = n.keeps }); ends_there = of_so_far.ends_there c y (never_stops c y e) }));
+  alone = at;
+}
+  where
+    n : OnlyIn v (row_so_far k) k t x y
+    n = signed_in k l m b
+
+    at : (h : Given) (z : Place) → Past (Whole so_far) v (Part c) x h z → (one t ≡ h) × (y ≡ z)
+    at h z (tree {t = leaf j r} q) = absurd (ch.no_leaf j r z q)
+    at h z (tree {t = list us} q) = absurd (no_list q.reads)
+    at h z (tree {t = node j us} q) =
+        let i = ch.kind j us z q in
+        let q' : Whole so_far v false c x (node k us) z = subst (λ h. Whole so_far v false c x (node h us) z) i q in
+        let w = of_so_far.from_node k q'.reads in
+        let same = n.alone us z (whole_walk of_so_far c (row_so_far k) g q'.ends_there w.walk) w.keeps in
+        (ap one (n.is ∙ (ap (node k) same.0 ∙ ap (λ h. node h us) (sym i))), same.1)
+
+pub parts_barred : {v : Surroundings} {c : Nonterminal} {k : Kind} {x a : Place} → Chosen so_far v c k x → guarded c (row_so_far k) ≡ true → signed (row_so_far k) ≡ true → Moves (lead (row_so_far k)) x a → NoParts v k a → Barred so_far v (Part c) x
+parts_barred {v} {c} {k} {x} ch g l m n = record { no = at }
+  where
+    at : (h : Given) (z : Place) → Past (Whole so_far) v (Part c) x h z → ⊥
+    at h z (tree {t = leaf j r} q) = ch.no_leaf j r z q
+    at h z (tree {t = list us} q) = no_list q.reads
+    at h z (tree {t = node j us} q) =
+        let q' : Whole so_far v false c x (node k us) z = subst (λ h. Whole so_far v false c x (node h us) z) (ch.kind j us z q) q in
+        let w = of_so_far.from_node k q'.reads in
+        n.no us z (peel (row_so_far k) l (sym m.is) (whole_walk of_so_far c (row_so_far k) g q'.ends_there w.walk)) w.keeps
+
+-- ---- read to the ends of its parts
+
+kind_whole : {v : Surroundings} (r : Rung) {d : Nonterminal} {x y z : Place} {u : Tree} {ts : Forest} (k : Kind) → is_rung r ≡ true → Listed k → guarded (edge k) (row_so_far k) ≡ true → Staged v false d x (node k ts) y → Onward so_far v x (node k ts) y u z → Whole so_far v false (seat r) x u z → Walk (Whole so_far) (around v ts) (row_so_far k) x ts y
+kind_whole r {ts = ts} k i l c q o w = whole_walk of_so_far (edge k) (row_so_far k) c (edge_on r k (node k ts) i l refl o w) (of_so_far.from_node k q).walk
+
+opened_whole : {v : Surroundings} (r : Rung) {d : Nonterminal} {x y z : Place} {u : Tree} {ts : Forest} (k : Kind) → is_rung r ≡ true → Listed k → grows_on k ≡ false → Staged v false d x (node k ts) y → Onward so_far v x (node k ts) y u z → Whole so_far v false (seat r) x u z → Walk (Whole so_far) (around v ts) (row_so_far k) x ts y
+opened_whole r k i l g q o w = kind_whole r k i l (opens k l g).closed q o w
 
 -- a node, and that no other begins from there with the sign that it begins with
 record OnlyFirst (v : Surroundings) (t : Tree) (x y : Place) : Type 0 where
   kind : Kind
   listed : Listed kind
   still : grows_on kind ≡ false
-  built : BuiltNode so_far v (row_so_far kind) kind t x y
-  alone : (j : Kind) (ts : Forest) (z : Place) → Listed j → grows_on j ≡ false → same_sign (opening_sign j) (opening_sign kind) ≡ true → Walk (Whole so_far) (steady v) (row_so_far j) x ts z → so_far.keeps j v ts ≡ true → SameFirst (node j ts) t z y
+  built : OnlyIn v (row_so_far kind) kind t x y
+  alone : (j : Kind) (ts : Forest) (z : Place) → Listed j → grows_on j ≡ false → same_sign (opening_sign j) (opening_sign kind) ≡ true → Walk (Whole so_far) (around v ts) (row_so_far j) x ts z → so_far.keeps j v ts ≡ true → SameFirst (node j ts) t z y
 
 -- so it is what everything that is read from there begins with
 to_opened : {v : Surroundings} (r : Rung) {x y p z : Place} {f t u : Tree} → is_rung r ≡ true → OnlyFirst v t x y → First v x f p → Onward so_far v x f p u z → Whole so_far v false (seat r) x u z → SameFirst f t p y
-to_opened r {x = x} i b (name m {t = s} h q e e') o w = absurd (literal_opening m s (opening_sign b.kind) x (opener_of b.kind b.listed b.still) h (found_at e e') (led_sign (row_so_far b.kind) (opened_led b.kind b.listed b.still) b.built.row.walk))
-to_opened r {x = x} i b (quoted d q s) o w = absurd (opener_piece x (opener_of b.kind b.listed b.still) (led_sign (row_so_far b.kind) (opened_led b.kind b.listed b.still) b.built.row.walk) (piece_of q s))
+to_opened r {x = x} i b (name m {t = s} h q e e') o w = absurd (literal_opening m s (opening_sign b.kind) x (opener_of b.kind b.listed b.still) h (found_at e e') (led_sign (row_so_far b.kind) (opened_led b.kind b.listed b.still) b.built.walk))
+to_opened r {x = x} i b (quoted d q s) o w = absurd (opener_piece x (opener_of b.kind b.listed b.still) (led_sign (row_so_far b.kind) (opened_led b.kind b.listed b.still) b.built.walk) (piece_of q s))
 to_opened r {x = x} {p = p} i b (opened d {k = j} {ts} m h q) o w =
-    let here = led_sign (row_so_far b.kind) (opened_led b.kind b.listed b.still) b.built.row.walk in
+    let here = led_sign (row_so_far b.kind) (opened_led b.kind b.listed b.still) b.built.walk in
     b.alone j ts p m h (one_opening (opening_sign j) (opening_sign b.kind) x (opener_of j m h) (opener_of b.kind b.listed b.still) (opened_sign j m h q) here) (opened_whole r j i m h q o w) (of_so_far.from_node j q).keeps
 
-staged_at : {v : Surroundings} (r : Rung) {x y : Place} {ts : Forest} (k : Kind) → is_rung r ≡ true → reaches r k ≡ true → Listed k → free (row_so_far k) ≡ true → clear r (node k ts) ≡ true → Walk (Whole so_far) (steady v) (row_so_far k) x ts y → so_far.keeps k v ts ≡ true → Staged v false (seat r) x (node k ts) y
-staged_at {v} r {ts = ts} k i e l f c w keeps = of_so_far.to_node k (seat_admits r k ts ((at_level {r = r} i k l).home ∙ reaches_level r k e) c) (record { walk = loosen (moved (λ a h. sym (free_around a ts v h)) f w); keeps = keeps })
+staged_at : {v : Surroundings} (r : Rung) {x y : Place} {ts : Forest} (k : Kind) → is_rung r ≡ true → reaches r k ≡ true → Listed k → clear r (node k ts) ≡ true → Walk (Whole so_far) (around v ts) (row_so_far k) x ts y → so_far.keeps k v ts ≡ true → Staged v false (seat r) x (node k ts) y
+staged_at r {ts = ts} k i e l c w keeps = of_so_far.to_node k (seat_admits r k ts ((at_level {r = r} i k l).home ∙ reaches_level r k e) c) (record { walk = loosen w; keeps = keeps })
 
 -- what stands behind its sign keeps its rules, where these ask nothing
 pub kept_behind : {v : Surroundings} {a y : Place} {t : Tree} (k : Kind) → Listed k → grows_on k ≡ false → is_ruled k ≡ false → Built so_far v (tail (row_so_far k)) k (λ ts. ts) t a y → BuiltNode so_far v (tail (row_so_far k)) k t a y
@@ -142,50 +211,53 @@ record Leads (v : Surroundings) (x : Place) (t : Tree) (y : Place) : Type 0 wher
   on : (r : Rung) {f u : Tree} {p z : Place} → is_rung r ≡ true → First v x f p → Onward so_far v x f p u z → Whole so_far v false (seat r) x u z → SameFirst f t p y
 
 -- above its level nothing is read that begins with it
-too_low : {v : Surroundings} (r : Rung) {x y : Place} {t : Tree} (k : Kind) → is_rung r ≡ true → Listed k → free (row_so_far k) ≡ true → Leads v x t y → BuiltNode so_far v (row_so_far k) k t x y → rises r t ≡ false → Barred so_far v (Part (seat r)) x
-too_low {v} r {x} {y} {t} k i l f c b e = record { no = at }
+too_low : {v : Surroundings} (r : Rung) {x y : Place} {t : Tree} (k : Kind) → is_rung r ≡ true → Listed k → Leads v x t y → OnlyIn v (row_so_far k) k t x y → rises r t ≡ false → Barred so_far v (Part (seat r)) x
+too_low {v} r {x} {y} {t} k i l c b e = record { no = at }
   where
     at : (h : Given) (z : Place) → Past (Whole so_far) v (Part (seat r)) x h z → ⊥
     at h z (tree {t = u} q) =
         let m = begun (rung_single r i) u q.reads in
         let o : Onward so_far v x t y u z = onto (c.on r i m.first m.onward q) m.onward in
-        let here : Staged v false (Expr 1) x t y = subst (λ w. Staged v false (Expr 1) x w y) (sym b.is) (staged_at (rung 1) k refl (of_each (λ j. nat_le 1 (level_of_kind j)) refl k l) l f refl b.row.walk b.keeps) in
+        let here : Staged v false (Expr 1) x t y = subst (λ w. Staged v false (Expr 1) x w y) (sym b.is) (staged_at (rung 1) k refl (of_each (λ j. nat_le 1 (level_of_kind j)) refl k l) l refl b.walk b.keeps) in
         clash (rises r t) (ap (rises r) b.is ∙ (rises_node r k b.parts ∙ node_reaches r i l (subst (λ w. Staged v false (seat r) x w y) b.is (low r i (subst Value (sym b.is) (made l)) here o q.reads)))) e
 
-node_follows : {v : Surroundings} {x y : Place} {t : Tree} (k : Kind) → Listed k → free (row_so_far k) ≡ true → Leads v x t y → (b : BuiltNode so_far v (row_so_far k) k t x y) → ((r : Rung) → reaches r k ≡ true → clear r (node k b.parts) ≡ true) → settled y ≡ true → Begins v x t y
-node_follows {v} {x} {y} {t} k l f c b d s = record {
+node_follows : {v : Surroundings} {x y : Place} {t : Tree} (k : Kind) → Listed k → Leads v x t y → (b : OnlyIn v (row_so_far k) k t x y) → ((r : Rung) → reaches r k ≡ true → clear r (node k b.parts) ≡ true) → settled y ≡ true → Begins v x t y
+node_follows {v} {x} {y} {t} k l c b d s = record {
   on = λ r i e.
       let up : reaches r k ≡ true = sym (rises_node r k b.parts) ∙ (sym (ap (rises r) b.is) ∙ e) in
-      let reads : Staged v false (seat r) x t y = subst (λ u. Staged v false (seat r) x u y) (sym b.is) (staged_at r k i up l f (d r up) b.row.walk b.keeps) in
+      let reads : Staged v false (seat r) x t y = subst (λ u. Staged v false (seat r) x u y) (sym b.is) (staged_at r k i up l (d r up) b.walk b.keeps) in
       record {
         follows = record { home = seat r; operand = rung_operand r; reads = reads; all = λ u z q. let m = begun (rung_single r i) u q.reads in onto (c.on r i m.first m.onward q) m.onward };
         reads = reads;
         ended = s;
       };
-  low = λ r i e. too_low r k i l f c b e;
+  low = λ r i e. too_low r k i l c b e;
 }
 
 only_follows : {v : Surroundings} {x y : Place} {t : Tree} → OnlyFirst v t x y → settled y ≡ true → Begins v x t y
-only_follows b s = node_follows b.kind b.listed (opens b.kind b.listed b.still).freed (record { on = λ r i f o w. to_opened r i b f o w }) b.built (λ r e. clear_first r b.kind b.built.parts (sym (leads_as b.kind b.listed) ∙ ap (λ g. g && not (is_template b.kind)) b.still) e) s
+only_follows b s = node_follows b.kind b.listed (record { on = λ r i f o w. to_opened r i b f o w }) b.built (λ r e. clear_first r b.kind b.built.parts (sym (leads_as b.kind b.listed) ∙ ap (λ g. g && not (is_template b.kind)) b.still) e) s
 
 -- a node that was read is what is read as one of its kind
 
-same_node : {v : Surroundings} {ps : List Piece} {x y z : Place} {t : Tree} {ts : Forest} (k : Kind) → BuiltNode so_far v ps k t x y → Walk (Whole so_far) (steady v) ps x ts z → SameFirst (node k ts) t z y
-same_node {z = z} {ts = ts} k b w = let s = b.row.alone ts z w in record { tree = ap (node k) (sym s.0) ∙ sym b.is; place = sym s.1 }
+same_node : {v : Surroundings} {ps : List Piece} {x y z : Place} {t : Tree} {ts : Forest} (k : Kind) → OnlyIn v ps k t x y → Walk (Whole so_far) (around v ts) ps x ts z → so_far.keeps k v ts ≡ true → SameFirst (node k ts) t z y
+same_node {z = z} {ts = ts} k b w h = let s = b.alone ts z w h in record { tree = ap (node k) (sym s.0) ∙ sym b.is; place = sym s.1 }
+
+same_parts : {v : Surroundings} {x y z : Place} {t : Tree} {ts : Forest} (k : Kind) → OnlyParts v k t x y → Walk (Whole so_far) (around v ts) (tail (row_so_far k)) x ts z → so_far.keeps k v ts ≡ true → (node k ts ≡ t) × (z ≡ y)
+same_parts {z = z} {ts = ts} k b w h = let s = b.alone ts z w h in (ap (node k) (sym s.0) ∙ sym b.is, sym s.1)
 
 -- ---- a kind that no other begins as
 
-sole_first : {v : Surroundings} {x y : Place} {t : Tree} (k : Kind) → Listed k → grows_on k ≡ false → is_shared k ≡ false → BuiltNode so_far v (row_so_far k) k t x y → OnlyFirst v t x y
+sole_first : {v : Surroundings} {x y : Place} {t : Tree} (k : Kind) → Listed k → grows_on k ≡ false → is_shared k ≡ false → OnlyIn v (row_so_far k) k t x y → OnlyFirst v t x y
 sole_first {v} {x} {y} {t} k l g n b = record {
   kind = k;
   listed = l;
   still = g;
   built = b;
-  alone = λ j ts z m h e w _. subst (λ i. Walk (Whole so_far) (steady v) (row_so_far i) x ts z → SameFirst (node i ts) t z y) (sym (sole_kind j k m h l g n e)) (same_node k b) w;
+  alone = λ j ts z m h e w keeps. subst (λ i. Walk (Whole so_far) (around v ts) (row_so_far i) x ts z → so_far.keeps i v ts ≡ true → SameFirst (node i ts) t z y) (sym (sole_kind j k m h l g n e)) (same_node k b) w keeps;
 }
 
-pub opened_follows : {v : Surroundings} {x y : Place} {t : Tree} (k : Kind) → Listed k → grows_on k ≡ false → is_shared k ≡ false → BuiltNode so_far v (row_so_far k) k t x y → settled y ≡ true → Begins v x t y
-opened_follows k l g n b s = only_follows (sole_first k l g n b) s
+pub opened_follows : {v : Surroundings} {x y : Place} {t : Tree} (k : Kind) → Listed k → grows_on k ≡ false → is_shared k ≡ false → free (row_so_far k) ≡ true → BuiltNode so_far v (row_so_far k) k t x y → settled y ≡ true → Begins v x t y
+opened_follows k l g n f b s = only_follows (sole_first k l g n (free_in k f b)) s
 
 -- ---- what stands behind a sign, of all kinds that begin with it
 
@@ -227,11 +299,7 @@ same_forth s u x (plain {k} {d} {t} o) (plain {k = l} {d = c} {t = w} q) e = at 
     at Lost = refl
     at (At r g text) = let m = token Operator (same r []) text in (λ i. go_if (nat_eq (kind_number m.kind) (kinds_same i) && same m.raw (texts_same i)) (At (texts_same i) AfterExpr m.rest))
 
-peel : {v : Surroundings} (ps : List Piece) {x a z : Place} {ts : Forest} → signed ps ≡ true → forth (lead ps) x ≡ a → Walk (Whole so_far) (steady v) ps x ts z → Walk (Whole so_far) (steady v) (tail ps) a ts z
-peel {v} (piece [] (Fixed s) ∷ ps) {z = z} l e (next {ts = us} (sign d f) w) = subst (λ p. Walk (Whole so_far) (steady v) ps p us z) (sym d ∙ e) w
-peel _ l e w = cc
-
-behind_sign : {v : Surroundings} {x a z : Place} {ts : Forest} (j k : Kind) → Listed j → grows_on j ≡ false → Listed k → grows_on k ≡ false → Moves (opening_sign k) x a → same_sign (opening_sign j) (opening_sign k) ≡ true → Walk (Whole so_far) (steady v) (row_so_far j) x ts z → Walk (Whole so_far) (steady v) (tail (row_so_far j)) a ts z
+behind_sign : {v : Surroundings} {x a z : Place} {ts : Forest} (j k : Kind) → Listed j → grows_on j ≡ false → Listed k → grows_on k ≡ false → Moves (opening_sign k) x a → same_sign (opening_sign j) (opening_sign k) ≡ true → Walk (Whole so_far) (around v ts) (row_so_far j) x ts z → Walk (Whole so_far) (around v ts) (tail (row_so_far j)) a ts z
 behind_sign {x = x} j k m h l g s e w = peel (row_so_far j) (opened_led j m h) (same_forth (opening_sign j) (opening_sign k) x (opener_of j m h) (opener_of k l g) e ∙ sym s.is) w
 
 opened_first : {v : Surroundings} {x a y : Place} {t : Tree} (k : Kind) → Listed k → grows_on k ≡ false → Moves (opening_sign k) x a → OnlyOpened v (opening_sign k) t a y → OnlyFirst v t x y
@@ -239,7 +307,7 @@ opened_first {v} {x} {a} {y} {t} k l g s o = record {
   kind = o.kind;
   listed = m;
   still = h;
-  built = signed_node (row_so_far o.kind) (opened_led o.kind m h) (record { is = s.is ∙ sym (same_forth (opening_sign o.kind) (opening_sign k) x (opener_of o.kind m h) (opener_of k l g) (and_right (in_homes (Expr 0) (homes o.kind)) _ (and_right (has_kind o.kind) _ o.begins))); found = s.found }) o.built;
+  built = signed_in o.kind (opened_led o.kind m h) (record { is = s.is ∙ sym (same_forth (opening_sign o.kind) (opening_sign k) x (opener_of o.kind m h) (opener_of k l g) (and_right (in_homes (Expr 0) (homes o.kind)) _ (and_right (has_kind o.kind) _ o.begins))); found = s.found }) o.built;
   alone = λ j ts z n i e w keeps.
       let e' = one_opening (opening_sign j) (opening_sign k) x (opener_of j n i) (opener_of k l g) (led_sign (row_so_far j) (opened_led j n i) w) (found_at (sym s.is) s.found) in
       let q = o.alone j ts z (with_sign k j n i e') (behind_sign j k n i l g s e' w) keeps in record { tree = q.0; place = q.1 };
@@ -270,8 +338,8 @@ clear_quoted : (r : Rung) {k : Kind} (ts : Forest) → Quoted k → reaches r k 
 clear_quoted r ts undivided e = clear_first r (expression (PlainTemplate false)) ts refl e
 clear_quoted r ts divided e = clear_first r (expression (SubstitutedTemplate false)) ts refl e
 
-quoted_whole : {v : Surroundings} (r : Rung) {d : Nonterminal} {x y z : Place} {u : Tree} {k : Kind} {ts : Forest} → Quoted k → is_rung r ≡ true → Staged v false d x (node k ts) y → Onward so_far v x (node k ts) y u z → Whole so_far v false (seat r) x u z → Walk (Whole so_far) (steady v) (row_so_far k) x ts y
-quoted_whole r {k = k} q i s o w = kind_whole r k i (quoted_listed q) (quoted_closed q) (quoted_freed q) s o w
+quoted_whole : {v : Surroundings} (r : Rung) {d : Nonterminal} {x y z : Place} {u : Tree} {k : Kind} {ts : Forest} → Quoted k → is_rung r ≡ true → Staged v false d x (node k ts) y → Onward so_far v x (node k ts) y u z → Whole so_far v false (seat r) x u z → Walk (Whole so_far) (around v ts) (row_so_far k) x ts y
+quoted_whole r {k = k} q i s o w = kind_whole r k i (quoted_listed q) (quoted_closed q) s o w
 
 -- two at one place are of one kind
 one_quoted : {v : Surroundings} {d : Nonterminal} {V : List Context → Surroundings} {x p y : Place} {j k : Kind} {ts us : Forest} → Quoted k → Quoted j → Staged v false d x (node j ts) p → Walk Staged V (row_so_far k) x us y → j ≡ k
@@ -280,13 +348,13 @@ one_quoted divided divided r w = refl
 one_quoted undivided divided r w = absurd (one_piece (whole_row w) (head_row (of_so_far.from_node (expression (SubstitutedTemplate false)) r).walk))
 one_quoted divided undivided r w = absurd (one_piece (whole_row (of_so_far.from_node (expression (PlainTemplate false)) r).walk) (head_row w))
 
-to_quoted : {v : Surroundings} (r : Rung) {x y p z : Place} {f t u : Tree} {k : Kind} → Quoted k → is_rung r ≡ true → BuiltNode so_far v (row_so_far k) k t x y → First v x f p → Onward so_far v x f p u z → Whole so_far v false (seat r) x u z → SameFirst f t p y
-to_quoted r {x = x} q i b (name m {t = s} h w e e') o u = absurd (literal_piece m s x (found_at e e') (piece_row q (loosen b.row.walk)))
-to_quoted r {x = x} q i b (opened d {k = j} m h s) o u = absurd (opener_piece x (opener_of j m h) (opened_sign j m h s) (piece_row q (loosen b.row.walk)))
-to_quoted {v} r {x} {y} {p} {t = t} {k = k} q i b (quoted d {k = j} {ts} h s) o w = subst (λ c. Walk (Whole so_far) (steady v) (row_so_far c) x ts p → SameFirst (node c ts) t p y) (sym (one_quoted q h s (loosen b.row.walk))) (same_node k b) (quoted_whole r h i s o w)
+to_quoted : {v : Surroundings} (r : Rung) {x y p z : Place} {f t u : Tree} {k : Kind} → Quoted k → is_rung r ≡ true → OnlyIn v (row_so_far k) k t x y → First v x f p → Onward so_far v x f p u z → Whole so_far v false (seat r) x u z → SameFirst f t p y
+to_quoted r {x = x} q i b (name m {t = s} h w e e') o u = absurd (literal_piece m s x (found_at e e') (piece_row q (loosen b.walk)))
+to_quoted r {x = x} q i b (opened d {k = j} m h s) o u = absurd (opener_piece x (opener_of j m h) (opened_sign j m h s) (piece_row q (loosen b.walk)))
+to_quoted {v} r {x} {y} {p} {t = t} {k = k} q i b (quoted d {k = j} {ts} h s) o w = subst (λ c. Walk (Whole so_far) (around v ts) (row_so_far c) x ts p → so_far.keeps c v ts ≡ true → SameFirst (node c ts) t p y) (sym (one_quoted q h s (loosen b.walk))) (same_node k b) (quoted_whole r h i s o w) (of_so_far.from_node j s).keeps
 
 pub quoted_follows : {v : Surroundings} {x y : Place} {t : Tree} {k : Kind} → Quoted k → BuiltNode so_far v (row_so_far k) k t x y → settled y ≡ true → Begins v x t y
-quoted_follows {k = k} q b s = node_follows k (quoted_listed q) (quoted_freed q) (record { on = λ r i f o w. to_quoted r q i b f o w }) b (λ r e. clear_quoted r b.parts q e) s
+quoted_follows {k = k} q b s = let n = free_in k (quoted_freed q) b in node_follows k (quoted_listed q) (record { on = λ r i f o w. to_quoted r q i n f o w }) n (λ r e. clear_quoted r n.parts q e) s
 
 -- with the sign before it
 pub signed_follows : {v : Surroundings} {x a y : Place} {t : Tree} (k : Kind) → Listed k → grows_on k ≡ false → Moves (opening_sign k) x a → OnlyOpened v (opening_sign k) t a y → settled y ≡ true → Begins v x t y
@@ -305,28 +373,38 @@ own_sign k l g = with_sign k k l g (or_cases (grows_on k) _ (of_each self_signed
 sole_with : (k : Kind) → Listed k → grows_on k ≡ false → is_shared k ≡ false → (j : Kind) → opens_with (opening_sign k) j ≡ true → j ≡ k
 sole_with k l g n j o = sole_kind j k (opens_listed (opening_sign k) j o) (opens_still (opening_sign k) j o) l g n (and_right (in_homes (Expr 0) (homes j)) _ (and_right (has_kind j) _ o))
 
-pub sole_opened : {v : Surroundings} {a y : Place} {t : Tree} (k : Kind) → Listed k → grows_on k ≡ false → is_shared k ≡ false → BuiltNode so_far v (tail (row_so_far k)) k t a y → OnlyOpened v (opening_sign k) t a y
-sole_opened {v} {a} {y} {t} k l g n b = record {
+pub sole_parts : {v : Surroundings} {a y : Place} {t : Tree} (k : Kind) → Listed k → grows_on k ≡ false → is_shared k ≡ false → OnlyParts v k t a y → OnlyOpened v (opening_sign k) t a y
+sole_parts {v} {a} {y} {t} k l g n b = record {
   kind = k;
   begins = own_sign k l g;
   built = b;
-  alone = λ j ts z o w _. subst (λ i. Walk (Whole so_far) (steady v) (tail (row_so_far i)) a ts z → (node i ts ≡ t) × (z ≡ y)) (sym (sole_with k l g n j o)) (λ q. let s = same_node k b q in (s.tree, s.place)) w;
+  alone = λ j ts z o w keeps. subst (λ i. Walk (Whole so_far) (around v ts) (tail (row_so_far i)) a ts z → so_far.keeps i v ts ≡ true → (node i ts ≡ t) × (z ≡ y)) (sym (sole_with k l g n j o)) (same_parts k b) w keeps;
 }
 
-pub sole_none : {v : Surroundings} {a : Place} (k : Kind) → Listed k → grows_on k ≡ false → is_shared k ≡ false → NoNode so_far v (tail (row_so_far k)) k a → NoneOpened v (opening_sign k) a
-sole_none {v} {a} k l g n b = record { no = λ j o. subst (λ i. NoNode so_far v (tail (row_so_far i)) i a) (sym (sole_with k l g n j o)) b }
+pub no_sole_parts : {v : Surroundings} {a : Place} (k : Kind) → Listed k → grows_on k ≡ false → is_shared k ≡ false → NoParts v k a → NoneOpened v (opening_sign k) a
+no_sole_parts {v} {a} k l g n b = record { no = λ j o. subst (λ i. NoParts v i a) (sym (sole_with k l g n j o)) b }
+
+-- where what its parts stand in doesn't hang on them
+pub sole_opened : {v : Surroundings} {a y : Place} {t : Tree} (k : Kind) → Listed k → grows_on k ≡ false → is_shared k ≡ false → free (tail (row_so_far k)) ≡ true → BuiltNode so_far v (tail (row_so_far k)) k t a y → OnlyOpened v (opening_sign k) t a y
+sole_opened k l g n f b = sole_parts k l g n (free_parts k f b)
+
+pub sole_none : {v : Surroundings} {a : Place} (k : Kind) → Listed k → grows_on k ≡ false → is_shared k ≡ false → free (tail (row_so_far k)) ≡ true → NoNode so_far v (tail (row_so_far k)) k a → NoneOpened v (opening_sign k) a
+sole_none k l g n f b = no_sole_parts k l g n (free_none k f b)
 
 -- of kinds that begin with one sign one is read, and each other is not
 pub data Other (v : Surroundings) (a : Place) : Kind → Kind → Type 0 where
   itself : {k : Kind} → Other v a k k
-  barred : {k j : Kind} → NoNode so_far v (tail (row_so_far j)) j a → Other v a k j
+  barred : {k j : Kind} → free (tail (row_so_far j)) ≡ true → NoNode so_far v (tail (row_so_far j)) j a → Other v a k j
 
-pub opened_by : {v : Surroundings} {s : Sign} {a y : Place} {t : Tree} (k : Kind) → opens_with s k ≡ true → BuiltNode so_far v (tail (row_so_far k)) k t a y → ((j : Kind) → opens_with s j ≡ true → Other v a k j) → OnlyOpened v s t a y
-opened_by {v} {s} {a} {y} {t} k e b others = record { kind = k; begins = e; built = b; alone = λ j ts z o w keeps. by (others j o) w keeps }
+pub opened_by : {v : Surroundings} {s : Sign} {a y : Place} {t : Tree} (k : Kind) → opens_with s k ≡ true → free (tail (row_so_far k)) ≡ true → BuiltNode so_far v (tail (row_so_far k)) k t a y → ((j : Kind) → opens_with s j ≡ true → Other v a k j) → OnlyOpened v s t a y
+opened_by {v} {s} {a} {y} {t} k e f b others = record { kind = k; begins = e; built = built; alone = λ j ts z o w keeps. by (others j o) w keeps }
   where
-    by : {j : Kind} {ts : Forest} {z : Place} → Other v a k j → Walk (Whole so_far) (steady v) (tail (row_so_far j)) a ts z → so_far.keeps j v ts ≡ true → (node j ts ≡ t) × (z ≡ y)
-    by itself w keeps = let q = same_node k b w in (q.tree, q.place)
-    by {ts = ts} {z = z} (barred n) w keeps = absurd (n.no ts z w keeps)
+    built : OnlyParts v k t a y
+    built = free_parts k f b
+
+    by : {j : Kind} {ts : Forest} {z : Place} → Other v a k j → Walk (Whole so_far) (around v ts) (tail (row_so_far j)) a ts z → so_far.keeps j v ts ≡ true → (node j ts ≡ t) × (z ≡ y)
+    by itself w keeps = same_parts k built w keeps
+    by {ts = ts} {z = z} (barred h n) w keeps = absurd (n.no ts z (steadied ts h w) keeps)
 
 -- ---- where no expression stands
 
@@ -355,7 +433,7 @@ no_node : {v : Surroundings} (r : Rung) {d : Nonterminal} {x p z : Place} {ts : 
 no_node {v} r {d} {x} {p} {z} {ts} {u} k unopened e i l g q o w = or_cases (nat_eq (code k) (code (jsx Element))) (is_code (opening_sign k) && has_sign (opening_sign k) opening_signs) (opens k l g).begins element (λ h. lost_there (opening_sign k) x (unopened.on (opening_sign k) (and_left (is_code (opening_sign k)) _ h) (and_right (is_code (opening_sign k)) _ h)) (opened_sign k l g q))
   where
     element : nat_eq (code k) (code (jsx Element)) ≡ true → ⊥
-    element h = subst (λ j. Staged v false d x (node j ts) p → Onward so_far v x (node j ts) p u z → ⊥) (sym (one_place k (jsx Element) l (listed (jsx Element) refl refl refl) h)) (λ q o. e.no ts p (opened_whole r (jsx Element) i (listed (jsx Element) refl refl refl) refl q o w)) q o
+    element h = subst (λ j. Staged v false d x (node j ts) p → Onward so_far v x (node j ts) p u z → ⊥) (sym (one_place k (jsx Element) l (listed (jsx Element) refl refl refl) h)) (λ q o. e.no ts p (steadied ts refl (opened_whole r (jsx Element) i (listed (jsx Element) refl refl refl) refl q o w))) q o
 
 -- an element doesn't begin with one of the signs
 no_angle : {v : Surroundings} {x : Place} (l : Literal) (t : Text) → IsTrue (is_found (forth (literal_sign l t) x)) → NoRow so_far v (row_so_far (jsx Element)) x
@@ -402,5 +480,5 @@ pub unread_quoted : {v : Surroundings} {x : Place} → Quote x → ((k : Kind) �
 unread_quoted {x = x} p n = none_begins (record {
   literal = λ l t h f. literal_piece l t x f p;
   node = λ r k i l g s o w. opener_piece x (opener_of k l g) (opened_sign k l g s) p;
-  quoted = λ r {p = q} {ts = ts} {k = k} i h s o w. (n k h).no ts q (quoted_whole r h i s o w) (of_so_far.from_node k s).keeps;
+  quoted = λ r {p = q} {ts = ts} {k = k} i h s o w. (n k h).no ts q (steadied ts (quoted_freed h) (quoted_whole r h i s o w)) (of_so_far.from_node k s).keeps;
 })

@@ -6,10 +6,10 @@ use Rattle.jsx_base.specs.Token.{Text, Operator, Piece, Punctuator, NoSubstituti
 use Rattle.jsx_base.specs.declared.place.Span.{Span}
 use Rattle.jsx_tree.specs.declared.text.Text.{Text as TreeText}
 use Rattle.jsx_tree.specs.declared.tree.Jsx.{Jsx}
-use Rattle.jsx_tree.specs.Signs.{End, Pad, AfterExpr, Tok, TrailingComma, Sign}
-use Rattle.jsx_tree.specs.Kinds.{BinaryOp, Nullish, Exponentiate, UnaryOp, Delete, Void, TypeOf, Positive, Negative, Complement, Not, Assign, OpAssign, Unary, Binary, Cond, Call, Member, Index, New, NewWithoutArguments, NewTarget, ImportCall, ImportMeta, Element, expression, jsx, Tree, leaf, node, list, Forest, none, part, UpdateOp, Increment, Decrement, PrefixUpdate, PostfixUpdate, Seq, Array, Object, Property, Shorthand, Spread, ComputedKey, function, PlainTemplate, SubstitutedTemplate, TemplateSpan, Tagged, Binds, WithInit, RestPat, ArrayPat, ObjectPat, PropertyPat, ShorthandPat, ShorthandInit, RestProperty}
+use Rattle.jsx_tree.specs.Signs.{End, Pad, Space, AfterExpr, Tok, TrailingComma, Sign}
+use Rattle.jsx_tree.specs.Kinds.{BinaryOp, Nullish, Exponentiate, UnaryOp, Delete, Void, TypeOf, Positive, Negative, Complement, Not, Assign, OpAssign, Unary, Binary, Cond, Call, Member, Index, New, NewWithoutArguments, NewTarget, SuperCall, SuperMember, SuperIndex, ClassExpr, ClassDecl, statement, ImportCall, ImportMeta, Element, expression, jsx, Tree, leaf, node, list, Forest, none, part, UpdateOp, Increment, Decrement, PrefixUpdate, PostfixUpdate, Seq, Array, Object, Property, Shorthand, Spread, ComputedKey, function, PlainTemplate, SubstitutedTemplate, TemplateSpan, Tagged, Binds, WithInit, RestPat, ArrayPat, ObjectPat, PropertyPat, ShorthandPat, ShorthandInit, RestProperty}
 use Rattle.jsx_tree.specs.Nonterminals as grammar
-use Rattle.jsx_tree.specs.Grammar.{Commas, Fixed, TwoOrMore, Many, Part, key, p, pun, sp, count, left_of, right_of, Elisions, Adjacent}
+use Rattle.jsx_tree.specs.Grammar.{Commas, Fixed, TwoOrMore, InMembers, Many, Optional, Part, Production, Within, braced_lines, key, p, pun, sp, count, left_of, right_of, Elisions, Adjacent}
 use Rattle.jsx_tree.specs.Grows.{operator_sign}
 use Rattle.jsx_tree.specs.Spelling.{mode_of, between, gathered, each_said, spelled}
 use Rattle.jsx_tree.specs.Reading.{Place, Lost, At, forth, scan}
@@ -29,7 +29,7 @@ use Rattle.jsx_base.proofs.Fronts.{other_ahead}
 use Rattle.jsx_tree.proofs.Apart.{clash}
 use Rattle.jsx_tree.proofs.Signs.{comma_too}
 use Rattle.jsx_operand.proofs.Operators.{operator_is}
-use Rattle.jsx_operand.proofs.Placing.{row_end, row_sign, row_quiet, row_part, row_part_as, row_list, list_none, node_is, leaf_is, led, row_line, row_unless, IsItem, bare_node, middle_item, tail_item, row_item}
+use Rattle.jsx_operand.proofs.Placing.{row_end, row_sign, row_quiet, row_part, row_part_as, row_list, list_none, node_is, leaf_is, led, row_line, row_unless, IsItem, bare_node, middle_item, tail_item, row_item, row_within}
 
 -- ---- a trailing comma
 
@@ -170,6 +170,17 @@ new_row sign l bracket r s = node_is (λ c e ps. refl) (λ ms text. refl) s (row
 pub new_alone_row : {at : Option Span} {d : Told} {t : Tree} {w x y : Here} → Takes (opening_sign (expression NewWithoutArguments)) w x → IsPlaced d t x y → Spans at (next_of w) (end_of y) → IsPlaced (told_node at (d ∷ [])) (node (expression NewWithoutArguments) (part t none)) w y
 new_alone_row sign l s = node_is (λ c e ps. refl) (λ ms text. refl) s (row_quiet (λ q. refl) (row_sign sign (row_quiet (λ q. refl) (row_part l (row_unless row_end)))))
 
+pub super_call_row : {at : Option Span} {es : Tales} {us : Forest} {w x y z : Here} → Takes (opening_sign (expression SuperCall)) w x → Takes (sign_of fixed.Open) x y → IsPlacedRow (Many Commas grammar.Argument ∷ p ")" ∷ []) (tale (tells [] es) no_tales) (part (list us) none) y z → Spans at (next_of w) (end_of z)
+    → IsPlaced (tells (spans at ∷ []) (tale (tells [] es) no_tales)) (node (expression SuperCall) (part (list us) none)) w z
+super_call_row sign bracket r s = node_is (λ c e ps. refl) (λ ms text. refl) s (row_quiet (λ q. refl) (row_sign sign (row_sign bracket r)))
+
+pub super_member_row : {at : Option Span} {a : TreeText} {w x y z : Here} → Takes (opening_sign (expression SuperMember)) w x → Takes (sign_of fixed.Dot) x y → Takes (Tok Operator IdentifierName (text_of a)) y z → Comes a (next_of y) → Spans at (next_of w) (end_of z)
+    → IsPlaced (told_node at (told_text a ∷ [])) (node (expression SuperMember) (part (leaf IdentifierName (text_of a)) none)) w z
+super_member_row sign dot name comes s = node_is (λ c e ps. refl) (λ ms text. refl) s (row_quiet (λ q. refl) (row_sign sign (row_sign dot (row_part (name_placed name comes) row_end))))
+
+pub super_index_row : {at : Option Span} {e : Told} {u : Tree} {w x y z v : Here} → Takes (opening_sign (expression SuperIndex)) w x → Takes (sign_of fixed.OpenBracket) x y → IsPlaced e u y z → Takes (sign_of fixed.CloseBracket) z v → Spans at (next_of w) (end_of v) → IsPlaced (told_node at (e ∷ [])) (node (expression SuperIndex) (part u none)) w v
+super_index_row sign bracket r close s = node_is (λ c e ps. refl) (λ ms text. refl) s (row_quiet (λ q. refl) (row_sign sign (row_sign bracket (row_part r (row_sign close row_end)))))
+
 pub array_row : {at : Option Span} {ds : Tales} {us : Forest} {w x y : Here} → Takes (opening_sign (expression Array)) w x → IsPlacedRow (Many Elisions grammar.ArrayItem ∷ p "]" ∷ []) (tale (tells [] ds) no_tales) (part (list us) none) x y → Spans at (next_of w) (end_of y)
     → IsPlaced (tells (spans at ∷ []) (tale (tells [] ds) no_tales)) (node (expression Array) (part (list us) none)) w y
 array_row sign r s = node_is (λ c e ps. refl) (λ ms text. refl) s (row_quiet (λ q. refl) (row_sign sign r))
@@ -200,6 +211,26 @@ property_row l colon r s = node_is (λ c e ps. refl) (led l _) s (row_quiet (λ 
 
 pub shorthand_row : {at : Option Span} {a : TreeText} {x y : Here} → Takes (Tok Operator IdentifierName (text_of a)) x y → Comes a (next_of x) → Spans at (next_of x) (end_of y) → IsPlaced (told_node at (told_text a ∷ [])) (node (expression Shorthand) (part (leaf IdentifierName (text_of a)) none)) x y
 shorthand_row {a = a} name comes s = let l = name_placed {a = a} name comes in node_is (λ c e ps. refl) (led l []) s (row_quiet (λ q. refl) (row_part l row_end))
+
+-- ---- classes, whose name and members stand in what they make of their surroundings
+
+abbrev class_symbols : Production
+class_symbols = Optional (Space ∷ key "extends" ∷ Space ∷ []) (grammar.Expr 17) [] [] ∷ sp ∷ braced_lines grammar.ClassMember
+
+class_placed : {ds : Tales} {h : Tree} {ts : Forest} {x y : Here} → IsPlacedRow class_symbols ds (part h ts) x y → IsPlacedRow (Optional (Space ∷ key "extends" ∷ Space ∷ []) (grammar.Expr 17) [] [] ∷ sp ∷ Within InMembers ∷ braced_lines grammar.ClassMember) ds (part h ts) x y
+class_placed r = record { same = r.same; leads = r.leads; told = r.told }
+
+named_class_placed : {ds : Tales} {n h : Tree} {ts : Forest} {x y : Here} → IsPlacedRow (Optional (Space ∷ []) grammar.BindingIdent [] [] ∷ class_symbols) ds (part n (part h ts)) x y
+    → IsPlacedRow (Optional (Space ∷ []) grammar.BindingIdent [] [] ∷ Optional (Space ∷ key "extends" ∷ Space ∷ []) (grammar.Expr 17) [] [] ∷ sp ∷ Within InMembers ∷ braced_lines grammar.ClassMember) ds (part n (part h ts)) x y
+named_class_placed r = record { same = r.same; leads = r.leads; told = r.told }
+
+pub class_row : {at : Option Span} {ds : Tales} {n h : Tree} {ts : Forest} {w x y : Here} → Takes (opening_sign (function ClassExpr)) w x → IsPlacedRow (Optional (Space ∷ []) grammar.BindingIdent [] [] ∷ Optional (Space ∷ key "extends" ∷ Space ∷ []) (grammar.Expr 17) [] [] ∷ sp ∷ braced_lines grammar.ClassMember) ds (part n (part h ts)) x y → Spans at (next_of w) (end_of y)
+    → IsPlaced (tells (spans at ∷ []) ds) (node (function ClassExpr) (part n (part h ts))) w y
+class_row m r s = node_is (λ c e ps. refl) (λ ms text. refl) s (row_quiet (λ q. refl) (row_sign m (row_within (named_class_placed r))))
+
+pub class_declaration_row : {at : Option Span} {d : Told} {ds : Tales} {n h : Tree} {ts : Forest} {w x y z : Here} → Takes (key "class") w x → IsPlaced d n x y → IsPlacedRow (Optional (Space ∷ key "extends" ∷ Space ∷ []) (grammar.Expr 17) [] [] ∷ sp ∷ braced_lines grammar.ClassMember) ds (part h ts) y z → Spans at (next_of w) (end_of z)
+    → IsPlaced (tells (spans at ∷ []) (tale d ds)) (node (statement ClassDecl) (part n (part h ts))) w z
+class_declaration_row m l r s = node_is (λ c e ps. refl) (λ ms text. refl) s (row_quiet (λ q. refl) (row_sign m (row_quiet (λ q. refl) (row_within (row_part l (class_placed r))))))
 
 -- ---- parameters
 

@@ -4,7 +4,7 @@ use Rattle.std.proofs.lemmas.Bool.{eqb-true, eq-eqb}
 use Rattle.std.specs.Prelude.{IsTrue, codes, Option, Some, None, ◌&&◌, ◌||◌}
 use Rattle.jsx_base.specs.Token.{Text, Mode, Operand, Operator, kind_number, TokenKind, NoToken, IdentifierName, Punctuator, NumericLiteral, BigIntLiteral, StringLiteral, RegExpLiteral, NoSubstitution, TemplateHead, Lexeme, is_kind, is_token, among, no_token, breaks, skip, first_is, at_front, token, same}
 use Rattle.jsx_tree.specs.Signs.{Ending, AfterExpr, Sign, Tok, Unless}
-use Rattle.jsx_tree.specs.Kinds.{Label, Seq, ParenTarget, Parenthesized, function, statement, expression, Kind, Tree, leaf, node, list, Forest, part, FunctionExpr, Object, Spread, PlainTemplate, SubstitutedTemplate}
+use Rattle.jsx_tree.specs.Kinds.{Label, Seq, ParenTarget, Parenthesized, function, statement, expression, Kind, Tree, leaf, node, list, Forest, part, FunctionExpr, ClassExpr, Object, Spread, PlainTemplate, SubstitutedTemplate}
 use Rattle.jsx_tree.specs.Nonterminals.{Nonterminal, Expr, Argument, Name, homes, in_homes, leaf_in, is_value_word, TemplatePart}
 use Rattle.jsx_tree.specs.Grammar.{ListShape, TwoOrMore, Context, Part, Fixed, heads, key, pun}
 use Rattle.jsx_tree.specs.Form.{admits, enough, is_leaf}
@@ -720,9 +720,9 @@ piece_heads : (x : Place) → Quote x → forth (Unless heads) x ≡ x
 piece_heads x (whole_there q) = token_clear heads NoSubstitution q.text x refl (no_head_piece NoSubstitution q.text q.whole refl refl refl) q.found
 piece_heads x (head_there q) = token_clear heads TemplateHead q.text x refl (no_head_piece TemplateHead q.text q.whole refl refl refl) q.found
 
--- a brace and the word of a function are those of them that an expression begins with
+-- a brace and the words of a function and a class are those of them that an expression begins with
 abbrev heads_well : Kind → Bool
-heads_well k = grows (row_so_far k) || (is_headless (opening_sign k) || (nat_eq (code k) (code (expression Object)) || nat_eq (code k) (code (function FunctionExpr))))
+heads_well k = grows (row_so_far k) || (is_headless (opening_sign k) || (nat_eq (code k) (code (expression Object)) || (nat_eq (code k) (code (function FunctionExpr)) || nat_eq (code k) (code (function ClassExpr)))))
 
 all_heads_well : every heads_well kinds ≡ true
 all_heads_well = refl
@@ -730,22 +730,20 @@ all_heads_well = refl
 stuck_lost : {s : Sign} {x : Place} → Stuck s x → IsTrue (is_found (forth s x)) → ⊥
 stuck_lost s f = let bad : IsTrue (is_found Lost) = subst (λ p. IsTrue (is_found p)) s.is f in cc
 
-first_heads : {v : Surroundings} {x p : Place} {f : Tree} → Stuck (pun "{") x → Stuck (key "function") x → First v x f p → forth (Unless heads) x ≡ x
-first_heads {x = x} s o (name l {t = t} h w g f) = literal_heads l t x (and_both _ _ h w) (found_at g f)
-first_heads {x = x} s o (quoted d q r) = piece_heads x (piece_of q r)
-first_heads {x = x} s o (opened d {k} l g r) =
+first_heads : {v : Surroundings} {x p : Place} {f : Tree} → Stuck (pun "{") x → Stuck (key "function") x → Stuck (key "class") x → First v x f p → forth (Unless heads) x ≡ x
+first_heads {x = x} s o c (name l {t = t} h w g f) = literal_heads l t x (and_both _ _ h w) (found_at g f)
+first_heads {x = x} s o c (quoted d q r) = piece_heads x (piece_of q r)
+first_heads {x = x} s o c (opened d {k} l g r) =
     or_cases (grows (row_so_far k)) _ (of_each heads_well all_heads_well k l) (λ h. absurd (clash _ h g))
     (λ e. or_cases (is_headless (opening_sign k)) _ e (λ h. opener_heads x (opener_of k l g) h there)
-    (λ i. or_cases (nat_eq (code k) (code (expression Object))) (nat_eq (code k) (code (function FunctionExpr))) i (λ h. absurd (braced h)) (λ h. absurd (worded h))))
+    (λ i. or_cases (nat_eq (code k) (code (expression Object))) _ i (λ h. absurd (at_stuck (expression Object) (listed (expression Object) refl refl refl) s h))
+    (λ j. or_cases (nat_eq (code k) (code (function FunctionExpr))) (nat_eq (code k) (code (function ClassExpr))) j (λ h. absurd (at_stuck (function FunctionExpr) (listed (function FunctionExpr) refl refl refl) o h)) (λ h. absurd (at_stuck (function ClassExpr) (listed (function ClassExpr) refl refl refl) c h)))))
   where
     there : IsTrue (is_found (forth (opening_sign k) x))
     there = opened_sign k l g r
 
-    braced : nat_eq (code k) (code (expression Object)) ≡ true → ⊥
-    braced h = stuck_lost s (subst (λ j. IsTrue (is_found (forth (opening_sign j) x))) (one_place k (expression Object) l (listed (expression Object) refl refl refl) h) there)
-
-    worded : nat_eq (code k) (code (function FunctionExpr)) ≡ true → ⊥
-    worded h = stuck_lost o (subst (λ j. IsTrue (is_found (forth (opening_sign j) x))) (one_place k (function FunctionExpr) l (listed (function FunctionExpr) refl refl refl) h) there)
+    at_stuck : (j : Kind) → Listed j → Stuck (opening_sign j) x → nat_eq (code k) (code j) ≡ true → ⊥
+    at_stuck j m n h = stuck_lost n (subst (λ i. IsTrue (is_found (forth (opening_sign i) x))) (one_place k j l m h) there)
 
 -- what a sequence begins with
 pub record Item (v : Surroundings) (x : Place) : Type 0 where
@@ -761,14 +759,14 @@ first_item {v} {s} {x} n (more {y = y} {t = t} m r e all) c = record { tree = t;
 item_of_walk : {v : Surroundings} (us : Forest) {x z : Place} {ts : Forest} → Walk Staged (around v us) (row_so_far (expression Seq)) x ts z → Item v x
 item_of_walk us (next (many e all) w) = first_item e all refl
 
-whole_heads : {v : Surroundings} {x z : Place} {u : Tree} → Stuck (pun "{") x → Stuck (key "function") x → AtWhole u → Staged v false (Expr 0) x u z → forth (Unless heads) x ≡ x
-whole_heads {u = u} s o (single a) r = first_heads s o (begun refl u (move at_one a r)).first
-whole_heads s o (several {ts}) r = let i = item_of_walk ts (of_so_far.from_node (expression Seq) r).walk in first_heads s o (begun refl i.tree i.reads).first
+whole_heads : {v : Surroundings} {x z : Place} {u : Tree} → Stuck (pun "{") x → Stuck (key "function") x → Stuck (key "class") x → AtWhole u → Staged v false (Expr 0) x u z → forth (Unless heads) x ≡ x
+whole_heads {u = u} s o c (single a) r = first_heads s o c (begun refl u (move at_one a r)).first
+whole_heads s o c (several {ts}) r = let i = item_of_walk ts (of_so_far.from_node (expression Seq) r).walk in first_heads s o c (begun refl i.tree i.reads).first
 
-pub no_heads : {v : Surroundings} {x z : Place} {u : Tree} → Stuck (pun "{") x → Stuck (key "function") x → Staged v false (Expr 0) x u z → forth (Unless heads) x ≡ x
-no_heads {u = u} s o r = whole_heads s o (at_whole u r) r
+pub no_heads : {v : Surroundings} {x z : Place} {u : Tree} → Stuck (pun "{") x → Stuck (key "function") x → Stuck (key "class") x → Staged v false (Expr 0) x u z → forth (Unless heads) x ≡ x
+no_heads {u = u} s o c r = whole_heads s o c (at_whole u r) r
 
--- ---- nor does one begin as what is exported by itself, but for a function
+-- ---- nor does one begin as what is exported by itself, but for a function and a class
 
 abbrev pub default_heads : List Text
 default_heads = codes "function" ∷ codes "class" ∷ []
@@ -787,9 +785,9 @@ lost_by : (x : Place) → is_found x ≡ false → x ≡ Lost
 lost_by Lost h = refl
 lost_by (At q e text) h = cc
 
-pub no_default : {v : Surroundings} {x z : Place} {u : Tree} → Stuck (key "function") x → Staged v false (Expr 1) x u z → forth (Unless default_heads) x ≡ x
-no_default {x = x} {u = u} o r = by (is_found (forth (pun "{") x)) refl
+pub no_default : {v : Surroundings} {x z : Place} {u : Tree} → Stuck (key "function") x → Stuck (key "class") x → Staged v false (Expr 1) x u z → forth (Unless default_heads) x ≡ x
+no_default {x = x} {u = u} o c r = by (is_found (forth (pun "{") x)) refl
   where
     by : (b : Bool) → is_found (forth (pun "{") x) ≡ b → forth (Unless default_heads) x ≡ x
     by true h = token_clear default_heads Punctuator (codes "{") x refl refl h
-    by false h = fewer_heads x (first_heads (record { is = lost_by (forth (pun "{") x) h }) o (begun refl u r).first)
+    by false h = fewer_heads x (first_heads (record { is = lost_by (forth (pun "{") x) h }) o c (begun refl u r).first)

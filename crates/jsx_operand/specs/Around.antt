@@ -1,5 +1,5 @@
 -- What a node stands in, as the parser keeps it.
-use Rattle.std.specs.Prelude.{List, [], ◌∷◌, true}
+use Rattle.std.specs.Prelude.{List, [], ◌∷◌, Bool, true, false, ◌&&◌}
 use Rattle.std.specs.Str.{chars}
 use Rattle.jsx_tree.specs.StaticRules.{Jump, jump, Surroundings}
 use Rattle.jsx_operand.specs.declared.around.Labels.{Labels}
@@ -19,3 +19,15 @@ around_of a =
 -- what the statements of a module stand in, with these labels
 abbrev pub within_module : List Jump → Surroundings
 within_module ls = record in_module { labels = ls }
+
+-- what the code of a method stands in, that may be the constructor of its class
+abbrev pub in_method : Bool → Surroundings → Surroundings
+in_method b v = record v { returns = true; target' = true; super' = true; super_call = v.derived && b; loop = false; breakable = false; labels = [] }
+
+-- what the members of a class stand in, one with `extends` or without
+abbrev pub in_members : Bool → Surroundings → Surroundings
+in_members b v = record v { strict = true; derived = b }
+
+-- and the value of a field
+abbrev pub in_field : Surroundings → Surroundings
+in_field v = record v { returns = false; target' = true; super' = true; super_call = false; loop = false; breakable = false; labels = [] }

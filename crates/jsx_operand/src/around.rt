@@ -4,7 +4,7 @@ ghost use Rattle.std.specs.Prelude.{◌≡◌, [], true};
 ghost use Rattle.jsx_tree.specs.Kinds.{none};
 ghost use Rattle.jsx_tree.specs.Grammar.{InFunction};
 ghost use Rattle.jsx_tree.specs.StaticRules.{enter};
-ghost use Rattle.jsx_operand.specs.Around.{around_of, labels_of, within_module};
+ghost use Rattle.jsx_operand.specs.Around.{around_of, in_field, in_members, in_method, labels_of, within_module};
 
 use std::alloc::Global;
 
@@ -102,6 +102,58 @@ impl<'a> Context<'a> {
             in_loop: false,
             breakable: false,
             labels,
+            ..self.around
+        };
+        Context { around, ..self }
+    }
+
+    /// The same in a method, a getter or a setter, where `super()` may stand in the constructor of a class with `extends`
+    /// alone (ECMA-262 sections 15.4 and 15.7).
+    pub fn of_method<'b>(self, labels: &'b Labels<'b>, is_constructor: bool) -> Context<'b>
+    where
+        'a: 'b,
+        requires { labels_of labels.now ≡ [] }
+        ensures { around_of result.around ≡ in_method is_constructor (around_of self.entry.around) }
+    {
+        let around = Around {
+            returns: true,
+            has_target: true,
+            has_super: true,
+            calls_super: self.around.is_derived && is_constructor,
+            in_loop: false,
+            breakable: false,
+            labels,
+            ..self.around
+        };
+        Context { around, ..self }
+    }
+
+    /// The same in the value of a field (ECMA-262 section 15.7).
+    pub fn of_field<'b>(self, labels: &'b Labels<'b>) -> Context<'b>
+    where
+        'a: 'b,
+        requires { labels_of labels.now ≡ [] }
+        ensures { around_of result.around ≡ in_field (around_of self.entry.around) }
+    {
+        let around = Around {
+            returns: false,
+            has_target: true,
+            has_super: true,
+            calls_super: false,
+            in_loop: false,
+            breakable: false,
+            labels,
+            ..self.around
+        };
+        Context { around, ..self }
+    }
+
+    /// The same in the members of a class, with `extends` or without (ECMA-262 section 15.7).
+    pub fn of_members(self, is_derived: bool) -> Context<'a>
+        ensures { around_of result.around ≡ in_members is_derived (around_of self.entry.around) }
+    {
+        let around = Around {
+            is_derived,
             ..self.around
         };
         Context { around, ..self }

@@ -6,6 +6,7 @@ mod around;
 mod body;
 mod error;
 pub mod link;
+pub mod member;
 pub mod operand;
 pub mod parser;
 pub mod pattern;

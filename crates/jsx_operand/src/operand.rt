@@ -445,12 +445,12 @@ pub fn literal_key<'s>(context: Context, lexer: &mut Lexer<'s>) -> Result<Key<'s
     Err(give_up(lexer))
 }
 
-/// Whether a name, behind which the lexer stands, is the key of a property.
-pub fn is_paired(lexer: &mut Lexer, name: &str) -> bool
-    ensures paired { result ≡ (among (chars name.now) grammar.reserved || is_found (forth (sign_of fixed.Colon) (place_of lexer.old))) }
+/// Whether a name, behind which the lexer stands, is the key of a property or of a method.
+pub fn is_keyed(lexer: &mut Lexer, name: &str) -> bool
+    ensures keyed { result ≡ (among (chars name.now) grammar.reserved || (is_found (forth (sign_of fixed.Colon) (place_of lexer.old)) || is_found (forth (sign_of fixed.Open) (place_of lexer.old)))) }
     ensures stays { lexer.new ≡ lexer.old }
 {
-    is_reserved(name) || lexer.is_before(Fixed::Colon)
+    is_reserved(name) || lexer.is_before(Fixed::Colon) || lexer.is_before(Fixed::Open)
 }
 
 /// What stands in an expression's parentheses, where it has some, taken out of them. A word is left there.

@@ -80,6 +80,7 @@ pub fn binding_identifier<'s>(
     ensures read { IfOk result (λ p. Only so_far (around_of context.entry.around) (Part grammar.BindingIdent) (place_of lexer.old) (one (view_pat p.value)) (place_of lexer.new)) }
     ensures span { IfOk result (λ p. Spans (pat_at p.value) (next_of lexer.old) (end_of lexer.new)) }
     ensures placed { IfOk result (λ p. IsPlaced (told_pat p.value) (view_pat p.value) lexer.old lexer.new) }
+    ensures begins { OnOk result (begin_of lexer.new ≡ next_of lexer.old) }
     ensures shorter { OnOk result (left lexer.new < left lexer.old) }
     ensures refused { Refused result (Barred so_far (around_of context.entry.around) (Part grammar.BindingIdent) (place_of lexer.old)) }
 {

@@ -1,30 +1,29 @@
--- Declarations of functions, and what may be declared behind `export`.
+-- Declarations of functions and classes, and what may be declared behind `export`.
 use Rattle.std.proofs.Common.{◌≡◌, Bool, true, false, List, [], ◌∷◌, refl, sym, ◌∙◌, subst}
 use Rattle.std.specs.Prelude.{IsTrue, Option}
 use Rattle.jsx_base.specs.Token.{IdentifierName, Operator, Text}
 use Rattle.jsx_base.specs.declared.place.Span.{Span}
 use Rattle.jsx_tree.specs.Signs.{Sign, Tok}
-use Rattle.jsx_tree.specs.Kinds.{FunctionDecl, Var, VarWord, LetWord, ConstWord, Kind, statement, Tree, leaf, node, list, Forest, none, part}
+use Rattle.jsx_tree.specs.Kinds.{ClassDecl, FunctionDecl, Var, VarWord, LetWord, ConstWord, Kind, statement, Tree, leaf, node, list, Forest, none, part}
 use Rattle.jsx_tree.specs.Nonterminals.{BindingIdent, Declaration}
-use Rattle.jsx_tree.specs.Grammar.{Part, key}
+use Rattle.jsx_tree.specs.Grammar.{InClassCode, Part, key}
 use Rattle.jsx_tree.specs.Form.{admits}
 use Rattle.jsx_tree.specs.Reading.{Place, Lost, forth}
-use Rattle.jsx_tree.specs.StaticRules.{Surroundings, has_plain_params}
+use Rattle.jsx_tree.specs.StaticRules.{Surroundings, all_of, enter, has_plain_params, list_rule, members_rule}
 use Rattle.jsx_tree.specs.Spans.{Tales, Told, spans, tale, tells}
 use Rattle.jsx_tree.specs.Told.{told_node}
 use Rattle.jsx_tree.specs.View.{word_of}
 use Rattle.jsx_tree.specs.declared.text.DeclareWord as code
 use Rattle.jsx_tree.specs.declared.text.DeclareWord.TheVariants as declare_word
-use Rattle.jsx_tree.specs.Walk.{is_found, one, with, Given, Past, sign, tree, tail, Walk, next, steady}
+use Rattle.jsx_tree.specs.Walk.{is_found, one, with, Given, Past, sign, tree, tail, Walk, next, around, steady}
 use Rattle.jsx_tree.specs.Language.{Whole}
 use Rattle.jsx_tree.specs.Answers.{Moves, Stuck, Only, Barred, OnlyRow, NoNode, BuiltNode}
 use Rattle.jsx_tree.proofs.Tokens.{and_both, and_left}
 use Rattle.jsx_tree.proofs.Rows.Bridge.{found_at}
 use Rattle.jsx_tree.proofs.Rows.Firsts.{kind_home}
 use Rattle.jsx_tree.proofs.Rows.Guarded.{guarded}
-use Rattle.jsx_tree.proofs.Rows.Placing.{Chosen, barred_node, free, only_node}
+use Rattle.jsx_tree.proofs.Rows.Placing.{Chosen, free}
 use Rattle.jsx_tree.proofs.Rows.Steps.{then'}
-use Rattle.jsx_tree.proofs.Rows.Stopping.{never_stops}
 use Rattle.jsx_token.specs.Growths.{opening_sign}
 use Rattle.jsx_token.specs.Headings.{Begins, own, heading_kind, heading_sign}
 use Rattle.jsx_token.specs.declared.heading.Heading.{Heading}
@@ -34,16 +33,20 @@ use Rattle.jsx_token.specs.Marks.{row_so_far}
 use Rattle.jsx_token.specs.Places.{end_of, next_of, Takes}
 use Rattle.jsx_token.proofs.Headings.{begins_one, its_kind}
 use Rattle.jsx_token.proofs.Levels.{signed}
+use Rattle.jsx_operand.specs.Openings.{NoParts, OnlyParts}
 use Rattle.jsx_operand.specs.SoFar.{so_far}
 use Rattle.jsx_operand.specs.Spans.{IsPlaced, IsPlacedRow, Spans}
+use Rattle.jsx_operand.proofs.Entering.{renamed}
 use Rattle.jsx_operand.proofs.Homes.{home_of, no_list, taken_by}
 use Rattle.jsx_operand.proofs.OfSoFar.{of_so_far}
+use Rattle.jsx_operand.proofs.Openings.{free_none, free_parts, parts_barred, parts_only}
 use Rattle.jsx_operand.proofs.Placing.{node_is, row_part, row_quiet, row_sign, row_within}
 use Rattle.jsx_operand.proofs.Standing.{standing}
+use Rattle.jsx_expression.specs.Classes.{NoClass, OnlyClass, class_row, keep_members}
 use Rattle.jsx_expression.specs.Functions.{NoCode, code_row, code_symbols}
 use Rattle.jsx_statement.specs.Heads.{NoDeclaring, declare_sign}
 use Rattle.jsx_statement.proofs.PlacedNodes.{declaring_is}
-use Rattle.jsx_statement.proofs.Statements.{heading_stands, lost_there, one_heading, signed_none, signed_row}
+use Rattle.jsx_statement.proofs.Statements.{heading_stands, lost_there, one_heading}
 
 -- ---- a function, behind its word
 
@@ -62,23 +65,58 @@ no_code {v} {x} {y} {name} o n = record { no = at }
 pub function_placed : {at : Option Span} {d : Told} {ds : Tales} {n : Tree} {ts : Forest} {w x y z : Here} → Takes (opening_sign (statement FunctionDecl)) w x → IsPlaced d n x y → IsPlacedRow code_symbols ds ts y z → Spans at (next_of w) (end_of z) → IsPlaced (tells (spans at ∷ []) (tale d ds)) (node (statement FunctionDecl) (part n ts)) w z
 function_placed m name code s = node_is (λ c e ps. refl) (λ ms text. refl) s (row_quiet (λ q. refl) (row_sign m (row_quiet (λ q. refl) (row_part name (row_within code)))))
 
+-- ---- a class, behind its word
+
+pub class_built : {v : Surroundings} {x y z : Place} {name : Text} {t : Tree} {ts : Forest} → Only so_far (enter none InClassCode v) (Part BindingIdent) x (one (leaf IdentifierName name)) y → OnlyClass v y ts z → keep_members ts → t ≡ node (statement ClassDecl) (part (leaf IdentifierName name) ts) → OnlyParts v (statement ClassDecl) t x z
+class_built {v} {x} {y} {z} {name} {t} {ts} o c k is = record {
+  parts = part (leaf IdentifierName name) ts;
+  is = is;
+  walk = next o.past (renamed (list none) (leaf IdentifierName name) ts refl c.walk);
+  keeps = and_both (all_of (list_rule members_rule) ts) true k refl;
+  alone = at;
+}
+  where
+    at : (us : Forest) (w : Place) → Walk (Whole so_far) (around v us) (tail (row_so_far (statement ClassDecl))) x us w → so_far.keeps (statement ClassDecl) v us ≡ true → (part (leaf IdentifierName name) ts ≡ us) × (z ≡ w)
+    at us w (next {y = y'} {g = g} {ts = us'} q walk) h =
+        let same = o.alone g y' q in
+        let here : Walk (Whole so_far) (around v (part (leaf IdentifierName name) us')) class_row y us' w = subst (λ e. Walk (Whole so_far) (around v (with e us')) class_row y us' w) (sym same.0) (subst (λ p. Walk (Whole so_far) (around v (with g us')) class_row p us' w) (sym same.1) walk) in
+        let rest = c.alone us' w (renamed (leaf IdentifierName name) (list none) us' refl here) in
+        (λ i. with (same.0 i) (rest.0 i), rest.1)
+
+pub no_class_name : {v : Surroundings} {x : Place} → Barred so_far (enter none InClassCode v) (Part BindingIdent) x → NoParts v (statement ClassDecl) x
+no_class_name {v} {x} b = record { no = at }
+  where
+    at : (us : Forest) (w : Place) → Walk (Whole so_far) (around v us) (tail (row_so_far (statement ClassDecl))) x us w → so_far.keeps (statement ClassDecl) v us ≡ true → ⊥
+    at us w (next {y = y} {g = g} q walk) h = b.no g y q
+
+pub no_class : {v : Surroundings} {x y : Place} {name : Text} → Only so_far (enter none InClassCode v) (Part BindingIdent) x (one (leaf IdentifierName name)) y → NoClass v y → NoParts v (statement ClassDecl) x
+no_class {v} {x} {y} {name} o n = record { no = at }
+  where
+    at : (us : Forest) (w : Place) → Walk (Whole so_far) (around v us) (tail (row_so_far (statement ClassDecl))) x us w → so_far.keeps (statement ClassDecl) v us ≡ true → ⊥
+    at us w (next {y = y'} {g = g} {ts = us'} q walk) h =
+        let same = o.alone g y' q in
+        let here : Walk (Whole so_far) (around v (part (leaf IdentifierName name) us')) class_row y us' w = subst (λ e. Walk (Whole so_far) (around v (with e us')) class_row y us' w) (sym same.0) (subst (λ p. Walk (Whole so_far) (around v (with g us')) class_row p us' w) (sym same.1) walk) in
+        n.no us' w (renamed (leaf IdentifierName name) (list none) us' refl here) (and_left (all_of (list_rule members_rule) us') true (subst (λ e. so_far.keeps (statement ClassDecl) v (with e us') ≡ true) (sym same.0) h))
+
 -- ---- which kinds declare, and with what they begin
 
 abbrev is_declared : Kind → Bool
 is_declared (statement (Var w)) = true
 is_declared (statement FunctionDecl) = true
+is_declared (statement ClassDecl) = true
 is_declared k = false
 
 record Declares (k : Kind) : Type 0 where
   head : Heading
   begun : Begins head k
-  missing : (x : Place) → NoDeclaring x → Stuck (key "function") x → forth (heading_sign head) x ≡ Lost
+  missing : (x : Place) → NoDeclaring x → Stuck (key "function") x → Stuck (key "class") x → forth (heading_sign head) x ≡ Lost
 
 declares : (k : Kind) → is_declared k ≡ true → Declares k
-declares (statement (Var VarWord)) h = record { head = heading.Var declare_word.Var; begun = own (heading.Var declare_word.Var); missing = λ x n s. n.on declare_word.Var }
-declares (statement (Var LetWord)) h = record { head = heading.Var declare_word.Let; begun = own (heading.Var declare_word.Let); missing = λ x n s. n.on declare_word.Let }
-declares (statement (Var ConstWord)) h = record { head = heading.Var declare_word.Const; begun = own (heading.Var declare_word.Const); missing = λ x n s. n.on declare_word.Const }
-declares (statement FunctionDecl) h = record { head = heading.Function; begun = own heading.Function; missing = λ x n s. s.is }
+declares (statement (Var VarWord)) h = record { head = heading.Var declare_word.Var; begun = own (heading.Var declare_word.Var); missing = λ x n s c. n.on declare_word.Var }
+declares (statement (Var LetWord)) h = record { head = heading.Var declare_word.Let; begun = own (heading.Var declare_word.Let); missing = λ x n s c. n.on declare_word.Let }
+declares (statement (Var ConstWord)) h = record { head = heading.Var declare_word.Const; begun = own (heading.Var declare_word.Const); missing = λ x n s c. n.on declare_word.Const }
+declares (statement FunctionDecl) h = record { head = heading.Function; begun = own heading.Function; missing = λ x n s c. s.is }
+declares (statement ClassDecl) h = record { head = heading.Class; begun = own heading.Class; missing = λ x n s c. c.is }
 declares _ h = cc
 
 declared_kind : {v : Surroundings} {x y : Place} (k : Kind) (ts : Forest) → Whole so_far v false Declaration x (node k ts) y → is_declared k ≡ true
@@ -96,17 +134,19 @@ chosen {v} {x} h o f = record { no_leaf = λ k t y w. let bad = w.reads.staged i
 pub record Opens (h : Heading) : Type 0 where
   pub single : begins_one h ≡ true
   pub guards : guarded Declaration (row_so_far (heading_kind h)) ≡ true
-  pub is_free : free (row_so_far (heading_kind h)) ≡ true
   pub is_signed : signed (row_so_far (heading_kind h)) ≡ true
   pub home : (ts : Forest) → admits Declaration (node (heading_kind h) ts) ≡ true
 
 pub function_opens : Opens heading.Function
-function_opens = record { single = refl; guards = refl; is_free = refl; is_signed = refl; home = λ ts. refl }
+function_opens = record { single = refl; guards = refl; is_signed = refl; home = λ ts. refl }
+
+pub class_opens : Opens heading.Class
+class_opens = record { single = refl; guards = refl; is_signed = refl; home = λ ts. refl }
 
 pub word_opens : (w : code.DeclareWord) → Opens (heading.Var w)
-word_opens declare_word.Var = record { single = refl; guards = refl; is_free = refl; is_signed = refl; home = λ ts. refl }
-word_opens declare_word.Let = record { single = refl; guards = refl; is_free = refl; is_signed = refl; home = λ ts. refl }
-word_opens declare_word.Const = record { single = refl; guards = refl; is_free = refl; is_signed = refl; home = λ ts. refl }
+word_opens declare_word.Var = record { single = refl; guards = refl; is_signed = refl; home = λ ts. refl }
+word_opens declare_word.Let = record { single = refl; guards = refl; is_signed = refl; home = λ ts. refl }
+word_opens declare_word.Const = record { single = refl; guards = refl; is_signed = refl; home = λ ts. refl }
 
 pub word_moves : {x y : Place} (w : code.DeclareWord) → Moves (declare_sign w) x y → Moves (heading_sign (heading.Var w)) x y
 word_moves {x} {y} w m = subst (λ s. Moves s x y) (declaring_is w) m
@@ -114,19 +154,26 @@ word_moves {x} {y} w m = subst (λ s. Moves s x y) (declaring_is w) m
 pub word_takes : {x y : Here} (w : code.DeclareWord) → Takes (declare_sign w) x y → Takes (opening_sign (statement (Var (word_of w)))) x y
 word_takes {x} {y} w k = subst (λ s. Takes s x y) (declaring_is w) k
 
-pub declared_only : {v : Surroundings} {x y z : Place} {t : Tree} (h : Heading) → Opens h → Moves (heading_sign h) x y → BuiltNode so_far v (tail (row_so_far (heading_kind h))) (heading_kind h) t y z → Only so_far v (Part Declaration) x (one t) z
-declared_only {z = z} h o m b = only_node of_so_far (chosen h o.single (found_at (sym m.is) m.found)) o.guards o.is_free o.home (record { parts = b.parts; is = b.is; row = signed_row (row_so_far (heading_kind h)) o.is_signed m b.row }) b.keeps (of_so_far.ends_there Declaration z (never_stops Declaration z refl))
+pub declared_parts : {v : Surroundings} {x y z : Place} {t : Tree} (h : Heading) → Opens h → Moves (heading_sign h) x y → OnlyParts v (heading_kind h) t y z → Only so_far v (Part Declaration) x (one t) z
+declared_parts h o m b = parts_only (chosen h o.single (found_at (sym m.is) m.found)) o.guards o.is_signed o.home refl m b
 
-pub declared_barred : {v : Surroundings} {x y : Place} (h : Heading) → Opens h → Moves (heading_sign h) x y → NoNode so_far v (tail (row_so_far (heading_kind h))) (heading_kind h) y → Barred so_far v (Part Declaration) x
-declared_barred h o m n = barred_node of_so_far (chosen h o.single (found_at (sym m.is) m.found)) o.guards o.is_free (signed_none (heading_kind h) (row_so_far (heading_kind h)) o.is_signed m n)
+pub no_declared_parts : {v : Surroundings} {x y : Place} (h : Heading) → Opens h → Moves (heading_sign h) x y → NoParts v (heading_kind h) y → Barred so_far v (Part Declaration) x
+no_declared_parts h o m n = parts_barred (chosen h o.single (found_at (sym m.is) m.found)) o.guards o.is_signed m n
+
+-- where what its parts stand in doesn't hang on them
+pub declared_only : {v : Surroundings} {x y z : Place} {t : Tree} (h : Heading) → Opens h → free (tail (row_so_far (heading_kind h))) ≡ true → Moves (heading_sign h) x y → BuiltNode so_far v (tail (row_so_far (heading_kind h))) (heading_kind h) t y z → Only so_far v (Part Declaration) x (one t) z
+declared_only h o f m b = declared_parts h o m (free_parts (heading_kind h) f b)
+
+pub declared_barred : {v : Surroundings} {x y : Place} (h : Heading) → Opens h → free (tail (row_so_far (heading_kind h))) ≡ true → Moves (heading_sign h) x y → NoNode so_far v (tail (row_so_far (heading_kind h))) (heading_kind h) y → Barred so_far v (Part Declaration) x
+declared_barred h o f m n = no_declared_parts h o m (free_none (heading_kind h) f n)
 
 -- where none of their words stands
-pub undeclared : {v : Surroundings} {x : Place} → NoDeclaring x → Stuck (key "function") x → Barred so_far v (Part Declaration) x
-undeclared {v} {x} n s = record { no = at }
+pub undeclared : {v : Surroundings} {x : Place} → NoDeclaring x → Stuck (key "function") x → Stuck (key "class") x → Barred so_far v (Part Declaration) x
+undeclared {v} {x} n s c = record { no = at }
   where
     at : (g : Given) (y : Place) → Past (Whole so_far) v (Part Declaration) x g y → ⊥
     at g y (tree {t = leaf k t} w) = let bad = w.reads.staged in cc
     at g y (tree {t = list ts} w) = no_list w.reads
     at g y (tree {t = node k ts} w) =
         let d = declares k (declared_kind k ts w) in
-        lost_there (heading_sign d.head) x (d.missing x n s) (heading_stands d.begun (of_so_far.from_node k w.reads).walk)
+        lost_there (heading_sign d.head) x (d.missing x n s c) (heading_stands d.begun (of_so_far.from_node k w.reads).walk)

@@ -4,7 +4,7 @@ use Rattle.std.specs.Prelude.{IsTrue}
 use Rattle.jsx_base.specs.Token.{StringLiteral}
 use Rattle.jsx_tree.specs.declared.text.Text.{Text as TreeText}
 use Rattle.jsx_tree.specs.Signs.{Sign, Unless}
-use Rattle.jsx_tree.specs.Kinds.{Directive, FunctionBody, ExprStmt, Kind, program, statement, function, expression, Tree, leaf, node, list, Forest, none, part, FunctionExpr, Object}
+use Rattle.jsx_tree.specs.Kinds.{Directive, FunctionBody, ExprStmt, Kind, program, statement, function, expression, Tree, leaf, node, list, Forest, none, part, FunctionExpr, ClassExpr, Object}
 use Rattle.jsx_tree.specs.Nonterminals.{Nonterminal, Body, Expr, Item, Stmt, DirectiveOnly, StringOnly}
 use Rattle.jsx_tree.specs.Grammar.{Lines, TopLines, Many, Part, Fixed, heads, key, pun, InCode}
 use Rattle.jsx_tree.specs.Form.{admits}
@@ -108,11 +108,15 @@ word_stuck : {v : Surroundings} {x y : Place} (u : Tree) → alone u ≡ true �
 word_stuck {x = x} (leaf StringLiteral t) h r = record { is = lost_from (forth (key "function") x) (λ f. literal_opening IsString t (key "function") x (opener_of (function FunctionExpr) (listed (function FunctionExpr) refl refl refl) refl) refl (found_at r.reads.scans r.reads.found) f) }
 word_stuck _ h r = cc
 
+class_stuck : {v : Surroundings} {x y : Place} (u : Tree) → alone u ≡ true → Staged v false (Expr 0) x u y → Stuck (key "class") x
+class_stuck {x = x} (leaf StringLiteral t) h r = record { is = lost_from (forth (key "class") x) (λ f. literal_opening IsString t (key "class") x (opener_of (function ClassExpr) (listed (function ClassExpr) refl refl refl) refl) refl (found_at r.reads.scans r.reads.found) f) }
+class_stuck _ h r = cc
+
 statement_walk : {v : Surroundings} {c : Nonterminal} {x y : Place} {ts : Forest} → Listing c → Walk Staged (around v ts) (row_so_far (program Directive)) x ts y → StatementOf v c x (node (program Directive) ts) y
 statement_walk {v} l (next (tree {t = u} q) (next (sign g i) (done k))) =
     let h = text_alone u q in
     let e = to_expression u h q in
-    record { reads = of_so_far.to_node (statement ExprStmt) (l.home (part u none)) (record { walk = next (sign (no_heads (brace_stuck u h e) (word_stuck u h e) e) (start_found of_so_far e)) (next (tree e) (next (sign g i) (done k))); keeps = statement_keeps v u h }); is_string = h; back = refl }
+    record { reads = of_so_far.to_node (statement ExprStmt) (l.home (part u none)) (record { walk = next (sign (no_heads (brace_stuck u h e) (word_stuck u h e) (class_stuck u h e) e) (start_found of_so_far e)) (next (tree e) (next (sign g i) (done k))); keeps = statement_keeps v u h }); is_string = h; back = refl }
 
 directive_of : {v : Surroundings} {c : Nonterminal} {x y : Place} (s : Tree) → is_string_stmt s ≡ true → Staged v false c x s y → Staged v false DirectiveOnly x (as_directive s) y
 directive_of (node (statement ExprStmt) ts) h r = directive_walk h (of_so_far.from_node (statement ExprStmt) r).walk

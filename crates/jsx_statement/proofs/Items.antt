@@ -206,15 +206,15 @@ read_value w {t = t} o = tree_value w t (whole_of o.past).reads
 heads_only : {v : Surroundings} {x : Place} → IsTrue (is_found x) → forth (Unless heads) x ≡ x → Only so_far v (Fixed (Unless heads)) x nothing x
 heads_only f e = only_sign (record { is = sym e; found = f })
 
-statement_row : {v : Surroundings} {x y z : Place} {t : Tree} → Stuck (pun "{") x → Stuck (key "function") x → Only so_far v (Part (Expr 0)) x (one t) y → Only so_far v semi y nothing z → OnlyRow so_far v (row_so_far (statement ExprStmt)) x (part t none) z
-statement_row k f o s = then' (heads_only (start_found of_so_far (whole_of o.past).reads) (no_heads k f (whole_of o.past).reads)) (then' o (then' s (end (sign_found s.past))))
+statement_row : {v : Surroundings} {x y z : Place} {t : Tree} → Stuck (pun "{") x → Stuck (key "function") x → Stuck (key "class") x → Only so_far v (Part (Expr 0)) x (one t) y → Only so_far v semi y nothing z → OnlyRow so_far v (row_so_far (statement ExprStmt)) x (part t none) z
+statement_row k f c o s = then' (heads_only (start_found of_so_far (whole_of o.past).reads) (no_heads k f c (whole_of o.past).reads)) (then' o (then' s (end (sign_found s.past))))
   where
     sign_found : {v : Surroundings} {s : Sign} {x y : Place} {g : Given} → Past (Whole so_far) v (Fixed s) x g y → IsTrue (is_found y)
     sign_found (sign e f) = f
 
-pub statement_built : {v : Surroundings} {x y z : Place} {t w : Tree} → Stuck (pun "{") x → Stuck (key "function") x → Only so_far v (Part (Expr 0)) x (one t) y → Only so_far v semi y nothing z → w ≡ node (statement ExprStmt) (part t none) → BuiltNode so_far v (row_so_far (statement ExprStmt)) (statement ExprStmt) w x z
-statement_built {v} {t = t} k f o s is =
-    let r = statement_row k f o s in
+pub statement_built : {v : Surroundings} {x y z : Place} {t w : Tree} → Stuck (pun "{") x → Stuck (key "function") x → Stuck (key "class") x → Only so_far v (Part (Expr 0)) x (one t) y → Only so_far v semi y nothing z → w ≡ node (statement ExprStmt) (part t none) → BuiltNode so_far v (row_so_far (statement ExprStmt)) (statement ExprStmt) w x z
+statement_built {v} {t = t} k f c o s is =
+    let r = statement_row k f c o s in
     record { parts = part t none; is = is; row = r; keeps = and_both _ _ (plain (row_so_far (statement ExprStmt)) refl (to_grammar of_so_far r.walk)) refl }
 
 pub no_value_statement : {v : Surroundings} {x : Place} → Barred so_far v (Part (Expr 0)) x → NoRow so_far v (row_so_far (statement ExprStmt)) x
@@ -223,5 +223,5 @@ no_value_statement {v} {x} b = record { no = at }
     at : (us : Forest) (w : Place) → Walk (Whole so_far) (steady v) (row_so_far (statement ExprStmt)) x us w → ⊥
     at us w (next (sign e f) (next {y = z} {g = g} q walk)) = b.no g z (subst (λ p. Past (Whole so_far) v (Part (Expr 0)) p g z) (sym e ∙ stays (Unless heads) x refl (found_at e f)) q)
 
-pub unfinished : {v : Surroundings} {x y : Place} {t : Tree} → Stuck (pun "{") x → Stuck (key "function") x → Only so_far v (Part (Expr 0)) x (one t) y → Barred so_far v semi y → NoRow so_far v (row_so_far (statement ExprStmt)) x
-unfinished k f o s = on (heads_only (start_found of_so_far (whole_of o.past).reads) (no_heads k f (whole_of o.past).reads)) (on o (bar s))
+pub unfinished : {v : Surroundings} {x y : Place} {t : Tree} → Stuck (pun "{") x → Stuck (key "function") x → Stuck (key "class") x → Only so_far v (Part (Expr 0)) x (one t) y → Barred so_far v semi y → NoRow so_far v (row_so_far (statement ExprStmt)) x
+unfinished k f c o s = on (heads_only (start_found of_so_far (whole_of o.past).reads) (no_heads k f c (whole_of o.past).reads)) (on o (bar s))

@@ -6,7 +6,7 @@ use Rattle.jsx_tree.specs.Nonterminals.{Nonterminal, Expr, SubStmt}
 use Rattle.jsx_tree.specs.Grammar.{InLoop, Fixed, Part, pun}
 use Rattle.jsx_tree.specs.Reading.{Place}
 use Rattle.jsx_tree.specs.StaticRules.{Surroundings, enter}
-use Rattle.jsx_tree.specs.Walk.{Piece, piece, nothing, one, sign, tail, Walk, done, next, steady}
+use Rattle.jsx_tree.specs.Walk.{Piece, piece, nothing, one, sign, tail, Walk, done, next, around, steady}
 use Rattle.jsx_tree.specs.Language.{Whole}
 use Rattle.jsx_tree.specs.Answers.{Only, Barred, OnlyRow, NoRow, NoNode, BuiltNode}
 use Rattle.jsx_tree.proofs.Tokens.{and_both}
@@ -27,10 +27,12 @@ use Rattle.jsx_token.specs.Here.{Here}
 use Rattle.jsx_tree.specs.View.{optional_at_of, view_pattern, view_target}
 use Rattle.jsx_tree.specs.Told.{told_optional, told_pat}
 use Rattle.jsx_tree.specs.declared.tree.Pat.{Pat}
+use Rattle.jsx_operand.specs.Openings.{NoParts}
+use Rattle.jsx_operand.proofs.Openings.{free_none, free_parts}
 use Rattle.jsx_statement.specs.Statements.{NoneHeaded, OnlyHeaded, loop_row}
 use Rattle.jsx_statement.proofs.Controls.{barred_in, only_in}
 use Rattle.jsx_statement.proofs.Heads.{no_for_initial}
-use Rattle.jsx_statement.proofs.Statements.{of_built, plain_node}
+use Rattle.jsx_statement.proofs.Statements.{plain_node}
 
 -- ---- which of the three it is
 
@@ -40,22 +42,22 @@ for_kind A over_keys a b c = b
 for_kind A over_items a b c = c
 
 abbrev None : Surroundings → Place → Kind → Type 0
-None v x k = NoNode so_far v (tail (row_so_far k)) k x
+None v x k = NoParts v k x
 
 pub no_loop : {v : Surroundings} {x : Place} → NoNode so_far v (tail (row_so_far (statement For))) (statement For) x → NoNode so_far v (tail (row_so_far (statement ForIn))) (statement ForIn) x → NoNode so_far v (tail (row_so_far (statement ForOf))) (statement ForOf) x → NoneHeaded v heading.For x
-no_loop {v} {x} a b c = record { on = λ k i. for_kind (None v x) i a b c }
+no_loop {v} {x} a b c = record { on = λ k i. for_kind (None v x) i (free_none (statement For) refl a) (free_none (statement ForIn) refl b) (free_none (statement ForOf) refl c) }
 
 abbrev Others : Surroundings → Place → Kind → Kind → Type 0
-Others v x l k = (us : Forest) (z : Place) → Walk (Whole so_far) (steady v) (tail (row_so_far k)) x us z → so_far.keeps k v us ≡ true → k ≡ l
+Others v x l k = (us : Forest) (z : Place) → Walk (Whole so_far) (around v us) (tail (row_so_far k)) x us z → so_far.keeps k v us ≡ true → k ≡ l
 
 pub for_only : {v : Surroundings} {x z : Place} {t : Tree} → BuiltNode so_far v (tail (row_so_far (statement For))) (statement For) t x z → NoNode so_far v (tail (row_so_far (statement ForIn))) (statement ForIn) x → NoNode so_far v (tail (row_so_far (statement ForOf))) (statement ForOf) x → OnlyHeaded v heading.For t x z
-for_only {v} {x} n b c = record { kind = statement For; begun = own heading.For; node' = of_built n; others = λ k i. for_kind (Others v x (statement For)) i (λ us z w h. refl) (λ us z w h. absurd (b.no us z w h)) (λ us z w h. absurd (c.no us z w h)) }
+for_only {v} {x} n b c = record { kind = statement For; begun = own heading.For; node' = free_parts (statement For) refl n; others = λ k i. for_kind (Others v x (statement For)) i (λ us z w h. refl) (λ us z w h. absurd ((free_none (statement ForIn) refl b).no us z w h)) (λ us z w h. absurd ((free_none (statement ForOf) refl c).no us z w h)) }
 
 pub in_only : {v : Surroundings} {x z : Place} {t : Tree} → BuiltNode so_far v (tail (row_so_far (statement ForIn))) (statement ForIn) t x z → NoNode so_far v (tail (row_so_far (statement For))) (statement For) x → NoNode so_far v (tail (row_so_far (statement ForOf))) (statement ForOf) x → OnlyHeaded v heading.For t x z
-in_only {v} {x} n a c = record { kind = statement ForIn; begun = over_keys; node' = of_built n; others = λ k i. for_kind (Others v x (statement ForIn)) i (λ us z w h. absurd (a.no us z w h)) (λ us z w h. refl) (λ us z w h. absurd (c.no us z w h)) }
+in_only {v} {x} n a c = record { kind = statement ForIn; begun = over_keys; node' = free_parts (statement ForIn) refl n; others = λ k i. for_kind (Others v x (statement ForIn)) i (λ us z w h. absurd ((free_none (statement For) refl a).no us z w h)) (λ us z w h. refl) (λ us z w h. absurd ((free_none (statement ForOf) refl c).no us z w h)) }
 
 pub of_only : {v : Surroundings} {x z : Place} {t : Tree} → BuiltNode so_far v (tail (row_so_far (statement ForOf))) (statement ForOf) t x z → NoNode so_far v (tail (row_so_far (statement For))) (statement For) x → NoNode so_far v (tail (row_so_far (statement ForIn))) (statement ForIn) x → OnlyHeaded v heading.For t x z
-of_only {v} {x} n a b = record { kind = statement ForOf; begun = over_items; node' = of_built n; others = λ k i. for_kind (Others v x (statement ForOf)) i (λ us z w h. absurd (a.no us z w h)) (λ us z w h. absurd (b.no us z w h)) (λ us z w h. refl) }
+of_only {v} {x} n a b = record { kind = statement ForOf; begun = over_items; node' = free_parts (statement ForOf) refl n; others = λ k i. for_kind (Others v x (statement ForOf)) i (λ us z w h. absurd ((free_none (statement For) refl a).no us z w h)) (λ us z w h. absurd ((free_none (statement ForIn) refl b).no us z w h)) (λ us z w h. refl) }
 
 -- ---- none of a kind, behind its word
 

@@ -1,10 +1,11 @@
 -- An `in` that no bracket encloses: of the trees so far it stands where the code looks.
-use Rattle.std.proofs.Common.{◌≡◌, ◌<◌, ◌≤◌, ◌+◌, ℕ, zero, suc, length, get_or, map, arith, Bool, true, false, not, cond, List, [], ◌∷◌, refl, sym, ◌∙◌, ap, subst, Option, Some, None, Box, Global}
+use Rattle.std.proofs.Common.{◌≡◌, ◌<◌, ◌≤◌, ◌+◌, ℕ, zero, suc, nat_eq, length, get_or, map, arith, Bool, true, false, not, cond, List, [], ◌∷◌, refl, sym, ◌∙◌, ap, subst, Option, Some, None, Box, Global}
 use Rattle.std.specs.Prelude.{◌&&◌, ◌||◌}
+use Rattle.std.proofs.lemmas.Bool.{eqb-true}
 use Rattle.std.proofs.lemmas.List.{get_or-map, length-map}
-use Rattle.jsx_base.specs.Token.{NoSubstitution, TemplateHead, TemplateTail}
-use Rattle.jsx_tree.specs.Kinds.{Role, Binds, Declarator, Seq, Element, ParenTarget, Kind, statement, expression, function, jsx, Tree, leaf, node, list, Forest, none, part, PlainTemplate, SubstitutedTemplate, NameLink, IndexLink, CallLink}
-use Rattle.jsx_tree.specs.Nonterminals.{Nonterminal, BindingIdent, Expr, Name, Pat, TagName, Attributes, Declarators, TemplatePart, TemplateOf, ChainLink}
+use Rattle.jsx_base.specs.Token.{NoSubstitution, TemplateHead, TemplateTail, Text, TokenKind}
+use Rattle.jsx_tree.specs.Kinds.{Role, Binds, Declarator, Seq, Element, ParenTarget, ClassExpr, Kind, statement, expression, function, jsx, Tree, leaf, node, list, Forest, none, part, PlainTemplate, SubstitutedTemplate, NameLink, IndexLink, CallLink}
+use Rattle.jsx_tree.specs.Nonterminals.{Nonterminal, BindingIdent, DotObject, Expr, MemberObject, Name, NewCallee, Pat, TagName, Attributes, Declarators, TemplatePart, TemplateOf, ChainLink, homes}
 use Rattle.jsx_tree.specs.Grammar.{ListShape, NoTrailing, Spaced, TwoOrMore}
 use Rattle.jsx_tree.specs.Form.{Single, Maybe, Several, Position, position, positions, admits, shaped, fits_below, fit_slots, fit_each, is}
 use Rattle.jsx_tree.specs.Reading.{Place}
@@ -26,6 +27,8 @@ use Rattle.jsx_tree.specs.View.{forest, shorthand_of, template, view_expr, view_
 use Rattle.jsx_tree.specs.ViewOperators.{update_of}
 use Rattle.jsx_tree.proofs.Tokens.{and_left, and_right}
 use Rattle.jsx_tree.proofs.Views.{views}
+use Rattle.jsx_tree.proofs.Apart.{clash}
+use Rattle.jsx_tree.proofs.Rows.Firsts.{kind_home}
 use Rattle.jsx_tree.proofs.Rows.Stopping.{is_not, or_cases}
 use Rattle.jsx_token.specs.Stage.{has_kind, in_stage, in_stages, each_in_stage}
 use Rattle.jsx_operand.specs.SoFar.{Staged, so_far}
@@ -36,7 +39,7 @@ use Rattle.jsx_operand.proofs.OfSoFar.{of_so_far}
 use Rattle.jsx_operand.proofs.Patterns.{pattern_shut}
 use Rattle.jsx_token.proofs.Listed.{Listed, kinds, every, of_each}
 use Rattle.jsx_operand.proofs.Homes.{Value, literal, made, operand_kind, nowhere, wholes, heads, tails, taken, taken_by, home_of, no_list, AtWhole, single, several, at_whole}
-use Rattle.jsx_token.proofs.Lives.{is_lone}
+use Rattle.jsx_token.proofs.Lives.{is_lone, lives}
 use Rattle.jsx_operand.proofs.Values.{at_one, move}
 use Rattle.jsx_operand.proofs.Climbing.{is_link}
 use Rattle.jsx_operand.proofs.Standing.{standing}
@@ -140,8 +143,12 @@ abbrev is_element : Kind → Bool
 is_element (jsx Element) = true
 is_element k = false
 
+abbrev is_class : Kind → Bool
+is_class (function ClassExpr) = true
+is_class k = false
+
 abbrev placed_so : Kind → Bool
-placed_so k = cond (spreads k) (all_plain (positions k)) (cond (fronts k) (not (is_in_op k) && first_plain (positions k)) (not (is_in_op k) && (all_shut (positions k) || is_element k)))
+placed_so k = cond (spreads k) (all_plain (positions k)) (cond (fronts k) (not (is_in_op k) && first_plain (positions k)) (not (is_in_op k) && (all_shut (positions k) || (is_element k || is_class k))))
 
 all_placed_so : every placed_so kinds ≡ true
 all_placed_so = refl
@@ -319,24 +326,145 @@ element_kind : (k : Kind) → is_element k ≡ true → k ≡ jsx Element
 element_kind (jsx Element) e = refl
 element_kind _ e = cc
 
+-- ---- at the level of members no `in` stands outside of brackets
+
+abbrev is_high : Nonterminal → Bool
+is_high (Expr n) = nat_eq n 17
+is_high MemberObject = true
+is_high DotObject = true
+is_high NewCallee = true
+is_high c = false
+
+high_lone : (c : Nonterminal) → is_high c ≡ true → is_lone c ≡ true
+high_lone (Expr n) h = subst (λ m. is_lone (Expr m) ≡ true) (sym (eqb-true n 17 h)) refl
+high_lone MemberObject h = refl
+high_lone DotObject h = refl
+high_lone NewCallee h = refl
+high_lone _ h = cc
+
+-- what stands there begins with a part at that level, or has none outside of brackets; a class may have one, behind `extends`
+abbrev high_front : List Position → Bool
+high_front (position Single c g false a ∷ ss) = is_high c && (all_shut ss || (sole_template ss || sole_links ss))
+high_front ss = false
+
+abbrev high_well : Nonterminal → Kind → Bool
+high_well c k = not (lives c k) || (not (is_in_op k) && ((all_shut (positions k) || (is_element k || is_class k)) || high_front (positions k)))
+
+all_high_well : (c : Nonterminal) → is_high c ≡ true → every (high_well c) kinds ≡ true
+all_high_well (Expr n) h = subst (λ m. every (high_well (Expr m)) kinds ≡ true) (sym (eqb-true n 17 h)) refl
+all_high_well MemberObject h = refl
+all_high_well DotObject h = refl
+all_high_well NewCallee h = refl
+all_high_well _ h = cc
+
+-- of each part and of those of its lists
+data AllHigh : Forest → Type 0 where
+  none_high : AllHigh none
+  leaf_high : {k : TokenKind} {r : Text} {ts : Forest} → AllHigh ts → AllHigh (part (leaf k r) ts)
+  node_high : {k : Kind} {us ts : Forest} → ((c : Nonterminal) → is_high c ≡ true → is c (node k us) ≡ true → in_stage c (node k us) ≡ true → open_in (node k us) ≡ false) → AllHigh ts → AllHigh (part (node k us) ts)
+  list_high : {us ts : Forest} → AllHigh us → AllHigh ts → AllHigh (part (list us) ts)
+
+rest_high : {t : Tree} {ts : Forest} → AllHigh (part t ts) → AllHigh ts
+rest_high (leaf_high a) = a
+rest_high (node_high f a) = a
+rest_high (list_high b a) = a
+
+one_high : (c : Nonterminal) (t : Tree) {ts : Forest} → AllHigh (part t ts) → is_high c ≡ true → is c t ≡ true → in_stage c t ≡ true → open_in t ≡ false
+one_high c (leaf k r) a h i s = refl
+one_high c (node k us) (node_high f a) h i s = f c h i s
+one_high c (list us) a h i s = cc
+
+each_high : (ts : Forest) → AllHigh ts → fit_each (Expr 17) ts ≡ true → each_in_stage (Expr 17) ts ≡ true → any_open ts ≡ false
+each_high none a f s = refl
+each_high (part t ts) a f s =
+    ap (λ b. b || any_open ts) (one_high (Expr 17) t a refl (first_two (admits (Expr 17) t) (fits_below (Expr 17) t) (fit_each (Expr 17) ts) f) (and_left (in_stage (Expr 17) t) _ s))
+    ∙ each_high ts (rest_high a) (and_right (fits_below (Expr 17) t) _ (and_right (admits (Expr 17) t) _ f)) (and_right (in_stage (Expr 17) t) _ s)
+
+-- what is extended, or nothing
+maybe_high : (t : Tree) {ts : Forest} → AllHigh (part t ts) → shaped Maybe (Expr 17) t ≡ true → fits_below (Expr 17) t ≡ true → in_stage (Expr 17) t ≡ true → open_in t ≡ false
+maybe_high (leaf k r) a h f s = refl
+maybe_high (node k us) a h f s = cc
+maybe_high (list us) (list_high b a) h f s = each_high us b f s
+
+class_shut : (ts : Forest) → AllHigh ts → fit_slots (positions (function ClassExpr)) ts ≡ true → in_stages (positions (function ClassExpr)) ts ≡ true → open_ins (positions (function ClassExpr)) ts ≡ false
+class_shut none a f s = cc
+class_shut (part n none) a f s = let bad : false ≡ true = fit_rest Maybe BindingIdent n (tail_of (positions (function ClassExpr))) none f in cc
+class_shut (part n (part h ts)) a f s =
+    let behind = tail_of (tail_of (positions (function ClassExpr))) in
+    let rest = fit_rest Maybe BindingIdent n (tail_of (positions (function ClassExpr))) (part h ts) f in
+    let staged = and_right (in_stage BindingIdent n) _ s in
+    let name = maybe_here n (tail_of (positions (function ClassExpr))) (part h ts) f (and_left (in_stage BindingIdent n) _ s) in
+    let extended = maybe_high h (rest_high a) (and_left (shaped Maybe (Expr 17) h) _ rest) (and_left (fits_below (Expr 17) h) _ (and_right (shaped Maybe (Expr 17) h) _ rest)) (and_left (in_stage (Expr 17) h) _ staged) in
+    let members = shut_same behind ts refl (fit_rest Maybe (Expr 17) h behind ts rest) (and_right (in_stage (Expr 17) h) _ staged) in
+    (λ i. name i || (extended i || members i))
+
+class_kind : (k : Kind) → is_class k ≡ true → k ≡ function ClassExpr
+class_kind (function ClassExpr) e = refl
+class_kind _ e = cc
+
+kind_shut : (k : Kind) (ts : Forest) → AllHigh ts → fit_slots (positions k) ts ≡ true → in_stages (positions k) ts ≡ true → (all_shut (positions k) || (is_element k || is_class k)) ≡ true → open_ins (positions k) ts ≡ false
+kind_shut k ts a f s h =
+    or_cases (all_shut (positions k)) _ h
+    (λ p. shut_same (positions k) ts p f s)
+    (λ q. or_cases (is_element k) (is_class k) q
+    (λ e. subst (λ j. fit_slots (positions j) ts ≡ true → in_stages (positions j) ts ≡ true → open_ins (positions j) ts ≡ false) (sym (element_kind k e)) (element_shut ts) f s)
+    (λ e. subst (λ j. fit_slots (positions j) ts ≡ true → in_stages (positions j) ts ≡ true → open_ins (positions j) ts ≡ false) (sym (class_kind k e)) (class_shut ts a) f s))
+
+high_first : (ss : List Position) (ts : Forest) → high_front ss ≡ true → AllHigh ts → fit_slots ss ts ≡ true → in_stages ss ts ≡ true → open_ins ss ts ≡ false
+high_first (position Single c g false d ∷ ss) none p a f s = cc
+high_first (position Single c g false d ∷ ss) (part t ts) p a f s =
+    let here = one_high c t a (and_left (is_high c) _ p) (fit_here c t ss ts f) (and_left (in_stage c t) _ s) in
+    let fit = fit_rest Single c t ss ts f in
+    let staged = and_right (in_stage c t) _ s in
+    let rest = or_cases (all_shut ss) _ (and_right (is_high c) _ p) (λ h. shut_same ss ts h fit staged) (λ o. or_cases (sole_template ss) (sole_links ss) o (λ h. sole_shut ss ts h fit staged) (λ h. links_shut ss ts h fit staged)) in
+    (λ i. here i || rest i)
+high_first _ ts p a f s = cc
+
+node_listed : {k : Kind} {ts : Forest} → Value (node k ts) → Listed k
+node_listed (made l) = l
+
+high_aim : (k : Kind) (ts : Forest) → is_aim (node k ts) ≡ true → fit_slots (positions k) ts ≡ true → in_stages (positions k) ts ≡ true → open_in (node k ts) ≡ false
+high_aim (function ParenTarget) ts e f s = shut_same (positions (function ParenTarget)) ts refl f s
+high_aim _ ts e f s = cc
+
+high_kind : (k : Kind) (ts : Forest) → AllHigh ts → (c : Nonterminal) → is_high c ≡ true → is c (node k ts) ≡ true → in_stage c (node k ts) ≡ true → open_in (node k ts) ≡ false
+high_kind k ts a c h i s = by (is_aim (node k ts)) refl
+  where
+    fit : fit_slots (positions k) ts ≡ true
+    fit = and_right (admits c (node k ts)) _ i
+
+    staged : in_stages (positions k) ts ≡ true
+    staged = and_right (has_kind k) _ s
+
+    home : admits c (node k ts) ≡ true
+    home = and_left (admits c (node k ts)) _ i
+
+    by : (b : Bool) → is_aim (node k ts) ≡ b → open_in (node k ts) ≡ false
+    by true e = high_aim k ts e fit staged
+    by false e =
+        let l = node_listed (operand_kind c {ts = ts} (high_lone c h) e (taken k (and_left (has_kind k) _ s)) home) in
+        let w = or_cases (not (lives c k)) _ (of_each (high_well c) (all_high_well c h) k l) (λ n. absurd (clash (lives c k) (kind_home c k ts home) (is_not _ n))) (λ p. p) in
+        ap (λ b. b || open_ins (positions k) ts) (is_not _ (and_left (not (is_in_op k)) _ w))
+        ∙ or_cases (all_shut (positions k) || (is_element k || is_class k)) (high_front (positions k)) (and_right (not (is_in_op k)) _ w) (kind_shut k ts a fit staged) (λ p. high_first (positions k) ts p a fit staged)
+
+all_high : (ts : Forest) → AllHigh ts
+all_high none = none_high
+all_high (part (leaf k r) ts) = leaf_high (all_high ts)
+all_high (part (node k us) ts) = node_high (high_kind k us (all_high us)) (all_high ts)
+all_high (part (list us) ts) = list_high (all_high us) (all_high ts)
+
 -- ---- a tree
 
 kind_opened : (k : Kind) (cs : Forest) → Listed k → AllOpened cs → fit_slots (positions k) cs ≡ true → in_stages (positions k) cs ≡ true → opens (node k cs) ≡ open_in (node k cs)
 kind_opened k cs l a f s = by (spreads k) (fronts k) (of_each placed_so all_placed_so k l)
   where
-    shut : (all_shut (positions k) || is_element k) ≡ true → open_ins (positions k) cs ≡ false
-    shut h =
-        or_cases (all_shut (positions k)) (is_element k) h
-        (λ p. shut_same (positions k) cs p f s)
-        (λ e. subst (λ j. fit_slots (positions j) cs ≡ true → in_stages (positions j) cs ≡ true → open_ins (positions j) cs ≡ false) (sym (element_kind k e)) (element_shut cs) f s)
+    shut : (all_shut (positions k) || (is_element k || is_class k)) ≡ true → open_ins (positions k) cs ≡ false
+    shut h = kind_shut k cs (all_high cs) f s h
 
-    by : (b d : Bool) → cond b (all_plain (positions k)) (cond d (not (is_in_op k) && first_plain (positions k)) (not (is_in_op k) && (all_shut (positions k) || is_element k))) ≡ true → cond b (is_in_op k || any_of cs) (cond d (first_of cs) false) ≡ (is_in_op k || open_ins (positions k) cs)
+    by : (b d : Bool) → cond b (all_plain (positions k)) (cond d (not (is_in_op k) && first_plain (positions k)) (not (is_in_op k) && (all_shut (positions k) || (is_element k || is_class k)))) ≡ true → cond b (is_in_op k || any_of cs) (cond d (first_of cs) false) ≡ (is_in_op k || open_ins (positions k) cs)
     by true d h = ap (λ b. is_in_op k || b) (plain_same (positions k) cs h a f s)
     by false true h = first_same (positions k) cs (and_right (not (is_in_op k)) _ h) a f s ∙ sym (ap (λ b. b || open_ins (positions k) cs) (is_not _ (and_left (not (is_in_op k)) _ h)))
     by false false h = sym (ap (λ b. b || open_ins (positions k) cs) (is_not _ (and_left (not (is_in_op k)) _ h)) ∙ shut (and_right (not (is_in_op k)) _ h))
-
-node_listed : {k : Kind} {ts : Forest} → Value (node k ts) → Listed k
-node_listed (made l) = l
 
 -- in a target's parentheses all stands in brackets
 aim_opened : (k : Kind) (ts : Forest) → is_aim (node k ts) ≡ true → fit_slots (positions k) ts ≡ true → in_stages (positions k) ts ≡ true → opens (node k ts) ≡ open_in (node k ts)

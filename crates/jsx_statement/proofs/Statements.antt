@@ -11,7 +11,7 @@ use Rattle.jsx_tree.specs.Grammar.{Part, Fixed, heads, pun, Context}
 use Rattle.jsx_tree.specs.Form.{admits, is_leaf}
 use Rattle.jsx_tree.specs.Reading.{Place, Lost, At, ended_at, forth, go_if}
 use Rattle.jsx_tree.specs.StaticRules.{Surroundings, has_plain_params}
-use Rattle.jsx_tree.specs.Walk.{Relation, is_found, one, Piece, piece, row, tail, Given, Past, sign, tree, Walk, next, steady}
+use Rattle.jsx_tree.specs.Walk.{Relation, is_found, one, Piece, piece, row, tail, Given, Past, sign, tree, Walk, next, around, steady}
 use Rattle.jsx_tree.specs.Language.{Whole}
 use Rattle.jsx_tree.specs.Answers.{Moves, Only, Barred, OnlyRow, NoNode, Built, BuiltNode}
 use Rattle.jsx_tree.proofs.Tokens.{and_left, and_right, found_first, same_is}
@@ -24,10 +24,11 @@ use Rattle.jsx_tree.proofs.Rows.Bodies.{bodiless, plain}
 use Rattle.jsx_tree.proofs.Rows.Firsts.{Keyed, is_head, kind_home, key_row, row_key}
 use Rattle.jsx_tree.proofs.Rows.Closers.{Closer, Shut, closes, shut_reading}
 use Rattle.jsx_tree.proofs.Rows.Steps.{only_sign, then'}
-use Rattle.jsx_tree.proofs.Rows.Placing.{Chosen, free, free_around, moved, only_node, barred_node}
+use Rattle.jsx_tree.proofs.Rows.Placing.{Chosen, free, only_node, barred_node}
 use Rattle.jsx_token.specs.Stage.{leaf_at}
 use Rattle.jsx_operand.specs.SoFar.{Staged, so_far}
-use Rattle.jsx_statement.specs.Statements.{NoneHeaded, OnlyHeaded, OnlyNode}
+use Rattle.jsx_operand.specs.Openings.{NoParts, OnlyParts}
+use Rattle.jsx_statement.specs.Statements.{NoneHeaded, OnlyHeaded}
 use Rattle.jsx_token.specs.Marks.{ends_so_far, row_so_far}
 use Rattle.jsx_token.specs.Growths.{is_code, lead, same_sign}
 use Rattle.jsx_token.specs.Headings.{Begins, own, over_keys, over_items, NoHeading, heading_kind, heading_sign, is_lexical}
@@ -42,6 +43,7 @@ use Rattle.jsx_token.proofs.Marks.{one_sign}
 use Rattle.jsx_operand.proofs.Homes.{IsName, Taken, module', headed, evaluation, labelled, sequence, operand, no_list, no_operand_at, taken_by, home_of, idents, inner, spread, aimed}
 use Rattle.jsx_token.proofs.Lives.{lives}
 use Rattle.jsx_token.proofs.Levels.{signed}
+use Rattle.jsx_operand.proofs.Openings.{OnlyIn, free_none, free_parts, peel, signed_in}
 use Rattle.jsx_operand.proofs.Values.{leaf_forth, led_sign, whole_of_leaf}
 
 -- ---- the places of statements
@@ -124,6 +126,9 @@ braced_evaluation {x = x} f (next (sign e g) w) = let bad : IsTrue (is_found Los
 function_evaluation : {R : Relation} {V : _} {x y : Place} {ts : Forest} → IsTrue (is_found (forth (heading_sign heading.Function) x)) → Walk R V (row_so_far (statement ExprStmt)) x ts y → ⊥
 function_evaluation {x = x} f (next (sign e g) w) = let bad : IsTrue (is_found Lost) = subst (λ p. IsTrue (is_found p)) (sym e ∙ unless_lost heads IdentifierName 102 (codes "unction") x refl refl f) g in cc
 
+class_evaluation : {R : Relation} {V : _} {x y : Place} {ts : Forest} → IsTrue (is_found (forth (heading_sign heading.Class) x)) → Walk R V (row_so_far (statement ExprStmt)) x ts y → ⊥
+class_evaluation {x = x} f (next (sign e g) w) = let bad : IsTrue (is_found Lost) = subst (λ p. IsTrue (is_found p)) (sym e ∙ unless_lost heads IdentifierName 99 (codes "lass") x refl refl f) g in cc
+
 pub semicolon : Closer 59 []
 semicolon = record { no_less = refl; no_slash = λ s. none_ahead RegExpLiteral Operand 59 s refl refl refl; no_opener = refl }
 
@@ -153,12 +158,14 @@ abbrev is_barred : Heading → Bool
 is_barred heading.Empty = true
 is_barred heading.Block = true
 is_barred heading.Function = true
+is_barred heading.Class = true
 is_barred h = false
 
 barred_evaluation : {v : Surroundings} {c : Nonterminal} {x y : Place} {ts : Forest} (h : Heading) → is_barred h ≡ true → IsTrue (is_found (forth (heading_sign h) x)) → Staged v false c x (node (statement ExprStmt) ts) y → ⊥
 barred_evaluation heading.Empty m f r = shut_evaluation (closes semicolon f) (of_so_far.from_node (statement ExprStmt) r).walk
 barred_evaluation heading.Block m f r = braced_evaluation f (of_so_far.from_node (statement ExprStmt) r).walk
 barred_evaluation heading.Function m f r = function_evaluation f (of_so_far.from_node (statement ExprStmt) r).walk
+barred_evaluation heading.Class m f r = class_evaluation f (of_so_far.from_node (statement ExprStmt) r).walk
 barred_evaluation _ m f r = cc
 
 pub worded_evaluation : {v : Surroundings} {c : Nonterminal} {x y : Place} {ts : Forest} {s : Sign} → KeySign s → IsTrue (is_found (forth s x)) → Staged v false c x (node (statement ExprStmt) ts) y → ⊥
@@ -249,54 +256,44 @@ signed_none k _ g m n = cc
 begun_signed : {h : Heading} {k : Kind} → Begins h k → signed (row_so_far k) ≡ true
 begun_signed b = of_begun (λ j. signed (row_so_far j)) refl b
 
-begun_free : {h : Heading} {k : Kind} → Begins h k → free (row_so_far k) ≡ true
-begun_free b = of_begun (λ j. free (row_so_far j)) refl b
-
 -- the rows of all that it begins begin with its sign
 begun_moves : {h : Heading} {k : Kind} {x y : Place} → Begins h k → Moves (heading_sign h) x y → Moves (lead (row_so_far k)) x y
 begun_moves (own h) m = m
 begun_moves over_keys m = m
 begun_moves over_items m = m
 
-pub of_built : {v : Surroundings} {ps : List Piece} {k : Kind} {t : Tree} {x y : Place} → BuiltNode so_far v ps k t x y → OnlyNode v ps k t x y
-of_built b = record { parts = b.parts; is = b.is; walk = b.row.walk; keeps = b.keeps; alone = λ us z w h. b.row.alone us z w }
-
-signed_only : {v : Surroundings} {k : Kind} {t : Tree} {x y z : Place} (ps : List Piece) → signed ps ≡ true → Moves (lead ps) x y → OnlyNode v (tail ps) k t y z → OnlyNode v ps k t x z
-signed_only {v} {k} {t} {x} {y} {z} (piece [] (Fixed s) ∷ ps) g m o = record { parts = o.parts; is = o.is; walk = next (sign (sym m.is) m.found) o.walk; keeps = o.keeps; alone = at }
-  where
-    at : (us : Forest) (w : Place) → Walk (Whole so_far) (steady v) (piece [] (Fixed s) ∷ ps) x us w → so_far.keeps k v us ≡ true → (o.parts ≡ us) × (z ≡ w)
-    at us w (next {ts = vs} (sign e f) r) h = o.alone vs w (subst (λ p. Walk (Whole so_far) (steady v) ps p vs w) (sym e ∙ sym m.is) r) h
-signed_only _ g m o = cc
-
-behind_sign : {V : List Context → Surroundings} {x y z : Place} {us : Forest} (ps : List Piece) → signed ps ≡ true → Moves (lead ps) x y → Walk (Whole so_far) V ps x us z → Walk (Whole so_far) V (tail ps) y us z
-behind_sign {V} {z = z} (piece [] (Fixed s) ∷ ps) g m (next {ts = us} (sign e f) w) = subst (λ p. Walk (Whole so_far) V ps p us z) (sym e ∙ sym m.is) w
-behind_sign _ g m w = cc
-
 -- of one kind
-pub of_one : {v : Surroundings} {h : Heading} {t : Tree} {x y : Place} → begins_one h ≡ true → OnlyNode v (tail (row_so_far (heading_kind h))) (heading_kind h) t x y → OnlyHeaded v h t x y
+pub of_one : {v : Surroundings} {h : Heading} {t : Tree} {x y : Place} → begins_one h ≡ true → OnlyParts v (heading_kind h) t x y → OnlyHeaded v h t x y
 of_one {h = h} e o = record { kind = heading_kind h; begun = own h; node' = o; others = λ k b us z w kept. its_kind e b }
 
-pub none_one : {v : Surroundings} {h : Heading} {x : Place} → begins_one h ≡ true → NoNode so_far v (tail (row_so_far (heading_kind h))) (heading_kind h) x → NoneHeaded v h x
-none_one {v} {x = x} e n = record { on = λ k b. subst (λ j. NoNode so_far v (tail (row_so_far j)) j x) (sym (its_kind e b)) n }
+pub none_one : {v : Surroundings} {h : Heading} {x : Place} → begins_one h ≡ true → NoParts v (heading_kind h) x → NoneHeaded v h x
+none_one {v} {x = x} e n = record { on = λ k b. subst (λ j. NoParts v j x) (sym (its_kind e b)) n }
 
 -- the same of a heading that is known to be that one
-pub headed_as : {v : Surroundings} {h : Heading} {t : Tree} {x y : Place} (g : Heading) → h ≡ g → begins_one g ≡ true → BuiltNode so_far v (tail (row_so_far (heading_kind g))) (heading_kind g) t x y → OnlyHeaded v h t x y
-headed_as {v} {t = t} {x} {y} g e o b = subst (λ j. OnlyHeaded v j t x y) (sym e) (of_one o (of_built b))
+pub headed_parts : {v : Surroundings} {h : Heading} {t : Tree} {x y : Place} (g : Heading) → h ≡ g → begins_one g ≡ true → OnlyParts v (heading_kind g) t x y → OnlyHeaded v h t x y
+headed_parts {v} {t = t} {x} {y} g e o b = subst (λ j. OnlyHeaded v j t x y) (sym e) (of_one o b)
 
-pub none_as : {v : Surroundings} {h : Heading} {x : Place} (g : Heading) → h ≡ g → begins_one g ≡ true → NoNode so_far v (tail (row_so_far (heading_kind g))) (heading_kind g) x → NoneHeaded v h x
-none_as {v} {x = x} g e o n = subst (λ j. NoneHeaded v j x) (sym e) (none_one o n)
+pub none_parts : {v : Surroundings} {h : Heading} {x : Place} (g : Heading) → h ≡ g → begins_one g ≡ true → NoParts v (heading_kind g) x → NoneHeaded v h x
+none_parts {v} {x = x} g e o n = subst (λ j. NoneHeaded v j x) (sym e) (none_one o n)
+
+-- where what its parts stand in doesn't hang on them
+pub headed_as : {v : Surroundings} {h : Heading} {t : Tree} {x y : Place} (g : Heading) → h ≡ g → begins_one g ≡ true → free (tail (row_so_far (heading_kind g))) ≡ true → BuiltNode so_far v (tail (row_so_far (heading_kind g))) (heading_kind g) t x y → OnlyHeaded v h t x y
+headed_as g e o f b = headed_parts g e o (free_parts (heading_kind g) f b)
+
+pub none_as : {v : Surroundings} {h : Heading} {x : Place} (g : Heading) → h ≡ g → begins_one g ≡ true → free (tail (row_so_far (heading_kind g))) ≡ true → NoNode so_far v (tail (row_so_far (heading_kind g))) (heading_kind g) x → NoneHeaded v h x
+none_as g e o f n = none_parts g e o (free_none (heading_kind g) f n)
 
 pub headed_only : {v : Surroundings} {c : Nonterminal} {x y z : Place} {t : Tree} → Spot c → (h : Heading) → ((k : Kind) → Begins h k → lives c k ≡ true) → Moves (heading_sign h) x y → OnlyHeaded v h t y z → Only so_far v (Part c) x (one t) z
 headed_only {v} {c} {x} {y} {z} {t} s h l m o = record {
-  past = tree (subst (λ u. Whole so_far v false c x u z) (sym n.is) (record { reads = of_so_far.to_node o.kind (s.home o.kind n.parts (l o.kind o.begun)) (record { walk = moved (λ b i. sym (free_around b n.parts v i)) (begun_free o.begun) (loosen n.walk); keeps = n.keeps }); ends_there = spot_ends s z }));
+  past = tree (subst (λ u. Whole so_far v false c x u z) (sym n.is) (record { reads = of_so_far.to_node o.kind (s.home o.kind n.parts (l o.kind o.begun)) (record { walk = loosen n.walk; keeps = n.keeps }); ends_there = spot_ends s z }));
   alone = at;
 }
   where
-    n : OnlyNode v (row_so_far o.kind) o.kind t x z
-    n = signed_only (row_so_far o.kind) (begun_signed o.begun) (begun_moves o.begun m) o.node'
+    n : OnlyIn v (row_so_far o.kind) o.kind t x z
+    n = signed_in o.kind (begun_signed o.begun) (begun_moves o.begun m) o.node'
 
-    walked : {w : Place} {us : Forest} {k : Kind} → Begins h k → Whole so_far v false c x (node k us) w → Walk (Whole so_far) (steady v) (row_so_far k) x us w
-    walked {us = us} {k} b w = moved (λ a i. free_around a us v i) (begun_free b) (whole_walk of_so_far c (row_so_far k) (of_begun (λ j. guarded c (row_so_far j)) s.guards b) w.ends_there (of_so_far.from_node k w.reads).walk)
+    walked : {w : Place} {us : Forest} {k : Kind} → Begins h k → Whole so_far v false c x (node k us) w → Walk (Whole so_far) (around v us) (row_so_far k) x us w
+    walked {k = k} b w = whole_walk of_so_far c (row_so_far k) (of_begun (λ j. guarded c (row_so_far j)) s.guards b) w.ends_there (of_so_far.from_node k w.reads).walk
 
     at : (g : Given) (w : Place) → Past (Whole so_far) v (Part c) x g w → (one t ≡ g) × (z ≡ w)
     at g w (tree {t = leaf k r} q) = absurd (s.leafless k r q.reads.staged)
@@ -304,7 +301,7 @@ headed_only {v} {c} {x} {y} {z} {t} s h l m o = record {
     at g w (tree {t = node k us} q) =
         let b = headed_kind s h (found_at (sym m.is) m.found) k us q in
         let p = of_so_far.from_node k q.reads in
-        let e = o.others k b us w (behind_sign (row_so_far k) (begun_signed b) (begun_moves b m) (walked b q)) p.keeps in
+        let e = o.others k b us w (peel (row_so_far k) (begun_signed b) (sym (begun_moves b m).is) (walked b q)) p.keeps in
         let q' : Whole so_far v false c x (node o.kind us) w = subst (λ j. Whole so_far v false c x (node j us) w) e q in
         let same' = n.alone us w (walked o.begun q') (of_so_far.from_node o.kind q'.reads).keeps in
         (ap one (n.is ∙ (ap (node o.kind) same'.0 ∙ ap (λ j. node j us) (sym e))), same'.1)
@@ -318,8 +315,8 @@ headed_barred {v} {c} {x} {y} s h m n = record { no = at }
     at g w (tree {t = node k us} q) =
         let b = headed_kind s h (found_at (sym m.is) m.found) k us q in
         let p = of_so_far.from_node k q.reads in
-        let whole = moved (λ a i. free_around a us v i) (begun_free b) (whole_walk of_so_far c (row_so_far k) (of_begun (λ j. guarded c (row_so_far j)) s.guards b) q.ends_there p.walk) in
-        (n.on k b).no us w (behind_sign (row_so_far k) (begun_signed b) (begun_moves b m) whole) p.keeps
+        let whole = whole_walk of_so_far c (row_so_far k) (of_begun (λ j. guarded c (row_so_far j)) s.guards b) q.ends_there p.walk in
+        (n.on k b).no us w (peel (row_so_far k) (begun_signed b) (sym (begun_moves b m).is) whole) p.keeps
 
 -- what isn't at home there
 pub homeless_barred : {v : Surroundings} {c : Nonterminal} {x y : Place} → Spot c → (h : Heading) → ((k : Kind) → Begins h k → lives c k ≡ false) → Moves (heading_sign h) x y → Barred so_far v (Part c) x

@@ -5,20 +5,20 @@ use Rattle.jsx_tree.specs.Signs.{Space, Outdent}
 use Rattle.jsx_tree.specs.Nonterminals as grammar
 use Rattle.jsx_tree.specs.Grammar.{Lines, Many, Optional, Part, Production, key, pun, InLoop, Within, p, sp}
 use Rattle.jsx_tree.specs.Grammar as symbol
-use Rattle.jsx_tree.specs.Walk.{Piece, is_found, one, pieces, Walk, steady}
+use Rattle.jsx_tree.specs.Walk.{Piece, around, is_found, one, pieces, Walk}
 use Rattle.jsx_tree.specs.declared.tree.Stmt.{Stmt}
 use Rattle.jsx_tree.specs.Kinds.{DeclareWord, ConstWord, Declarator, Kind, statement, Tree, node, Forest, none, part}
 use Rattle.jsx_tree.specs.StaticRules.{Surroundings, is_here}
 use Rattle.jsx_tree.specs.Reading.{Place, forth}
 use Rattle.jsx_tree.specs.Language.{Whole}
 use Rattle.jsx_tree.specs.Answers.{Barred, Only}
+use Rattle.jsx_operand.specs.Openings.{NoParts, OnlyParts}
 use Rattle.jsx_operand.specs.Patterns.{is_compound}
 use Rattle.jsx_operand.specs.SoFar.{so_far}
 use Rattle.jsx_token.specs.Marks.{row_so_far}
 use Rattle.jsx_token.specs.Headings.{Begins}
 use Rattle.jsx_token.specs.declared.heading.Heading.{Heading}
 use Rattle.jsx_tree.specs.Walk.{tail}
-use Rattle.jsx_tree.specs.Answers.{NoNode}
 
 -- the row of a block, behind its `{`
 abbrev pub block_symbols : Production
@@ -53,14 +53,6 @@ abbrev pub has_value : DeclareWord → Tree → Bool
 has_value w (node (statement Declarator) (part q (part i none))) = is_here i || not (wants_value w q)
 has_value w t = true
 
--- The tree is a node of the kind with these parts, which keep its rules, and no other parts there do. A `try` can be read along its row as far as its block too, but no such parts keep its rule.
-pub record OnlyNode (v : Surroundings) (ps : List Piece) (k : Kind) (t : Tree) (x y : Place) : Type 0 where
-  pub parts : Forest
-  pub is : t ≡ node k parts
-  pub walk : Walk (Whole so_far) (steady v) ps x parts y
-  pub keeps : so_far.keeps k v parts ≡ true
-  pub alone : (us : Forest) (z : Place) → Walk (Whole so_far) (steady v) ps x us z → so_far.keeps k v us ≡ true → (parts ≡ us) × (y ≡ z)
-
 -- the tree is the statement that stands there, as a part of another and in a list; none stands there
 pub record OnlyStatement (v : Surroundings) (x : Place) (t : Tree) (y : Place) : Type 0 where
   pub nested : Only so_far v (Part grammar.SubStmt) x (one t) y
@@ -70,13 +62,13 @@ pub record NoStatement (v : Surroundings) (x : Place) : Type 0 where
   pub nested : Barred so_far v (Part grammar.SubStmt) x
   pub listed : Barred so_far v (Part grammar.Stmt) x
 
--- the same of what begins with a heading, behind it: of the kinds that it begins the tree is the one node that does
+-- The same of what begins with a heading, behind it: of the kinds that it begins the tree is the one node that does. A `try` can be read along its row as far as its block too, but no such parts keep its rule.
 pub record OnlyHeaded (v : Surroundings) (h : Heading) (t : Tree) (x y : Place) : Type 0 where
   pub kind : Kind
   pub begun : Begins h kind
-  pub node' : OnlyNode v (tail (row_so_far kind)) kind t x y
-  pub others : (k : Kind) → Begins h k → (us : Forest) (z : Place) → Walk (Whole so_far) (steady v) (tail (row_so_far k)) x us z → so_far.keeps k v us ≡ true → k ≡ kind
+  pub node' : OnlyParts v kind t x y
+  pub others : (k : Kind) → Begins h k → (us : Forest) (z : Place) → Walk (Whole so_far) (around v us) (tail (row_so_far k)) x us z → so_far.keeps k v us ≡ true → k ≡ kind
 
 -- of those no node does
 pub record NoneHeaded (v : Surroundings) (h : Heading) (x : Place) : Type 0 where
-  pub on : (k : Kind) → Begins h k → NoNode so_far v (tail (row_so_far k)) k x
+  pub on : (k : Kind) → Begins h k → NoParts v k x

@@ -1,7 +1,7 @@
-//! Declarations of functions, and what a function returns (ECMA-262 sections 14.10 and 15.2).
+//! Declarations of functions and of classes, and what a function returns (ECMA-262 sections 14.10, 15.2 and 15.7).
 
 ghost use Rattle.std.specs.Prelude.{◌≡◌, ◌<◌, ◌≤◌, IfOk, OnOk};
-ghost use Rattle.jsx_tree.specs.Kinds.{FunctionDecl, Return, statement, none, part};
+ghost use Rattle.jsx_tree.specs.Kinds.{ClassDecl, FunctionDecl, Return, statement, none, part};
 ghost use Rattle.jsx_tree.specs.Nonterminals as grammar;
 ghost use Rattle.jsx_tree.specs.Grammar.{Part};
 ghost use Rattle.jsx_tree.specs.View.{optional_of, view_expr, view_stmt};
@@ -17,12 +17,14 @@ ghost use Rattle.jsx_token.specs.Places.{begin_of, end_of, next_of};
 ghost use Rattle.jsx_operand.specs.Answers.{Refused};
 ghost use Rattle.jsx_operand.specs.Around.{around_of};
 ghost use Rattle.jsx_operand.specs.Bodies.{ReadsBodies};
+ghost use Rattle.jsx_operand.specs.Openings.{NoParts, OnlyParts};
 ghost use Rattle.jsx_operand.specs.SoFar.{so_far};
 ghost use Rattle.jsx_operand.specs.Spans.{IsPlaced, IsPlacedBehind, IsPlacedRow, Spans};
 ghost use Rattle.jsx_statement.specs.Functions.{returned_symbols};
 
 use crate::for_head::declare_word;
 use crate::statement::{body, declaration};
+use jsx_expression::class::{ClassCode, class_code};
 use jsx_expression::expression::sequence;
 use jsx_expression::function::{FunctionCode, function_code};
 use jsx_make::make;
@@ -55,6 +57,28 @@ where
     } = body;
     let span = span_to(lo, lexer);
     Ok(make::function_declaration(context.alloc, span, name, params, directives, statements)?)
+}
+
+/// A declaration of a class behind its word: `class A extends B { c() {} }` (ECMA-262 section 15.7).
+pub(crate) fn class_declaration<'s, B>(
+    context: Context,
+    lexer: &mut Lexer<'s>,
+    body: B,
+) -> Result<Box<Stmt<'s>>, ParseError>
+where
+    B: Copy + for<'c, 't> Fn(Context<'c>, &mut Lexer<'t>) -> Result<Body<'t>, ParseError>,
+    requires bodies { ReadsBodies (left lexer.old) (B.pre body) (B.post body) }
+    ensures read { IfOk result (λ s. OnlyParts (around_of context.entry.around) (statement ClassDecl) (view_stmt s.value) (place_of lexer.old) (place_of lexer.new)) }
+    ensures span { IfOk result (λ s. Spans (stmt_at s.value) (begin_of lexer.old) (end_of lexer.new)) }
+    ensures placed { IfOk result (λ s. IsPlacedBehind (opening_sign (statement ClassDecl)) lexer.old (told_stmt s.value) (view_stmt s.value) lexer.new) }
+    ensures within { OnOk result (left lexer.new ≤ left lexer.old) }
+    ensures refused { Refused result (NoParts (around_of context.entry.around) (statement ClassDecl) (place_of lexer.old)) }
+{
+    let lo = lexer.last_place();
+    let name = bound_name(context, lexer)?;
+    let ClassCode { heritage, members } = class_code(context, lexer, body)?;
+    let span = span_to(lo, lexer);
+    Ok(make::class_declaration(context.alloc, span, name, heritage, members)?)
 }
 
 /// What stands behind `return`, with its semicolon: ` a;`, or `;`. What begins on a new line is no value.
@@ -103,7 +127,7 @@ where
     Ok(make::return_statement(context.alloc, span_to(lo, lexer), value)?)
 }
 
-/// What may be declared behind `export`: variables, or a function (ECMA-262 section 16.2.3).
+/// What may be declared behind `export`: variables, a function, or a class (ECMA-262 section 16.2.3).
 pub fn declared<'s>(context: Context, lexer: &mut Lexer<'s>) -> Result<Box<Stmt<'s>>, ParseError>
     ensures read { IfOk result (λ s. Only so_far (around_of context.entry.around) (Part grammar.Declaration) (place_of lexer.old) (one (view_stmt s.value)) (place_of lexer.new)) }
     ensures span { IfOk result (λ s. Spans (stmt_at s.value) (next_of lexer.old) (end_of lexer.new)) }
@@ -113,6 +137,9 @@ pub fn declared<'s>(context: Context, lexer: &mut Lexer<'s>) -> Result<Box<Stmt<
 {
     if lexer.take(Fixed::Word(Word::Function)) {
         return Ok(function_declaration(context, lexer, body)?);
+    }
+    if lexer.take(Fixed::Word(Word::Class)) {
+        return Ok(class_declaration(context, lexer, body)?);
     }
     let Some(word) = declare_word(lexer) else {
         return Err(give_up(lexer));

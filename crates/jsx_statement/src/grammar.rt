@@ -26,7 +26,7 @@ ghost use Rattle.std.specs.Prelude.{suc};
 ghost use Rattle.jsx_statement.specs.Within.{ReadsStatements};
 ghost use Rattle.jsx_operand.specs.Bodies.{ReadsBodies};
 
-use crate::function::{function_declaration, return_statement};
+use crate::function::{class_declaration, function_declaration, return_statement};
 use crate::label::{Label, has_label, is_before_loop, take_label};
 use crate::statement::{
     Seat, break_statement, continue_statement, debugger_statement, declaration, empty_statement,
@@ -204,6 +204,7 @@ impl<
             Heading::Try => Ok(self.try_statement(context, lexer)?),
             Heading::Debugger => Ok(debugger_statement(context, lexer)?),
             Heading::Function => Ok(function_declaration(context, lexer, self.body)?),
+            Heading::Class => Ok(class_declaration(context, lexer, self.body)?),
         }
     }
 

@@ -3,14 +3,14 @@ use Rattle.std.proofs.Common.{◌≡◌, Bool, true, false, not, cond, List, [],
 use Rattle.std.specs.Prelude.{IsTrue, codes, ◌&&◌, ◌||◌}
 use Rattle.jsx_base.specs.Token.{Text, Operator, Punctuator, IdentifierName, StringLiteral, at_front, breaks, is_end, is_kind, is_token, same, skip, token}
 use Rattle.jsx_tree.specs.Signs.{AfterExpr, AfterList, Ends, Semicolon, Sign, Tok, Unless}
-use Rattle.jsx_tree.specs.Kinds.{Exported, From, ExportNames, ExportFrom, ExportAll, ExportAllAs, ExportDecl, ExportDefaultFn, ExportDefaultExpr, Kind, program, Tree, leaf, node, list, Forest, none, part}
-use Rattle.jsx_tree.specs.Nonterminals.{Declaration, Expr, Name}
+use Rattle.jsx_tree.specs.Kinds.{Exported, From, ExportNames, ExportFrom, ExportAll, ExportAllAs, ExportDecl, ExportDefaultFn, ExportDefaultClass, ExportDefaultExpr, ClassExpr, Kind, program, function, Tree, leaf, node, list, Forest, none, part}
+use Rattle.jsx_tree.specs.Nonterminals.{ClassOnly, Declaration, Expr, Name}
 use Rattle.jsx_tree.specs.Grammar.{Fixed, Part, key, pun, semi}
 use Rattle.jsx_tree.specs.Reading.{Place, Lost, At, forth, go_if, may_lack}
 use Rattle.jsx_tree.specs.StaticRules.{Surroundings, all_of, has_plain_params}
 use Rattle.jsx_tree.specs.declared.text.DeclareWord as code
 use Rattle.jsx_tree.specs.declared.text.DeclareWord.TheVariants as declare_word
-use Rattle.jsx_tree.specs.Walk.{Past, Piece, piece, Walk, is_found, next, nothing, one, sign, steady, tail, tree}
+use Rattle.jsx_tree.specs.Walk.{Given, Past, Piece, piece, Walk, is_found, next, nothing, one, sign, steady, tail, tree}
 use Rattle.jsx_tree.specs.Language.{Whole}
 use Rattle.jsx_tree.specs.Answers.{Moves, Stuck, Only, Barred, OnlyRow, NoRow, NoNode}
 use Rattle.jsx_tree.proofs.Tokens.{and_both, and_left, same_is}
@@ -19,7 +19,8 @@ use Rattle.jsx_tree.proofs.Rows.Bodies.{plain as plain_row}
 use Rattle.jsx_tree.proofs.Rows.Bridge.{found_at}
 use Rattle.jsx_tree.proofs.Rows.Guarded.{to_grammar}
 use Rattle.jsx_tree.proofs.Rows.Laws.{end_found, start_found}
-use Rattle.jsx_tree.proofs.Rows.Placing.{no_node}
+use Rattle.jsx_tree.proofs.Rows.Firsts.{kind_home}
+use Rattle.jsx_tree.proofs.Rows.Placing.{Chosen, no_node}
 use Rattle.jsx_tree.proofs.Rows.Steps.{bar, end, no_sign, on, on_row, only_sign, then', then_row}
 use Rattle.jsx_tree.proofs.Rows.Stopping.{raw_there, stays}
 use Rattle.jsx_tree.proofs.Rows.Turns.{whole_of}
@@ -27,13 +28,17 @@ use Rattle.jsx_token.specs.Growths.{is_code, lead, same_sign}
 use Rattle.jsx_token.specs.Marks.{row_so_far}
 use Rattle.jsx_token.proofs.Levels.{signed}
 use Rattle.jsx_token.proofs.Marks.{one_sign}
-use Rattle.jsx_operand.specs.SoFar.{so_far}
+use Rattle.jsx_operand.specs.Openings.{NoParts, OnlyParts}
+use Rattle.jsx_operand.specs.SoFar.{Staged, so_far}
+use Rattle.jsx_operand.proofs.Homes.{home_of, no_list, taken_by}
 use Rattle.jsx_operand.proofs.OfSoFar.{of_so_far}
+use Rattle.jsx_operand.proofs.Openings.{parts_barred, parts_only}
+use Rattle.jsx_operand.proofs.Standing.{standing}
 use Rattle.jsx_operand.proofs.Values.{default_heads, led_sign, no_default}
 use Rattle.jsx_expression.specs.Functions.{NoNamed, named_row}
 use Rattle.jsx_statement.specs.Heads.{NoDeclaring, declare_sign}
 use Rattle.jsx_statement.proofs.Declarations.{undeclared}
-use Rattle.jsx_statement.proofs.Statements.{signed_row, unless_lost}
+use Rattle.jsx_statement.proofs.Statements.{lost_there, signed_row, unless_lost}
 use Rattle.jsx_syntax.specs.Items.{NoneBehind, NoneExport, OnlyBehind, OnlyExport, begins_with, behind_both, behind_word, from_row, goes_with, source_row}
 use Rattle.jsx_syntax.specs.Specifiers.{fits, specifier_row}
 use Rattle.jsx_syntax.proofs.Items.{Other, barred, itself, only_of, past_sign, sign_lost, sign_stuck, there}
@@ -47,16 +52,17 @@ semi_found o = at o.past
 
 -- ---- behind the word and a sign
 
-of_export : (P : Kind → Type 0) → P (program ExportNames) → P (program ExportFrom) → P (program ExportAll) → P (program ExportAllAs) → P (program ExportDecl) → P (program ExportDefaultFn) → P (program ExportDefaultExpr) → (k : Kind) → begins_with (key "export") k ≡ true → P k
-of_export P a b c d e f g (program ExportNames) h = a
-of_export P a b c d e f g (program ExportFrom) h = b
-of_export P a b c d e f g (program ExportAll) h = c
-of_export P a b c d e f g (program ExportAllAs) h = d
-of_export P a b c d e f g (program ExportDecl) h = e
-of_export P a b c d e f g (program ExportDefaultFn) h = f
-of_export P a b c d e f g (program ExportDefaultExpr) h = g
-of_export P a b c d e f g (program _) h = cc
-of_export P a b c d e f g _ h = cc
+of_export : (P : Kind → Type 0) → P (program ExportNames) → P (program ExportFrom) → P (program ExportAll) → P (program ExportAllAs) → P (program ExportDecl) → P (program ExportDefaultFn) → P (program ExportDefaultClass) → P (program ExportDefaultExpr) → (k : Kind) → begins_with (key "export") k ≡ true → P k
+of_export P a b c d e f g h (program ExportNames) i = a
+of_export P a b c d e f g h (program ExportFrom) i = b
+of_export P a b c d e f g h (program ExportAll) i = c
+of_export P a b c d e f g h (program ExportAllAs) i = d
+of_export P a b c d e f g h (program ExportDecl) i = e
+of_export P a b c d e f g h (program ExportDefaultFn) i = f
+of_export P a b c d e f g h (program ExportDefaultClass) i = g
+of_export P a b c d e f g h (program ExportDefaultExpr) i = h
+of_export P a b c d e f g h (program _) i = cc
+of_export P a b c d e f g h _ i = cc
 
 -- all but a declaration go on with a sign
 data Second : Kind → Type 0 where
@@ -64,7 +70,7 @@ data Second : Kind → Type 0 where
   declares : Second (program ExportDecl)
 
 second : (k : Kind) → begins_with (key "export") k ≡ true → Second k
-second = of_export Second (signs refl refl) (signs refl refl) (signs refl refl) (signs refl refl) declares (signs refl refl) (signs refl refl)
+second = of_export Second (signs refl refl) (signs refl refl) (signs refl refl) (signs refl refl) declares (signs refl refl) (signs refl refl) (signs refl refl)
 
 -- a sign with which no declaration begins
 pub record IsSecond (u : Sign) : Type 0 where
@@ -93,18 +99,19 @@ of_starred P a b (program ExportAllAs) h = b
 of_starred P a b (program _) h = cc
 of_starred P a b _ h = cc
 
-of_default : (P : Kind → Type 0) → P (program ExportDefaultFn) → P (program ExportDefaultExpr) → (k : Kind) → goes_with (key "export") (key "default") k ≡ true → P k
-of_default P a b (program ExportDefaultFn) h = a
-of_default P a b (program ExportDefaultExpr) h = b
-of_default P a b (program _) h = cc
-of_default P a b _ h = cc
+of_default : (P : Kind → Type 0) → P (program ExportDefaultFn) → P (program ExportDefaultClass) → P (program ExportDefaultExpr) → (k : Kind) → goes_with (key "export") (key "default") k ≡ true → P k
+of_default P a b c (program ExportDefaultFn) h = a
+of_default P a b c (program ExportDefaultClass) h = b
+of_default P a b c (program ExportDefaultExpr) h = c
+of_default P a b c (program _) h = cc
+of_default P a b c _ h = cc
 
 pub braced : IsSecond (pun "{")
 braced = record {
   coded = refl;
   sign' = of_braced (λ k. lead (behind_word k) ≡ pun "{") refl refl;
   is_signed = of_braced (λ k. signed (behind_word k) ≡ true) refl refl;
-  undeclared' = λ f. undeclared (no_declaring (pun "{") refl refl refl refl f) (sign_stuck (key "function") (pun "{") refl refl refl f);
+  undeclared' = λ f. undeclared (no_declaring (pun "{") refl refl refl refl f) (sign_stuck (key "function") (pun "{") refl refl refl f) (sign_stuck (key "class") (pun "{") refl refl refl f);
 }
 
 pub starred : IsSecond (pun "*")
@@ -112,15 +119,15 @@ starred = record {
   coded = refl;
   sign' = of_starred (λ k. lead (behind_word k) ≡ pun "*") refl refl;
   is_signed = of_starred (λ k. signed (behind_word k) ≡ true) refl refl;
-  undeclared' = λ f. undeclared (no_declaring (pun "*") refl refl refl refl f) (sign_stuck (key "function") (pun "*") refl refl refl f);
+  undeclared' = λ f. undeclared (no_declaring (pun "*") refl refl refl refl f) (sign_stuck (key "function") (pun "*") refl refl refl f) (sign_stuck (key "class") (pun "*") refl refl refl f);
 }
 
 pub defaulted : IsSecond (key "default")
 defaulted = record {
   coded = refl;
-  sign' = of_default (λ k. lead (behind_word k) ≡ key "default") refl refl;
-  is_signed = of_default (λ k. signed (behind_word k) ≡ true) refl refl;
-  undeclared' = λ f. undeclared (no_declaring (key "default") refl refl refl refl f) (sign_stuck (key "function") (key "default") refl refl refl f);
+  sign' = of_default (λ k. lead (behind_word k) ≡ key "default") refl refl refl;
+  is_signed = of_default (λ k. signed (behind_word k) ≡ true) refl refl refl;
+  undeclared' = λ f. undeclared (no_declaring (key "default") refl refl refl refl f) (sign_stuck (key "function") (key "default") refl refl refl f) (sign_stuck (key "class") (key "default") refl refl refl f);
 }
 
 -- what goes on with the sign is of its kinds
@@ -154,11 +161,11 @@ pub declared_built : {v : Surroundings} {x y : Place} {d t : Tree} → Stuck (pu
 declared_built {v} {x} {y} {d} a b c o is =
     let row : OnlyRow so_far v (behind_word (program ExportDecl)) x (part d none) y = then' o (end (end_found of_so_far (whole_of o.past).reads)) in
     only_of (program ExportDecl) refl (record { parts = part d none; is = is; row = row; keeps = and_both _ _ (plain_row (behind_word (program ExportDecl)) refl (to_grammar of_so_far row.walk)) refl })
-    (of_export (Other behind_word v x (program ExportDecl)) (barred (no_node (bar (no_sign a)))) (barred (no_node (bar (no_sign a)))) (barred (no_node (bar (no_sign b)))) (barred (no_node (bar (no_sign b)))) itself (barred (no_node (bar (no_sign c)))) (barred (no_node (bar (no_sign c)))))
+    (of_export (Other behind_word v x (program ExportDecl)) (barred (no_node (bar (no_sign a)))) (barred (no_node (bar (no_sign a)))) (barred (no_node (bar (no_sign b)))) (barred (no_node (bar (no_sign b)))) itself (barred (no_node (bar (no_sign c)))) (barred (no_node (bar (no_sign c)))) (barred (no_node (bar (no_sign c)))))
 
 pub declared_unread : {v : Surroundings} {x : Place} → Stuck (pun "{") x → Stuck (pun "*") x → Stuck (key "default") x → Barred so_far v (Part Declaration) x → NoneBehind (key "export") v x
 declared_unread {v} {x} a b c n = record {
-  no = of_export (λ k. NoNode so_far v (behind_word k) k x) (no_node (bar (no_sign a))) (no_node (bar (no_sign a))) (no_node (bar (no_sign b))) (no_node (bar (no_sign b))) (no_node (bar n)) (no_node (bar (no_sign c))) (no_node (bar (no_sign c)));
+  no = of_export (λ k. NoNode so_far v (behind_word k) k x) (no_node (bar (no_sign a))) (no_node (bar (no_sign a))) (no_node (bar (no_sign b))) (no_node (bar (no_sign b))) (no_node (bar n)) (no_node (bar (no_sign c))) (no_node (bar (no_sign c))) (no_node (bar (no_sign c)));
 }
 
 -- ---- names, with `from` behind them or not
@@ -248,41 +255,82 @@ all_unread {v} {x} k n = record { no = of_starred (λ j. NoNode so_far v (behind
 
 -- ---- a default
 
--- no expression stands there behind its guard where a function does
+-- a class, where its word stands
+abbrev is_class : Kind → Bool
+is_class (function ClassExpr) = true
+is_class k = false
+
+class_is : (k : Kind) → is_class k ≡ true → k ≡ function ClassExpr
+class_is (function ClassExpr) h = refl
+class_is _ h = cc
+
+class_there : {v : Surroundings} {x y : Place} (k : Kind) (ts : Forest) → Staged v false ClassOnly x (node k ts) y → k ≡ function ClassExpr
+class_there k ts r = class_is k (standing ClassOnly is_class refl k (taken_by r) (kind_home ClassOnly k ts (home_of r)))
+
+class_chosen : {v : Surroundings} {x : Place} → Chosen so_far v ClassOnly (function ClassExpr) x
+class_chosen = record { no_leaf = λ k t y w. let bad = w.reads.staged in cc; kind = λ k ts y w. class_there k ts w.reads }
+
+no_class_there : {v : Surroundings} {x : Place} → Stuck (key "class") x → Barred so_far v (Part ClassOnly) x
+no_class_there {v} {x} s = record { no = at }
+  where
+    at : (g : Given) (y : Place) → Past (Whole so_far) v (Part ClassOnly) x g y → ⊥
+    at g y (tree {t = leaf k t} w) = let bad = w.reads.staged in cc
+    at g y (tree {t = list ts} w) = no_list w.reads
+    at g y (tree {t = node k ts} w) =
+        let r : Staged v false ClassOnly x (node (function ClassExpr) ts) y = subst (λ j. Staged v false ClassOnly x (node j ts) y) (class_there k ts w.reads) w.reads in
+        lost_there (key "class") x s.is (led_sign (row_so_far (function ClassExpr)) refl (of_so_far.from_node (function ClassExpr) r).walk)
+
+-- no expression stands there behind its guard where a function or a class does
 guarded : {v : Surroundings} {x a : Place} → Moves (key "function") x a → NoRow so_far v (behind_both (program ExportDefaultExpr)) x
 guarded {v} {x} m = record { no = at }
   where
     at : (ts : Forest) (y : Place) → Walk (Whole so_far) (steady v) (behind_both (program ExportDefaultExpr)) x ts y → ⊥
     at ts y (next (sign e f) w) = let bad : IsTrue (is_found Lost) = subst (λ p. IsTrue (is_found p)) (sym e ∙ unless_lost default_heads IdentifierName 102 (codes "unction") x refl refl (there m)) f in cc
 
+unclassed : {v : Surroundings} {x a : Place} → Moves (key "class") x a → NoRow so_far v (behind_both (program ExportDefaultExpr)) x
+unclassed {v} {x} m = record { no = at }
+  where
+    at : (ts : Forest) (y : Place) → Walk (Whole so_far) (steady v) (behind_both (program ExportDefaultExpr)) x ts y → ⊥
+    at ts y (next (sign e f) w) = let bad : IsTrue (is_found Lost) = subst (λ p. IsTrue (is_found p)) (sym e ∙ unless_lost default_heads IdentifierName 99 (codes "lass") x refl refl (there m)) f in cc
+
 pub function_built : {v : Surroundings} {x a y : Place} {ts : Forest} {t : Tree} → Moves (key "function") x a → OnlyRow so_far v named_row a ts y → has_plain_params ts ≡ true → t ≡ node (program ExportDefaultFn) ts → OnlyExport (key "default") v t x y
 function_built {v} {x} {ts = ts} m r h is =
     only_of (program ExportDefaultFn) refl (record { parts = ts; is = is; row = then' (only_sign m) r; keeps = and_both _ _ h refl })
-    (of_default (Other behind_both v x (program ExportDefaultFn)) itself (barred (no_node (guarded m))))
+    (of_default (Other behind_both v x (program ExportDefaultFn)) itself (barred (no_node (bar (no_class_there (sign_stuck (key "class") (key "function") refl refl refl (there m)))))) (barred (no_node (guarded m))))
 
 pub function_unread : {v : Surroundings} {x a : Place} → Moves (key "function") x a → NoNamed v a → NoneExport (key "default") v x
-function_unread {v} {x} m n = record { no = of_default (λ k. NoNode so_far v (behind_both k) k x) (record { no = at }) (no_node (guarded m)) }
+function_unread {v} {x} m n = record { no = of_default (λ k. NoNode so_far v (behind_both k) k x) (record { no = at }) (no_node (bar (no_class_there (sign_stuck (key "class") (key "function") refl refl refl (there m))))) (no_node (guarded m)) }
   where
     at : (ts : Forest) (y : Place) → Walk (Whole so_far) (steady v) (behind_both (program ExportDefaultFn)) x ts y → so_far.keeps (program ExportDefaultFn) v ts ≡ true → ⊥
     at ts y (next {ts = us} (sign e f) w) h = n.no us y (subst (λ p. Walk (Whole so_far) (steady v) named_row p us y) (sym e ∙ sym m.is) w) (and_left (has_plain_params us) true h)
 
-pub value_built : {v : Surroundings} {x y z : Place} {e t : Tree} → Stuck (key "function") x → Only so_far v (Part (Expr 1)) x (one e) y → Only so_far v semi y nothing z → t ≡ node (program ExportDefaultExpr) (part e none) → OnlyExport (key "default") v t x z
-value_built {v} {x} {z = z} {e} k o s is =
-    let r = (whole_of o.past).reads in
-    let row : OnlyRow so_far v (behind_both (program ExportDefaultExpr)) x (part e none) z = then' (only_sign (record { is = sym (no_default k r); found = start_found of_so_far r })) (then' o (then' s (end (semi_found s)))) in
-    only_of (program ExportDefaultExpr) refl (record { parts = part e none; is = is; row = row; keeps = and_both _ _ (plain_row (behind_both (program ExportDefaultExpr)) refl (to_grammar of_so_far row.walk)) refl })
-    (of_default (Other behind_both v x (program ExportDefaultExpr)) (barred (no_node (bar (no_sign k)))) itself)
+pub class_built : {v : Surroundings} {x a y : Place} {e t : Tree} → Moves (key "class") x a → OnlyParts v (function ClassExpr) e a y → t ≡ node (program ExportDefaultClass) (part e none) → OnlyExport (key "default") v t x y
+class_built {v} {x} {y = y} {e} m b is =
+    let o : Only so_far v (Part ClassOnly) x (one e) y = parts_only class_chosen refl refl (λ ts. refl) refl m b in
+    let row : OnlyRow so_far v (behind_both (program ExportDefaultClass)) x (part e none) y = then' o (end (end_found of_so_far (whole_of o.past).reads)) in
+    only_of (program ExportDefaultClass) refl (record { parts = part e none; is = is; row = row; keeps = and_both _ _ (plain_row (behind_both (program ExportDefaultClass)) refl (to_grammar of_so_far row.walk)) refl })
+    (of_default (Other behind_both v x (program ExportDefaultClass)) (barred (no_node (bar (no_sign (sign_stuck (key "function") (key "class") refl refl refl (there m)))))) itself (barred (no_node (unclassed m))))
 
-pub value_unread : {v : Surroundings} {x : Place} → Stuck (key "function") x → Barred so_far v (Part (Expr 1)) x → NoneExport (key "default") v x
-value_unread {v} {x} k b = record { no = of_default (λ j. NoNode so_far v (behind_both j) j x) (no_node (bar (no_sign k))) (no_node (record { no = at })) }
+pub class_unread : {v : Surroundings} {x a : Place} → Moves (key "class") x a → NoParts v (function ClassExpr) a → NoneExport (key "default") v x
+class_unread {v} {x} m n = record { no = of_default (λ k. NoNode so_far v (behind_both k) k x) (no_node (bar (no_sign (sign_stuck (key "function") (key "class") refl refl refl (there m))))) (no_node (bar (parts_barred class_chosen refl refl m n))) (no_node (unclassed m)) }
+
+pub value_built : {v : Surroundings} {x y z : Place} {e t : Tree} → Stuck (key "function") x → Stuck (key "class") x → Only so_far v (Part (Expr 1)) x (one e) y → Only so_far v semi y nothing z → t ≡ node (program ExportDefaultExpr) (part e none) → OnlyExport (key "default") v t x z
+value_built {v} {x} {z = z} {e} k c o s is =
+    let r = (whole_of o.past).reads in
+    let row : OnlyRow so_far v (behind_both (program ExportDefaultExpr)) x (part e none) z = then' (only_sign (record { is = sym (no_default k c r); found = start_found of_so_far r })) (then' o (then' s (end (semi_found s)))) in
+    only_of (program ExportDefaultExpr) refl (record { parts = part e none; is = is; row = row; keeps = and_both _ _ (plain_row (behind_both (program ExportDefaultExpr)) refl (to_grammar of_so_far row.walk)) refl })
+    (of_default (Other behind_both v x (program ExportDefaultExpr)) (barred (no_node (bar (no_sign k)))) (barred (no_node (bar (no_class_there c)))) itself)
+
+pub value_unread : {v : Surroundings} {x : Place} → Stuck (key "function") x → Stuck (key "class") x → Barred so_far v (Part (Expr 1)) x → NoneExport (key "default") v x
+value_unread {v} {x} k c b = record { no = of_default (λ j. NoNode so_far v (behind_both j) j x) (no_node (bar (no_sign k))) (no_node (bar (no_class_there c))) (no_node (record { no = at })) }
   where
     at : (ts : Forest) (y : Place) → Walk (Whole so_far) (steady v) (behind_both (program ExportDefaultExpr)) x ts y → ⊥
     at ts y (next (sign e f) (next {y = z} (tree {t = t} q) w)) = b.no (one t) z (tree (subst (λ p. Whole so_far v false (Expr 1) p t z) (sym e ∙ stays (Unless default_heads) x refl (found_at e f)) q))
 
-pub value_unended : {v : Surroundings} {x y : Place} {e : Tree} → Stuck (key "function") x → Only so_far v (Part (Expr 1)) x (one e) y → Barred so_far v semi y → NoneExport (key "default") v x
-value_unended {v} {x} {y} {e} k o b = record { no = of_default (λ j. NoNode so_far v (behind_both j) j x) (no_node (bar (no_sign k))) (no_node (record { no = at })) }
+pub value_unended : {v : Surroundings} {x y : Place} {e : Tree} → Stuck (key "function") x → Stuck (key "class") x → Only so_far v (Part (Expr 1)) x (one e) y → Barred so_far v semi y → NoneExport (key "default") v x
+value_unended {v} {x} {y} {e} k c o b = record { no = of_default (λ j. NoNode so_far v (behind_both j) j x) (no_node (bar (no_sign k))) (no_node (bar (no_class_there c))) (no_node (record { no = at })) }
   where
     at : (ts : Forest) (z : Place) → Walk (Whole so_far) (steady v) (behind_both (program ExportDefaultExpr)) x ts z → ⊥
     at ts z (next (sign d f) (next {y = p} (tree {t = t} q) (next {y = r} {g = g} s w))) =
-        let here = subst (λ c. Whole so_far v false (Expr 1) c t p) (sym d ∙ stays (Unless default_heads) x refl (found_at d f)) q in
-        b.no g r (subst (λ c. Past (Whole so_far) v semi c g r) (sym (o.alone (one t) p (tree here)).1) s)
+        let here = subst (λ l. Whole so_far v false (Expr 1) l t p) (sym d ∙ stays (Unless default_heads) x refl (found_at d f)) q in
+        b.no g r (subst (λ l. Past (Whole so_far) v semi l g r) (sym (o.alone (one t) p (tree here)).1) s)

@@ -3,7 +3,7 @@ use Rattle.std.proofs.Common.{◌≡◌, nat_eq, Bool, true, false, not, List, [
 use Rattle.std.specs.Prelude.{IsTrue, codes, ◌&&◌, ◌||◌}
 use Rattle.jsx_base.specs.Token.{Text, Operator, Punctuator, TokenKind, IdentifierName, StringLiteral, same}
 use Rattle.jsx_tree.specs.Signs.{Sign, Tok, Unless}
-use Rattle.jsx_tree.specs.Kinds.{ExprStmt, ImportBare, Import, ImportAll, ImportList, ImportBoth, ExportNames, ExportFrom, ExportAll, ExportAllAs, ExportDecl, ExportDefaultFn, ExportDefaultExpr, ImportCall, ImportMeta, Label, Seq, Kind, program, statement, expression, Tree, leaf, node, list, Forest, none, part}
+use Rattle.jsx_tree.specs.Kinds.{ExprStmt, ImportBare, Import, ImportAll, ImportList, ImportBoth, ExportNames, ExportFrom, ExportAll, ExportAllAs, ExportDecl, ExportDefaultFn, ExportDefaultClass, ExportDefaultExpr, ImportCall, ImportMeta, Label, Seq, Kind, program, statement, expression, Tree, leaf, node, list, Forest, none, part}
 use Rattle.jsx_tree.specs.Nonterminals.{Nonterminal, BindingIdent, Expr, ImportClause, Item, Stmt, StringOnly}
 use Rattle.jsx_tree.specs.Grammar.{Context, Fixed, ListShape, Part, TwoOrMore, heads, key, pun}
 use Rattle.jsx_tree.specs.Form.{admits, enough}
@@ -78,33 +78,34 @@ only_of {p} {r} {v} {t} {x} {y} k e b others = record { kind = k; begins = e; bu
 
 -- ---- the words of imports and exports
 
-pub of_portal : (P : Kind → Type 0) → P (program ImportBare) → P (program Import) → P (program ExportNames) → P (program ExportFrom) → P (program ExportAll) → P (program ExportAllAs) → P (program ExportDecl) → P (program ExportDefaultFn) → P (program ExportDefaultExpr) → (k : Kind) → is_portal k ≡ true → P k
-of_portal P a b c d e f g h i (program ImportBare) m = a
-of_portal P a b c d e f g h i (program Import) m = b
-of_portal P a b c d e f g h i (program ExportNames) m = c
-of_portal P a b c d e f g h i (program ExportFrom) m = d
-of_portal P a b c d e f g h i (program ExportAll) m = e
-of_portal P a b c d e f g h i (program ExportAllAs) m = f
-of_portal P a b c d e f g h i (program ExportDecl) m = g
-of_portal P a b c d e f g h i (program ExportDefaultFn) m = h
-of_portal P a b c d e f g h i (program ExportDefaultExpr) m = i
-of_portal P a b c d e f g h i (program _) m = cc
-of_portal P a b c d e f g h i _ m = cc
+pub of_portal : (P : Kind → Type 0) → P (program ImportBare) → P (program Import) → P (program ExportNames) → P (program ExportFrom) → P (program ExportAll) → P (program ExportAllAs) → P (program ExportDecl) → P (program ExportDefaultFn) → P (program ExportDefaultClass) → P (program ExportDefaultExpr) → (k : Kind) → is_portal k ≡ true → P k
+of_portal P a b c d e f g h i j (program ImportBare) m = a
+of_portal P a b c d e f g h i j (program Import) m = b
+of_portal P a b c d e f g h i j (program ExportNames) m = c
+of_portal P a b c d e f g h i j (program ExportFrom) m = d
+of_portal P a b c d e f g h i j (program ExportAll) m = e
+of_portal P a b c d e f g h i j (program ExportAllAs) m = f
+of_portal P a b c d e f g h i j (program ExportDecl) m = g
+of_portal P a b c d e f g h i j (program ExportDefaultFn) m = h
+of_portal P a b c d e f g h i j (program ExportDefaultClass) m = i
+of_portal P a b c d e f g h i j (program ExportDefaultExpr) m = j
+of_portal P a b c d e f g h i j (program _) m = cc
+of_portal P a b c d e f g h i j _ m = cc
 
 portal_signed : (k : Kind) → is_portal k ≡ true → signed (row_so_far k) ≡ true
-portal_signed = of_portal (λ k. signed (row_so_far k) ≡ true) refl refl refl refl refl refl refl refl refl
+portal_signed = of_portal (λ k. signed (row_so_far k) ≡ true) refl refl refl refl refl refl refl refl refl refl
 
 portal_coded : (k : Kind) → is_portal k ≡ true → is_code (opening_sign k) ≡ true
-portal_coded = of_portal (λ k. is_code (opening_sign k) ≡ true) refl refl refl refl refl refl refl refl refl
+portal_coded = of_portal (λ k. is_code (opening_sign k) ≡ true) refl refl refl refl refl refl refl refl refl refl
 
 portal_guarded : (k : Kind) → is_portal k ≡ true → guarded Item (row_so_far k) ≡ true
-portal_guarded = of_portal (λ k. guarded Item (row_so_far k) ≡ true) refl refl refl refl refl refl refl refl refl
+portal_guarded = of_portal (λ k. guarded Item (row_so_far k) ≡ true) refl refl refl refl refl refl refl refl refl refl
 
 portal_free : (k : Kind) → is_portal k ≡ true → free (row_so_far k) ≡ true
-portal_free = of_portal (λ k. free (row_so_far k) ≡ true) refl refl refl refl refl refl refl refl refl
+portal_free = of_portal (λ k. free (row_so_far k) ≡ true) refl refl refl refl refl refl refl refl refl refl
 
 portal_home : (k : Kind) → is_portal k ≡ true → (ts : Forest) → admits Item (node k ts) ≡ true
-portal_home = of_portal (λ k. (ts : Forest) → admits Item (node k ts) ≡ true) (λ ts. refl) (λ ts. refl) (λ ts. refl) (λ ts. refl) (λ ts. refl) (λ ts. refl) (λ ts. refl) (λ ts. refl) (λ ts. refl)
+portal_home = of_portal (λ k. (ts : Forest) → admits Item (node k ts) ≡ true) (λ ts. refl) (λ ts. refl) (λ ts. refl) (λ ts. refl) (λ ts. refl) (λ ts. refl) (λ ts. refl) (λ ts. refl) (λ ts. refl) (λ ts. refl)
 
 word_stands : {R : Relation} {V : List Context → Surroundings} {x y : Place} {ts : Forest} (k : Kind) → is_portal k ≡ true → Walk R V (row_so_far k) x ts y → IsTrue (is_found (forth (opening_sign k) x))
 word_stands k m w = led_sign (row_so_far k) (portal_signed k m) w
@@ -217,6 +218,7 @@ export_sign (program ExportAll) h = refl
 export_sign (program ExportAllAs) h = refl
 export_sign (program ExportDecl) h = refl
 export_sign (program ExportDefaultFn) h = refl
+export_sign (program ExportDefaultClass) h = refl
 export_sign (program ExportDefaultExpr) h = refl
 export_sign (program _) h = cc
 export_sign _ h = cc
@@ -388,6 +390,7 @@ portal_word (program ExportAll) m f g = g refl
 portal_word (program ExportAllAs) m f g = g refl
 portal_word (program ExportDecl) m f g = g refl
 portal_word (program ExportDefaultFn) m f g = g refl
+portal_word (program ExportDefaultClass) m f g = g refl
 portal_word (program ExportDefaultExpr) m f g = g refl
 portal_word (program _) m f g = cc
 portal_word _ m f g = cc

@@ -4,7 +4,7 @@ use Rattle.jsx_base.specs.Token.{IdentifierName}
 use Rattle.jsx_base.specs.declared.place.Span.{Span}
 use Rattle.jsx_tree.specs.declared.text.Text.{Text as TreeText}
 use Rattle.jsx_tree.specs.Signs.{AfterList, AfterWord, Ends, Semicolon}
-use Rattle.jsx_tree.specs.Kinds.{Side, Imported, Exported, From, ImportBare, Import, ImportAll, ImportList, ImportBoth, Specifier, SpecifierAs, ExportNames, ExportFrom, ExportAll, ExportAllAs, ExportDecl, ExportDefaultFn, ExportDefaultExpr, program, Tree, leaf, node, list, Forest, none, part}
+use Rattle.jsx_tree.specs.Kinds.{Side, Imported, Exported, From, ImportBare, Import, ImportAll, ImportList, ImportBoth, Specifier, SpecifierAs, ExportNames, ExportFrom, ExportAll, ExportAllAs, ExportDecl, ExportDefaultFn, ExportDefaultClass, ExportDefaultExpr, program, Tree, leaf, node, list, Forest, none, part}
 use Rattle.jsx_tree.specs.Grammar.{Commas, key, pun}
 use Rattle.jsx_tree.specs.Spans.{Told, Tales, no_tales, spans, tale, tells}
 use Rattle.jsx_tree.specs.Told.{told_node, told_text}
@@ -79,6 +79,9 @@ declared_placed sign l s = node_is (λ c e ps. refl) (λ ms text. refl) s (row_q
 
 pub function_placed : {at : Option Span} {ds : Tales} {t : Tree} {ts : Forest} {w x y z q : Here} → Takes (key "export") w x → Takes (key "default") x y → Takes (key "function") y z → IsPlacedRow named_symbols ds (part t ts) z q → Spans at (next_of w) (end_of q) → IsPlaced (tells (spans at ∷ []) ds) (node (program ExportDefaultFn) (part t ts)) w q
 function_placed sign k f r s = node_is (λ c e ps. refl) (λ ms text. refl) s (row_quiet (λ q. refl) (row_sign sign (row_quiet (λ q. refl) (row_sign k (row_quiet (λ q. refl) (row_sign f (row_quiet (λ q. refl) (named_placed r))))))))
+
+pub class_placed : {at : Option Span} {d : Told} {t : Tree} {w x y z : Here} → Takes (key "export") w x → Takes (key "default") x y → IsPlaced d t y z → Spans at (next_of w) (end_of z) → IsPlaced (told_node at (d ∷ [])) (node (program ExportDefaultClass) (part t none)) w z
+class_placed sign k l s = node_is (λ c e ps. refl) (λ ms text. refl) s (row_quiet (λ q. refl) (row_sign sign (row_quiet (λ q. refl) (row_sign k (row_quiet (λ q. refl) (row_part l row_end))))))
 
 pub value_placed : {at : Option Span} {d : Told} {t : Tree} {w x y z q : Here} → Takes (key "export") w x → Takes (key "default") x y → IsPlaced d t y z → Takes Semicolon z q → Spans at (next_of w) (end_of q) → IsPlaced (told_node at (d ∷ [])) (node (program ExportDefaultExpr) (part t none)) w q
 value_placed sign k l end s = node_is (λ c e ps. refl) (λ ms text. refl) s (row_quiet (λ q. refl) (row_sign sign (row_quiet (λ q. refl) (row_sign k (row_quiet (λ q. refl) (row_unless (row_part l (row_sign end row_end))))))))

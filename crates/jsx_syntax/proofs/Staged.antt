@@ -3,7 +3,7 @@ use Rattle.std.proofs.Common.{◌≡◌, List, [], ◌∷◌, Bool, true, false,
 use Rattle.std.proofs.lemmas.Bool.{and_parts, and_from, false≢true}
 use Rattle.std.specs.Prelude.{◌&&◌}
 use Rattle.jsx_base.specs.Token.{Text, TokenKind, JsxName}
-use Rattle.jsx_tree.specs.Kinds.{BinaryOp, Nullish, Kind, program, statement, function, expression, jsx, Module, Directive, Block, Var, VarWord, LetWord, ConstWord, Declarator, Empty, ExprStmt, If, Do, While, Continue, Break, Label, Throw, Debugger, Seq, Assign, OpAssign, Binary, Unary, Cond, ImportCall, Call, Member, Index, Parenthesized, ParenTarget, Element, Tree, leaf, node, list, Forest, none, part, PrefixUpdate, PostfixUpdate, For, ForDeclaration, Switch, Case, Default, Array, Spread, Try, Catch, Object, Property, Shorthand, ComputedKey, ImportMeta, New, NewWithoutArguments, NewTarget, ForIn, ForOf, ForBinding, PlainTemplate, SubstitutedTemplate, TemplateSpan, Tagged, Chain, NameLink, IndexLink, CallLink, Imported, Exported, From, FunctionBody, ImportBare, Import, ImportAll, ImportList, ImportBoth, Specifier, SpecifierAs, ExportNames, ExportFrom, ExportAll, ExportAllAs, ExportDecl, ExportDefaultFn, ExportDefaultExpr, Return, FunctionDecl, FunctionExpr, Binds, WithInit, RestPat, ArrayPat, ObjectPat, PropertyPat, ShorthandPat, ShorthandInit, RestProperty}
+use Rattle.jsx_tree.specs.Kinds.{BinaryOp, Nullish, Kind, program, statement, function, expression, jsx, Module, Directive, Block, Var, VarWord, LetWord, ConstWord, Declarator, Empty, ExprStmt, If, Do, While, Continue, Break, Label, Throw, Debugger, Seq, Assign, OpAssign, Binary, Unary, Cond, ImportCall, Call, Member, Index, Parenthesized, ParenTarget, Element, Tree, leaf, node, list, Forest, none, part, PrefixUpdate, PostfixUpdate, For, ForDeclaration, Switch, Case, Default, Array, Spread, Try, Catch, Object, Property, Shorthand, ComputedKey, ImportMeta, New, NewWithoutArguments, NewTarget, ForIn, ForOf, ForBinding, PlainTemplate, SubstitutedTemplate, TemplateSpan, Tagged, Chain, NameLink, IndexLink, CallLink, Imported, Exported, From, FunctionBody, ImportBare, Import, ImportAll, ImportList, ImportBoth, Specifier, SpecifierAs, ExportNames, ExportFrom, ExportAll, ExportAllAs, ExportDecl, ExportDefaultFn, ExportDefaultClass, ExportDefaultExpr, Return, FunctionDecl, ClassDecl, FunctionExpr, ClassExpr, InObject, InClass, Static, Method, Getter, Setter, Field, SuperCall, SuperMember, SuperIndex, Binds, WithInit, RestPat, ArrayPat, ObjectPat, PropertyPat, ShorthandPat, ShorthandInit, RestProperty}
 use Rattle.jsx_tree.specs.Nonterminals.{Nonterminal, TagName, Attributes, WholeProgram, assigns, expr, in_homes, homes}
 use Rattle.jsx_tree.specs.Form.{Position, position, positions, shaped, last_only, admits, fits_below, fit_slots, fit_each, is}
 use Rattle.jsx_tree.specs.Sound.{each_node, each_nodes}
@@ -50,6 +50,7 @@ no_tag (program ExportAll) h = record { name = refl; attribute = refl }
 no_tag (program ExportAllAs) h = record { name = refl; attribute = refl }
 no_tag (program ExportDecl) h = record { name = refl; attribute = refl }
 no_tag (program ExportDefaultFn) h = record { name = refl; attribute = refl }
+no_tag (program ExportDefaultClass) h = record { name = refl; attribute = refl }
 no_tag (program ExportDefaultExpr) h = record { name = refl; attribute = refl }
 no_tag (statement Block) h = record { name = refl; attribute = refl }
 no_tag (statement (Var VarWord)) h = record { name = refl; attribute = refl }
@@ -80,6 +81,7 @@ no_tag (statement Catch) h = record { name = refl; attribute = refl }
 no_tag (statement Debugger) h = record { name = refl; attribute = refl }
 no_tag (statement Return) h = record { name = refl; attribute = refl }
 no_tag (statement FunctionDecl) h = record { name = refl; attribute = refl }
+no_tag (statement ClassDecl) h = record { name = refl; attribute = refl }
 no_tag (statement Declarator) h = record { name = refl; attribute = refl }
 no_tag (statement ExprStmt) h = record { name = refl; attribute = refl }
 no_tag (expression Seq) h = record { name = refl; attribute = refl }
@@ -103,6 +105,21 @@ no_tag (expression Shorthand) h = record { name = refl; attribute = refl }
 no_tag (function ComputedKey) h = record { name = refl; attribute = refl }
 no_tag (function ParenTarget) h = record { name = refl; attribute = refl }
 no_tag (function FunctionExpr) h = record { name = refl; attribute = refl }
+no_tag (function ClassExpr) h = record { name = refl; attribute = refl }
+no_tag (function (Method InObject)) h = record { name = refl; attribute = refl }
+no_tag (function (Method InClass)) h = record { name = refl; attribute = refl }
+no_tag (function (Method Static)) h = record { name = refl; attribute = refl }
+no_tag (function (Getter InObject)) h = record { name = refl; attribute = refl }
+no_tag (function (Getter InClass)) h = record { name = refl; attribute = refl }
+no_tag (function (Getter Static)) h = record { name = refl; attribute = refl }
+no_tag (function (Setter InObject)) h = record { name = refl; attribute = refl }
+no_tag (function (Setter InClass)) h = record { name = refl; attribute = refl }
+no_tag (function (Setter Static)) h = record { name = refl; attribute = refl }
+no_tag (function (Field InClass)) h = record { name = refl; attribute = refl }
+no_tag (function (Field Static)) h = record { name = refl; attribute = refl }
+no_tag (expression SuperCall) h = record { name = refl; attribute = refl }
+no_tag (expression SuperMember) h = record { name = refl; attribute = refl }
+no_tag (expression SuperIndex) h = record { name = refl; attribute = refl }
 no_tag (function (WithInit Binds)) h = record { name = refl; attribute = refl }
 no_tag (function (RestPat Binds)) h = record { name = refl; attribute = refl }
 no_tag (function (ArrayPat Binds)) h = record { name = refl; attribute = refl }

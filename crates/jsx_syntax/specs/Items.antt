@@ -1,7 +1,7 @@
 -- The items of a module that begin with `import` or `export`: what stands behind these words, and of which kinds it is (ECMA-262 sections 16.2.2 and 16.2.3).
 use Rattle.std.specs.Prelude.{◌≡◌, ℕ, List, [], ◌∷◌, Bool, true, false, IsTrue, codes, ◌&&◌}
 use Rattle.jsx_tree.specs.Signs.{Sign, AfterWord, Ends}
-use Rattle.jsx_tree.specs.Kinds.{ImportBare, Import, ExportNames, ExportFrom, ExportAll, ExportAllAs, ExportDecl, ExportDefaultFn, ExportDefaultExpr, Kind, program, Tree, node, Forest}
+use Rattle.jsx_tree.specs.Kinds.{ImportBare, Import, ExportNames, ExportFrom, ExportAll, ExportAllAs, ExportDecl, ExportDefaultFn, ExportDefaultClass, ExportDefaultExpr, Kind, program, Tree, node, Forest}
 use Rattle.jsx_tree.specs.Nonterminals.{StringOnly}
 use Rattle.jsx_tree.specs.Grammar.{Part, Production, key, pun, semi, sp, w}
 use Rattle.jsx_tree.specs.Grammar as symbol
@@ -54,6 +54,7 @@ is_portal (program ExportAll) = true
 is_portal (program ExportAllAs) = true
 is_portal (program ExportDecl) = true
 is_portal (program ExportDefaultFn) = true
+is_portal (program ExportDefaultClass) = true
 is_portal (program ExportDefaultExpr) = true
 is_portal k = false
 

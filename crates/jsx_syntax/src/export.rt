@@ -13,6 +13,7 @@ ghost use Rattle.jsx_syntax.specs.Items.{IsPlacedExport, NoneBehind, NoneExport,
 use crate::import::{from_source, source};
 use crate::specifier::{Side, misfit, specifiers};
 use jsx_base::BytePos;
+use jsx_expression::class::class_expression;
 use jsx_expression::expression::expression;
 use jsx_expression::function::{FunctionCode, NamedFunction, named_function};
 use jsx_operand::operand::ASSIGNMENT;
@@ -68,8 +69,8 @@ fn export_all<'s>(
     Ok(Item::ExportAll(span_to(lo, lexer), text))
 }
 
-/// An export of a value as the default, behind that word: a function that may have no name, or an expression. No class stands
-/// there so far.
+/// An export of a value as the default, behind that word: a function or a class that may have no name, or an
+/// expression.
 fn export_default<'s>(
     context: Context,
     lexer: &mut Lexer<'s>,
@@ -90,6 +91,10 @@ fn export_default<'s>(
         } = body;
         let span = span_to(lo, lexer);
         return Ok(Item::ExportDefaultFn(span, name, params, directives, statements));
+    }
+    if lexer.take(Fixed::Word(Word::Class)) {
+        let class = class_expression(context, lexer, body)?;
+        return Ok(Item::ExportDefaultClass(span_to(lo, lexer), class));
     }
     let value = expression(context, lexer, ASSIGNMENT, body)?;
     semicolon(context, lexer)?;

@@ -10,7 +10,7 @@ use Rattle.jsx_token.specs.Headings.{Begins, own, over_keys, over_items, heading
 use Rattle.jsx_tree.specs.Kinds.{ForIn, ForOf, Kind, statement}
 
 abbrev pub headings : List Heading
-headings = heading.Empty ∷ heading.Block ∷ heading.Var declare_word.Var ∷ heading.Var declare_word.Let ∷ heading.Var declare_word.Const ∷ heading.If ∷ heading.Do ∷ heading.While ∷ heading.For ∷ heading.Switch ∷ heading.Continue ∷ heading.Break ∷ heading.Throw ∷ heading.Try ∷ heading.Debugger ∷ heading.Return ∷ heading.Function ∷ []
+headings = heading.Empty ∷ heading.Block ∷ heading.Var declare_word.Var ∷ heading.Var declare_word.Let ∷ heading.Var declare_word.Const ∷ heading.If ∷ heading.Do ∷ heading.While ∷ heading.For ∷ heading.Switch ∷ heading.Continue ∷ heading.Break ∷ heading.Throw ∷ heading.Try ∷ heading.Debugger ∷ heading.Return ∷ heading.Function ∷ heading.Class ∷ []
 
 -- the place of each in the list
 abbrev pub number : Heading → ℕ
@@ -31,6 +31,7 @@ number heading.Try = 13
 number heading.Debugger = 14
 number heading.Return = 15
 number heading.Function = 16
+number heading.Class = 17
 
 abbrev pub nth : ℕ → List Heading → Option Heading
 nth n [] = None
@@ -55,6 +56,7 @@ there heading.Try = refl
 there heading.Debugger = refl
 there heading.Return = refl
 there heading.Function = refl
+there heading.Class = refl
 
 abbrev pub every_heading : (Heading → Bool) → List Heading → Bool
 every_heading p [] = true

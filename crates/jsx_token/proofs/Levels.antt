@@ -4,7 +4,7 @@ use Rattle.jsx_tree.specs.Grammar.{Fixed, right_of}
 use Rattle.jsx_tree.specs.Walk.{Piece, piece, tail}
 use Rattle.std.specs.Prelude.{Option, Some, None, ◌&&◌, ◌||◌}
 use Rattle.jsx_base.specs.Token.{Lexeme, NumericLiteral, BigIntLiteral, StringLiteral, RegExpLiteral, NoSubstitution, TemplateHead, is_kind}
-use Rattle.jsx_tree.specs.Kinds.{Assigns, Assign, OpAssign, Delete, Unary, Binary, Cond, FunctionExpr, Kind, function, expression, PrefixUpdate, Call, Member, Index, NewWithoutArguments, NewTarget, ImportMeta, Object, PostfixUpdate, Increment, Decrement, PlainTemplate, SubstitutedTemplate, Tagged, Chain}
+use Rattle.jsx_tree.specs.Kinds.{Assigns, Assign, OpAssign, Delete, Unary, Binary, Cond, FunctionExpr, ClassExpr, SuperCall, SuperMember, SuperIndex, Kind, function, expression, PrefixUpdate, Call, Member, Index, NewWithoutArguments, NewTarget, ImportMeta, Object, PostfixUpdate, Increment, Decrement, PlainTemplate, SubstitutedTemplate, Tagged, Chain}
 use Rattle.jsx_tree.specs.Signs.{Sign, Tok}
 use Rattle.jsx_tree.specs.Nonterminals.{Nonterminal, Expr, NullishLeft, MemberObject, DotObject, SimpleTarget, Pat, TagName, NewCallee, homes, in_homes, literal_homes}
 use Rattle.jsx_token.specs.Stage.{has_kind}
@@ -49,6 +49,10 @@ is_ruled (expression (PlainTemplate b)) = true
 is_ruled (expression (SubstitutedTemplate b)) = true
 is_ruled (expression Chain) = true
 is_ruled (function FunctionExpr) = true
+is_ruled (function ClassExpr) = true
+is_ruled (expression SuperCall) = true
+is_ruled (expression SuperMember) = true
+is_ruled (expression SuperIndex) = true
 is_ruled k = false
 
 abbrev pub grows_on : Kind → Bool

@@ -33,14 +33,16 @@ pub record Fits (k : TokenKind) (t r : Text) (g : Opening) : Type 0 where
 by : (k : TokenKind) (u r : Text) (h g : Opening) (t : Text) → Some h ≡ Some g → t ≡ u → Fits k u r h → Fits k t r g
 by k u r h g t e s i = subst (λ w. Fits k w r g) (sym s) (subst (λ f. Fits k u r f) (some_is e) i)
 
-by_word : (a b d f n u : Bool) (g : Opening) (t r : Text) → same t (codes "void") ≡ a → same t (codes "typeof") ≡ b → same t (codes "import") ≡ d → same t (codes "delete") ≡ f → same t (codes "new") ≡ n → same t (codes "function") ≡ u → cond a (Some (opening.Unary unary.Void)) (cond b (Some (opening.Unary unary.TypeOf)) (cond d (Some opening.Import) (cond f (Some (opening.Unary unary.Delete)) (cond n (Some opening.New) (cond u (Some opening.Function) None))))) ≡ Some g → Fits token.IdentifierName t r g
-by_word true b d f n u g t r x y z o w q e = by token.IdentifierName (codes "void") r (opening.Unary unary.Void) g t e (same_is t (codes "void") x) (record { sign = refl; taken = refl })
-by_word false true d f n u g t r x y z o w q e = by token.IdentifierName (codes "typeof") r (opening.Unary unary.TypeOf) g t e (same_is t (codes "typeof") y) (record { sign = refl; taken = refl })
-by_word false false true f n u g t r x y z o w q e = by token.IdentifierName (codes "import") r opening.Import g t e (same_is t (codes "import") z) (record { sign = refl; taken = refl })
-by_word false false false true n u g t r x y z o w q e = by token.IdentifierName (codes "delete") r (opening.Unary unary.Delete) g t e (same_is t (codes "delete") o) (record { sign = refl; taken = refl })
-by_word false false false false true u g t r x y z o w q e = by token.IdentifierName (codes "new") r opening.New g t e (same_is t (codes "new") w) (record { sign = refl; taken = refl })
-by_word false false false false false true g t r x y z o w q e = by token.IdentifierName (codes "function") r opening.Function g t e (same_is t (codes "function") q) (record { sign = refl; taken = refl })
-by_word false false false false false false g t r x y z o w q e = none_some e
+by_word : (a b d f n u k l : Bool) (g : Opening) (t r : Text) → same t (codes "void") ≡ a → same t (codes "typeof") ≡ b → same t (codes "import") ≡ d → same t (codes "delete") ≡ f → same t (codes "new") ≡ n → same t (codes "function") ≡ u → same t (codes "class") ≡ k → same t (codes "super") ≡ l → cond a (Some (opening.Unary unary.Void)) (cond b (Some (opening.Unary unary.TypeOf)) (cond d (Some opening.Import) (cond f (Some (opening.Unary unary.Delete)) (cond n (Some opening.New) (cond u (Some opening.Function) (cond k (Some opening.Class) (cond l (Some opening.Super) None))))))) ≡ Some g → Fits token.IdentifierName t r g
+by_word true b d f n u k l g t r x y z o w q i j e = by token.IdentifierName (codes "void") r (opening.Unary unary.Void) g t e (same_is t (codes "void") x) (record { sign = refl; taken = refl })
+by_word false true d f n u k l g t r x y z o w q i j e = by token.IdentifierName (codes "typeof") r (opening.Unary unary.TypeOf) g t e (same_is t (codes "typeof") y) (record { sign = refl; taken = refl })
+by_word false false true f n u k l g t r x y z o w q i j e = by token.IdentifierName (codes "import") r opening.Import g t e (same_is t (codes "import") z) (record { sign = refl; taken = refl })
+by_word false false false true n u k l g t r x y z o w q i j e = by token.IdentifierName (codes "delete") r (opening.Unary unary.Delete) g t e (same_is t (codes "delete") o) (record { sign = refl; taken = refl })
+by_word false false false false true u k l g t r x y z o w q i j e = by token.IdentifierName (codes "new") r opening.New g t e (same_is t (codes "new") w) (record { sign = refl; taken = refl })
+by_word false false false false false true k l g t r x y z o w q i j e = by token.IdentifierName (codes "function") r opening.Function g t e (same_is t (codes "function") q) (record { sign = refl; taken = refl })
+by_word false false false false false false true l g t r x y z o w q i j e = by token.IdentifierName (codes "class") r opening.Class g t e (same_is t (codes "class") i) (record { sign = refl; taken = refl })
+by_word false false false false false false false true g t r x y z o w q i j e = by token.IdentifierName (codes "super") r opening.Super g t e (same_is t (codes "super") j) (record { sign = refl; taken = refl })
+by_word false false false false false false false false g t r x y z o w q i j e = none_some e
 
 pub opening_fits : (k : TokenKind) (t r : Text) (g : Opening) → (is_punctuator k ≡ true → t ≡ spelling k) → opening_by k t ≡ Some g → Fits k t r g
 opening_fits token.Plus t r g s e = by token.Plus (spelling token.Plus) r (opening.Unary unary.Positive) g t e (s refl) (record { sign = refl; taken = refl })
@@ -52,17 +54,19 @@ opening_fits token.LeftBracket t r g s e = by token.LeftBracket (spelling token.
 opening_fits token.LeftBrace t r g s e = by token.LeftBrace (spelling token.LeftBrace) r opening.Object g t e (s refl) (record { sign = refl; taken = refl })
 opening_fits token.PlusPlus t r g s e = by token.PlusPlus (spelling token.PlusPlus) r (opening.Update update.Increment) g t e (s refl) (record { sign = refl; taken = refl })
 opening_fits token.MinusMinus t r g s e = by token.MinusMinus (spelling token.MinusMinus) r (opening.Update update.Decrement) g t e (s refl) (record { sign = refl; taken = refl })
-opening_fits token.IdentifierName t r g s e = by_word (same t (codes "void")) (same t (codes "typeof")) (same t (codes "import")) (same t (codes "delete")) (same t (codes "new")) (same t (codes "function")) g t r refl refl refl refl refl refl e
+opening_fits token.IdentifierName t r g s e = by_word (same t (codes "void")) (same t (codes "typeof")) (same t (codes "import")) (same t (codes "delete")) (same t (codes "new")) (same t (codes "function")) (same t (codes "class")) (same t (codes "super")) g t r refl refl refl refl refl refl refl refl e
 opening_fits _ t r g s e = none_some e
 
-no_word : (a b d f n u : Bool) → cond a (Some (opening.Unary unary.Void)) (cond b (Some (opening.Unary unary.TypeOf)) (cond d (Some opening.Import) (cond f (Some (opening.Unary unary.Delete)) (cond n (Some opening.New) (cond u (Some opening.Function) None))))) ≡ None → (a ≡ false) × ((b ≡ false) × ((d ≡ false) × ((f ≡ false) × ((n ≡ false) × (u ≡ false)))))
-no_word true b d f n u e = some_none e
-no_word false true d f n u e = some_none e
-no_word false false true f n u e = some_none e
-no_word false false false true n u e = some_none e
-no_word false false false false true u e = some_none e
-no_word false false false false false true e = some_none e
-no_word false false false false false false e = (refl, (refl, (refl, (refl, (refl, refl)))))
+no_word : (a b d f n u k l : Bool) → cond a (Some (opening.Unary unary.Void)) (cond b (Some (opening.Unary unary.TypeOf)) (cond d (Some opening.Import) (cond f (Some (opening.Unary unary.Delete)) (cond n (Some opening.New) (cond u (Some opening.Function) (cond k (Some opening.Class) (cond l (Some opening.Super) None))))))) ≡ None → (a ≡ false) × ((b ≡ false) × ((d ≡ false) × ((f ≡ false) × ((n ≡ false) × ((u ≡ false) × ((k ≡ false) × (l ≡ false)))))))
+no_word true b d f n u k l e = some_none e
+no_word false true d f n u k l e = some_none e
+no_word false false true f n u k l e = some_none e
+no_word false false false true n u k l e = some_none e
+no_word false false false false true u k l e = some_none e
+no_word false false false false false true k l e = some_none e
+no_word false false false false false false true l e = some_none e
+no_word false false false false false false false true e = some_none e
+no_word false false false false false false false false e = (refl, (refl, (refl, (refl, (refl, (refl, (refl, refl)))))))
 
 no_mark : (k : TokenKind) (r : Text) → is_punctuator k ≡ true → opening_by k (spelling k) ≡ None → is_mark (lexeme k (spelling k) r) opening_signs ≡ false
 unfolding opening_signs
@@ -127,7 +131,7 @@ no_mark _ r p e = cc
 
 plain_mark : (k : TokenKind) (t r : Text) → is_punctuator k ≡ false → opening_by k t ≡ None → is_mark (lexeme k t r) opening_signs ≡ false
 unfolding opening_signs
-plain_mark token.IdentifierName t r p e = let n = no_word (same t (codes "void")) (same t (codes "typeof")) (same t (codes "import")) (same t (codes "delete")) (same t (codes "new")) (same t (codes "function")) e in (λ i. n.1.1.1.1.1 i || (n.1.1.1.1.0 i || (n.1.1.0 i || (n.1.1.1.0 i || (n.0 i || (n.1.0 i || false))))))
+plain_mark token.IdentifierName t r p e = let n = no_word (same t (codes "void")) (same t (codes "typeof")) (same t (codes "import")) (same t (codes "delete")) (same t (codes "new")) (same t (codes "function")) (same t (codes "class")) (same t (codes "super")) e in (λ i. n.1.1.1.1.1.1.0 i || (n.1.1.1.1.1.1.1 i || (n.1.1.1.1.1.0 i || (n.1.1.1.1.0 i || (n.1.1.0 i || (n.1.1.1.0 i || (n.0 i || (n.1.0 i || false))))))))
 plain_mark token.NumericLiteral t r p e = refl
 plain_mark token.BigIntLiteral t r p e = refl
 plain_mark token.StringLiteral t r p e = refl

@@ -1,16 +1,18 @@
 -- Where a semicolon is missing, and where none is: from the token that is looked at to the definitions' sign.
 use Rattle.std.proofs.Common.{◌≡◌, ℕ, nat_eq, Bool, true, false, not, cond, List, [], ◌∷◌, ◌++◌, refl, sym, ◌∙◌, ap, subst}
 use Rattle.std.specs.Prelude.{IsTrue, codes, ◌&&◌, ◌||◌}
-use Rattle.std.specs.Str.{chars}
+use Rattle.std.specs.List.{list_any}
+use Rattle.std.specs.Str.{bytes_eq, chars, IsUtf8}
+use lib.Utf8.{encode}
 use Rattle.std.proofs.lemmas.Bool.{false≢true, eqb-true, eq-eqb}
-use Rattle.jsx_base.specs.Token.{Text, Mode, Operator, TokenKind, Punctuator, NoToken, NumericLiteral, BigIntLiteral, kind_number, is_kind, is_code, is_token, is_start, is_digit, first_is, same, begins, drop_as, punct, punctuator, Lexeme, no_token, ended, state, accepts, last_state, taken, left, lexed, at_front, token, skip, breaks, is_end}
+use Rattle.jsx_base.specs.Token.{Text, Mode, Operator, TokenKind, Punctuator, NoToken, NumericLiteral, BigIntLiteral, kind_number, is_kind, is_code, is_token, is_start, is_digit, first_is, same, among, begins, drop_as, punct, punctuator, Lexeme, no_token, ended, state, accepts, last_state, taken, left, lexed, at_front, token, skip, breaks, is_end}
 use Rattle.jsx_base.proofs.Lexemes.{dropped, lexed_by}
 use Rattle.jsx_base.proofs.Fronts.{other_ahead}
 use Rattle.jsx_tree.specs.Signs.{Ending, AfterExpr, AfterBlock, AfterWord, AfterList, AfterBinding, AfterKey, AfterDo, Sign, Semicolon}
 use Rattle.jsx_tree.specs.Kinds.{Tree, Forest, part, none}
 use Rattle.jsx_tree.specs.Nonterminals.{Nonterminal}
 use Rattle.jsx_tree.specs.Grammar.{NoTrailing, Context, Fixed, Part, Many, pun}
-use Rattle.jsx_tree.specs.Reading.{Place, Lost, At, forth, go_if, continues, is_do, may_lack}
+use Rattle.jsx_tree.specs.Reading.{Place, Lost, At, forth, go_if, continues, is_do, may_lack, prefix_words}
 use Rattle.jsx_tree.specs.StaticRules.{Surroundings}
 use Rattle.jsx_tree.specs.Walk.{is_found, one, piece, sign, Walk, next, steady}
 use Rattle.jsx_tree.specs.Language.{Language, Whole}
@@ -23,7 +25,6 @@ use Rattle.jsx_tree.proofs.Rows.Steps.{both}
 use Rattle.jsx_tree.proofs.Rows.Stopping.{found_if, raw_there}
 use Rattle.jsx_tree.proofs.Rows.Turns.{Turn, turn_as, turn_both, turn_next, prepend, prepend_cons, no_rest}
 use Rattle.jsx_token.specs.declared.lexer.Ending as code
-use Rattle.jsx_token.specs.declared.lexer.Ending.TheVariants as ending
 use Rattle.jsx_token.specs.Here.{Here, place_of, ending_of}
 use Rattle.jsx_lex.specs.declared.lexer.Lexer.{Lexer as Tokens}
 use Rattle.jsx_lex.specs.declared.token.Token.{Token}
@@ -31,6 +32,7 @@ use Rattle.jsx_lex.specs.declared.token.TokenKind.TheVariants as token_kind
 use Rattle.jsx_token.specs.Seen.{IsNext, NoNext, next_token}
 use Rattle.jsx_token.specs.Growths.{settled}
 use Rattle.jsx_token.specs.Semicolons.{lacks, in_list}
+use Rattle.jsx_token.proofs.Spellings.{same_bytes}
 
 and_false : (a : Bool) → (a && false) ≡ false
 and_false true = refl
@@ -115,21 +117,19 @@ no_semicolon q e text n = sym (alike (λ x. same x.raw (codes ";")) (λ s r. ref
 
 -- ---- where one may be missing
 
-lacks_alike : (e : Ending) (b : Bool) (s r : Text) → lacks e (no_token r).raw b ≡ lacks e (at_front Operator false (codes "-->" ++ s)).raw b
-lacks_alike AfterExpr b s r = refl
-lacks_alike AfterBlock b s r = refl
-lacks_alike AfterWord b s r = refl
-lacks_alike AfterList b s r = refl
-lacks_alike AfterBinding b s r = refl
-lacks_alike AfterKey b s r = refl
-lacks_alike AfterDo b s r = refl
+lacks_alike : (e : Ending) (q : Text) (b : Bool) (s r : Text) → lacks e q (no_token r).raw b ≡ lacks e q (at_front Operator false (codes "-->" ++ s)).raw b
+lacks_alike AfterExpr q b s r = refl
+lacks_alike AfterBlock q b s r = refl
+lacks_alike AfterWord q b s r = refl
+lacks_alike AfterList q b s r = refl
+lacks_alike AfterBinding q b s r = refl
+lacks_alike AfterKey q b s r = refl
+lacks_alike AfterDo q b s r = refl
 
-any_last : (e : code.Ending) (q t : Text) → continues (ending_of e) q t ≡ continues (ending_of e) [] t
-any_last ending.Expr q t = refl
-any_last ending.Binding q t = refl
-any_last ending.Word q t = refl
-any_last ending.List q t = refl
-any_last ending.Do q t = refl
+-- the words that stand before a key, by their bytes
+pub any_prefix : (bs : List ℕ) → IsUtf8 bs → list_any (λ y. bytes_eq y bs) prefix_words ≡ among (chars bs) prefix_words
+unfolding encode
+any_prefix bs u = λ i. same_bytes (codes "get") bs u refl i || (same_bytes (codes "set") bs u refl i || (same_bytes (codes "static") bs u refl i || false))
 
 grouped : (a b c d : Bool) → (((a || b) || c) || d) ≡ (b || (a || (c || d)))
 grouped true true c d = refl
@@ -137,37 +137,37 @@ grouped true false c d = refl
 grouped false true c d = refl
 grouped false false c d = refl
 
-pub lack_is : (q : Text) (e : code.Ending) (text : Text) (r : Bool) → forth (pun ";") (At q (ending_of e) text) ≡ Lost → r ≡ (is_end text || lacks (ending_of e) (token Operator (same q []) text).raw (breaks text)) → forth Semicolon (At q (ending_of e) text) ≡ go_if r (At q (ending_of e) text)
+pub lack_is : (q : Text) (e : code.Ending) (text : Text) (r : Bool) → forth (pun ";") (At q (ending_of e) text) ≡ Lost → r ≡ (is_end text || lacks (ending_of e) q (token Operator (same q []) text).raw (breaks text)) → forth Semicolon (At q (ending_of e) text) ≡ go_if r (At q (ending_of e) text)
 lack_is q e text r n is =
     let f = ending_of e in
     let x = token Operator false text in
     let quiet = no_semicolon q f text n in
     let no_mark : is_token x Punctuator (codes ";") ≡ false = ap (λ b. is_kind x.kind Punctuator && b) quiet ∙ and_false (is_kind x.kind Punctuator) in
     let lack : may_lack f q text ≡ r =
-    (λ i. not (quiet i) && (((is_do f || is_end text) || same x.raw (codes "}")) || (breaks text && not (any_last e q x.raw i))))
-    ∙ (grouped (is_do f) (is_end text) (same x.raw (codes "}")) (breaks text && not (continues f [] x.raw))
-    ∙ (ap (λ b. is_end text || b) (sym (alike (λ y. lacks f y.raw (breaks text)) (lacks_alike f (breaks text)) (same q []) text)) ∙ sym is)) in
+    (λ i. not (quiet i) && (((is_do f || is_end text) || same x.raw (codes "}")) || (breaks text && not (continues f q x.raw))))
+    ∙ (grouped (is_do f) (is_end text) (same x.raw (codes "}")) (breaks text && not (continues f q x.raw))
+    ∙ (ap (λ b. is_end text || b) (sym (alike (λ y. lacks f q y.raw (breaks text)) (lacks_alike f q (breaks text)) (same q []) text)) ∙ sym is)) in
     (λ i. cond (no_mark i) (At (codes ";") AfterExpr x.rest) (go_if (lack i) (At q f text)))
 
-lack_at : (e : code.Ending) (h : Here) (r : Bool) → h.ending ≡ ending_of e → forth (pun ";") (place_of h) ≡ Lost → r ≡ (is_end h.rest || lacks (ending_of e) (next_token Operator h).raw (breaks h.rest)) → forth Semicolon (place_of h) ≡ go_if r (place_of h)
+lack_at : (e : code.Ending) (h : Here) (r : Bool) → h.ending ≡ ending_of e → forth (pun ";") (place_of h) ≡ Lost → r ≡ (is_end h.rest || lacks (ending_of e) h.last (next_token Operator h).raw (breaks h.rest)) → forth Semicolon (place_of h) ≡ go_if r (place_of h)
 lack_at e h r is n k = subst (λ f. forth (pun ";") (At h.last f h.rest) ≡ Lost → forth Semicolon (At h.last f h.rest) ≡ go_if r (At h.last f h.rest)) (sym is) (λ m. lack_is h.last e h.rest r m k) n
 
 -- where no token can be read
-pub none_lacks : {h : Here} (e : code.Ending) (b r : Bool) → h.ending ≡ ending_of e → NoNext Operator h → forth (pun ";") (place_of h) ≡ Lost → b ≡ breaks h.rest → r ≡ lacks (ending_of e) [] b → forth Semicolon (place_of h) ≡ go_if r (place_of h)
-none_lacks {h} e b r is n lost k l = lack_at e h r is lost (l ∙ ((λ i. lacks (ending_of e) (sym (none_raw n) i) (k i)) ∙ ap (λ c. c || lacks (ending_of e) (next_token Operator h).raw (breaks h.rest)) (sym (n.more refl))))
+pub none_lacks : {h : Here} {q : Text} (e : code.Ending) (b r : Bool) → h.ending ≡ ending_of e → h.last ≡ q → NoNext Operator h → forth (pun ";") (place_of h) ≡ Lost → b ≡ breaks h.rest → r ≡ lacks (ending_of e) q [] b → forth Semicolon (place_of h) ≡ go_if r (place_of h)
+none_lacks {h} e b r is last n lost k l = lack_at e h r is lost (l ∙ ((λ i. lacks (ending_of e) (sym last i) (sym (none_raw n) i) (k i)) ∙ ap (λ c. c || lacks (ending_of e) h.last (next_token Operator h).raw (breaks h.rest)) (sym (n.more refl))))
 
 -- at the end, and before a token
 pub end_lacks : {h : Here} {t : Token} {b : Tokens} (e : code.Ending) (r : Bool) → h.ending ≡ ending_of e → IsNext Operator h t b → t.kind ≡ token_kind.End → forth (pun ";") (place_of h) ≡ Lost → r ≡ true → forth Semicolon (place_of h) ≡ go_if r (place_of h)
-end_lacks {h} e r is n k lost l = lack_at e h r is lost (l ∙ ap (λ c. c || lacks (ending_of e) (next_token Operator h).raw (breaks h.rest)) (sym ((n.end refl).0 k)))
+end_lacks {h} e r is n k lost l = lack_at e h r is lost (l ∙ ap (λ c. c || lacks (ending_of e) h.last (next_token Operator h).raw (breaks h.rest)) (sym ((n.end refl).0 k)))
 
 not_true : (b : Bool) → (b ≡ true → ⊥) → b ≡ false
 not_true true n = absurd (n refl)
 not_true false n = refl
 
-pub token_lacks : {h : Here} {t : Token} {b : Tokens} (e : code.Ending) (r : Bool) → h.ending ≡ ending_of e → IsNext Operator h t b → (t.kind ≡ token_kind.End → ⊥) → forth (pun ";") (place_of h) ≡ Lost → r ≡ lacks (ending_of e) (chars t.raw.now) t.new_line → forth Semicolon (place_of h) ≡ go_if r (place_of h)
-token_lacks {h} e r is n k lost l =
-    lack_at e h r is lost (l ∙ ((λ i. lacks (ending_of e) (n.raw i) (n.line refl i))
-    ∙ ap (λ c. c || lacks (ending_of e) (next_token Operator h).raw (breaks h.rest)) (sym (not_true (is_end h.rest) (λ f. k ((n.end refl).1 f))))))
+pub token_lacks : {h : Here} {t : Token} {b : Tokens} {q : Text} (e : code.Ending) (r : Bool) → h.ending ≡ ending_of e → h.last ≡ q → IsNext Operator h t b → (t.kind ≡ token_kind.End → ⊥) → forth (pun ";") (place_of h) ≡ Lost → r ≡ lacks (ending_of e) q (chars t.raw.now) t.new_line → forth Semicolon (place_of h) ≡ go_if r (place_of h)
+token_lacks {h} e r is last n k lost l =
+    lack_at e h r is lost (l ∙ ((λ i. lacks (ending_of e) (sym last i) (n.raw i) (n.line refl i))
+    ∙ ap (λ c. c || lacks (ending_of e) h.last (next_token Operator h).raw (breaks h.rest)) (sym (not_true (is_end h.rest) (λ f. k ((n.end refl).1 f))))))
 
 -- ---- a comma goes on with what stands in a list
 

@@ -46,6 +46,7 @@ signs heading.Try = refl
 signs heading.Debugger = refl
 signs heading.Return = refl
 signs heading.Function = refl
+signs heading.Class = refl
 
 pub none_heads : {h : Here} → NoNext Operator h → NoHeading (place_of h)
 none_heads {h} n = record { on = λ g. ap (λ s. forth s (place_of h)) (signs g) ∙ none_by (fixed_kind (fixed_of g)) (fixed_text (fixed_of g)) (fixed_some (fixed_of g)) n }
@@ -72,7 +73,7 @@ and_no false = refl
 pub words_chars : (bs : List ℕ) → IsUtf8 bs → first_bytes words bs ≡ first_word words (chars bs)
 words_chars bs u = λ i.
     cond (is_reserved word.Var bs u i) (Some (heading.Var declare_word.Var)) (cond (is_reserved word.Let bs u i) (Some (heading.Var declare_word.Let)) (cond (is_reserved word.Const bs u i) (Some (heading.Var declare_word.Const)) (cond (is_reserved word.If bs u i) (Some heading.If)
-    (cond (is_reserved word.Do bs u i) (Some heading.Do) (cond (is_reserved word.While bs u i) (Some heading.While) (cond (is_reserved word.For bs u i) (Some heading.For) (cond (is_reserved word.Switch bs u i) (Some heading.Switch) (cond (is_reserved word.Continue bs u i) (Some heading.Continue) (cond (is_reserved word.Break bs u i) (Some heading.Break) (cond (is_reserved word.Throw bs u i) (Some heading.Throw) (cond (is_reserved word.Try bs u i) (Some heading.Try) (cond (is_reserved word.Debugger bs u i) (Some heading.Debugger) (cond (is_reserved word.Return bs u i) (Some heading.Return) (cond (is_reserved word.Function bs u i) (Some heading.Function) None))))))))))))))
+    (cond (is_reserved word.Do bs u i) (Some heading.Do) (cond (is_reserved word.While bs u i) (Some heading.While) (cond (is_reserved word.For bs u i) (Some heading.For) (cond (is_reserved word.Switch bs u i) (Some heading.Switch) (cond (is_reserved word.Continue bs u i) (Some heading.Continue) (cond (is_reserved word.Break bs u i) (Some heading.Break) (cond (is_reserved word.Throw bs u i) (Some heading.Throw) (cond (is_reserved word.Try bs u i) (Some heading.Try) (cond (is_reserved word.Debugger bs u i) (Some heading.Debugger) (cond (is_reserved word.Return bs u i) (Some heading.Return) (cond (is_reserved word.Function bs u i) (Some heading.Function) (cond (is_reserved word.Class bs u i) (Some heading.Class) None)))))))))))))))
 
 abbrev worded : Heading → Bool
 worded h = is_kind IdentifierName (fixed_kind (fixed_of h))
@@ -124,6 +125,7 @@ found_word t k None e = record { on = on }
     on heading.Debugger = named_not t 12 heading.Debugger a refl
     on heading.Return = named_not t 13 heading.Return a refl
     on heading.Function = named_not t 14 heading.Function a refl
+    on heading.Class = named_not t 15 heading.Class a refl
 
 pub found_empty : (t : Token) → t.kind ≡ token.Semicolon → (is_punctuator t.kind ≡ true → chars t.raw.now ≡ spelling t.kind) → is_heading t heading.Empty ≡ true
 found_empty t k s = sym (mark_is true t token.Semicolon fixed.Semicolon ((λ _. k), (λ _. refl)) (record { mark = refl; text = refl; kind = refl }) s)
@@ -159,3 +161,4 @@ no_heading t a b n s = record { on = on }
     on heading.Debugger = other heading.Debugger refl
     on heading.Return = other heading.Return refl
     on heading.Function = other heading.Function refl
+    on heading.Class = other heading.Class refl

@@ -17,7 +17,7 @@ use Rattle.jsx_token.specs.declared.opening.Opening.TheVariants as opening
 use Rattle.jsx_tree.specs.ViewOperators.{unary_of, step_of}
 use Rattle.jsx_tree.specs.declared.operator.UnaryOp.{UnaryOp}
 use Rattle.jsx_tree.specs.declared.operator.UnaryOp.TheVariants as unary
-use Rattle.jsx_tree.specs.Kinds.{Unary, ImportCall, New, Array, Object, Parenthesized, FunctionExpr, function, expression, PrefixUpdate}
+use Rattle.jsx_tree.specs.Kinds.{Unary, ImportCall, New, Array, Object, Parenthesized, SuperCall, FunctionExpr, ClassExpr, function, expression, PrefixUpdate}
 use Rattle.jsx_token.specs.Growths.{opening_kind, opening_sign, opening_signs, is_code, NoOpening}
 use Rattle.jsx_tree.specs.declared.operator.UpdateOp.TheVariants as update
 use Rattle.jsx_token.specs.GrowthTokens.{opening_by}
@@ -77,6 +77,8 @@ opening_staged opening.Paren = refl
 opening_staged opening.Array = refl
 opening_staged opening.Object = refl
 opening_staged opening.Function = refl
+opening_staged opening.Class = refl
+opening_staged opening.Super = refl
 opening_staged (opening.Unary o) = unary_staged o
 opening_staged (opening.Update o) = refl
 
@@ -87,6 +89,8 @@ opening_listed opening.Paren h = listed (expression Parenthesized) refl refl ref
 opening_listed opening.Array h = listed (expression Array) refl refl refl
 opening_listed opening.Object h = listed (expression Object) refl refl refl
 opening_listed opening.Function h = listed (function FunctionExpr) refl refl refl
+opening_listed opening.Class h = listed (function ClassExpr) refl refl refl
+opening_listed opening.Super h = listed (expression SuperCall) refl refl refl
 opening_listed (opening.Unary o) h = unary_listed o h
 opening_listed (opening.Update update.Increment) h = listed (expression (PrefixUpdate (step_of update.Increment))) refl refl refl
 opening_listed (opening.Update update.Decrement) h = listed (expression (PrefixUpdate (step_of update.Decrement))) refl refl refl
@@ -107,6 +111,8 @@ opening_opens opening.Paren = refl
 opening_opens opening.Array = refl
 opening_opens opening.Object = refl
 opening_opens opening.Function = refl
+opening_opens opening.Class = refl
+opening_opens opening.Super = refl
 opening_opens (opening.Unary o) = unary_opens o
 opening_opens (opening.Update o) = refl
 
@@ -117,6 +123,8 @@ sign_code opening.Paren = refl
 sign_code opening.Array = refl
 sign_code opening.Object = refl
 sign_code opening.Function = refl
+sign_code opening.Class = refl
+sign_code opening.Super = refl
 sign_code (opening.Unary unary.Delete) = refl
 sign_code (opening.Unary unary.Void) = refl
 sign_code (opening.Unary unary.TypeOf) = refl

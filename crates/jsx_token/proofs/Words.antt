@@ -93,6 +93,10 @@ word_equals : Spelled (codes "=")
 unfolding chars is_utf8 encode
 word_equals = record { same = refl; text = IsUtf8-from_is_utf8 (codes "=") refl }
 
+word_open : Spelled (codes "(")
+unfolding chars is_utf8 encode
+word_open = record { same = refl; text = IsUtf8-from_is_utf8 (codes "(") refl }
+
 word_right_brace : Spelled (codes "}")
 unfolding chars is_utf8 encode
 word_right_brace = record { same = refl; text = IsUtf8-from_is_utf8 (codes "}") refl }
@@ -102,6 +106,9 @@ is_comma = is_word (codes ",") word_comma
 
 pub is_equals : (raw : List ℕ) → IsUtf8 raw → bytes_eq raw (codes "=") ≡ same (chars raw) (codes "=")
 is_equals = is_word (codes "=") word_equals
+
+pub is_open : (raw : List ℕ) → IsUtf8 raw → bytes_eq raw (codes "(") ≡ same (chars raw) (codes "(")
+is_open = is_word (codes "(") word_open
 
 pub is_right_brace : (raw : List ℕ) → IsUtf8 raw → bytes_eq raw (codes "}") ≡ same (chars raw) (codes "}")
 is_right_brace = is_word (codes "}") word_right_brace
@@ -134,6 +141,50 @@ is_proto_string raw u =
     let b : bytes_eq raw (codes "'__proto__'") ≡ same (codes "'__proto__'") (chars raw) = is_word (codes "'__proto__'") word_single raw u ∙ same_flip (chars raw) (codes "'__proto__'") in
     (λ i. a i || b i)
 
+-- the key `constructor`
+word_constructor : Spelled (codes "constructor")
+unfolding chars is_utf8 encode
+word_constructor = record { same = refl; text = IsUtf8-from_is_utf8 (codes "constructor") refl }
+
+double_constructor : Spelled (codes "\"constructor\"")
+unfolding chars is_utf8 encode
+double_constructor = record { same = refl; text = IsUtf8-from_is_utf8 (codes "\"constructor\"") refl }
+
+single_constructor : Spelled (codes "'constructor'")
+unfolding chars is_utf8 encode
+single_constructor = record { same = refl; text = IsUtf8-from_is_utf8 (codes "'constructor'") refl }
+
+pub is_constructor : (raw : List ℕ) → IsUtf8 raw → bytes_eq raw (codes "constructor") ≡ is_key (codes "constructor") (leaf IdentifierName (chars raw))
+is_constructor raw u = is_word (codes "constructor") word_constructor raw u ∙ same_flip (chars raw) (codes "constructor")
+
+pub is_constructor_string : (raw : List ℕ) → IsUtf8 raw → (bytes_eq raw (codes "\"constructor\"") || bytes_eq raw (codes "'constructor'")) ≡ is_key (codes "constructor") (leaf StringLiteral (chars raw))
+is_constructor_string raw u =
+    let a : bytes_eq raw (codes "\"constructor\"") ≡ same (codes "\"constructor\"") (chars raw) = is_word (codes "\"constructor\"") double_constructor raw u ∙ same_flip (chars raw) (codes "\"constructor\"") in
+    let b : bytes_eq raw (codes "'constructor'") ≡ same (codes "'constructor'") (chars raw) = is_word (codes "'constructor'") single_constructor raw u ∙ same_flip (chars raw) (codes "'constructor'") in
+    (λ i. a i || b i)
+
+-- the key `prototype`
+word_prototype : Spelled (codes "prototype")
+unfolding chars is_utf8 encode
+word_prototype = record { same = refl; text = IsUtf8-from_is_utf8 (codes "prototype") refl }
+
+double_prototype : Spelled (codes "\"prototype\"")
+unfolding chars is_utf8 encode
+double_prototype = record { same = refl; text = IsUtf8-from_is_utf8 (codes "\"prototype\"") refl }
+
+single_prototype : Spelled (codes "'prototype'")
+unfolding chars is_utf8 encode
+single_prototype = record { same = refl; text = IsUtf8-from_is_utf8 (codes "'prototype'") refl }
+
+pub is_prototype : (raw : List ℕ) → IsUtf8 raw → bytes_eq raw (codes "prototype") ≡ is_key (codes "prototype") (leaf IdentifierName (chars raw))
+is_prototype raw u = is_word (codes "prototype") word_prototype raw u ∙ same_flip (chars raw) (codes "prototype")
+
+pub is_prototype_string : (raw : List ℕ) → IsUtf8 raw → (bytes_eq raw (codes "\"prototype\"") || bytes_eq raw (codes "'prototype'")) ≡ is_key (codes "prototype") (leaf StringLiteral (chars raw))
+is_prototype_string raw u =
+    let a : bytes_eq raw (codes "\"prototype\"") ≡ same (codes "\"prototype\"") (chars raw) = is_word (codes "\"prototype\"") double_prototype raw u ∙ same_flip (chars raw) (codes "\"prototype\"") in
+    let b : bytes_eq raw (codes "'prototype'") ≡ same (codes "'prototype'") (chars raw) = is_word (codes "'prototype'") single_prototype raw u ∙ same_flip (chars raw) (codes "'prototype'") in
+    (λ i. a i || b i)
+
 -- each word of the grammar
 reserved : (w : Word) → Spelled (word_text w)
 unfolding chars is_utf8 encode
@@ -142,6 +193,7 @@ reserved word.Async = record { same = refl; text = IsUtf8-from_is_utf8 (codes "a
 reserved word.Break = record { same = refl; text = IsUtf8-from_is_utf8 (codes "break") refl }
 reserved word.Case = record { same = refl; text = IsUtf8-from_is_utf8 (codes "case") refl }
 reserved word.Catch = record { same = refl; text = IsUtf8-from_is_utf8 (codes "catch") refl }
+reserved word.Class = record { same = refl; text = IsUtf8-from_is_utf8 (codes "class") refl }
 reserved word.Const = record { same = refl; text = IsUtf8-from_is_utf8 (codes "const") refl }
 reserved word.Continue = record { same = refl; text = IsUtf8-from_is_utf8 (codes "continue") refl }
 reserved word.Debugger = record { same = refl; text = IsUtf8-from_is_utf8 (codes "debugger") refl }
@@ -149,10 +201,12 @@ reserved word.Default = record { same = refl; text = IsUtf8-from_is_utf8 (codes 
 reserved word.Do = record { same = refl; text = IsUtf8-from_is_utf8 (codes "do") refl }
 reserved word.Else = record { same = refl; text = IsUtf8-from_is_utf8 (codes "else") refl }
 reserved word.Export = record { same = refl; text = IsUtf8-from_is_utf8 (codes "export") refl }
+reserved word.Extends = record { same = refl; text = IsUtf8-from_is_utf8 (codes "extends") refl }
 reserved word.Finally = record { same = refl; text = IsUtf8-from_is_utf8 (codes "finally") refl }
 reserved word.For = record { same = refl; text = IsUtf8-from_is_utf8 (codes "for") refl }
 reserved word.From = record { same = refl; text = IsUtf8-from_is_utf8 (codes "from") refl }
 reserved word.Function = record { same = refl; text = IsUtf8-from_is_utf8 (codes "function") refl }
+reserved word.Get = record { same = refl; text = IsUtf8-from_is_utf8 (codes "get") refl }
 reserved word.If = record { same = refl; text = IsUtf8-from_is_utf8 (codes "if") refl }
 reserved word.Import = record { same = refl; text = IsUtf8-from_is_utf8 (codes "import") refl }
 reserved word.In = record { same = refl; text = IsUtf8-from_is_utf8 (codes "in") refl }
@@ -160,6 +214,9 @@ reserved word.Of = record { same = refl; text = IsUtf8-from_is_utf8 (codes "of")
 reserved word.Let = record { same = refl; text = IsUtf8-from_is_utf8 (codes "let") refl }
 reserved word.Meta = record { same = refl; text = IsUtf8-from_is_utf8 (codes "meta") refl }
 reserved word.Return = record { same = refl; text = IsUtf8-from_is_utf8 (codes "return") refl }
+reserved word.Set = record { same = refl; text = IsUtf8-from_is_utf8 (codes "set") refl }
+reserved word.Static = record { same = refl; text = IsUtf8-from_is_utf8 (codes "static") refl }
+reserved word.Super = record { same = refl; text = IsUtf8-from_is_utf8 (codes "super") refl }
 reserved word.Switch = record { same = refl; text = IsUtf8-from_is_utf8 (codes "switch") refl }
 reserved word.Target = record { same = refl; text = IsUtf8-from_is_utf8 (codes "target") refl }
 reserved word.Throw = record { same = refl; text = IsUtf8-from_is_utf8 (codes "throw") refl }

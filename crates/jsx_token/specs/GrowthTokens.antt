@@ -87,7 +87,7 @@ growth_by k t = with_operator (binary_by k) (assign_by k)
 -- ---- with which one begins
 
 abbrev pub opening_word : Text → Option Opening
-opening_word t = cond (same t (codes "void")) (Some (opening.Unary unary.Void)) (cond (same t (codes "typeof")) (Some (opening.Unary unary.TypeOf)) (cond (same t (codes "import")) (Some opening.Import) (cond (same t (codes "delete")) (Some (opening.Unary unary.Delete)) (cond (same t (codes "new")) (Some opening.New) (cond (same t (codes "function")) (Some opening.Function) None)))))
+opening_word t = cond (same t (codes "void")) (Some (opening.Unary unary.Void)) (cond (same t (codes "typeof")) (Some (opening.Unary unary.TypeOf)) (cond (same t (codes "import")) (Some opening.Import) (cond (same t (codes "delete")) (Some (opening.Unary unary.Delete)) (cond (same t (codes "new")) (Some opening.New) (cond (same t (codes "function")) (Some opening.Function) (cond (same t (codes "class")) (Some opening.Class) (cond (same t (codes "super")) (Some opening.Super) None)))))))
 
 abbrev pub opening_by : TokenKind → Text → Option Opening
 opening_by token.Plus t = Some (opening.Unary unary.Positive)

@@ -2,7 +2,7 @@
 use Rattle.std.specs.Prelude.{◌≡◌, ℕ, List, [], ◌∷◌, Bool, true, false, not, nat_le, nat_eq, IsTrue, ◌&&◌, ◌||◌}
 use Rattle.jsx_base.specs.Token.{Operator, NoToken, is_kind, same, kind_number}
 use Rattle.jsx_tree.specs.Signs.{AfterExpr, Sign, Semicolon, Tok, SameLine}
-use Rattle.jsx_tree.specs.Kinds.{BinaryOp, Nullish, Exponentiate, ExpressionKind, Seq, Assign, OpAssign, Arrow, ArrowBlock, BareArrow, BareArrowBlock, Cond, Binary, Unary, PrefixUpdate, PostfixUpdate, Call, Member, Index, Chain, New, NewWithoutArguments, ImportCall, Array, Object, Parenthesized, FunctionExpr, Kind, function, expression}
+use Rattle.jsx_tree.specs.Kinds.{BinaryOp, Nullish, Exponentiate, ExpressionKind, Seq, Assign, OpAssign, Arrow, ArrowBlock, BareArrow, BareArrowBlock, Cond, Binary, Unary, PrefixUpdate, PostfixUpdate, Call, Member, Index, Chain, New, NewWithoutArguments, ImportCall, Array, Object, Parenthesized, SuperCall, FunctionExpr, ClassExpr, Kind, function, expression}
 use Rattle.jsx_tree.specs.Nonterminals.{Nonterminal, Expr, NewCallee, ChainLink, level_of}
 use Rattle.jsx_tree.specs.Form.{calls}
 use Rattle.jsx_tree.specs.Grammar.{OneOrMore, Fixed, Many, key, pun}
@@ -161,6 +161,8 @@ opening_kind opening.Paren = expression Parenthesized
 opening_kind opening.Array = expression Array
 opening_kind opening.Object = expression Object
 opening_kind opening.Function = function FunctionExpr
+opening_kind opening.Class = function ClassExpr
+opening_kind opening.Super = expression SuperCall
 opening_kind (opening.Unary o) = expression (Unary (unary_of o))
 opening_kind (opening.Update o) = expression (PrefixUpdate (step_of o))
 
@@ -170,7 +172,7 @@ opening_sign k = lead (row_so_far k)
 
 -- these signs
 unfoldable pub opening_signs : List Sign
-opening_signs = key "function" ∷ key "new" ∷ key "import" ∷ key "delete" ∷ key "void" ∷ key "typeof" ∷ pun "+" ∷ pun "-" ∷ pun "~" ∷ pun "!" ∷ pun "++" ∷ pun "--" ∷ pun "(" ∷ pun "[" ∷ pun "{" ∷ []
+opening_signs = key "class" ∷ key "super" ∷ key "function" ∷ key "new" ∷ key "import" ∷ key "delete" ∷ key "void" ∷ key "typeof" ∷ pun "+" ∷ pun "-" ∷ pun "~" ∷ pun "!" ∷ pun "++" ∷ pun "--" ∷ pun "(" ∷ pun "[" ∷ pun "{" ∷ []
 
 -- none of them stands there
 pub record NoOpening (x : Place) : Type 0 where

@@ -3,7 +3,7 @@ use Rattle.std.specs.Prelude.{◌≡◌, ℕ, List, [], ◌∷◌, Bool, true, f
 use Rattle.std.specs.Str.{bytes_eq}
 use Rattle.jsx_base.specs.Token.{Text, same}
 use Rattle.jsx_tree.specs.Signs.{Sign}
-use Rattle.jsx_tree.specs.Kinds.{Block, Var, Empty, If, Do, While, For, ForIn, ForOf, Switch, Continue, Break, Return, Throw, Debugger, FunctionDecl, Kind, statement, Try}
+use Rattle.jsx_tree.specs.Kinds.{Block, Var, Empty, If, Do, While, For, ForIn, ForOf, Switch, Continue, Break, Return, Throw, Debugger, FunctionDecl, ClassDecl, Kind, statement, Try}
 use Rattle.jsx_tree.specs.View.{word_of}
 use Rattle.jsx_tree.specs.Reading.{Place, Lost, forth}
 use Rattle.jsx_tree.specs.declared.text.DeclareWord as code
@@ -35,6 +35,7 @@ heading_kind heading.Throw = statement Throw
 heading_kind heading.Try = statement Try
 heading_kind heading.Debugger = statement Debugger
 heading_kind heading.Function = statement FunctionDecl
+heading_kind heading.Class = statement ClassDecl
 
 -- what it begins: `for` begins three kinds
 pub data Begins : Heading → Kind → Type 0 where
@@ -51,6 +52,7 @@ abbrev pub is_lexical : Heading → Bool
 is_lexical (heading.Var declare_word.Let) = true
 is_lexical (heading.Var declare_word.Const) = true
 is_lexical heading.Function = true
+is_lexical heading.Class = true
 is_lexical h = false
 
 abbrev pub declaring : code.DeclareWord → Word
@@ -75,6 +77,7 @@ fixed_of heading.Throw = fixed.Word word.Throw
 fixed_of heading.Try = fixed.Word word.Try
 fixed_of heading.Debugger = fixed.Word word.Debugger
 fixed_of heading.Function = fixed.Word word.Function
+fixed_of heading.Class = fixed.Word word.Class
 
 abbrev pub is_heading : Token → Heading → Bool
 is_heading t h = is_it t (fixed_kind (fixed_of h)) (fixed_text (fixed_of h))
@@ -84,7 +87,7 @@ pub record NoneIsIt (t : Token) : Type 0 where
 
 -- those that are words, and the first of some that a text is, and that bytes are
 abbrev pub words : List Heading
-words = heading.Var declare_word.Var ∷ heading.Var declare_word.Let ∷ heading.Var declare_word.Const ∷ heading.If ∷ heading.Do ∷ heading.While ∷ heading.For ∷ heading.Switch ∷ heading.Continue ∷ heading.Break ∷ heading.Throw ∷ heading.Try ∷ heading.Debugger ∷ heading.Return ∷ heading.Function ∷ []
+words = heading.Var declare_word.Var ∷ heading.Var declare_word.Let ∷ heading.Var declare_word.Const ∷ heading.If ∷ heading.Do ∷ heading.While ∷ heading.For ∷ heading.Switch ∷ heading.Continue ∷ heading.Break ∷ heading.Throw ∷ heading.Try ∷ heading.Debugger ∷ heading.Return ∷ heading.Function ∷ heading.Class ∷ []
 
 abbrev pub first_word : List Heading → Text → Option Heading
 first_word [] t = None

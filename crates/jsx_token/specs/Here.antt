@@ -1,7 +1,7 @@
 -- Where the lexer stands, and the tokens that the parser asks it for.
 use Rattle.std.specs.Prelude.{ℕ, codes, length}
 use Rattle.jsx_base.specs.Token.{Text, Operand, Operator, Piece as PieceMode, Tag, TokenKind, IdentifierName, Punctuator, NumericLiteral, BigIntLiteral, StringLiteral, RegExpLiteral, NoSubstitution, TemplateHead, TemplateMiddle, TemplateTail, JsxName}
-use Rattle.jsx_tree.specs.Signs.{Sign, Tok, Ending, AfterExpr, AfterWord, AfterList, AfterBinding, AfterDo}
+use Rattle.jsx_tree.specs.Signs.{Sign, Tok, Ending, AfterExpr, AfterWord, AfterList, AfterBinding, AfterKey, AfterDo}
 use Rattle.jsx_tree.specs.Spelling.{mode_of}
 use Rattle.jsx_tree.specs.Reading.{Place, At}
 use Rattle.jsx_token.specs.WordTexts.{word_text}
@@ -29,6 +29,7 @@ ending_of ending.Expr = AfterExpr
 ending_of ending.Binding = AfterBinding
 ending_of ending.Word = AfterWord
 ending_of ending.List = AfterList
+ending_of ending.Key = AfterKey
 ending_of ending.Do = AfterDo
 
 -- how many characters are left

@@ -4,9 +4,9 @@ use Rattle.jsx_base.specs.Token.{Text, same}
 use Rattle.jsx_tree.specs.Signs.{Ending, AfterExpr, AfterBinding}
 use Rattle.jsx_tree.specs.Reading.{Place, At, continues, is_do}
 
--- before a token that is neither a semicolon nor the end, with a line end before it or not: what is read there doesn't look at the token before
-abbrev pub lacks : Ending → Text → Bool → Bool
-lacks e raw b = is_do e || (same raw (codes "}") || (b && not (continues e [] raw)))
+-- between the token q and one that is neither a semicolon nor the end, with a line end between them or not
+abbrev pub lacks : Ending → Text → Text → Bool → Bool
+lacks e q raw b = is_do e || (same raw (codes "}") || (b && not (continues e q raw)))
 
 -- behind what stands in a list with commas: a comma goes on with it
 abbrev pub in_list : Place → Bool

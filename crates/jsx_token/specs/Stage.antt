@@ -3,8 +3,8 @@ use Rattle.std.specs.Prelude.{List, [], ◌∷◌, codes, Bool, true, false, IsT
 use Rattle.std.specs.Char.{is_ascii_alphabetic}
 use Rattle.jsx_base.specs.Token.{Text, TokenKind, IdentifierName, NumericLiteral, BigIntLiteral, StringLiteral, RegExpLiteral, NoSubstitution, TemplateHead, TemplateMiddle, TemplateTail, JsxName, Elision, same, first_is}
 use Rattle.jsx_tree.specs.declared.text.Goal.TheVariants as goals
-use Rattle.jsx_tree.specs.Kinds.{Module, Directive, FunctionBody, ImportBare, Import, ImportAll, ImportList, ImportBoth, Specifier, SpecifierAs, ExportNames, ExportFrom, ExportAll, ExportAllAs, ExportDecl, ExportDefaultFn, ExportDefaultExpr, FunctionDecl, Return, Binds, FunctionExpr, WithInit, RestPat, ArrayPat, ObjectPat, PropertyPat, ShorthandPat, ShorthandInit, RestProperty, Block, Var, Declarator, Empty, ExprStmt, If, Do, While, Continue, Break, Throw, Debugger, Assign, OpAssign, Void, TypeOf, Positive, Negative, Complement, Not, Unary, Binary, Cond, Call, Member, Index, Chain, NameLink, IndexLink, CallLink, ImportCall, Parenthesized, Element, Kind, program, statement, expression, jsx, Tree, leaf, node, list, Forest, none, part, Delete, PrefixUpdate, PostfixUpdate, Seq, For, ForDeclaration, Switch, Case, Default, Array, Spread, Try, Catch, Object, Property, Shorthand, ComputedKey, ParenTarget, function, Label, New, NewWithoutArguments, NewTarget, ImportMeta, ForIn, ForOf, ForBinding, PlainTemplate, SubstitutedTemplate, TemplateSpan, Tagged}
-use Rattle.jsx_tree.specs.Nonterminals.{Nonterminal, Expr, MemberObject, NullishLeft, Name, StringOnly, Pat, Slot, PatElement, SimpleTarget, Argument, TagName, WholeProgram, DotObject, assigns, is_value_word, has_dash, ForInit, ArrayItem, Ident, BindingIdent, Param, ImportClause, Key, NewCallee, ForHead, ForOfHead, TemplatePart}
+use Rattle.jsx_tree.specs.Kinds.{Module, Directive, FunctionBody, ImportBare, Import, ImportAll, ImportList, ImportBoth, Specifier, SpecifierAs, ExportNames, ExportFrom, ExportAll, ExportAllAs, ExportDecl, ExportDefaultFn, ExportDefaultExpr, FunctionDecl, Return, Binds, FunctionExpr, WithInit, RestPat, ArrayPat, ObjectPat, PropertyPat, ShorthandPat, ShorthandInit, RestProperty, Block, Var, Declarator, Empty, ExprStmt, If, Do, While, Continue, Break, Throw, Debugger, Assign, OpAssign, Void, TypeOf, Positive, Negative, Complement, Not, Unary, Binary, Cond, Call, Member, Index, Chain, NameLink, IndexLink, CallLink, ImportCall, Parenthesized, Element, Kind, program, statement, expression, jsx, Tree, leaf, node, list, Forest, none, part, Delete, PrefixUpdate, PostfixUpdate, Seq, For, ForDeclaration, Switch, Case, Default, Array, Spread, Try, Catch, Object, Property, Shorthand, ComputedKey, ParenTarget, function, Label, New, NewWithoutArguments, NewTarget, ImportMeta, ForIn, ForOf, ForBinding, PlainTemplate, SubstitutedTemplate, TemplateSpan, Tagged, ExportDefaultClass, ClassDecl, InClass, Static, ClassExpr, Method, Getter, Setter, Field, SuperCall, SuperMember, SuperIndex}
+use Rattle.jsx_tree.specs.Nonterminals.{Nonterminal, Expr, MemberObject, NullishLeft, Name, StringOnly, Pat, Slot, PatElement, SimpleTarget, Argument, TagName, WholeProgram, DotObject, assigns, is_value_word, has_dash, ForInit, ArrayItem, Ident, BindingIdent, Param, ImportClause, Key, NewCallee, ForHead, ForOfHead, TemplatePart, SetterParam}
 use Rattle.jsx_tree.specs.Form.{Position, position, positions}
 use Rattle.jsx_tree.specs.Program.{Reads}
 
@@ -25,6 +25,7 @@ has_kind (program ExportAll) = true
 has_kind (program ExportAllAs) = true
 has_kind (program ExportDecl) = true
 has_kind (program ExportDefaultFn) = true
+has_kind (program ExportDefaultClass) = true
 has_kind (program ExportDefaultExpr) = true
 has_kind (statement Block) = true
 has_kind (statement (Var v)) = true
@@ -51,6 +52,7 @@ has_kind (statement Try) = true
 has_kind (statement Catch) = true
 has_kind (statement Debugger) = true
 has_kind (statement FunctionDecl) = true
+has_kind (statement ClassDecl) = true
 has_kind (expression Seq) = true
 has_kind (expression (Binary o)) = true
 has_kind (expression Assign) = true
@@ -70,7 +72,16 @@ has_kind (expression ImportMeta) = true
 has_kind (expression New) = true
 has_kind (expression NewWithoutArguments) = true
 has_kind (expression NewTarget) = true
+has_kind (expression SuperCall) = true
+has_kind (expression SuperMember) = true
+has_kind (expression SuperIndex) = true
 has_kind (function FunctionExpr) = true
+has_kind (function ClassExpr) = true
+has_kind (function (Method h)) = true
+has_kind (function (Getter h)) = true
+has_kind (function (Setter h)) = true
+has_kind (function (Field InClass)) = true
+has_kind (function (Field Static)) = true
 has_kind (function (WithInit Binds)) = true
 has_kind (function (RestPat Binds)) = true
 has_kind (function (ArrayPat Binds)) = true
@@ -132,6 +143,7 @@ leaf_at Param IdentifierName t = true
 leaf_at (PatElement Binds) IdentifierName t = true
 leaf_at (Slot Binds) IdentifierName t = true
 leaf_at (Slot Binds) Elision t = true
+leaf_at SetterParam IdentifierName t = true
 leaf_at ImportClause IdentifierName t = true
 leaf_at Name IdentifierName t = true
 leaf_at StringOnly StringLiteral t = true

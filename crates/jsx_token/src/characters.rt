@@ -89,6 +89,14 @@ pub fn is_equals(raw: &str) -> bool
     raw == "="
 }
 
+/// Whether the token is `(`.
+#[inline]
+pub fn is_open(raw: &str) -> bool
+    ensures { result ≡ same (chars raw.now) (codes "(") }
+{
+    raw == "("
+}
+
 /// Whether the token is `}`.
 #[inline]
 pub fn is_right_brace(raw: &str) -> bool

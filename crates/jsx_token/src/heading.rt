@@ -1,4 +1,4 @@
-//! What a statement begins with that begins as no expression does (ECMA-262 sections 14 and 15.2).
+//! What a statement begins with that begins as no expression does (ECMA-262 sections 14, 15.2 and 15.7).
 
 ghost use Rattle.std.specs.Prelude.{◌≡◌, IsTrue, MatchOption};
 ghost use Rattle.std.specs.Str.{chars};
@@ -41,11 +41,13 @@ pub enum Heading {
     Debugger,
     /// `function f(a) { b; }`
     Function,
+    /// `class A extends B { c() {} }`
+    Class,
 }
 
 impl Heading {
-    /// Whether it begins a declaration that stands in lists alone, a lexical one or a function: no body of `if`, of a loop
-    /// or of a label.
+    /// Whether it begins a declaration that stands in lists alone, a lexical one, a function or a class: no body of `if`, of
+    /// a loop or of a label.
     pub fn is_lexical(self) -> bool
         ensures { result ≡ is_lexical self }
     {
@@ -53,6 +55,7 @@ impl Heading {
             Heading::Var(DeclareWord::Let) => true,
             Heading::Var(DeclareWord::Const) => true,
             Heading::Function => true,
+            Heading::Class => true,
             Heading::Var(DeclareWord::Var) => false,
             Heading::Empty => false,
             Heading::Block => false,
@@ -98,6 +101,7 @@ fn reserved(raw: &str) -> Option<Heading>
         "debugger" => Some(Heading::Debugger),
         "return" => Some(Heading::Return),
         "function" => Some(Heading::Function),
+        "class" => Some(Heading::Class),
         _ => None,
     }
 }

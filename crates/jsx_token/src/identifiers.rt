@@ -150,3 +150,31 @@ pub fn is_proto_string(raw: &str) -> bool
 {
     raw == "\"__proto__\"" || raw == "'__proto__'"
 }
+
+/// Whether a key that is a name is `constructor` (ECMA-262 section 15.7.1).
+pub fn is_constructor(name: &str) -> bool
+    ensures { result ≡ is_key (codes "constructor") (leaf IdentifierName (chars name.now)) }
+{
+    name == "constructor"
+}
+
+/// Whether a key that is a string, with its quotes, is.
+pub fn is_constructor_string(raw: &str) -> bool
+    ensures { result ≡ is_key (codes "constructor") (leaf StringLiteral (chars raw.now)) }
+{
+    raw == "\"constructor\"" || raw == "'constructor'"
+}
+
+/// Whether a key that is a name is `prototype` (ECMA-262 section 15.7.1).
+pub fn is_prototype(name: &str) -> bool
+    ensures { result ≡ is_key (codes "prototype") (leaf IdentifierName (chars name.now)) }
+{
+    name == "prototype"
+}
+
+/// Whether a key that is a string, with its quotes, is.
+pub fn is_prototype_string(raw: &str) -> bool
+    ensures { result ≡ is_key (codes "prototype") (leaf StringLiteral (chars raw.now)) }
+{
+    raw == "\"prototype\"" || raw == "'prototype'"
+}

@@ -41,6 +41,8 @@ pub enum Ending {
     Word,
     /// A list of exports: `export { a }`.
     List,
+    /// The key of a field: `class A { a }`.
+    Key,
     /// The `)` of a `do`.
     Do,
 }
@@ -414,11 +416,11 @@ impl<'s> Lexer<'s> {
         ensures stays { self.new ≡ self.old }
     {
         let Some(seen) = self.look(Mode::Operator) else {
-            return lacks(self.ending, "", breaks(self.here.rest()));
+            return lacks(self.ending, self.last, "", breaks(self.here.rest()));
         };
         match seen.token.kind {
             TokenKind::End => true,
-            _ => lacks(self.ending, seen.token.raw, seen.token.new_line),
+            _ => lacks(self.ending, self.last, seen.token.raw, seen.token.new_line),
         }
     }
 
@@ -663,7 +665,8 @@ mod tests {
             ("return a", (true, false)),
             ("let a", (true, true)),
             ("var a", (true, false)),
-            ("class A {}", (false, false)),
+            ("class A {}", (true, true)),
+            ("classes()", (false, false)),
             ("export {}", (false, false)),
         ] {
             assert!(rt; heading(text) == *want, "at {text}");
@@ -688,6 +691,9 @@ mod tests {
             ("\n+ a", Ending::Expr, false),
             ("\n+ a", Ending::Word, true),
             ("\n= 1", Ending::Binding, false),
+            ("\na", Ending::Key, true),
+            ("\n= 1", Ending::Key, false),
+            ("\n(a) {}", Ending::Key, false),
             ("\nfrom 'm'", Ending::List, false),
             ("\nfromage", Ending::List, true),
             ("\n, a", Ending::List, true),

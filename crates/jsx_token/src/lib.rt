@@ -15,7 +15,10 @@ mod word;
 
 pub use cooked::is_cooked;
 pub use heading::Heading;
-pub use identifiers::{is_bound, is_plain_tag, is_proto, is_proto_string, is_reserved, value_word};
+pub use identifiers::{
+    is_bound, is_constructor, is_constructor_string, is_plain_tag, is_proto, is_proto_string,
+    is_prototype, is_prototype_string, is_reserved, value_word,
+};
 pub use lexer::{Ending, Fixed, Leaf, Lexer, Piece};
 pub use opening::Opening;
 pub use word::Word;

@@ -1,5 +1,5 @@
 //! What an expression begins with that is neither a name, a literal nor an element (ECMA-262 sections 13.2.4, 13.2.5,
-//! 13.2.9, 13.3.5, 13.3.10, 13.3.12, 13.4, 13.5 and 15.2).
+//! 13.2.9, 13.3.5, 13.3.7, 13.3.10, 13.3.12, 13.4, 13.5, 15.2 and 15.7).
 
 ghost use Rattle.std.specs.Prelude.{◌≡◌};
 ghost use Rattle.std.specs.Str.{chars};
@@ -25,6 +25,10 @@ pub enum Opening {
     Object,
     /// `function f(a) { b; }`
     Function,
+    /// `class A extends B { c() {} }`
+    Class,
+    /// `super(a)`, `super.a` or `super[a]`
+    Super,
     /// `-a`
     Unary(UnaryOp),
     /// `++a`
@@ -52,6 +56,12 @@ fn begun_by(raw: &str) -> Option<Opening>
     }
     if Word::Function.is(raw) {
         return Some(Opening::Function);
+    }
+    if Word::Class.is(raw) {
+        return Some(Opening::Class);
+    }
+    if Word::Super.is(raw) {
+        return Some(Opening::Super);
     }
     None
 }

@@ -411,6 +411,56 @@ fn sides(alloc: Global, text: &str) -> (u8, u8) {
 }
 
 #[test]
+fn reads_classes(rt: HostRuntime) {
+    for (text, want) in &[
+        ("class A {}class B extends A.b {}class C extends D() {}", 3),
+        (
+            "a = class {};b = class C extends class {} {};(class {}).d;",
+            3,
+        ),
+        ("export default class {}", 1),
+        ("export default class extends A {}/a/", 2),
+        ("export class A { constructor() {} }", 1),
+        (
+            "class A extends B { constructor(a = super()) { super(a, ...b).c; } }",
+            1,
+        ),
+        ("class A { m() { super.a = super[b]++; new super.c; } }", 1),
+        (
+            "class A { a = super.b; static c = d in e;'f'\n[g]\n1;h }",
+            1,
+        ),
+        (
+            "class A { get\na() {} set\nb({ c }) {} static\nget d() {} }",
+            1,
+        ),
+        ("class A { get;set = 1;static\n}", 1),
+        (
+            "class A { get() {} set() {} static static() {} static set(a, b) {} }",
+            1,
+        ),
+        (
+            "class A { static constructor() {} ['constructor']() {} }",
+            1,
+        ),
+        (
+            "a = { b() {}, get c() {}, set d(e = 1) {}, get, set: f, get() {} };",
+            1,
+        ),
+        (
+            "a = { b() { super.c; }, constructor() {}, 'constructor'() {} };",
+            1,
+        ),
+        (
+            "a: while (b) { class C { d() { e: while (f) break e; } } }",
+            1,
+        ),
+    ] {
+        assert!(rt; read(rt.alloc(), text) == Ok(*want), "at {text}");
+    }
+}
+
+#[test]
 fn binds_by_levels(rt: HostRuntime) {
     for (text, want) in &[
         ("a + b * c;", (18, 13)),

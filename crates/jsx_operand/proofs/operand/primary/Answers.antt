@@ -65,7 +65,7 @@ returns-in-Some-leaf-4-clause-read c =
 pub returns-clause-read : goal.returns-clause-read
 returns-clause-read c =
     let stays : c.leaf-5.new.self ≡ c.args.lexer.now = c.in_default-leaf-4.ensures.stays ∙ (c.in_default-leaf-3.ensures.stays ∙ (c.in_default-leaf-2.ensures.stays ∙ (c.in_default-leaf.ensures.stays ∙ c.in_default.ensures.stays))) in
-    opened_follows (jsx Element) (listed (jsx Element) refl refl refl) refl refl (kept_whole (jsx Element) (listed (jsx Element) refl refl refl) refl refl refl (subst (λ p. Built so_far (around_of c.args.context.around) (row_so_far (jsx Element)) (jsx Element) (λ ts. ts) (view_expr c.in_ok-element.field-0.value) p (place_of c.element.new.lexer)) (ap place_of stays) c.in_ok-element.ensures.read)) c.in_ok-element.ensures.ended
+    opened_follows (jsx Element) (listed (jsx Element) refl refl refl) refl refl refl (kept_whole (jsx Element) (listed (jsx Element) refl refl refl) refl refl refl (subst (λ p. Built so_far (around_of c.args.context.around) (row_so_far (jsx Element)) (jsx Element) (λ ts. ts) (view_expr c.in_ok-element.field-0.value) p (place_of c.element.new.lexer)) (ap place_of stays) c.in_ok-element.ensures.read)) c.in_ok-element.ensures.ended
 
 pub returns-in_err-element-clause-refused : goal.returns-in_err-element-clause-refused
 returns-in_err-element-clause-refused c =

@@ -15,10 +15,10 @@ pub returns-in_err-expr-clause-refused : goal.returns-in_err-expr-clause-refused
 returns-in_err-expr-clause-refused g c = passed _ c.in_err-expr.ensures.refused c.from_residual.ensures.1 (λ b. no_node (no_value_statement b))
 
 pub returns-in_err-semicolon-clause-refused : goal.returns-in_err-semicolon-clause-refused
-returns-in_err-semicolon-clause-refused g c = passed _ c.in_err-semicolon.ensures.refused c.from_residual-in_err-semicolon.ensures.1 (λ b. no_node (unfinished (record { is = c.requires.plain.on heading.Block }) (record { is = c.requires.plain.on heading.Function }) c.in_ok-expr.ensures.read b))
+returns-in_err-semicolon-clause-refused g c = passed _ c.in_err-semicolon.ensures.refused c.from_residual-in_err-semicolon.ensures.1 (λ b. no_node (unfinished (record { is = c.requires.plain.on heading.Block }) (record { is = c.requires.plain.on heading.Function }) (record { is = c.requires.plain.on heading.Class }) c.in_ok-expr.ensures.read b))
 
 pub returns-clause-read : goal.returns-clause-read
-returns-clause-read g c = statement_built (record { is = c.requires.plain.on heading.Block }) (record { is = c.requires.plain.on heading.Function }) c.in_ok-expr.ensures.read c.in_ok-semicolon.ensures.read c.in_ok-expression_statement.ensures.view
+returns-clause-read g c = statement_built (record { is = c.requires.plain.on heading.Block }) (record { is = c.requires.plain.on heading.Function }) (record { is = c.requires.plain.on heading.Class }) c.in_ok-expr.ensures.read c.in_ok-semicolon.ensures.read c.in_ok-expression_statement.ensures.view
 
 pub returns-clause-placed : goal.returns-clause-placed
 returns-clause-placed g c =

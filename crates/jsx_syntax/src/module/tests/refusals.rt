@@ -139,9 +139,11 @@ fn refuses_expressions(rt: HostRuntime) {
         ("a = {b: c, d: e, f};a = {b: c, d: e f};", 34),
         ("a = {b: c; d};", 8),
         ("a = {...};", 5),
-        ("a = {b() {}};", 5),
-        ("a = {get b() {}};", 5),
-        ("a = {set b(c) {}};", 5),
+        ("a = {b() {};", 10),
+        ("a = {b(), c};", 7),
+        ("a = {get b(c) {}};", 10),
+        ("a = {set b() {}};", 10),
+        ("a = {set b(c, d) {}};", 11),
         ("a = {*b() {}};", 4),
         ("a = {b = 1};", 5),
         ("a = {b += 1};", 5),
@@ -353,8 +355,8 @@ fn refuses_modules(rt: HostRuntime) {
         ("export default a, b;", 15),
         ("export default a b;", 15),
         ("export default const a = 1;", 15),
-        ("export default class {}", 15),
-        ("export default class A {}", 15),
+        ("export default class {", 21),
+        ("export default class A extends {}", 32),
         ("export default function;", 15),
         ("export default function () {}()", 29),
         ("{export {};}", 1),
@@ -431,6 +433,39 @@ fn refuses_patterns(rt: HostRuntime) {
         ("for ([a.b] in c);", 11),
         ("if (a) let [b] = c;", 7),
         ("[...a] = b;", 7),
+    ] {
+        assert!(rt; is_refused(rt.alloc(), text, *place), "at {text}");
+    }
+}
+
+#[test]
+fn refuses_classes(rt: HostRuntime) {
+    for (text, place) in &[
+        ("if (a) class B {}", 7),
+        ("a: class B {}", 3),
+        ("class {}", 0),
+        ("class let {}", 6),
+        ("class A extends a + b {}", 16),
+        ("class A { a b }", 10),
+        ("class A { a, b }", 10),
+        ("class A { get\na }", 14),
+        ("class A { get a(b) {} }", 15),
+        ("class A { set a(...b) {} }", 15),
+        ("class A { set a(b = 1) { 'use strict'; } }", 39),
+        ("class A { constructor() {} 'constructor'() {} }", 46),
+        ("class A { get constructor() {} }", 31),
+        ("class A { constructor = 1 }", 26),
+        ("class A { static prototype() {} }", 32),
+        ("class A { constructor() { super(); } }", 31),
+        ("class A extends B { a() { super(); } }", 31),
+        ("class A extends B { a = super(); }", 29),
+        ("class A extends B { [super()]() {} }", 26),
+        ("class A extends B { constructor() { new super(); } }", 46),
+        ("class A { a() { super; } }", 16),
+        ("super.a;", 5),
+        ("a = { b() { super(); } };", 17),
+        ("a = { b: function () { super.c; } };", 28),
+        ("a: while (b) { class C { d() { break a; } } }", 37),
     ] {
         assert!(rt; is_refused(rt.alloc(), text, *place), "at {text}");
     }

@@ -1,9 +1,10 @@
 use Rattle.std.proofs.Common.{◌≡◌, true, false, arith, refl, sym, ◌∙◌, ap, subst}
 use Rattle.jsx_base.specs.Token.{Operator}
-use Rattle.jsx_tree.specs.Kinds.{Tree}
+use Rattle.jsx_tree.specs.Kinds.{UnaryOp, Complement, Delete, Negative, Not, Positive, TypeOf, Unary, Void, expression, Tree}
 use Rattle.jsx_tree.specs.Nonterminals.{NewCallee}
 use Rattle.jsx_tree.specs.Grammar.{Part}
 use Rattle.jsx_tree.specs.View.{view_expr}
+use Rattle.jsx_tree.specs.ViewOperators.{unary_of}
 use Rattle.jsx_tree.specs.Reading.{Place}
 use Rattle.jsx_tree.specs.StaticRules.{Surroundings}
 use Rattle.jsx_tree.specs.Walk.{one, tail}
@@ -22,8 +23,8 @@ use Rattle.jsx_tree.proofs.Rows.Lists.{ended}
 use Rattle.jsx_operand.proofs.Values.{sign_ended}
 use Rattle.jsx_token.proofs.Levels.{growth_listed, growth_marks, is_ruled}
 use Rattle.jsx_operand.proofs.Climbing.{climb_only, climb_on, climb_barred, climb_unfit, climb_tagged, climbs_to, tagged_unread}
-use Rattle.jsx_tree.proofs.Rows.Placing.{no_node}
-use Rattle.jsx_operand.proofs.Openings.{is_shared, kept_behind, signed_follows, sole_none, sole_opened, unread_opening}
+use Rattle.jsx_tree.proofs.Rows.Placing.{free, no_node}
+use Rattle.jsx_operand.proofs.Openings.{is_shared, kept_behind, no_sole_parts, signed_follows, sole_none, sole_opened, sole_parts, unread_opening}
 use Rattle.jsx_expression.proofs.Shared.{arguments_unread, callee_unread, target_opened, target_outside, target_unread, with_opened, without_opened}
 use Rattle.jsx_token.specs.declared.opening.Opening.{Opening}
 use Rattle.jsx_token.specs.declared.opening.Opening.TheVariants as opening
@@ -43,11 +44,21 @@ none_as : {v : Surroundings} {x : Place} (g h : Opening) → g ≡ h → NoneOpe
 none_as {v} {x} g h e n = subst (λ o. NoneOpened v (opening_sign (opening_kind o)) x) (sym e) n
 
 -- where one kind alone begins so
-sole_as : {v : Surroundings} {x y : Place} {t : Tree} (g h : Opening) → g ≡ h → is_shared (opening_kind h) ≡ false → BuiltNode so_far v (tail (row_so_far (opening_kind h))) (opening_kind h) t x y → OnlyOpened v (opening_sign (opening_kind g)) t x y
-sole_as g h e n b = opened_as g h e (sole_opened (opening_kind h) (opening_listed h (opening_staged h)) (opening_opens h) n b)
+sole_as : {v : Surroundings} {x y : Place} {t : Tree} (g h : Opening) → g ≡ h → is_shared (opening_kind h) ≡ false → free (tail (row_so_far (opening_kind h))) ≡ true → BuiltNode so_far v (tail (row_so_far (opening_kind h))) (opening_kind h) t x y → OnlyOpened v (opening_sign (opening_kind g)) t x y
+sole_as g h e n f b = opened_as g h e (sole_opened (opening_kind h) (opening_listed h (opening_staged h)) (opening_opens h) n f b)
 
-no_sole_as : {v : Surroundings} {x : Place} (g h : Opening) → g ≡ h → is_shared (opening_kind h) ≡ false → NoNode so_far v (tail (row_so_far (opening_kind h))) (opening_kind h) x → NoneOpened v (opening_sign (opening_kind g)) x
-no_sole_as g h e n b = none_as g h e (sole_none (opening_kind h) (opening_listed h (opening_staged h)) (opening_opens h) n b)
+no_sole_as : {v : Surroundings} {x : Place} (g h : Opening) → g ≡ h → is_shared (opening_kind h) ≡ false → free (tail (row_so_far (opening_kind h))) ≡ true → NoNode so_far v (tail (row_so_far (opening_kind h))) (opening_kind h) x → NoneOpened v (opening_sign (opening_kind g)) x
+no_sole_as g h e n f b = none_as g h e (sole_none (opening_kind h) (opening_listed h (opening_staged h)) (opening_opens h) n f b)
+
+-- an operator's row, whichever it is
+unary_free : (o : UnaryOp) → free (tail (row_so_far (expression (Unary o)))) ≡ true
+unary_free Positive = refl
+unary_free Negative = refl
+unary_free Complement = refl
+unary_free Not = refl
+unary_free Delete = refl
+unary_free Void = refl
+unary_free TypeOf = refl
 
 kept_opening : {v : Surroundings} {x y : Place} {t : Tree} (g : Opening) → is_ruled (opening_kind g) ≡ false → Built so_far v (tail (row_so_far (opening_kind g))) (opening_kind g) (λ ts. ts) t x y → BuiltNode so_far v (tail (row_so_far (opening_kind g))) (opening_kind g) t x y
 kept_opening g n b = kept_behind (opening_kind g) (opening_listed g (opening_staged g)) (opening_opens g) n b
@@ -65,34 +76,34 @@ pub open-returns-in_err-new_expression-in-New-clause-refused : goal.open-returns
 open-returns-in_err-new_expression-in-New-clause-refused g t c = passed _ c.in_err-new_expression-in-New.ensures.refused c.from_residual-in_err-new_expression-in-New.ensures.1 (λ n. none_as c.args.opening opening.New c.in-New.is n)
 
 pub open-returns-in_ok-parenthesized-in-Paren-clause-read : goal.open-returns-in_ok-parenthesized-in-Paren-clause-read
-open-returns-in_ok-parenthesized-in-Paren-clause-read g t c = sole_as c.args.opening opening.Paren c.in-Paren.is refl (kept_opening opening.Paren refl c.in_ok-parenthesized-in-Paren.ensures.read)
+open-returns-in_ok-parenthesized-in-Paren-clause-read g t c = sole_as c.args.opening opening.Paren c.in-Paren.is refl refl (kept_opening opening.Paren refl c.in_ok-parenthesized-in-Paren.ensures.read)
 
 pub open-returns-in_err-parenthesized-in-Paren-clause-refused : goal.open-returns-in_err-parenthesized-in-Paren-clause-refused
-open-returns-in_err-parenthesized-in-Paren-clause-refused g t c = passed _ c.in_err-parenthesized-in-Paren.ensures.refused c.from_residual-in_err-parenthesized-in-Paren.ensures.1 (λ n. no_sole_as c.args.opening opening.Paren c.in-Paren.is refl (no_node n))
+open-returns-in_err-parenthesized-in-Paren-clause-refused g t c = passed _ c.in_err-parenthesized-in-Paren.ensures.refused c.from_residual-in_err-parenthesized-in-Paren.ensures.1 (λ n. no_sole_as c.args.opening opening.Paren c.in-Paren.is refl refl (no_node n))
 
 pub open-returns-in_ok-unary-in-Unary-clause-read : goal.open-returns-in_ok-unary-in-Unary-clause-read
-open-returns-in_ok-unary-in-Unary-clause-read g t c = sole_as c.args.opening (opening.Unary c.in-Unary.operator) c.in-Unary.is refl c.in_ok-unary-in-Unary.ensures.read
+open-returns-in_ok-unary-in-Unary-clause-read g t c = sole_as c.args.opening (opening.Unary c.in-Unary.operator) c.in-Unary.is refl (unary_free (unary_of c.in-Unary.operator)) c.in_ok-unary-in-Unary.ensures.read
 
 pub open-returns-in_err-unary-in-Unary-clause-refused : goal.open-returns-in_err-unary-in-Unary-clause-refused
-open-returns-in_err-unary-in-Unary-clause-refused g t c = passed _ c.in_err-unary-in-Unary.ensures.refused c.from_residual-in_err-unary-in-Unary.ensures.1 (λ n. no_sole_as c.args.opening (opening.Unary c.in-Unary.operator) c.in-Unary.is refl n)
+open-returns-in_err-unary-in-Unary-clause-refused g t c = passed _ c.in_err-unary-in-Unary.ensures.refused c.from_residual-in_err-unary-in-Unary.ensures.1 (λ n. no_sole_as c.args.opening (opening.Unary c.in-Unary.operator) c.in-Unary.is refl (unary_free (unary_of c.in-Unary.operator)) n)
 
 pub open-returns-in_ok-object-in-Object-clause-read : goal.open-returns-in_ok-object-in-Object-clause-read
-open-returns-in_ok-object-in-Object-clause-read g t c = sole_as c.args.opening opening.Object c.in-Object.is refl c.in_ok-object-in-Object.ensures.read
+open-returns-in_ok-object-in-Object-clause-read g t c = sole_as c.args.opening opening.Object c.in-Object.is refl refl c.in_ok-object-in-Object.ensures.read
 
 pub open-returns-in_err-object-in-Object-clause-refused : goal.open-returns-in_err-object-in-Object-clause-refused
-open-returns-in_err-object-in-Object-clause-refused g t c = passed _ c.in_err-object-in-Object.ensures.refused c.from_residual-in_err-object-in-Object.ensures.1 (λ n. no_sole_as c.args.opening opening.Object c.in-Object.is refl n)
+open-returns-in_err-object-in-Object-clause-refused g t c = passed _ c.in_err-object-in-Object.ensures.refused c.from_residual-in_err-object-in-Object.ensures.1 (λ n. no_sole_as c.args.opening opening.Object c.in-Object.is refl refl n)
 
 pub open-returns-in_ok-function_expression-in-Function-clause-read : goal.open-returns-in_ok-function_expression-in-Function-clause-read
-open-returns-in_ok-function_expression-in-Function-clause-read g t c = sole_as c.args.opening opening.Function c.in-Function.is refl c.in_ok-function_expression-in-Function.ensures.read
+open-returns-in_ok-function_expression-in-Function-clause-read g t c = sole_as c.args.opening opening.Function c.in-Function.is refl refl c.in_ok-function_expression-in-Function.ensures.read
 
 pub open-returns-in_err-function_expression-in-Function-clause-refused : goal.open-returns-in_err-function_expression-in-Function-clause-refused
-open-returns-in_err-function_expression-in-Function-clause-refused g t c = passed _ c.in_err-function_expression-in-Function.ensures.refused c.from_residual-in_err-function_expression-in-Function.ensures.1 (λ n. no_sole_as c.args.opening opening.Function c.in-Function.is refl n)
+open-returns-in_err-function_expression-in-Function-clause-refused g t c = passed _ c.in_err-function_expression-in-Function.ensures.refused c.from_residual-in_err-function_expression-in-Function.ensures.1 (λ n. no_sole_as c.args.opening opening.Function c.in-Function.is refl refl n)
 
 pub open-returns-in_ok-prefix_update-in-Update-clause-read : goal.open-returns-in_ok-prefix_update-in-Update-clause-read
-open-returns-in_ok-prefix_update-in-Update-clause-read g t c = let g = opening.Update c.in-Update.operator in sole_as c.args.opening g c.in-Update.is refl (kept_opening g refl c.in_ok-prefix_update-in-Update.ensures.read)
+open-returns-in_ok-prefix_update-in-Update-clause-read g t c = let g = opening.Update c.in-Update.operator in sole_as c.args.opening g c.in-Update.is refl refl (kept_opening g refl c.in_ok-prefix_update-in-Update.ensures.read)
 
 pub open-returns-in_err-prefix_update-in-Update-clause-refused : goal.open-returns-in_err-prefix_update-in-Update-clause-refused
-open-returns-in_err-prefix_update-in-Update-clause-refused g t c = passed _ c.in_err-prefix_update-in-Update.ensures.refused c.from_residual-in_err-prefix_update-in-Update.ensures.1 (λ n. no_sole_as c.args.opening (opening.Update c.in-Update.operator) c.in-Update.is refl (no_node n))
+open-returns-in_err-prefix_update-in-Update-clause-refused g t c = passed _ c.in_err-prefix_update-in-Update.ensures.refused c.from_residual-in_err-prefix_update-in-Update.ensures.1 (λ n. no_sole_as c.args.opening (opening.Update c.in-Update.operator) c.in-Update.is refl refl (no_node n))
 
 pub beginning-primary-requires-clause-opening : goal.beginning-primary-requires-clause-opening
 beginning-primary-requires-clause-opening g t c = subst (λ h. NoOpening (place_of h)) (sym (c.is_before_template.ensures.stays ∙ c.in_default.ensures.stays)) c.in_default.ensures.missing
@@ -243,7 +254,20 @@ new_expression-returns-clause-placed g t c = record {
 }
 
 pub open-returns-in_ok-array-in-Array-clause-read : goal.open-returns-in_ok-array-in-Array-clause-read
-open-returns-in_ok-array-in-Array-clause-read g t c = sole_as c.args.opening opening.Array c.in-Array.is refl (kept_opening opening.Array refl c.in_ok-array-in-Array.ensures.read)
+open-returns-in_ok-array-in-Array-clause-read g t c = sole_as c.args.opening opening.Array c.in-Array.is refl refl (kept_opening opening.Array refl c.in_ok-array-in-Array.ensures.read)
 
 pub open-returns-in_err-array-in-Array-clause-refused : goal.open-returns-in_err-array-in-Array-clause-refused
-open-returns-in_err-array-in-Array-clause-refused g t c = passed _ c.in_err-array-in-Array.ensures.refused c.from_residual-in_err-array-in-Array.ensures.1 (λ n. no_sole_as c.args.opening opening.Array c.in-Array.is refl (no_node n))
+open-returns-in_err-array-in-Array-clause-refused g t c = passed _ c.in_err-array-in-Array.ensures.refused c.from_residual-in_err-array-in-Array.ensures.1 (λ n. no_sole_as c.args.opening opening.Array c.in-Array.is refl refl (no_node n))
+
+pub open-returns-in_ok-class_expression-in-Class-clause-read : goal.open-returns-in_ok-class_expression-in-Class-clause-read
+open-returns-in_ok-class_expression-in-Class-clause-read g t c = opened_as c.args.opening opening.Class c.in-Class.is (sole_parts (opening_kind opening.Class) (opening_listed opening.Class (opening_staged opening.Class)) (opening_opens opening.Class) refl c.in_ok-class_expression-in-Class.ensures.read)
+
+pub open-returns-in_err-class_expression-in-Class-clause-refused : goal.open-returns-in_err-class_expression-in-Class-clause-refused
+open-returns-in_err-class_expression-in-Class-clause-refused g t c = passed _ c.in_err-class_expression-in-Class.ensures.refused c.from_residual-in_err-class_expression-in-Class.ensures.1
+    (λ n. none_as c.args.opening opening.Class c.in-Class.is (no_sole_parts (opening_kind opening.Class) (opening_listed opening.Class (opening_staged opening.Class)) (opening_opens opening.Class) refl n))
+
+pub open-returns-in_ok-super_expression-in-Super-clause-read : goal.open-returns-in_ok-super_expression-in-Super-clause-read
+open-returns-in_ok-super_expression-in-Super-clause-read g t c = opened_as c.args.opening opening.Super c.in-Super.is c.in_ok-super_expression-in-Super.ensures.read
+
+pub open-returns-in_err-super_expression-in-Super-clause-refused : goal.open-returns-in_err-super_expression-in-Super-clause-refused
+open-returns-in_err-super_expression-in-Super-clause-refused g t c = passed _ c.in_err-super_expression-in-Super.ensures.refused c.from_residual-in_err-super_expression-in-Super.ensures.1 (λ n. none_as c.args.opening opening.Super c.in-Super.is n)
