@@ -8,10 +8,10 @@ use Rattle.jsx_tree.specs.Signs.{Tok, Unless}
 use Rattle.std.specs.Option.{is_some}
 use Rattle.jsx_tree.specs.Kinds.{ClassExpr, Field, Getter, Kind, Method, Setter, function, Tree, leaf, node, list, Forest, none, part}
 use Rattle.jsx_tree.specs.Nonterminals.{BindingIdent, Expr, is_bound, leaf_in}
-use Rattle.jsx_tree.specs.Grammar.{Context, Fixed, InClassCode, InMembers, Part, key, pun}
+use Rattle.jsx_tree.specs.Grammar.{Context, Fixed, InClassCode, InMembers, Part, Symbol, key, pun}
 use Rattle.jsx_tree.specs.Form.{is_leaf}
 use Rattle.jsx_tree.specs.Reading.{Place, Lost, At, forth}
-use Rattle.jsx_tree.specs.StaticRules.{Surroundings, all_of, enters, is_constructor, is_good_member, is_here, list_rule, members_rule, rule, stands}
+use Rattle.jsx_tree.specs.StaticRules.{Surroundings, all_of, enter, enters, is_constructor, is_good_member, is_here, list_rule, members_rule, rule, stands}
 use Rattle.jsx_tree.specs.Spans.{Told, Tales, tale}
 use Rattle.jsx_tree.specs.Told.{told_list, told_name}
 use Rattle.jsx_tree.specs.View.{optional_name, optional_of, view_expr}
@@ -51,9 +51,12 @@ lost_by (At q e text) h = cc
 lost_found : {x : Place} → x ≡ Lost → IsTrue (is_found x) → ⊥
 lost_found e f = let bad : IsTrue (is_found Lost) = subst (λ p. IsTrue (is_found p)) e f in cc
 
--- all code is strict, so that a class changes nothing
-strictly : (v : Surroundings) → v.strict ≡ true → record v { strict = true } ≡ v
-strictly v s = (λ i. record v { strict = sym s i })
+-- in the same surroundings
+pub only_in : {u v : Surroundings} {p : Symbol} {x y : Place} {g : Given} → u ≡ v → Only so_far u p x g y → Only so_far v p x g y
+only_in {p = p} {x} {y} {g} e o = subst (λ w. Only so_far w p x g y) e o
+
+pub barred_in : {u v : Surroundings} {p : Symbol} {x : Place} → u ≡ v → Barred so_far u p x → Barred so_far v p x
+barred_in {p = p} {x} e b = subst (λ w. Barred so_far w p x) e b
 
 -- ---- what is extended
 
@@ -78,21 +81,21 @@ heritage_absent {v} {x} {x'} e n = subst (λ p. IsHeritage v x (list none) p) (s
     back us w (next {ts = ts} (absent f g) walk) = record { parts = ts; is = refl; walk = subst (λ p. Walk (Whole so_far) (class_in v (part (list none) ts)) (tail class_row) p ts w) (sym f ∙ unless_none x (found_first (Unless [] ∷ []) x (found_at f g))) walk }
     back us w (next (present d q f g) walk) = absurd (lost_found (sym d ∙ n) (start_found of_so_far q.reads))
 
-pub heritage_present : {v : Surroundings} {x a b : Place} {t : Tree} → v.strict ≡ true → Moves (key "extends") x a → Only so_far v (Part (Expr 17)) a (one t) b → IsHeritage v x (list (part t none)) b
-heritage_present {v} {x} {a} {b} {t} s m o = record { to = forward; from = back }
+pub heritage_present : {v : Surroundings} {x a b : Place} {t : Tree} → Moves (key "extends") x a → Only so_far (enter none InClassCode v) (Part (Expr 17)) a (one t) b → IsHeritage v x (list (part t none)) b
+heritage_present {v} {x} {a} {b} {t} m o = record { to = forward; from = back }
   where
-    whole : Whole so_far v false (Expr 17) a t b
+    whole : Whole so_far (enter none InClassCode v) false (Expr 17) a t b
     whole = whole_of o.past
 
     forward : (ts : Forest) (w : Place) → Walk (Whole so_far) (class_in v (part (list (part t none)) ts)) (tail class_row) b ts w → Walk (Whole so_far) (class_in v (part (list (part t none)) ts)) class_row x (part (list (part t none)) ts) w
-    forward ts w walk = next (present (sym m.is) (subst (λ u. Whole so_far u false (Expr 17) a t b) (sym (strictly v s)) whole) refl (end_found of_so_far whole.reads)) walk
+    forward ts w walk = next (present (sym m.is) whole refl (end_found of_so_far whole.reads)) walk
 
     back : (us : Forest) (w : Place) → Walk (Whole so_far) (class_in v us) class_row x us w → HeritageRest v (list (part t none)) b us w
     back us w (next {ts = ts} (absent f g) walk) =
         let here : IsTrue (is_found x) = found_first (Unless [] ∷ []) x (found_at f g) in
         absurd (word_braced (codes "extends") x (found_at (sym m.is) m.found) (subst (λ p. IsTrue (is_found (forth (pun "{") p))) (sym f ∙ unless_none x here) (braced walk)))
     back us w (next {ts = ts} (present {y = y} {z = z} {w = b'} {t = u} d q f g) walk) =
-        let read : Whole so_far v false (Expr 17) a u z = subst (λ p. Whole so_far v false (Expr 17) p u z) (sym (m.is ∙ d)) (subst (λ k. Whole so_far k false (Expr 17) y u z) (strictly v s) q) in
+        let read : Whole so_far (enter none InClassCode v) false (Expr 17) a u z = subst (λ p. Whole so_far (enter none InClassCode v) false (Expr 17) p u z) (sym (m.is ∙ d)) q in
         let e = o.alone (one u) z (tree read) in
         let same : t ≡ u = ap item_of e.0 in
         record {
@@ -101,14 +104,14 @@ heritage_present {v} {x} {a} {b} {t} s m o = record { to = forward; from = back 
           walk = subst (λ p. Walk (Whole so_far) (class_in v (part (list (part t none)) ts)) (tail class_row) p ts w) (sym (e.1 ∙ f)) (subst (λ r. Walk (Whole so_far) (class_in v (part (list (part r none)) ts)) (tail class_row) b' ts w) (sym same) walk);
         }
 
-pub heritage_none : {v : Surroundings} {x a : Place} → v.strict ≡ true → Moves (key "extends") x a → Barred so_far v (Part (Expr 17)) a → NoClass v x
-heritage_none {v} {x} {a} s m b = record { no = λ us w walk k. at walk }
+pub heritage_none : {v : Surroundings} {x a : Place} → Moves (key "extends") x a → Barred so_far (enter none InClassCode v) (Part (Expr 17)) a → NoClass v x
+heritage_none {v} {x} {a} m b = record { no = λ us w walk k. at walk }
   where
     at : {us ts : Forest} {w : Place} → Walk (Whole so_far) (class_in v us) class_row x ts w → ⊥
     at (next (absent f g) walk) =
         let here : IsTrue (is_found x) = found_first (Unless [] ∷ []) x (found_at f g) in
         word_braced (codes "extends") x (found_at (sym m.is) m.found) (subst (λ p. IsTrue (is_found (forth (pun "{") p))) (sym f ∙ unless_none x here) (braced walk))
-    at (next (present {y = y} {z = z} {t = u} d q f g) walk) = b.no (one u) z (tree (subst (λ p. Whole so_far v false (Expr 17) p u z) (sym (m.is ∙ d)) (subst (λ k. Whole so_far k false (Expr 17) y u z) (strictly v s) q)))
+    at (next (present {y = y} {z = z} {t = u} d q f g) walk) = b.no (one u) z (tree (subst (λ p. Whole so_far (enter none InClassCode v) false (Expr 17) p u z) (sym (m.is ∙ d)) q))
 
 -- ---- no expression is a member
 
@@ -250,24 +253,24 @@ extending {x = x} e f = absent_name e (at_word x f) (found_first (key "extends" 
 not_found : (x : Place) → is_found x ≡ false → IsTrue (is_found x) → ⊥
 not_found x e f = clash _ f e
 
-pub named : {v : Surroundings} {x x' y : Place} {t : Tree} → v.strict ≡ true → x' ≡ x → is_found (forth (pun "{") x) ≡ false → is_found (forth (key "extends") x) ≡ false → Only so_far v (Part BindingIdent) x' (one t) y → IsClassName v x (list (part t none)) y
-named {v} {x} {x'} {y} {t} s e n m given = record { to = forward; from = back }
+pub named : {v : Surroundings} {x x' y : Place} {t : Tree} → x' ≡ x → is_found (forth (pun "{") x) ≡ false → is_found (forth (key "extends") x) ≡ false → Only so_far (enter none InClassCode v) (Part BindingIdent) x' (one t) y → IsClassName v x (list (part t none)) y
+named {v} {x} {x'} {y} {t} e n m given = record { to = forward; from = back }
   where
-    o : Only so_far v (Part BindingIdent) x (one t) y
-    o = subst (λ p. Only so_far v (Part BindingIdent) p (one t) y) e given
+    o : Only so_far (enter none InClassCode v) (Part BindingIdent) x (one t) y
+    o = subst (λ p. Only so_far (enter none InClassCode v) (Part BindingIdent) p (one t) y) e given
 
-    whole : Whole so_far v false BindingIdent x t y
+    whole : Whole so_far (enter none InClassCode v) false BindingIdent x t y
     whole = whole_of o.past
 
     forward : (ts : Forest) (w : Place) → Walk (Whole so_far) (class_in v ts) class_row y ts w → Walk (Whole so_far) (named_class_in v (part (list (part t none)) ts)) named_class_row x (part (list (part t none)) ts) w
-    forward ts w walk = next (present refl (subst (λ u. Whole so_far u false BindingIdent x t y) (sym (strictly v s)) whole) refl (end_found of_so_far whole.reads)) (renamed (list none) (list (part t none)) ts refl walk)
+    forward ts w walk = next (present refl whole refl (end_found of_so_far whole.reads)) (renamed (list none) (list (part t none)) ts refl walk)
 
     back : (us : Forest) (w : Place) → Walk (Whole so_far) (named_class_in v us) named_class_row x us w → ClassRest v (list (part t none)) y us w
     back us w (next {ts = ts} (absent f g) walk) =
         let here : IsTrue (is_found x) = found_first (Unless [] ∷ []) x (found_at f g) in
         absurd (unnamed_front {us = ts} (subst (λ p. Walk (Whole so_far) (class_in v ts) class_row p ts w) (sym f ∙ unless_none x here) walk) (not_found (forth (pun "{") x) n) (not_found (forth (key "extends") x) m))
     back us w (next {ts = ts} (present {y = a} {z = z} {t = u} d q f g) walk) =
-        let read : Whole so_far v false BindingIdent x u z = subst (λ p. Whole so_far v false BindingIdent p u z) (sym d) (subst (λ k. Whole so_far k false BindingIdent a u z) (strictly v s) q) in
+        let read : Whole so_far (enter none InClassCode v) false BindingIdent x u z = subst (λ p. Whole so_far (enter none InClassCode v) false BindingIdent p u z) (sym d) q in
         let r = o.alone (one u) z (tree read) in
         record {
           parts = ts;
@@ -275,17 +278,17 @@ named {v} {x} {x'} {y} {t} s e n m given = record { to = forward; from = back }
           walk = subst (λ p. Walk (Whole so_far) (class_in v ts) class_row p ts w) (sym (r.1 ∙ f)) (renamed (list (part u none)) (list none) ts refl walk);
         }
 
-pub not_named : {v : Surroundings} {x x' : Place} → v.strict ≡ true → x' ≡ x → is_found (forth (pun "{") x) ≡ false → is_found (forth (key "extends") x) ≡ false → Barred so_far v (Part BindingIdent) x' → NoNamedClass v x
-not_named {v} {x} s e n m b = record { no = λ us w walk k. at walk }
+pub not_named : {v : Surroundings} {x x' : Place} → x' ≡ x → is_found (forth (pun "{") x) ≡ false → is_found (forth (key "extends") x) ≡ false → Barred so_far (enter none InClassCode v) (Part BindingIdent) x' → NoNamedClass v x
+not_named {v} {x} e n m b = record { no = λ us w walk k. at walk }
   where
-    here : Barred so_far v (Part BindingIdent) x
-    here = subst (Barred so_far v (Part BindingIdent)) e b
+    here : Barred so_far (enter none InClassCode v) (Part BindingIdent) x
+    here = subst (Barred so_far (enter none InClassCode v) (Part BindingIdent)) e b
 
     at : {us : Forest} {w : Place} → Walk (Whole so_far) (named_class_in v us) named_class_row x us w → ⊥
     at {w = w} (next {ts = ts} (absent f g) walk) =
         let there : IsTrue (is_found x) = found_first (Unless [] ∷ []) x (found_at f g) in
         unnamed_front {us = ts} (subst (λ p. Walk (Whole so_far) (class_in v ts) class_row p ts w) (sym f ∙ unless_none x there) walk) (not_found (forth (pun "{") x) n) (not_found (forth (key "extends") x) m)
-    at (next (present {y = a} {z = z} {t = u} d q f g) walk) = here.no (one u) z (tree (subst (λ p. Whole so_far v false BindingIdent p u z) (sym d) (subst (λ k. Whole so_far k false BindingIdent a u z) (strictly v s) q)))
+    at (next (present {y = a} {z = z} {t = u} d q f g) walk) = here.no (one u) z (tree (subst (λ p. Whole so_far (enter none InClassCode v) false BindingIdent p u z) (sym d) q))
 
 -- ---- with what stands behind it
 

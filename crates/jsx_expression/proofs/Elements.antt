@@ -34,8 +34,9 @@ use Rattle.jsx_operand.proofs.OfSoFar.{of_so_far}
 use Rattle.jsx_operand.proofs.Inners.{inner_kind, every_inner, of_inner}
 use Rattle.jsx_operand.proofs.Homes.{Literal, IsName, IsNumber, IsLong, IsString, IsPattern, token_kind, Taken, module', headed, inner, evaluation, labelled, sequence, aimed, operand, Value, literal, made, value_kind, value, taken_by, home_of, no_list}
 use Rattle.jsx_operand.proofs.Homes as home
-use Rattle.jsx_operand.proofs.Values.{is_opening, opener, one_opening, literal_opening, opener_of, opened_sign, led_sign, First, name, opened, quoted, piece_of, opener_piece, begun, Seat, at_one, at_argument, move}
-use Rattle.jsx_operand.proofs.Climbing.{plain_kind, signed_built, signed_none}
+use Rattle.jsx_operand.proofs.Values.{is_opening, opener, one_opening, literal_opening, opener_of, opened_sign, led_sign, First, name, opened, quoted, piece_of, opener_piece, bracketed, literal_kind, literal_listed, literal_still, bracket_opener, bracket_sign, begun, Seat, at_one, at_argument, move}
+use Rattle.jsx_operand.proofs.Climbing.{signed_built, signed_none}
+use Rattle.jsx_operand.proofs.PlainKinds.{plain_kind}
 
 -- ---- what stands there
 
@@ -154,16 +155,19 @@ stuck_not k f = let bad : IsTrue (is_found Lost) = subst (λ p. IsTrue (is_found
 pub dots_led : {v : Surroundings} {c : Nonterminal} {x z : Place} {ts : Forest} → Staged v false c x (node (expression Spread) ts) z → IsTrue (is_found (forth (pun "...") x))
 dots_led r = led_sign (row_so_far (expression Spread)) refl (of_so_far.from_node (expression Spread) r).walk
 
-abbrev begins_none : Sign → Kind → Bool
+abbrev pub begins_none : Sign → Kind → Bool
 begins_none s k = grows_on k || not (same_sign (opening_sign k) s)
 
 -- where the sign stands no expression does, if none begins with it
-no_value_at : {v : Surroundings} {x z : Place} {u : Tree} (s : Sign) → is_opening s ≡ true → every (begins_none s) kinds ≡ true → IsTrue (is_found (forth s x)) → Staged v false (Expr 1) x u z → ⊥
+pub no_value_at : {v : Surroundings} {x z : Place} {u : Tree} (s : Sign) → is_opening s ≡ true → every (begins_none s) kinds ≡ true → IsTrue (is_found (forth s x)) → Staged v false (Expr 1) x u z → ⊥
 no_value_at {v} {x} {u = u} s o e f r = at (begun refl u r).first
   where
     at : {g : Tree} {p : Place} → First v x g p → ⊥
     at (name l {t} h w g i) = literal_opening l t s x (opener s o) h (found_at g i) f
     at (quoted d q r) = opener_piece x (opener s o) f (piece_of q r)
+    at (bracketed d b r) =
+        clash _ (one_opening (opening_sign (literal_kind b)) s x (bracket_opener b) (opener s o) (bracket_sign b r) f)
+        (is_not _ (or_cases (grows_on (literal_kind b)) _ (of_each (begins_none s) e (literal_kind b) (literal_listed b)) (λ h. absurd (clash _ h (literal_still b))) (λ n. n)))
     at (opened d {k} m g q) =
         clash _ (one_opening (opening_sign k) s x (opener_of k m g) (opener s o) (opened_sign k m g q) f)
         (is_not _ (or_cases (grows_on k) _ (of_each (begins_none s) e k m) (λ h. absurd (clash _ h g)) (λ n. n)))

@@ -14,7 +14,7 @@ use Rattle.jsx_tree.specs.Told.{tales, told_expr}
 use Rattle.jsx_tree.specs.declared.tree.Expr.{Expr as Code}
 use Rattle.jsx_tree.proofs.Rows.Steps.{both}
 use Rattle.jsx_token.specs.Here.{Here, place_of}
-use Rattle.jsx_token.specs.Growths.{settled}
+use Rattle.jsx_token.specs.Growths.{closed}
 use Rattle.jsx_token.specs.Places.{Takes, end_of, next_of}
 use Rattle.jsx_make.specs.NodeSpans.{At, expr_at}
 use Rattle.jsx_operand.specs.SoFar.{so_far}
@@ -38,14 +38,14 @@ pub record Gathers (v : Surroundings) (first : Code) (y : Here) (es : List (Box 
   pub placed : (w : Here) → IsPlaced (told_expr first) (view_expr first) w y → PlacedFront false TwoOrMore (map (inside told_expr) es) (map (inside view_expr) es) w z
 
 -- no comma behind it
-pub gathered_alone : {v : Surroundings} {first : Code} {y z : Here} → z ≡ y → settled (place_of y) ≡ true → forth (pun ",") (place_of y) ≡ Lost → IsGathered v first y first z
+pub gathered_alone : {v : Surroundings} {first : Code} {y z : Here} → z ≡ y → closed (place_of y) ≡ true → forth (pun ",") (place_of y) ≡ Lost → IsGathered v first y first z
 gathered_alone {v} {first} {y} {z} e s l = record {
   reads = λ x o. subst (λ h. Only so_far v (Part (Expr 0)) x (one (view_expr first)) (place_of h)) (sym e) (whole_only o s l);
   spans = λ lo q. spans_from q refl refl (sym (ap end_of e));
   placed = λ w q p. placed_to e p;
 }
 
-pub gathers_one : {v : Surroundings} {y z : Here} {es : List (Box Code Global)} {lo : BytePos} (first : Box Code Global) → es ≡ first ∷ [] → ((n : ℕ) → Spans (expr_at first.value) n (end_of y) → lo.0 ≡ n) → settled (place_of y) ≡ true → Moves (pun ",") (place_of y) (place_of z) → Takes (pun ",") y z
+pub gathers_one : {v : Surroundings} {y z : Here} {es : List (Box Code Global)} {lo : BytePos} (first : Box Code Global) → es ≡ first ∷ [] → ((n : ℕ) → Spans (expr_at first.value) n (end_of y) → lo.0 ≡ n) → closed (place_of y) ≡ true → Moves (pun ",") (place_of y) (place_of z) → Takes (pun ",") y z
     → Gathers v first.value y es lo z
 gathers_one {v} {y} {z} first e f s m comma = record {
   reads = λ x o. subst (λ xs. Listing v x (forest (map (inside view_expr) xs)) (place_of z)) (sym e) (listing_one o s m);
@@ -55,7 +55,7 @@ gathers_one {v} {y} {z} first e f s m comma = record {
   placed = λ w p. front_more plain_two front_none p comma.same comma.leads (ap (map (inside told_expr)) e) (ap (map (inside view_expr)) e);
 }
 
-pub gathers_more : {v : Surroundings} {first : Code} {y z u w : Here} {es fs : List (Box Code Global)} {lo : BytePos} (next : Box Code Global) → Gathers v first y es lo z → fs ≡ es ++ next ∷ [] → Only so_far v (Part (Expr 1)) (place_of z) (one (view_expr next.value)) (place_of u) → settled (place_of u) ≡ true
+pub gathers_more : {v : Surroundings} {first : Code} {y z u w : Here} {es fs : List (Box Code Global)} {lo : BytePos} (next : Box Code Global) → Gathers v first y es lo z → fs ≡ es ++ next ∷ [] → Only so_far v (Part (Expr 1)) (place_of z) (one (view_expr next.value)) (place_of u) → closed (place_of u) ≡ true
     → IsPlaced (told_expr next.value) (view_expr next.value) z u → Moves (pun ",") (place_of u) (place_of w) → Takes (pun ",") u w → Gathers v first y fs lo w
 gathers_more {es = es} {fs} next g e o s p m comma =
     let views = map_pushed (inside view_expr) es fs next (view_expr next.value) e refl in
@@ -67,7 +67,7 @@ gathers_more {es = es} {fs} next g e o s p m comma =
       placed = λ x q. front_more plain_two (g.placed x q) p comma.same comma.leads (map_pushed (inside told_expr) es fs next (told_expr next.value) e refl) views;
     }
 
-pub gathered_all : {v : Surroundings} {first whole : Code} {y z u w : Here} {es fs : List (Box Code Global)} {lo : BytePos} {at : At} (next : Box Code Global) → Gathers v first y es lo z → fs ≡ es ++ next ∷ [] → Only so_far v (Part (Expr 1)) (place_of z) (one (view_expr next.value)) (place_of u) → settled (place_of u) ≡ true
+pub gathered_all : {v : Surroundings} {first whole : Code} {y z u w : Here} {es fs : List (Box Code Global)} {lo : BytePos} {at : At} (next : Box Code Global) → Gathers v first y es lo z → fs ≡ es ++ next ∷ [] → Only so_far v (Part (Expr 1)) (place_of z) (one (view_expr next.value)) (place_of u) → closed (place_of u) ≡ true
     → IsPlaced (told_expr next.value) (view_expr next.value) z u → forth (pun ",") (place_of u) ≡ Lost → w ≡ u → view_expr whole ≡ node (expression Seq) (part (list (forest (map (inside view_expr) fs))) none)
     → told_expr whole ≡ tells (spans at ∷ []) (tale (tells [] (tales (map (inside told_expr) fs))) no_tales) → expr_at whole ≡ at → Spans at lo.0 (end_of w) → IsGathered v first y whole w
 gathered_all {v} {first} {whole} {y} {z} {u} {w} {es} {fs} {lo} {at} next g e o s p l same view told span q =

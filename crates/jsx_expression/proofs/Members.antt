@@ -1,31 +1,27 @@
--- What stands in an object, up to its `}`: as a loop of the parser reads it (ECMA-262 section 13.2.5). A name alone and the key of a property or a method may be read from one place, and so may `get` and `set` as words and as keys; so it is what stands behind that tells.
+-- What stands in an object as a literal has it, member by member (ECMA-262 section 13.2.5). A name alone and the key of a property or a method may be read from one place, and so may `get` and `set` as words and as keys; so it is what stands behind that tells.
 use Rattle.std.proofs.Common.{◌≡◌, Bool, List, [], ◌∷◌, true, false, not, refl, sym, ◌∙◌, ap, subst}
 use Rattle.std.specs.Prelude.{IsTrue, codes, ◌||◌}
 use Rattle.jsx_base.specs.Token.{Text, Operator, Punctuator, IdentifierName, among, same}
-use Rattle.jsx_tree.specs.Signs.{Sign, Tok, TrailingComma}
+use Rattle.jsx_tree.specs.Signs.{Sign, Tok}
 use Rattle.jsx_tree.specs.Kinds.{Getter, InClass, InObject, Kind, Method, Property, Setter, Shorthand, Spread, Static, expression, function, Tree, leaf, node, list, Forest, none, part}
 use Rattle.jsx_tree.specs.Nonterminals.{Expr, Ident, Key, ObjectMember, is_ident, leaf_in, reserved}
-use Rattle.jsx_tree.specs.Grammar.{Commas, Context, Fixed, Many, Part, pun}
+use Rattle.jsx_tree.specs.Grammar.{Context, Fixed, Part, pun}
 use Rattle.jsx_tree.specs.Form.{admits, is_leaf}
 use Rattle.jsx_tree.specs.Reading.{Place, Lost, At, forth}
 use Rattle.jsx_tree.specs.StaticRules.{Surroundings}
-use Rattle.jsx_tree.specs.Walk.{is_found, nothing, one, Piece, piece, Items, nil, last, more, Past, sign, tree, many, Walk, done, next, around, steady, tail}
+use Rattle.jsx_tree.specs.Walk.{is_found, one, piece, sign, tree, Walk, done, next, around, steady, tail}
 use Rattle.jsx_tree.specs.Language.{Whole}
-use Rattle.jsx_tree.specs.Answers.{Moves, Stuck, Missed, Only, Barred, OnlyRow, NoRow, Built}
+use Rattle.jsx_tree.specs.Answers.{Moves, Stuck, Only, Barred, NoRow, Built}
 use Rattle.jsx_tree.proofs.Tokens.{and_left, and_both}
 use Rattle.jsx_tree.proofs.Apart.{clash, never_both}
-use Rattle.jsx_tree.proofs.Rows.Bridge.{found_first, found_at}
-use Rattle.jsx_tree.proofs.Rows.Stopping.{is_not, never_stops, or_cases, token_stops}
-use Rattle.jsx_tree.proofs.Rows.Guarded.{whole_walk, whole_items_found, loosen, to_grammar}
+use Rattle.jsx_tree.proofs.Rows.Bridge.{found_at}
+use Rattle.jsx_tree.proofs.Rows.Stopping.{is_not, never_stops, or_cases}
+use Rattle.jsx_tree.proofs.Rows.Guarded.{whole_walk, loosen, to_grammar}
 use Rattle.jsx_tree.proofs.Rows.Bodies.{plain as plain_row}
-use Rattle.jsx_tree.proofs.Rows.Laws.{end_found}
-use Rattle.jsx_tree.proofs.Rows.Lists.{closed, ended_sign}
 use Rattle.jsx_tree.proofs.Rows.Placing.{free_around, moved}
-use Rattle.jsx_tree.proofs.Rows.Steps.{bar, both}
-use Rattle.jsx_tree.proofs.Rows.Turns.{From, Turn, turn_only, turn_none, turn_as, turn_both, cons, early, item_of, comma_trails, nothing_trails, prepend, prepend_cons}
+use Rattle.jsx_tree.proofs.Rows.Turns.{item_of}
 use Rattle.jsx_operand.specs.SoFar.{Staged, so_far}
-use Rattle.jsx_operand.specs.Members.{Closed, OnlyMember, NoMember, by_brace, by_comma, is_word}
-use Rattle.jsx_token.specs.Here.{Here, place_of}
+use Rattle.jsx_operand.specs.Members.{Closed, OnlyMember, NoMember, by_brace, by_comma}
 use Rattle.jsx_token.specs.Marks.{ends_so_far, row_so_far}
 use Rattle.jsx_operand.proofs.OfSoFar.{of_so_far}
 use Rattle.jsx_tree.proofs.Rows.Firsts.{kind_home}
@@ -87,7 +83,7 @@ at_member (list ts) r = absurd (no_list r)
 
 -- ---- a property or a method, along its row
 
-member_ends : (y : Place) → ends_so_far ObjectMember y ≡ ends_so_far (Expr 1) y
+pub member_ends : (y : Place) → ends_so_far ObjectMember y ≡ ends_so_far (Expr 1) y
 member_ends Lost = refl
 member_ends (At q e text) = refl
 
@@ -116,12 +112,12 @@ no_keyed : {v : Surroundings} {x z : Place} {us ts : Forest} (k : Kind) → Barr
 no_keyed k b (next q w) = b.no _ _ q
 
 -- behind the key neither a comma nor the brace stands
-shut_not : {x : Place} (d : Text) → same (codes ",") d ≡ false → same (codes "}") d ≡ false → Closed x → IsTrue (is_found (forth (Tok Operator Punctuator d) x)) → ⊥
+pub shut_not : {x : Place} (d : Text) → same (codes ",") d ≡ false → same (codes "}") d ≡ false → Closed x → IsTrue (is_found (forth (Tok Operator Punctuator d) x)) → ⊥
 shut_not {x} d n m (by_comma f) g = never_both Punctuator Punctuator (codes ",") d x n f g
 shut_not {x} d n m (by_brace f) g = never_both Punctuator Punctuator (codes "}") d x m f g
 
 -- a `:` stands there, or a `(`
-goes_by : {V : List Context → Surroundings} {y z : Place} {ts : Forest} (k : Kind) → keyed_in_object k ≡ true → (IsTrue (is_found (forth (pun ":") y)) → ⊥) → (IsTrue (is_found (forth (pun "(") y)) → ⊥) → Walk (Whole so_far) V (behind_key k) y ts z → ⊥
+pub goes_by : {V : List Context → Surroundings} {y z : Place} {ts : Forest} (k : Kind) → keyed_in_object k ≡ true → (IsTrue (is_found (forth (pun ":") y)) → ⊥) → (IsTrue (is_found (forth (pun "(") y)) → ⊥) → Walk (Whole so_far) V (behind_key k) y ts z → ⊥
 goes_by (expression Property) e c o (next (sign g f) w) = c (found_at g f)
 goes_by (function (Method InObject)) e c o (next (sign g f) w) = o (found_at g f)
 goes_by (function (Method InClass)) e c o w = cc
@@ -162,7 +158,7 @@ name_marked : {v : Surroundings} {x z : Place} {ts : Forest} (d : Text) → Stag
 name_marked {x = x} d r f = let n = name_of r in mark_none IsName n.text d x refl (found_at n.reads.reads.scans n.reads.reads.found) f
 
 -- where another mark stands, no member does
-unmarked : {v : Surroundings} {x z : Place} {u : Tree} (d : Text) → same (codes "[") d ≡ false → same (codes "...") d ≡ false → IsTrue (is_found (forth (Tok Operator Punctuator d) x)) → Whole so_far v false ObjectMember x u z → ⊥
+pub unmarked : {v : Surroundings} {x z : Place} {u : Tree} (d : Text) → same (codes "[") d ≡ false → same (codes "...") d ≡ false → IsTrue (is_found (forth (Tok Operator Punctuator d) x)) → Whole so_far v false ObjectMember x u z → ⊥
 unmarked {v} {x} {z} {u} d n m f w = at (at_member u w.reads) w
   where
     at : {t : Tree} → AtMember t → Whole so_far v false ObjectMember x t z → ⊥
@@ -212,10 +208,6 @@ no_keyed_member {v} {x} {y} {t} b o c n = record { no = λ w p s q. at s (at_mem
         c m.text (tree_is e.0) (and_left (leaf_in Ident IdentifierName m.text) (is_leaf IdentifierName m.text) m.reads.reads.is) (subst Closed (sym e.1) s)
     at s spreads q = stuck_not b.dots (dots_led q.reads)
     at s (worded d) q = unworded (accessor_kind InObject d) (bare_word b d) (worded_walk d q)
-
--- the same of a key that is no name
-pub no_wordless : {v : Surroundings} {x y : Place} {t : Tree} → IsBare x → Only so_far v (Part Key) x (one t) y → is_word t ≡ false → NoneKeyed keyed_in_object v t y → NoMember v x
-no_wordless b o w n = no_keyed_member b o (λ s e i f. let bad : true ≡ false = ap is_word (sym e) ∙ w in cc) n
 
 -- one that is a name is reserved, or stands before a `:` or a `(`; or neither
 pub keyed_word : {y p : Place} {u : Tree} (t : Text) → u ≡ leaf IdentifierName t → y ≡ p → (among t reserved || (is_found (forth (pun ":") p) || is_found (forth (pun "(") p))) ≡ true → (s : Text) → u ≡ leaf IdentifierName s → is_ident s ≡ true → Closed y → ⊥
@@ -366,153 +358,3 @@ no_accessor {v} {x} {y} b i n = record { no = λ w p s q. at s (at_member w q.re
     at s short q = no_word_name b s i q.reads
     at s spreads q = no_word_dots b i.word q.reads
     at {p = p} s (worded c {ts}) q = subst (λ k. Whole so_far v false ObjectMember x (node (accessor_kind InObject k) ts) p → ⊥) (one_accessor b c x (word_there b i) (worded_led (worded_walk c q))) same q
-
--- ---- from a place that is another
-
-pub member_from : {v : Surroundings} {x y : Here} {t : Tree} {z : Place} → x ≡ y → OnlyMember v (place_of x) t z → OnlyMember v (place_of y) t z
-member_from {v} {t = t} {z} e o = subst (λ h. OnlyMember v (place_of h) t z) e o
-
-pub no_member_from : {v : Surroundings} {x y : Here} → x ≡ y → NoMember v (place_of x) → NoMember v (place_of y)
-no_member_from {v} e n = subst (λ h. NoMember v (place_of h)) e n
-
--- ---- the list, and what closes it
-
-abbrev closing : List Piece
-closing = piece [] (Fixed (pun "}")) ∷ []
-
-abbrev inside : List Piece
-inside = piece [] (Many Commas ObjectMember) ∷ closing
-
-closing_found : {v : Surroundings} {x w : Place} {us : Forest} → Walk (Whole so_far) (steady v) closing x us w → IsTrue (is_found (forth (pun "}") x))
-closing_found (next (sign e f) walk) = found_at e f
-
--- behind a member of the list stands a comma, or the brace
-before_comma : {x z : Place} → forth (pun ",") x ≡ z → IsTrue (is_found z) → Closed x
-before_comma e f = by_comma (found_at e f)
-
-before_close : {y p : Place} → forth TrailingComma y ≡ p → IsTrue (is_found (forth (pun "}") p)) → Closed y
-before_close {y} {p} e f = by (is_found (forth (pun ",") y)) refl
-  where
-    by : (b : Bool) → is_found (forth (pun ",") y) ≡ b → Closed y
-    by true h = by_comma h
-    by false h = by_brace (subst (λ q. IsTrue (is_found (forth (pun "}") q))) (sym e ∙ nothing_trails y (record { is = lost_from _ (λ g. clash _ g h) })) f)
-
-whole_before : {v : Surroundings} {x y : Place} {t : Tree} → OnlyMember v x t y → ends_so_far ObjectMember y ≡ true → Whole so_far v false ObjectMember x t y
-whole_before o e = record { reads = o.reads; ends_there = e }
-
-comma_ends : (y : Place) → IsTrue (is_found (forth (pun ",") y)) → ends_so_far ObjectMember y ≡ true
-comma_ends y f = of_so_far.ends_there ObjectMember y (token_stops ObjectMember Punctuator 44 [] y refl f)
-
-close_ends : (y : Place) → IsTrue (is_found (forth (pun "}") y)) → ends_so_far ObjectMember y ≡ true
-close_ends y f = of_so_far.ends_there ObjectMember y (token_stops ObjectMember Punctuator 125 [] y refl f)
-
--- ---- a member and a comma
-
-turn_member : {v : Surroundings} {x y z : Place} {t : Tree} → OnlyMember v x t y → Stuck (pun "}") x → Moves (pun ",") y z → Turn so_far v inside inside x z (cons t)
-turn_member {v} {x} {y} {z} {t} o c m = record { to = forward; from = back }
-  where
-    whole : Whole so_far v false ObjectMember x t y
-    whole = whole_before o (comma_ends y (found_at (sym m.is) m.found))
-
-    ahead : (ts : Forest) (p : Place) → Items (Whole so_far) v Commas ObjectMember z ts p → Items (Whole so_far) v Commas ObjectMember x (part t ts) p
-    ahead none p (nil f) = last whole (comma_trails m) m.found
-    ahead (part u none) p all = more (early ObjectMember t refl o.reads.reads.is) whole (sym m.is) all
-    ahead (part u (part u' us)) p all = more (early ObjectMember t refl o.reads.reads.is) whole (sym m.is) all
-
-    forward : (ts : Forest) (w : Place) → Walk (Whole so_far) (steady v) inside z ts w → Walk (Whole so_far) (steady v) inside x (cons t ts) w
-    forward ts w (next {ts = vs} (many {ts = us} e all) walk) = next (many refl (ahead us _ all)) walk
-
-    inner : (ts : Forest) (p : Place) → Items (Whole so_far) v Commas ObjectMember x ts p → (us : Forest) (w : Place) → Walk (Whole so_far) (steady v) closing p us w → From so_far v inside z (cons t) (part (list ts) us) w
-    inner ts p (nil f) us w walk = absurd (stuck_not c (closing_found walk))
-    inner ts p (last {y = y'} {t = t'} r e f) us w walk =
-        let s = o.alone t' y' (before_close e (closing_found walk)) r in
-        let there : z ≡ p = sym (comma_trails m) ∙ (ap (forth TrailingComma) s.1 ∙ e) in
-        record { parts = part (list none) us; is = λ i. part (list (part (s.0 i) none)) us; walk = next (many refl (nil m.found)) (subst (λ p. Walk (Whole so_far) (steady v) closing p us w) (sym there) walk) }
-    inner ts p (more {y = y'} {z = z'} {t = t'} {u = u} {us = vs} n r e all) us w walk =
-        let s = o.alone t' y' (before_comma e (whole_items_found of_so_far all)) r in
-        let there : z ≡ z' = m.is ∙ (ap (forth (pun ",")) s.1 ∙ e) in
-        record { parts = part (list (part u vs)) us; is = λ i. part (list (part (s.0 i) (part u vs))) us; walk = next (many refl (subst (λ q. Items (Whole so_far) v Commas ObjectMember q (part u vs) p) (sym there) all)) walk }
-
-    back : (us : Forest) (w : Place) → Walk (Whole so_far) (steady v) inside x us w → From so_far v inside z (cons t) us w
-    back us w (next {ts = vs} (many {ts = ts} e all) walk) = inner ts _ all vs w walk
-
--- ---- the last member, with no comma behind it
-
--- whatever is read there is this one and the bracket
-last_from : {v : Surroundings} {x y : Place} {t : Tree} → OnlyMember v x t y → Stuck (pun "}") x → Stuck (pun ",") y → (us : Forest) (w : Place) → Walk (Whole so_far) (steady v) inside x us w → From so_far v closing y (part (list (part t none))) us w
-last_from {v} {x} {y} {t} o c n us w (next {ts = vs} (many {ts = ts} e all) walk) = inner ts _ all vs w walk
-  where
-    inner : (ts : Forest) (p : Place) → Items (Whole so_far) v Commas ObjectMember x ts p → (us : Forest) (w : Place) → Walk (Whole so_far) (steady v) closing p us w → From so_far v closing y (part (list (part t none))) (part (list ts) us) w
-    inner ts p (nil f) us w walk = absurd (stuck_not c (closing_found walk))
-    inner ts p (last {y = y'} {t = t'} r e f) us w walk =
-        let s = o.alone t' y' (before_close e (closing_found walk)) r in
-        let there : y ≡ p = sym (nothing_trails y n) ∙ (ap (forth TrailingComma) s.1 ∙ e) in
-        record { parts = us; is = λ i. part (list (part (s.0 i) none)) us; walk = subst (λ p. Walk (Whole so_far) (steady v) closing p us w) (sym there) walk }
-    inner ts p (more {y = y'} {z = z'} {t = t'} m r e all) us w walk =
-        let s = o.alone t' y' (before_comma e (whole_items_found of_so_far all)) r in
-        absurd (stuck_not n (subst (λ q. IsTrue (is_found (forth (pun ",") q))) (sym s.1) (found_at e (whole_items_found of_so_far all))))
-
-turn_end : {v : Surroundings} {x y : Place} {t : Tree} → OnlyMember v x t y → Stuck (pun "}") x → Stuck (pun ",") y → IsTrue (is_found (forth (pun "}") y)) → Turn so_far v inside closing x y (part (list (part t none)))
-turn_end {y = y} o c n f = record { to = λ ts w walk. next (many refl (last (whole_before o (close_ends y f)) (nothing_trails y n) (end_found of_so_far o.reads))) walk; from = last_from o c n }
-
--- ---- where nothing more stands
-
-turn_shut : {v : Surroundings} {x z : Place} → Moves (pun "}") x z → Turn so_far v inside closing x x (part (list none))
-turn_shut {v} {x} {z} m = record { to = λ ts w walk. next (many refl (nil (found_first (pun "}" ∷ []) x there))) walk; from = back }
-  where
-    there : IsTrue (is_found (forth (pun "}") x))
-    there = found_at (sym m.is) m.found
-
-    inner : (ts : Forest) (p : Place) → Items (Whole so_far) v Commas ObjectMember x ts p → (us : Forest) (w : Place) → Walk (Whole so_far) (steady v) closing p us w → From so_far v closing x (part (list none)) (part (list ts) us) w
-    inner ts p (nil f) us w walk = record { parts = us; is = refl; walk = walk }
-    inner ts p (last r e f) us w walk = absurd (unmarked (codes "}") refl refl there r)
-    inner ts p (more n r e all) us w walk = absurd (unmarked (codes "}") refl refl there r)
-
-    back : (us : Forest) (w : Place) → Walk (Whole so_far) (steady v) inside x us w → From so_far v closing x (part (list none)) us w
-    back us w (next {ts = vs} (many {ts = ts} e all) walk) = inner ts _ all vs w walk
-
-both_none : (ts : Forest) → both ts none ≡ ts
-both_none none = refl
-both_none (part t ts) = ap (part t) (both_none ts)
-
--- ---- the steps of the loop
-
-pub shut : {v : Surroundings} {x y z : Place} (ts : Forest) → Turn so_far v inside inside x y (prepend ts) → Moves (pun "}") y z → OnlyRow so_far v inside x (part (list ts) none) z
-shut {v} {x} {z = z} ts so m = subst (λ us. OnlyRow so_far v inside x (part (list us) none) z) (both_none ts) (turn_only so (turn_only (turn_shut m) (closed m)))
-
-pub none_more : {v : Surroundings} {x y y' : Place} (ts : Forest) → Turn so_far v inside inside x y (prepend ts) → Missed (pun "}") y y' → NoMember v y' → NoRow so_far v inside x
-none_more {v} {y = y} ts so m n = turn_none so (record { no = back })
-  where
-    here : NoMember v y
-    here = subst (NoMember v) (sym m.same) n
-
-    inner : (ts : Forest) (p : Place) → Items (Whole so_far) v Commas ObjectMember y ts p → (us : Forest) (w : Place) → Walk (Whole so_far) (steady v) closing p us w → ⊥
-    inner ts p (nil f) us w walk = stuck_not m.stuck (closing_found walk)
-    inner ts p (last {y = y'} {t = t'} r e f) us w walk = here.no t' y' (before_close e (closing_found walk)) r
-    inner ts p (more {y = y'} {t = t'} k r e all) us w walk = here.no t' y' (before_comma e (whole_items_found of_so_far all)) r
-
-    back : (us : Forest) (w : Place) → Walk (Whole so_far) (steady v) inside y us w → ⊥
-    back us w (next {ts = vs} (many {ts = ts} e all) walk) = inner ts _ all vs w walk
-
-member_at : {v : Surroundings} {y y' z : Place} {t : Tree} → Missed (pun "}") y y' → OnlyMember v y' t z → OnlyMember v y t z
-member_at {v} {z = z} {t} n o = subst (λ p. OnlyMember v p t z) (sym n.same) o
-
-pub member_more : {v : Surroundings} {x y y' z w : Place} {t : Tree} (ts us : Forest) → Turn so_far v inside inside x y (prepend ts) → Missed (pun "}") y y' → OnlyMember v y' t z → Moves (pun ",") z w → us ≡ both ts (part t none) → Turn so_far v inside inside x w (prepend us)
-member_more {t = t} ts us so n o m e = turn_as (λ vs. prepend_cons ts t vs ∙ (λ i. prepend (sym e i) vs)) (turn_both so (turn_member (member_at n o) n.stuck m))
-
-pub shut_behind : {v : Surroundings} {x y y' z z' w : Place} {t : Tree} (ts us : Forest) → Turn so_far v inside inside x y (prepend ts) → Missed (pun "}") y y' → OnlyMember v y' t z → Missed (pun ",") z z' → Only so_far v (Fixed (pun "}")) z' nothing w → us ≡ both ts (part t none) → OnlyRow so_far v inside x (part (list us) none) w
-shut_behind {v} {x} {z = z} {z'} {w} {t} ts us so n o m k e =
-    subst (λ vs. OnlyRow so_far v inside x (part (list vs) none) w) (sym e)
-    (turn_only so (turn_only (turn_end (member_at n o) n.stuck m.stuck (at here.past)) (ended_sign here)))
-  where
-    here : Only so_far v (Fixed (pun "}")) z nothing w
-    here = subst (λ p. Only so_far v (Fixed (pun "}")) p nothing w) (sym m.same) k
-
-    at : Past (Whole so_far) v (Fixed (pun "}")) z nothing w → IsTrue (is_found (forth (pun "}") z))
-    at (sign e f) = found_at e f
-
-pub unshut : {v : Surroundings} {x y y' z z' : Place} {t : Tree} (ts : Forest) → Turn so_far v inside inside x y (prepend ts) → Missed (pun "}") y y' → OnlyMember v y' t z → Missed (pun ",") z z' → Barred so_far v (Fixed (pun "}")) z' → NoRow so_far v inside x
-unshut {v} {y = y} {z = z} ts so n o m b = turn_none so (record { no = λ us w walk. let f = last_from (member_at n o) n.stuck m.stuck us w walk in here.no f.parts w f.walk })
-  where
-    here : NoRow so_far v closing z
-    here = bar (subst (λ p. Barred so_far v (Fixed (pun "}")) p) (sym m.same) b)

@@ -183,7 +183,7 @@ closing_found : {v : Surroundings} {x w : Place} {us : Forest} → Walk (Whole s
 closing_found (next (sign e f) walk) = found_at e f
 
 -- where another mark stands, no parameter does
-unmarked : {v : Surroundings} {x z : Place} {u : Tree} (d : Text) → same (codes "...") d ≡ false → same (codes "[") d ≡ false → same (codes "{") d ≡ false → IsTrue (is_found (forth (Tok Operator Punctuator d) x)) → Whole so_far v false Param x u z → ⊥
+pub unmarked : {v : Surroundings} {x z : Place} {u : Tree} (d : Text) → same (codes "...") d ≡ false → same (codes "[") d ≡ false → same (codes "{") d ≡ false → IsTrue (is_found (forth (Tok Operator Punctuator d) x)) → Whole so_far v false Param x u z → ⊥
 unmarked {v} {x} {z} {u} d m k l f w = at (at_default Param u refl w.reads) w
   where
     at : {t : Tree} → AtDefault v x z t → Whole so_far v false Param x t z → ⊥
@@ -192,10 +192,10 @@ unmarked {v} {x} {z} {u} d m k l f w = at (at_default Param u refl w.reads) w
     at rest q = never_both Punctuator Punctuator (codes "...") d x m (rest_led q.reads) f
     at hole q = let bad = q.reads.staged in cc
 
-comma_ends : (y : Place) → IsTrue (is_found (forth (pun ",") y)) → ends_so_far Param y ≡ true
+pub comma_ends : (y : Place) → IsTrue (is_found (forth (pun ",") y)) → ends_so_far Param y ≡ true
 comma_ends y f = of_so_far.ends_there Param y (token_stops Param Punctuator 44 [] y refl f)
 
-close_ends : (y : Place) → IsTrue (is_found (forth (pun ")") y)) → ends_so_far Param y ≡ true
+pub close_ends : (y : Place) → IsTrue (is_found (forth (pun ")") y)) → ends_so_far Param y ≡ true
 close_ends y f = of_so_far.ends_there Param y (token_stops Param Punctuator 41 [] y refl f)
 
 whole_before : {v : Surroundings} {x y : Place} {t : Tree} → OnlyParam v x t y → ends_so_far Param y ≡ true → Whole so_far v false Param x t y
@@ -208,7 +208,7 @@ rest_guard (next d (next q (next {x = p} (sign e f) (done g)))) c =
     let gone : forth (Unless (codes "," ∷ [])) p ≡ Lost = comma_unless p (subst (λ b. IsTrue (is_found (forth (pun ",") b))) there c) in
     let bad : IsTrue (is_found Lost) = subst (λ b. IsTrue (is_found b)) (sym e ∙ gone) f in cc
 
-not_last : {v : Surroundings} {x y : Place} {t : Tree} → Staged v false Param x t y → IsTrue (is_found (forth (pun ",") y)) → is_last t ≡ false
+pub not_last : {v : Surroundings} {x y : Place} {t : Tree} → Staged v false Param x t y → IsTrue (is_found (forth (pun ",") y)) → is_last t ≡ false
 not_last {v} {x} {y} {t} r c = at (at_default Param t refl r) r
   where
     at : {u : Tree} → AtDefault v x y u → Staged v false Param x u y → is_last u ≡ false

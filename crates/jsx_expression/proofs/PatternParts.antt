@@ -109,28 +109,28 @@ rest_led r = led_sign rest_row refl (of_so_far.from_node (function (RestProperty
 -- ---- a name that is bound
 
 -- is a key too
-as_key : {v : Surroundings} {x z : Place} (t : Tree) → Staged v false BindingIdent x t z → Whole so_far v false Key x t z
+pub as_key : {v : Surroundings} {x z : Place} (t : Tree) → Staged v false BindingIdent x t z → Whole so_far v false Key x t z
 as_key {z = z} (leaf IdentifierName t) r = record { reads = leaf_to Key IsName refl refl r; ends_there = of_so_far.ends_there Key z (never_stops Key z refl) }
 as_key (leaf _ t) r = let bad = r.staged in cc
 as_key (node k ts) r = absurd (bindings.node k ts (taken_by r) (home_of r))
 as_key (list ts) r = absurd (no_list r)
 
-key_of : {v : Surroundings} {x y : Place} (t : Tree) → Staged v false BindingIdent x t y → Only so_far v (Part Key) x (one t) y
+pub key_of : {v : Surroundings} {x y : Place} (t : Tree) → Staged v false BindingIdent x t y → Only so_far v (Part Key) x (one t) y
 key_of (leaf IdentifierName t) r = literal_key IsName t refl (and_right (leaf_in BindingIdent IdentifierName t) _ r.reads.is) (sym r.reads.scans) r.reads.found
 key_of (leaf _ t) r = let bad = r.staged in cc
 key_of (node k ts) r = absurd (bindings.node k ts (taken_by r) (home_of r))
 key_of (list ts) r = absurd (no_list r)
 
 -- it ends where the key does
-key_end : {v : Surroundings} {x y a : Place} {t n : Tree} → Only so_far v (Part Key) x (one t) y → Whole so_far v false BindingIdent x n a → y ≡ a
+pub key_end : {v : Surroundings} {x y a : Place} {t n : Tree} → Only so_far v (Part Key) x (one t) y → Whole so_far v false BindingIdent x n a → y ≡ a
 key_end {a = a} {n = n} o q = (o.alone (one n) a (tree (as_key n q.reads))).1
 
-record Bound (t : Tree) : Type 0 where
-  text : Text
-  is : t ≡ leaf IdentifierName text
-  bound : is_bound text ≡ true
+pub record Bound (t : Tree) : Type 0 where
+  pub text : Text
+  pub is : t ≡ leaf IdentifierName text
+  pub bound : is_bound text ≡ true
 
-bound_by : {v : Surroundings} {x y : Place} (t : Tree) → Staged v false BindingIdent x t y → Bound t
+pub bound_by : {v : Surroundings} {x y : Place} (t : Tree) → Staged v false BindingIdent x t y → Bound t
 bound_by (leaf IdentifierName t) r = record { text = t; is = refl; bound = and_left (leaf_in BindingIdent IdentifierName t) (is_leaf IdentifierName t) r.reads.is }
 bound_by (leaf _ t) r = let bad = r.staged in cc
 bound_by (node k ts) r = absurd (bindings.node k ts (taken_by r) (home_of r))
@@ -142,7 +142,7 @@ name_settled (leaf _ t) r = let bad = r.staged in cc
 name_settled (node k ts) r = absurd (bindings.node k ts (taken_by r) (home_of r))
 name_settled (list ts) r = absurd (no_list r)
 
-name_unmarked : {v : Surroundings} {x z : Place} (t : Tree) (d : Text) → Staged v false BindingIdent x t z → IsTrue (is_found (forth (Tok Operator Punctuator d) x)) → ⊥
+pub name_unmarked : {v : Surroundings} {x z : Place} (t : Tree) (d : Text) → Staged v false BindingIdent x t z → IsTrue (is_found (forth (Tok Operator Punctuator d) x)) → ⊥
 name_unmarked {x = x} (leaf IdentifierName t) d r f = mark_none IsName t d x refl (found_at r.reads.scans r.reads.found) f
 name_unmarked (leaf _ t) d r f = let bad = r.staged in cc
 name_unmarked (node k ts) d r f = bindings.node k ts (taken_by r) (home_of r)

@@ -1,8 +1,8 @@
 -- Expressions with commas between: what is read where a sequence may stand.
-use Rattle.std.proofs.Common.{◌≡◌, Bool, true, false, not, cond, [], refl, sym, ◌∙◌, ap, subst}
+use Rattle.std.proofs.Common.{◌≡◌, Bool, true, false, not, cond, [], ◌∷◌, refl, sym, ◌∙◌, ap, subst}
 use Rattle.std.specs.Prelude.{IsTrue, codes, Some, ◌&&◌, ◌||◌}
 use Rattle.jsx_base.specs.Token.{Operator, Lexeme, among, same, breaks, token}
-use Rattle.jsx_tree.specs.Signs.{AfterExpr}
+use Rattle.jsx_tree.specs.Signs.{AfterExpr, AfterBlock}
 use Rattle.jsx_tree.specs.Kinds.{Seq, expression, Tree, node, list, Forest, none, part}
 use Rattle.jsx_tree.specs.Nonterminals.{Nonterminal, Expr}
 use Rattle.jsx_tree.specs.Grammar.{NoTrailing, TwoOrMore, Part, pun}
@@ -24,27 +24,34 @@ use Rattle.jsx_tree.proofs.Rows.Steps.{both}
 use Rattle.jsx_tree.proofs.Rows.Turns.{early, item_of, whole_of}
 use Rattle.jsx_operand.specs.SoFar.{so_far}
 use Rattle.jsx_token.specs.Marks.{marks, goes_at, steps, is_sign, is_mark, goes_on_so_far, ends_so_far, row_so_far, goes_by_mark, goes_by_quote}
-use Rattle.jsx_token.specs.Growths.{settled}
+use Rattle.jsx_token.specs.Growths.{closed, settled}
 use Rattle.jsx_operand.proofs.OfSoFar.{of_so_far}
 use Rattle.jsx_token.proofs.Listed.{agree, agreed}
-use Rattle.jsx_token.proofs.Marks.{every_text, of_mark, by_sign, seen_sign}
+use Rattle.jsx_token.proofs.Marks.{every_text, of_sign, by_sign, seen_sign}
 use Rattle.jsx_operand.proofs.Homes.{value, AtWhole, single, several, at_whole}
 use Rattle.jsx_operand.proofs.Values.{at_any, at_one, move}
 
 -- ---- whether a comma comes next
 
+-- behind an expression of any level one of the level of assignments may end
+pub closed_of : (y : Place) → settled y ≡ true → closed y ≡ true
+closed_of Lost s = cc
+closed_of (At q AfterExpr text) s = s
+closed_of (At q _ text) s = cc
+
 -- where one does, no expression has ended that may be a sequence
-comma_goes : (y : Place) → settled y ≡ true → IsTrue (is_found (forth (pun ",") y)) → ends_so_far (Expr 0) y ≡ false
+pub comma_goes : (y : Place) → closed y ≡ true → IsTrue (is_found (forth (pun ",") y)) → ends_so_far (Expr 0) y ≡ false
 comma_goes Lost s f = cc
 comma_goes (At q AfterExpr text) s f =
     let x = token Operator (same q []) text in
     let i : is_sign x (pun ",") ≡ true = seen_sign (pun ",") q AfterExpr text refl f in
     let raw : among x.raw (going 0) ≡ true = by_sign (λ t. among t (going 0)) (pun ",") x refl i in
-    ap (λ b. not (goes_by_mark 0 (breaks text) (token Operator b text) || goes_by_quote 0 (token Operator b text))) (sym (is_not (same q []) s)) ∙ (λ j. not (((raw j || (not (breaks text) && among x.raw steps)) && (i j || is_mark x marks)) || goes_by_quote 0 x))
+    ap (λ b. not (goes_by_mark 0 (breaks text) (token Operator b text) || goes_by_quote 0 (token Operator b text))) (sym (is_not (same q []) s)) ∙ (λ j. not (((raw j || (not (breaks text) && among x.raw steps)) && (i j || is_mark x (pun "=>" ∷ marks))) || goes_by_quote 0 x))
+comma_goes (At q AfterBlock text) s f = ap (λ b. not (is_sign (token Operator b text) (pun ","))) (sym (is_not (same q []) s)) ∙ ap not (seen_sign (pun ",") q AfterBlock text refl f)
 comma_goes (At q _ text) s f = cc
 
 -- the other signs go on with a sequence as with an assignment
-all_marks : every_text (λ t. agree (among t (going 0)) (among t (going 1))) marks ≡ true
+all_marks : every_text (λ t. agree (among t (going 0)) (among t (going 1))) (pun "=>" ∷ marks) ≡ true
 unfolding marks
 all_marks = refl
 
@@ -57,20 +64,24 @@ and_equal false false false f = refl
 
 goes_equal : (b : Bool) (x : Lexeme) → is_sign x (pun ",") ≡ false → goes_on_so_far (Some 0) AfterExpr b x ≡ goes_on_so_far (Some 1) AfterExpr b x
 goes_equal b x n = ap (λ p. p || goes_by_quote 0 x)
-    ((λ i. goes_at 0 b x.raw && (n i || is_mark x marks))
-    ∙ (and_equal (goes_at 0 b x.raw) (goes_at 1 b x.raw) (is_mark x marks) (λ h. ap (λ p. p || (not b && among x.raw steps)) (agreed (among x.raw (going 0)) (among x.raw (going 1)) (of_mark (λ t. agree (among t (going 0)) (among t (going 1))) all_marks x h)))
-    ∙ (λ i. goes_at 1 b x.raw && (sym n i || is_mark x marks))))
+    ((λ i. goes_at 0 b x.raw && (n i || is_mark x (pun "=>" ∷ marks)))
+    ∙ (and_equal (goes_at 0 b x.raw) (goes_at 1 b x.raw) (is_mark x (pun "=>" ∷ marks)) (λ h. ap (λ p. p || (not b && among x.raw steps)) (agreed (among x.raw (going 0)) (among x.raw (going 1)) (of_sign (λ t. agree (among t (going 0)) (among t (going 1))) (pun "=>" ∷ marks) all_marks x h)))
+    ∙ (λ i. goes_at 1 b x.raw && (sym n i || is_mark x (pun "=>" ∷ marks)))))
 
 not_there : (b : Bool) (y : Place) → is_found y ≡ true → cond b y Lost ≡ Lost → b ≡ false
 not_there true y f h = let bad : true ≡ false = sym f ∙ ap is_found h in cc
 not_there false y f h = refl
 
-pub no_comma_ends : (y : Place) → settled y ≡ true → forth (pun ",") y ≡ Lost → ends_so_far (Expr 1) y ≡ true → ends_so_far (Expr 0) y ≡ true
+pub no_comma_ends : (y : Place) → closed y ≡ true → forth (pun ",") y ≡ Lost → ends_so_far (Expr 1) y ≡ true → ends_so_far (Expr 0) y ≡ true
 no_comma_ends Lost s l e = refl
 no_comma_ends (At q AfterExpr text) s l e =
     let x = token Operator (same q []) text in
     let n : is_sign x (pun ",") ≡ false = not_there (is_sign x (pun ",")) (At (codes ",") AfterExpr x.rest) refl l in
     ap not (goes_equal (breaks text) (token Operator false text) (subst (λ b. is_sign (token Operator b text) (pun ",") ≡ false) (is_not (same q []) s) n)) ∙ e
+no_comma_ends (At q AfterBlock text) s l e =
+    let x = token Operator (same q []) text in
+    let n : is_sign x (pun ",") ≡ false = not_there (is_sign x (pun ",")) (At (codes ",") AfterExpr x.rest) refl l in
+    ap not (subst (λ b. is_sign (token Operator b text) (pun ",") ≡ false) (is_not (same q []) s) n)
 no_comma_ends (At q _ text) s l e = cc
 
 -- ---- the parts of a sequence, and those of one or more
@@ -101,7 +112,7 @@ pub record Listing (v : Surroundings) (x : Place) (ts : Forest) (y : Place) : Ty
   from : (us : Forest) (z : Place) → enough NoTrailing us ≡ true → Items (Whole so_far) v NoTrailing (Expr 1) x us z → ends_so_far (Expr 0) z ≡ true → Rest v ts y us z
 
 -- a part with a comma behind it
-pub listing_one : {v : Surroundings} {y z w : Place} {t : Tree} → Only so_far v (Part (Expr 1)) y (one t) z → settled z ≡ true → Moves (pun ",") z w → Listing v y (part t none) w
+pub listing_one : {v : Surroundings} {y z w : Place} {t : Tree} → Only so_far v (Part (Expr 1)) y (one t) z → closed z ≡ true → Moves (pun ",") z w → Listing v y (part t none) w
 listing_one {v} {y} {z} {w} {t} o s m = record { to = ahead; from = back }
   where
     ahead : (us : Forest) (p : Place) → enough NoTrailing us ≡ true → Items (Whole so_far) v NoTrailing (Expr 1) w us p → Items (Whole so_far) v NoTrailing (Expr 1) y (part t us) p
@@ -123,7 +134,7 @@ both_snoc none t us = refl
 both_snoc (part u ts) t us = ap (part u) (both_snoc ts t us)
 
 -- one more behind those
-pub listing_more : {v : Surroundings} {x y z w : Place} {ts us : Forest} {t : Tree} → Listing v x ts y → Only so_far v (Part (Expr 1)) y (one t) z → settled z ≡ true → Moves (pun ",") z w → us ≡ both ts (part t none) → Listing v x us w
+pub listing_more : {v : Surroundings} {x y z w : Place} {ts us : Forest} {t : Tree} → Listing v x ts y → Only so_far v (Part (Expr 1)) y (one t) z → closed z ≡ true → Moves (pun ",") z w → us ≡ both ts (part t none) → Listing v x us w
 listing_more {v} {x} {y} {z} {w} {ts} {us} {t} l o s m e = record {
   to = λ vs p n all. subst (λ ws. Items (Whole so_far) v NoTrailing (Expr 1) x ws p) (both_snoc ts t vs ∙ ap (λ r. both r vs) (sym e)) (l.to (part t vs) p refl (next_one.to vs p n all));
   from = λ vs p n all g.
@@ -174,7 +185,7 @@ lost_comma : {y z : Place} → y ≡ z → forth (pun ",") y ≡ Lost → IsTrue
 lost_comma e l f = let bad : IsTrue (is_found Lost) = subst (λ p. IsTrue (is_found p)) (ap (forth (pun ",")) (sym e) ∙ l) f in cc
 
 -- one expression, with no comma behind it
-pub whole_only : {v : Surroundings} {x y : Place} {t : Tree} → Only so_far v (Part (Expr 1)) x (one t) y → settled y ≡ true → forth (pun ",") y ≡ Lost → Only so_far v (Part (Expr 0)) x (one t) y
+pub whole_only : {v : Surroundings} {x y : Place} {t : Tree} → Only so_far v (Part (Expr 1)) x (one t) y → closed y ≡ true → forth (pun ",") y ≡ Lost → Only so_far v (Part (Expr 0)) x (one t) y
 whole_only {v} {x} {y} {t} o s l = record {
   past = tree (record { reads = move at_any (value t refl (whole_of o.past).reads) (whole_of o.past).reads; ends_there = no_comma_ends y s l (whole_of o.past).ends_there });
   alone = at;
@@ -228,7 +239,7 @@ last_part o l n (nil f) = cc
 last_part o l n (last {y = y'} {t = t'} r g f) = let same = o.alone (one t') y' (tree r) in record { is = λ i. part (item_of (sym same.0 i)) none; place = same.1 ∙ g }
 last_part o l n (more {y = y'} {t = t'} m r g all) = absurd (lost_comma (o.alone (one t') y' (tree r)).1 l (found_at g (items_found all)))
 
-pub sequence_only : {v : Surroundings} {x y z : Place} {a t w : Tree} {bs us : Forest} → Listing v x (part a bs) y → Only so_far v (Part (Expr 1)) y (one t) z → settled z ≡ true → forth (pun ",") z ≡ Lost → us ≡ both (part a bs) (part t none) → w ≡ node (expression Seq) (part (list us) none)
+pub sequence_only : {v : Surroundings} {x y z : Place} {a t w : Tree} {bs us : Forest} → Listing v x (part a bs) y → Only so_far v (Part (Expr 1)) y (one t) z → closed z ≡ true → forth (pun ",") z ≡ Lost → us ≡ both (part a bs) (part t none) → w ≡ node (expression Seq) (part (list us) none)
     → Only so_far v (Part (Expr 0)) x (one w) z
 sequence_only {v} {x} {y} {z} {a} {t} {w} {bs} {us} l o s lost e is = subst (λ q. Only so_far v (Part (Expr 0)) x (one q) z) (sym (is ∙ ap (λ ws. node (expression Seq) (part (list ws) none)) e)) (record {
   past = tree (record { reads = of_so_far.to_node (expression Seq) refl (record { walk = loosen walk; keeps = and_both _ _ (plain (row_so_far (expression Seq)) refl (to_grammar of_so_far walk)) refl }); ends_there = no_comma_ends z s lost (whole_of o.past).ends_there });

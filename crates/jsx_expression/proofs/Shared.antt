@@ -28,7 +28,7 @@ use Rattle.jsx_operand.specs.SoFar.{so_far}
 use Rattle.jsx_operand.specs.Openings.{opens_with, NoParts, OnlyOpened, NoneOpened}
 use Rattle.jsx_operand.proofs.OfSoFar.{of_so_far}
 use Rattle.jsx_token.proofs.Levels.{grows_on}
-use Rattle.jsx_operand.proofs.Values.{First, name, opened, begun, led_sign, literal_opening, one_opening, opened_sign, opener, opener_of, quoted, piece_of, opener_piece}
+use Rattle.jsx_operand.proofs.Values.{First, name, opened, begun, led_sign, literal_opening, one_opening, opened_sign, opener, opener_of, quoted, piece_of, opener_piece, bracketed, bracket_none}
 use Rattle.jsx_operand.proofs.Openings.{Other, itself, barred, free_none, kept_behind, opened_by, opens_listed}
 
 -- ---- which kinds begin so
@@ -162,6 +162,7 @@ all_undotted = refl
 
 dotted_first : {v : Surroundings} {x p : Place} {f : Tree} → IsTrue (is_found (forth (pun ".") x)) → First v x f p → ⊥
 dotted_first {x = x} there (name l {t} h w g i) = literal_opening l t (pun ".") x (opener (pun ".") refl) h (found_at g i) there
+dotted_first there (bracketed d b r) = bracket_none (opener (pun ".") refl) refl there b r
 dotted_first {x = x} there (quoted d q r) = opener_piece x (opener (pun ".") refl) there (piece_of q r)
 dotted_first {x = x} there (opened d {k} m g q) =
     clash _ (one_opening (opening_sign k) (pun ".") x (opener_of k m g) (opener (pun ".") refl) (opened_sign k m g q) there)

@@ -16,7 +16,7 @@ use Rattle.jsx_tree.proofs.Rows.Turns.{whole_of}
 use Rattle.jsx_tree.proofs.Rows.Targets.{as_value, value_aims, target_back, left_simple, level_17}
 use Rattle.jsx_operand.specs.Climbing.{is_target}
 use Rattle.jsx_operand.proofs.Homes.{bound_word}
-use Rattle.jsx_operand.proofs.Aims.{aim_of, aim_is, staged_target, staged_value, target_reads}
+use Rattle.jsx_operand.proofs.Aims.{aim_of, aim_is, staged_target, staged_value, simple_reads}
 
 same_ends : (y : Place) → ends_so_far SimpleTarget y ≡ ends_so_far (Expr 17) y
 same_ends Lost = refl
@@ -24,7 +24,7 @@ same_ends (At q e text) = refl
 
 -- a target is an expression of the level
 whole_value : {v : Surroundings} {x z : Place} {u : Tree} → Whole so_far v false SimpleTarget x u z → Whole so_far v false (Expr 17) x (as_value u) z
-whole_value {z = z} {u} w = record { reads = staged_value level_17 bound_word (target_reads SimpleTarget refl u w.reads) w.reads; ends_there = sym (same_ends z) ∙ w.ends_there }
+whole_value {z = z} {u} w = record { reads = staged_value level_17 bound_word (simple_reads u w.reads) w.reads; ends_there = sym (same_ends z) ∙ w.ends_there }
 
 one_is : {t u : Tree} → one t ≡ one u → t ≡ u
 one_is e = cc
@@ -38,7 +38,7 @@ only_target {v} {x} {y} {t} h o = record {
     at : (g : Given) (z : Place) → Past (Whole so_far) v (Part SimpleTarget) x g z → (one (as_target t) ≡ g) × (y ≡ z)
     at g z (tree {t = u} w) =
         let q = o.alone (one (as_value u)) z (tree (whole_value w)) in
-        (ap (λ s. one (as_target s)) (one_is q.0) ∙ ap one (target_back (target_reads SimpleTarget refl u w.reads)), q.1)
+        (ap (λ s. one (as_target s)) (one_is q.0) ∙ ap one (target_back (simple_reads u w.reads)), q.1)
 
 pub no_target : {v : Surroundings} {x : Place} → Barred so_far v (Part (Expr 17)) x → Barred so_far v (Part SimpleTarget) x
 no_target {v} {x} b = record { no = at }
@@ -51,4 +51,4 @@ pub unfit_target : {v : Surroundings} {x y : Place} {t : Tree} → is_target t �
 unfit_target {v} {x} {y} {t} h o = record { no = at }
   where
     at : (g : Given) (z : Place) → Past (Whole so_far) v (Part SimpleTarget) x g z → ⊥
-    at g z (tree {t = u} w) = clash (is_target t) (ap is_target (one_is (o.alone (one (as_value u)) z (tree (whole_value w))).0) ∙ aim_is (value_aims (target_reads SimpleTarget refl u w.reads))) h
+    at g z (tree {t = u} w) = clash (is_target t) (ap is_target (one_is (o.alone (one (as_value u)) z (tree (whole_value w))).0) ∙ aim_is (value_aims (simple_reads u w.reads))) h

@@ -1,3 +1,5 @@
+pub mod Covers
+pub mod Arrows
 pub mod Within
 pub mod Elements
 pub mod Gathering

@@ -28,12 +28,12 @@ use jsx_make::make;
 use jsx_operand::argument::place_argument;
 use jsx_operand::operand::{ASSIGNMENT, start_of};
 use jsx_operand::parser::{expect, give_up, span_to};
-use jsx_operand::{Body, Context, ParseError};
+use jsx_operand::{Body, Context, Cover, ParseError};
 use jsx_token::{Fixed, Lexer, Word};
 use jsx_tree::{Expr, Word as Constant};
 
 impl<
-    F: for<'c, 's> Fn(Context<'c>, &mut Lexer<'s>, u8, B) -> Result<Box<Expr<'s>>, ParseError>,
+    F: for<'c, 's> Fn(Context<'c>, &mut Lexer<'s>, u8, B) -> Result<Cover<'s>, ParseError>,
     B: Copy + for<'c, 's> Fn(Context<'c>, &mut Lexer<'s>) -> Result<Body<'s>, ParseError>,
 > Expressions<F, B> {
     /// An argument: a spread, or an expression, which stands where its parentheses do, where it has some. It has no frame of its
@@ -172,10 +172,10 @@ impl<
         if !lexer.take(Fixed::Dot) {
             return Ok(self.import_call(context, lexer)?);
         }
-        expect(context, lexer, Fixed::Word(Word::Meta))?;
         if !context.around.is_module {
             return Err(give_up(lexer));
         }
+        expect(context, lexer, Fixed::Word(Word::Meta))?;
         Ok(make::constant(context.alloc, span_to(lo, lexer), Constant::ImportMeta)?)
     }
 }

@@ -29,12 +29,12 @@ use jsx_make::make;
 use jsx_operand::link::{Linking, name_link, take_link};
 use jsx_operand::operand::start_of;
 use jsx_operand::parser::{expect, span_to};
-use jsx_operand::{Body, Context, ParseError};
+use jsx_operand::{Body, Context, Cover, ParseError};
 use jsx_token::{Fixed, Lexer};
 use jsx_tree::{Expr, Link, LinkForm};
 
 impl<
-    F: for<'c, 's> Fn(Context<'c>, &mut Lexer<'s>, u8, B) -> Result<Box<Expr<'s>>, ParseError>,
+    F: for<'c, 's> Fn(Context<'c>, &mut Lexer<'s>, u8, B) -> Result<Cover<'s>, ParseError>,
     B: Copy + for<'c, 's> Fn(Context<'c>, &mut Lexer<'s>) -> Result<Body<'s>, ParseError>,
 > Expressions<F, B> {
     /// A link behind its `[`, which begins at a place: `?.[a]`, `[a]`.

@@ -27,7 +27,7 @@ ghost use Rattle.jsx_expression.specs.Classes.{IsClassName, IsHeritage, IsPlaced
 ghost use Rattle.jsx_expression.specs.Methods.{IsPlacedElement, NoElement, OnlyElement, begun_at, holder_at, is_classed, owner_at};
 ghost use Rattle.jsx_expression.specs.Within.{ReadsWithin};
 
-use crate::expression::expression;
+use crate::expression::cover;
 use crate::function::boxed_name;
 use crate::grammar::Expressions;
 use crate::method::{Home, PlacedKey, take_prefix};
@@ -36,7 +36,7 @@ use jsx_base::BytePos;
 use jsx_make::make;
 use jsx_operand::member::are_members;
 use jsx_operand::parser::{bound_name, expect, give_up, identifier_name, span_to};
-use jsx_operand::{Body, Context, ParseError};
+use jsx_operand::{Body, Context, Cover, ParseError};
 use jsx_token::{Fixed, Lexer, Word};
 use jsx_tree::{Expr, Ident, Prop, Text};
 
@@ -77,12 +77,12 @@ fn class_name<'s>(context: Context, lexer: &mut Lexer<'s>) -> Result<Option<Iden
     if lexer.is_before(Fixed::Word(Word::Extends)) {
         return Ok(None);
     }
-    let name = bound_name(context, lexer)?;
+    let name = bound_name(context.of_class(), lexer)?;
     Ok(Some(name))
 }
 
 impl<
-    F: for<'c, 's> Fn(Context<'c>, &mut Lexer<'s>, u8, B) -> Result<Box<Expr<'s>>, ParseError>,
+    F: for<'c, 's> Fn(Context<'c>, &mut Lexer<'s>, u8, B) -> Result<Cover<'s>, ParseError>,
     B: Copy + for<'c, 's> Fn(Context<'c>, &mut Lexer<'s>) -> Result<Body<'s>, ParseError>,
 > Expressions<F, B> {
     /// A member of a class behind its `static`, which begins at a place, or where there is none.
@@ -172,7 +172,7 @@ impl<
         if !lexer.take(Fixed::Word(Word::Extends)) {
             return Ok(None);
         }
-        let extended = self.inner(context, lexer, MEMBER)?;
+        let extended = self.inner(context.of_class(), lexer, MEMBER)?;
         Ok(Some(extended))
     }
 
@@ -343,7 +343,7 @@ where
     ensures refused { Refused result (NoClass (around_of context.entry.around) (place_of lexer.old)) }
 {
     Expressions {
-        inner: expression::<B>,
+        inner: cover::<B>,
         body,
     }
     .class_code(context, lexer)
@@ -366,7 +366,7 @@ where
     ensures refused { Refused result (NoParts (around_of context.entry.around) (function ClassExpr) (place_of lexer.old)) }
 {
     Expressions {
-        inner: expression::<B>,
+        inner: cover::<B>,
         body,
     }
     .class_expression(context, lexer)

@@ -15,8 +15,10 @@ ghost use Rattle.jsx_token.specs.Here.{place_of, left};
 ghost use Rattle.jsx_operand.specs.Answers.{Refused};
 ghost use Rattle.jsx_operand.specs.Templates.{IsPlacedTag, NotTagged};
 ghost use Rattle.jsx_operand.specs.Climbing as climbing;
-ghost use Rattle.jsx_operand.specs.Climbing.{Begins, NoneBegins, Grown, NotGrown};
-ghost use Rattle.jsx_token.specs.Growths.{growth_kind, is_level, mark, settled};
+ghost use Rattle.jsx_operand.specs.Climbing.{Grown, NotGrown};
+ghost use Rattle.jsx_operand.specs.Covers.{view_cover};
+ghost use Rattle.jsx_expression.specs.Covers.{IsCover, IsOperand, IsPlacedCover, NoCover, NoOperand, Settles};
+ghost use Rattle.jsx_token.specs.Growths.{closed, growth_kind, is_level, level_of_kind, mark, settled};
 ghost use Rattle.jsx_expression.specs.Gathering.{IsGathered, NotGathered};
 ghost use Rattle.jsx_make.specs.NodeSpans.{expr_at};
 ghost use Rattle.jsx_operand.specs.Spans.{Extends, IsPlaced, IsPlacedOn, Spans};
@@ -24,31 +26,37 @@ ghost use Rattle.jsx_token.specs.Places.{end_of, next_of};
 ghost use Rattle.jsx_operand.specs.Bodies.{ReadsBodies};
 
 use crate::grammar::Expressions;
-use jsx_operand::{Body, Context, ParseError};
+use jsx_operand::cover::settle;
+use jsx_operand::{Body, Context, Cover, ParseError};
 use jsx_token::Lexer;
 use jsx_token::growth::Growth;
 use jsx_tree::Expr;
 
-/// An expression that begins with no other.
-pub fn beginning<'s, B>(
+/// What an expression of a level begins with: one that begins with no other, and at the level of assignments also an assignment to
+/// a pattern, or an arrow function without parentheses: `[a] = b`, `a => b`.
+pub fn operand<'s, B>(
     context: Context,
     lexer: &mut Lexer<'s>,
+    level: u8,
     body: B,
-) -> Result<Box<Expr<'s>>, ParseError>
+) -> Result<Cover<'s>, ParseError>
 where
     B: Copy + for<'c, 't> Fn(Context<'c>, &mut Lexer<'t>) -> Result<Body<'t>, ParseError>,
     requires bodies { ReadsBodies (left lexer.old) (B.pre body) (B.post body) }
-    ensures read { IfOk result (λ e. Begins (around_of context.entry.around) (place_of lexer.old) (view_expr e.value) (place_of lexer.new)) }
-    ensures span { IfOk result (λ e. Spans (expr_at e.value) (next_of lexer.old) (end_of lexer.new)) }
-    ensures placed { IfOk result (λ e. IsPlaced (told_expr e.value) (view_expr e.value) lexer.old lexer.new) }
+    requires ranked { IsTrue (is_level level) }
+    ensures read { IfOk result (λ c. IsOperand (around_of context.entry.around) level (place_of lexer.old) c (place_of lexer.new)) }
+    ensures span { IfOk result (λ c. Spans (expr_at c.expr.value) (next_of lexer.old) (end_of lexer.new)) }
+    ensures placed { IfOk result (λ c. IsPlacedCover c lexer.old lexer.new) }
     ensures shorter { OnOk result (left lexer.new < left lexer.old) }
-    ensures refused { Refused result (NoneBegins (around_of context.entry.around) (place_of lexer.old)) }
+    ensures ended { OnOk result (IsTrue (closed (place_of lexer.new))) }
+    ensures settles { IfOk result (λ c. Settles (climbing.level (view_cover c)) (place_of lexer.new)) }
+    ensures refused { Refused result (NoOperand (around_of context.entry.around) level (place_of lexer.old)) }
 {
     Expressions {
-        inner: expression::<B>,
+        inner: cover::<B>,
         body,
     }
-    .beginning(context, lexer)
+    .operand(context, lexer, level)
 }
 
 /// What goes on with an expression, behind its first token.
@@ -67,11 +75,12 @@ where
     ensures span { IfOk result (λ e. Extends (expr_at first.entry.value) (expr_at e.value) (end_of lexer.new)) }
     ensures placed { IfOk result (λ e. IsPlacedOn (mark (growth_kind growth)) first.entry.value lexer.old e.value lexer.new) }
     ensures within { OnOk result (left lexer.new ≤ left lexer.old) }
-    ensures ended { OnOk result (IsTrue (settled (place_of lexer.new))) }
+    ensures ended { OnOk result (IsTrue (closed (place_of lexer.new))) }
+    ensures settles { OnOk result (Settles (level_of_kind (growth_kind growth)) (place_of lexer.new)) }
     ensures refused { Refused result (NotGrown (around_of context.entry.around) (growth_kind growth) (place_of lexer.old)) }
 {
     Expressions {
-        inner: expression::<B>,
+        inner: cover::<B>,
         body,
     }
     .grow(context, lexer, growth, first)
@@ -96,10 +105,36 @@ where
     ensures refused { Refused result (NotTagged (around_of context.entry.around) (view_expr tag.entry.value) (place_of lexer.old)) }
 {
     Expressions {
-        inner: expression::<B>,
+        inner: cover::<B>,
         body,
     }
     .tagged(context, lexer, tag)
+}
+
+/// What stands at a level or more, up to where it doesn't go on: `a.b(c) + d`, `{a = 1}`. A template goes on with it at every level.
+pub fn cover<'s, B>(
+    context: Context,
+    lexer: &mut Lexer<'s>,
+    level: u8,
+    body: B,
+) -> Result<Cover<'s>, ParseError>
+where
+    B: Copy + for<'c, 't> Fn(Context<'c>, &mut Lexer<'t>) -> Result<Body<'t>, ParseError>,
+    requires bodies { ReadsBodies (left lexer.old) (B.pre body) (B.post body) }
+    requires ranked { IsTrue (is_level level) }
+    ensures read { IfOk result (λ c. IsCover (around_of context.entry.around) level (place_of lexer.old) c (place_of lexer.new)) }
+    ensures span { IfOk result (λ c. Spans (expr_at c.expr.value) (next_of lexer.old) (end_of lexer.new)) }
+    ensures placed { IfOk result (λ c. IsPlacedCover c lexer.old lexer.new) }
+    ensures shorter { OnOk result (left lexer.new < left lexer.old) }
+    ensures ended { OnOk result (IsTrue (closed (place_of lexer.new))) }
+    ensures settles { OnOk result (Settles level (place_of lexer.new)) }
+    ensures refused { Refused result (NoCover (around_of context.entry.around) level (place_of lexer.old)) }
+{
+    Expressions {
+        inner: cover::<B>,
+        body,
+    }
+    .expression(context, lexer, level)
 }
 
 /// An expression of a level or more, up to where it doesn't go on: `a.b(c) + d`. A template goes on with it at every level.
@@ -117,14 +152,12 @@ where
     ensures span { IfOk result (λ e. Spans (expr_at e.value) (next_of lexer.old) (end_of lexer.new)) }
     ensures placed { IfOk result (λ e. IsPlaced (told_expr e.value) (view_expr e.value) lexer.old lexer.new) }
     ensures shorter { OnOk result (left lexer.new < left lexer.old) }
-    ensures ended { OnOk result (IsTrue (settled (place_of lexer.new))) }
+    ensures ended { OnOk result (IsTrue (closed (place_of lexer.new))) }
+    ensures settles { OnOk result (Settles level (place_of lexer.new)) }
     ensures refused { Refused result (Barred so_far (around_of context.entry.around) (Part (grammar.Expr level)) (place_of lexer.old)) }
 {
-    Expressions {
-        inner: expression::<B>,
-        body,
-    }
-    .expression(context, lexer, level)
+    let read = cover(context, lexer, level, body)?;
+    Ok(settle(read, lexer)?)
 }
 
 /// An expression, or several with commas between: `a, b` (ECMA-262 section 13.16).
@@ -140,11 +173,11 @@ where
     ensures span { IfOk result (λ e. Spans (expr_at e.value) (next_of lexer.old) (end_of lexer.new)) }
     ensures placed { IfOk result (λ e. IsPlaced (told_expr e.value) (view_expr e.value) lexer.old lexer.new) }
     ensures shorter { OnOk result (left lexer.new < left lexer.old) }
-    ensures ended { OnOk result (IsTrue (settled (place_of lexer.new))) }
+    ensures ended { OnOk result (IsTrue (closed (place_of lexer.new))) }
     ensures refused { Refused result (Barred so_far (around_of context.entry.around) (Part (grammar.Expr 0)) (place_of lexer.old)) }
 {
     Expressions {
-        inner: expression::<B>,
+        inner: cover::<B>,
         body,
     }
     .sequence(context, lexer)
@@ -160,14 +193,14 @@ pub fn more_items<'s, B>(
 where
     B: Copy + for<'c, 't> Fn(Context<'c>, &mut Lexer<'t>) -> Result<Body<'t>, ParseError>,
     requires bodies { ReadsBodies (left lexer.old) (B.pre body) (B.post body) }
-    requires settled { IsTrue (settled (place_of lexer.old)) }
+    requires settled { IsTrue (closed (place_of lexer.old)) }
     ensures read { IfOk result (λ e. IsGathered (around_of context.entry.around) first.entry.value lexer.old e.value lexer.new) }
     ensures within { OnOk result (left lexer.new ≤ left lexer.old) }
-    ensures ended { OnOk result (IsTrue (settled (place_of lexer.new))) }
+    ensures ended { OnOk result (IsTrue (closed (place_of lexer.new))) }
     ensures refused { Refused result (NotGathered (around_of context.entry.around) (view_expr first.entry.value) (place_of lexer.old)) }
 {
     Expressions {
-        inner: expression::<B>,
+        inner: cover::<B>,
         body,
     }
     .more_items(context, lexer, first)

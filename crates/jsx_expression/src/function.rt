@@ -23,12 +23,12 @@ ghost use Rattle.jsx_token.specs.Places.{begin_of, end_of};
 ghost use Rattle.jsx_expression.specs.Functions.{IsNamed, NoCode, NoNamed, NoOwnCode, OnlyParam, code_row, code_symbols, name_symbols, named_parts, named_row, named_symbols, own_row, params_row, params_symbols, parts_of, told_named, told_parts};
 ghost use Rattle.jsx_expression.specs.Within.{ReadsWithin};
 
-use crate::expression::expression;
+use crate::expression::cover;
 use crate::grammar::Expressions;
 use jsx_make::make;
 use jsx_operand::parser::{bound_name, expect, give_up, span_to};
 use jsx_operand::pattern::is_compound;
-use jsx_operand::{Body, Context, Labels, ParseError};
+use jsx_operand::{Body, Context, Cover, Labels, ParseError};
 use jsx_token::{Fixed, Lexer};
 use jsx_tree::{Expr, Ident, Pat};
 use std::alloc::{AllocError, Global};
@@ -103,7 +103,7 @@ pub(crate) fn boxed_name<'s>(
 }
 
 impl<
-    F: for<'c, 's> Fn(Context<'c>, &mut Lexer<'s>, u8, B) -> Result<Box<Expr<'s>>, ParseError>,
+    F: for<'c, 's> Fn(Context<'c>, &mut Lexer<'s>, u8, B) -> Result<Cover<'s>, ParseError>,
     B: Copy + for<'c, 's> Fn(Context<'c>, &mut Lexer<'s>) -> Result<Body<'s>, ParseError>,
 > Expressions<F, B> {
     /// The body of a function behind its `{`, with its `}`.
@@ -292,7 +292,7 @@ where
     ensures refused { Refused result (NoCode (around_of context.entry.around) (place_of lexer.old)) }
 {
     Expressions {
-        inner: expression::<B>,
+        inner: cover::<B>,
         body,
     }
     .function_code(context, lexer)
@@ -315,7 +315,7 @@ where
     ensures refused { Refused result (NoNamed (around_of context.entry.around) (place_of lexer.old)) }
 {
     Expressions {
-        inner: expression::<B>,
+        inner: cover::<B>,
         body,
     }
     .named_function(context, lexer)

@@ -1,21 +1,24 @@
 //! Expressions, over the function that reads those within.
 
-ghost use Rattle.std.specs.Prelude.{◌<◌, ◌≤◌, IfOk, OnOk, IsTrue, suc};
-ghost use Rattle.jsx_tree.specs.Kinds.{New, Parenthesized, expression};
+ghost use Rattle.std.specs.Prelude.{◌≡◌, ◌<◌, ◌≤◌, ◌&&◌, IfOk, OnOk, IsTrue, suc, true};
+ghost use Rattle.jsx_base.specs.Token.{same};
+ghost use Rattle.jsx_tree.specs.Kinds.{New, expression};
 ghost use Rattle.jsx_tree.specs.Nonterminals as grammar;
 ghost use Rattle.jsx_tree.specs.Grammar.{Part};
 ghost use Rattle.jsx_tree.specs.View.{view_expr};
 ghost use Rattle.jsx_tree.specs.Told.{told_expr};
-ghost use Rattle.jsx_tree.specs.Walk.{one, tail};
-ghost use Rattle.jsx_tree.specs.Answers.{Only, Barred, NoRow, Built};
+ghost use Rattle.jsx_tree.specs.Walk.{one};
+ghost use Rattle.jsx_tree.specs.Answers.{Only, Barred};
 ghost use Rattle.jsx_operand.specs.Openings.{OnlyOpened, NoneOpened};
+ghost use Rattle.jsx_expression.specs.Covers.{BeginsCover, IsCover, IsOperand, IsPlacedCover, IsPlacedCoverBehind, NoCover, NoCoverBegins, NoCoverOpened, NoOperand, OpensCover, Settles};
 ghost use Rattle.jsx_operand.specs.Around.{around_of};
 ghost use Rattle.jsx_operand.specs.SoFar.{so_far};
-ghost use Rattle.jsx_token.specs.Marks.{row_so_far};
 ghost use Rattle.jsx_token.specs.Here.{place_of, left};
 ghost use Rattle.jsx_operand.specs.Answers.{Refused};
-ghost use Rattle.jsx_operand.specs.Climbing.{Begins, NoneBegins, Grown, NotGrown};
-ghost use Rattle.jsx_token.specs.Growths.{growth_kind, is_level, mark, opening_kind, opening_sign, settled};
+ghost use Rattle.jsx_operand.specs.Climbing as climbing;
+ghost use Rattle.jsx_operand.specs.Climbing.{Grown, NotGrown};
+ghost use Rattle.jsx_operand.specs.Covers.{view_cover};
+ghost use Rattle.jsx_token.specs.Growths.{growth_kind, is_level, level_of_kind, mark, opening_kind, opening_sign, closed, settled};
 ghost use Rattle.jsx_expression.specs.Gathering.{IsGathered, NotGathered};
 ghost use Rattle.jsx_make.specs.NodeSpans.{expr_at};
 ghost use Rattle.jsx_operand.specs.Spans.{Extends, IsPlaced, IsPlacedBehind, IsPlacedOn, Spans};
@@ -24,11 +27,12 @@ ghost use Rattle.jsx_expression.specs.Within.{ReadsWithin};
 ghost use Rattle.jsx_operand.specs.Bodies.{ReadsBodies};
 
 use jsx_make::make;
+use jsx_operand::cover::{is_before_arrow, is_literal, parameter_name, refuse_arrow, settle};
 use jsx_operand::operand::{
     ASSIGNMENT, fits, is_callee, member, postfix_update, primary, start_of,
 };
 use jsx_operand::parser::{expect, give_up, span_to};
-use jsx_operand::{Body, Context, ParseError, operand};
+use jsx_operand::{Body, Context, Cover, ParseError, operand};
 use jsx_token::growth::Growth;
 use jsx_token::{Fixed, Lexer, Opening, Word};
 use jsx_tree::{Expr, Word as Constant};
@@ -44,9 +48,48 @@ pub(crate) struct Expressions<F, B> {
 }
 
 impl<
-    F: for<'c, 's> Fn(Context<'c>, &mut Lexer<'s>, u8, B) -> Result<Box<Expr<'s>>, ParseError>,
+    F: for<'c, 's> Fn(Context<'c>, &mut Lexer<'s>, u8, B) -> Result<Cover<'s>, ParseError>,
     B: Copy + for<'c, 's> Fn(Context<'c>, &mut Lexer<'s>) -> Result<Body<'s>, ParseError>,
 > Expressions<F, B> {
+    /// What may stand within another expression at a level or more, before it is known whether it is an expression.
+    fn covered<'s>(
+        &self,
+        context: Context,
+        lexer: &mut Lexer<'s>,
+        level: u8,
+    ) -> Result<Cover<'s>, ParseError>
+        requires nests { ReadsWithin (suc (left lexer.old)) (F.pre self.now.inner) (F.post self.now.inner) self.now.body }
+        requires bodies { ReadsBodies (left lexer.old) (B.pre self.now.body) (B.post self.now.body) }
+        requires ranked { IsTrue (is_level level) }
+        ensures read { IfOk result (λ c. IsCover (around_of context.entry.around) level (place_of lexer.old) c (place_of lexer.new)) }
+        ensures span { IfOk result (λ c. Spans (expr_at c.expr.value) (next_of lexer.old) (end_of lexer.new)) }
+        ensures placed { IfOk result (λ c. IsPlacedCover c lexer.old lexer.new) }
+        ensures shorter { OnOk result (left lexer.new < left lexer.old) }
+        ensures ended { OnOk result (IsTrue (closed (place_of lexer.new))) }
+        ensures settles { OnOk result (Settles level (place_of lexer.new)) }
+        ensures refused { Refused result (NoCover (around_of context.entry.around) level (place_of lexer.old)) }
+    {
+        (self.inner)(context, lexer, level, self.body)
+    }
+
+    /// The same at the level of assignments: `a = b`, or `{a = 1}`, which `=` may still turn into a pattern.
+    pub(crate) fn cover<'s>(
+        &self,
+        context: Context,
+        lexer: &mut Lexer<'s>,
+    ) -> Result<Cover<'s>, ParseError>
+        requires nests { ReadsWithin (suc (left lexer.old)) (F.pre self.now.inner) (F.post self.now.inner) self.now.body }
+        requires bodies { ReadsBodies (left lexer.old) (B.pre self.now.body) (B.post self.now.body) }
+        ensures read { IfOk result (λ c. IsCover (around_of context.entry.around) 1 (place_of lexer.old) c (place_of lexer.new)) }
+        ensures span { IfOk result (λ c. Spans (expr_at c.expr.value) (next_of lexer.old) (end_of lexer.new)) }
+        ensures placed { IfOk result (λ c. IsPlacedCover c lexer.old lexer.new) }
+        ensures shorter { OnOk result (left lexer.new < left lexer.old) }
+        ensures ended { OnOk result (IsTrue (closed (place_of lexer.new))) }
+        ensures refused { Refused result (NoCover (around_of context.entry.around) 1 (place_of lexer.old)) }
+    {
+        self.covered(context, lexer, ASSIGNMENT)
+    }
+
     /// An expression within another, of a level or more.
     pub(crate) fn inner<'s>(
         &self,
@@ -61,46 +104,102 @@ impl<
         ensures span { IfOk result (λ e. Spans (expr_at e.value) (next_of lexer.old) (end_of lexer.new)) }
         ensures placed { IfOk result (λ e. IsPlaced (told_expr e.value) (view_expr e.value) lexer.old lexer.new) }
         ensures shorter { OnOk result (left lexer.new < left lexer.old) }
-        ensures ended { OnOk result (IsTrue (settled (place_of lexer.new))) }
+        ensures ended { OnOk result (IsTrue (closed (place_of lexer.new))) }
+        ensures settles { OnOk result (Settles level (place_of lexer.new)) }
         ensures refused { Refused result (Barred so_far (around_of context.entry.around) (Part (grammar.Expr level)) (place_of lexer.old)) }
     {
-        (self.inner)(context, lexer, level, self.body)
+        let read = self.covered(context, lexer, level)?;
+        Ok(settle(read, lexer)?)
     }
 
-    /// An expression of a level or more, up to where it doesn't go on: `a.b(c) + d`. A template goes on with it at every level.
+    /// What stands at a level or more, up to where it doesn't go on: `a.b(c) + d`. A template goes on with it at every level, and
+    /// with the block of an arrow function nothing does.
     pub(crate) fn expression<'s>(
         &self,
         context: Context,
         lexer: &mut Lexer<'s>,
         level: u8,
-    ) -> Result<Box<Expr<'s>>, ParseError>
+    ) -> Result<Cover<'s>, ParseError>
         requires nests { ReadsWithin (left lexer.old) (F.pre self.now.inner) (F.post self.now.inner) self.now.body }
         requires bodies { ReadsBodies (left lexer.old) (B.pre self.now.body) (B.post self.now.body) }
         requires ranked { IsTrue (is_level level) }
-        ensures read { IfOk result (λ e. Only so_far (around_of context.entry.around) (Part (grammar.Expr level)) (place_of lexer.old) (one (view_expr e.value)) (place_of lexer.new)) }
-        ensures span { IfOk result (λ e. Spans (expr_at e.value) (next_of lexer.old) (end_of lexer.new)) }
-        ensures placed { IfOk result (λ e. IsPlaced (told_expr e.value) (view_expr e.value) lexer.old lexer.new) }
+        ensures read { IfOk result (λ c. IsCover (around_of context.entry.around) level (place_of lexer.old) c (place_of lexer.new)) }
+        ensures span { IfOk result (λ c. Spans (expr_at c.expr.value) (next_of lexer.old) (end_of lexer.new)) }
+        ensures placed { IfOk result (λ c. IsPlacedCover c lexer.old lexer.new) }
         ensures shorter { OnOk result (left lexer.new < left lexer.old) }
-        ensures ended { OnOk result (IsTrue (settled (place_of lexer.new))) }
-        ensures refused { Refused result (Barred so_far (around_of context.entry.around) (Part (grammar.Expr level)) (place_of lexer.old)) }
+        ensures ended { OnOk result (IsTrue (closed (place_of lexer.new))) }
+        ensures settles { OnOk result (Settles level (place_of lexer.new)) }
+        ensures refused { Refused result (NoCover (around_of context.entry.around) level (place_of lexer.old)) }
     {
-        let mut expr = self.beginning(context, lexer)?;
-        if operand::level(&expr) < level {
+        let first = self.operand(context, lexer, level)?;
+        if operand::level(&first.expr) < level {
             return Err(give_up(lexer));
         }
-        'steps: loop {
+        if !first.is_expr {
+            return Ok(first);
+        }
+        let mut may_turn = first.may_turn;
+        let mut expr = first.expr;
+        'steps: while !lexer.is_behind_block() {
             if lexer.is_before_template() {
                 expr = self.tagged(context, lexer, expr)?;
             } else {
                 let Some(growth) = lexer.growth(level) else {
-                    return Ok(expr);
+                    refuse_arrow(lexer, level)?;
+                    return Ok(Cover::of(expr, may_turn));
                 };
                 if !fits(growth, &expr) {
                     return Err(give_up(lexer));
                 }
                 expr = self.grow(context, lexer, growth, expr)?;
             }
+            may_turn = true;
         }
+        Ok(Cover::of(expr, may_turn))
+    }
+
+    /// What an expression of a level begins with: one that begins with no other, and at the level of assignments also an assignment
+    /// to a pattern, or an arrow function without parentheses: `[a] = b`, `a => b` (ECMA-262 sections 13.15 and 15.3).
+    pub(crate) fn operand<'s>(
+        &self,
+        context: Context,
+        lexer: &mut Lexer<'s>,
+        level: u8,
+    ) -> Result<Cover<'s>, ParseError>
+        requires nests { ReadsWithin (left lexer.old) (F.pre self.now.inner) (F.post self.now.inner) self.now.body }
+        requires bodies { ReadsBodies (left lexer.old) (B.pre self.now.body) (B.post self.now.body) }
+        requires ranked { IsTrue (is_level level) }
+        ensures read { IfOk result (λ c. IsOperand (around_of context.entry.around) level (place_of lexer.old) c (place_of lexer.new)) }
+        ensures span { IfOk result (λ c. Spans (expr_at c.expr.value) (next_of lexer.old) (end_of lexer.new)) }
+        ensures placed { IfOk result (λ c. IsPlacedCover c lexer.old lexer.new) }
+        ensures shorter { OnOk result (left lexer.new < left lexer.old) }
+        ensures ended { OnOk result (IsTrue (closed (place_of lexer.new))) }
+        ensures settles { IfOk result (λ c. Settles (climbing.level (view_cover c)) (place_of lexer.new)) }
+        ensures refused { Refused result (NoOperand (around_of context.entry.around) level (place_of lexer.old)) }
+    {
+        let mut first = self.beginning(context, lexer)?;
+        if level > ASSIGNMENT {
+            if !first.is_expr {
+                return Err(give_up(lexer));
+            }
+            return Ok(first);
+        }
+        if is_literal(&first.expr) {
+            if !lexer.take(Fixed::Equals) {
+                return Ok(first);
+            }
+            let expr = self.pattern_assignment(context, lexer, first)?;
+            return Ok(Cover::settled(expr));
+        }
+        if !is_before_arrow(lexer) {
+            return Ok(first);
+        }
+        let lo = start_of(&first.expr);
+        let Some(parameter) = parameter_name(&mut first.expr) else {
+            return Ok(first);
+        };
+        let expr = self.bare_arrow(context, lexer, lo, parameter)?;
+        Ok(Cover::settled(expr))
     }
 
     /// An expression that begins with no other.
@@ -109,22 +208,24 @@ impl<
         &self,
         context: Context,
         lexer: &mut Lexer<'s>,
-    ) -> Result<Box<Expr<'s>>, ParseError>
+    ) -> Result<Cover<'s>, ParseError>
         requires nests { ReadsWithin (left lexer.old) (F.pre self.now.inner) (F.post self.now.inner) self.now.body }
         requires bodies { ReadsBodies (left lexer.old) (B.pre self.now.body) (B.post self.now.body) }
-        ensures read { IfOk result (λ e. Begins (around_of context.entry.around) (place_of lexer.old) (view_expr e.value) (place_of lexer.new)) }
-        ensures span { IfOk result (λ e. Spans (expr_at e.value) (next_of lexer.old) (end_of lexer.new)) }
-        ensures placed { IfOk result (λ e. IsPlaced (told_expr e.value) (view_expr e.value) lexer.old lexer.new) }
+        ensures read { IfOk result (λ c. BeginsCover (around_of context.entry.around) (place_of lexer.old) c (place_of lexer.new)) }
+        ensures span { IfOk result (λ c. Spans (expr_at c.expr.value) (next_of lexer.old) (end_of lexer.new)) }
+        ensures placed { IfOk result (λ c. IsPlacedCover c lexer.old lexer.new) }
         ensures shorter { OnOk result (left lexer.new < left lexer.old) }
-        ensures refused { Refused result (NoneBegins (around_of context.entry.around) (place_of lexer.old)) }
+        ensures ended { OnOk result (IsTrue (closed (place_of lexer.new))) }
+        ensures settles { IfOk result (λ c. Settles (climbing.level (view_cover c)) (place_of lexer.new)) }
+        ensures refused { Refused result (NoCoverBegins (around_of context.entry.around) (place_of lexer.old)) }
     {
         if let Some(opening) = lexer.opening() {
             return Ok(self.open(context, lexer, opening)?);
         }
         if lexer.is_before_template() {
-            return Ok(self.untagged(context, lexer)?);
+            return Ok(Cover::settled(self.untagged(context, lexer)?));
         }
-        Ok(primary(context, lexer)?)
+        Ok(Cover::settled(primary(context, lexer)?))
     }
 
     /// What an expression is, behind its first token. It is kept out of the frame that each level of calls takes.
@@ -135,27 +236,32 @@ impl<
         context: Context,
         lexer: &mut Lexer<'s>,
         opening: Opening,
-    ) -> Result<Box<Expr<'s>>, ParseError>
+    ) -> Result<Cover<'s>, ParseError>
         requires nests { ReadsWithin (suc (left lexer.old)) (F.pre self.now.inner) (F.post self.now.inner) self.now.body }
         requires bodies { ReadsBodies (left lexer.old) (B.pre self.now.body) (B.post self.now.body) }
-        ensures read { IfOk result (λ e. OnlyOpened (around_of context.entry.around) (opening_sign (opening_kind opening)) (view_expr e.value) (place_of lexer.old) (place_of lexer.new)) }
-        ensures span { IfOk result (λ e. Spans (expr_at e.value) (begin_of lexer.old) (end_of lexer.new)) }
-        ensures placed { IfOk result (λ e. IsPlacedBehind (opening_sign (opening_kind opening)) lexer.old (told_expr e.value) (view_expr e.value) lexer.new) }
+        ensures read { IfOk result (λ c. OpensCover (around_of context.entry.around) (opening_sign (opening_kind opening)) c (place_of lexer.old) (place_of lexer.new)) }
+        ensures span { IfOk result (λ c. Spans (expr_at c.expr.value) (begin_of lexer.old) (end_of lexer.new)) }
+        ensures placed { IfOk result (λ c. IsPlacedCoverBehind (opening_sign (opening_kind opening)) lexer.old c lexer.new) }
         ensures shorter { OnOk result (left lexer.new < left lexer.old) }
-        ensures ended { OnOk result (IsTrue (settled (place_of lexer.new))) }
-        ensures refused { Refused result (NoneOpened (around_of context.entry.around) (opening_sign (opening_kind opening)) (place_of lexer.old)) }
+        ensures ended { OnOk result (IsTrue (closed (place_of lexer.new))) }
+        ensures settles { IfOk result (λ c. Settles (climbing.level (view_cover c)) (place_of lexer.new)) }
+        ensures refused { Refused result (NoCoverOpened (around_of context.entry.around) (opening_sign (opening_kind opening)) (place_of lexer.old)) }
     {
         match opening {
-            Opening::Import => Ok(self.import(context, lexer)?),
-            Opening::New => Ok(self.new_expression(context, lexer)?),
-            Opening::Paren => Ok(self.parenthesized(context, lexer)?),
+            Opening::Import => Ok(Cover::settled(self.import(context, lexer)?)),
+            Opening::New => Ok(Cover::settled(self.new_expression(context, lexer)?)),
+            Opening::Paren => Ok(Cover::settled(self.parenthesized(context, lexer)?)),
             Opening::Array => Ok(self.array(context, lexer)?),
             Opening::Object => Ok(self.object(context, lexer)?),
-            Opening::Function => Ok(self.function_expression(context, lexer)?),
-            Opening::Class => Ok(self.class_expression(context, lexer)?),
-            Opening::Super => Ok(self.super_expression(context, lexer)?),
-            Opening::Unary(operator) => Ok(self.unary(context, lexer, operator)?),
-            Opening::Update(operator) => Ok(self.prefix_update(context, lexer, operator)?),
+            Opening::Function => Ok(Cover::settled(self.function_expression(context, lexer)?)),
+            Opening::Class => Ok(Cover::settled(self.class_expression(context, lexer)?)),
+            Opening::Super => Ok(Cover::settled(self.super_expression(context, lexer)?)),
+            Opening::Unary(operator) => {
+                Ok(Cover::settled(self.unary(context, lexer, operator)?))
+            }
+            Opening::Update(operator) => {
+                Ok(Cover::settled(self.prefix_update(context, lexer, operator)?))
+            }
         }
     }
 
@@ -208,7 +314,8 @@ impl<
         ensures ended { OnOk result (IsTrue (settled (place_of lexer.new))) }
         ensures refused { Refused result (Barred so_far (around_of context.entry.around) (Part grammar.NewCallee) (place_of lexer.old)) }
     {
-        let mut expr = self.beginning(context, lexer)?;
+        let first = self.beginning(context, lexer)?;
+        let mut expr = settle(first, lexer)?;
         if !is_callee(&expr) {
             return Err(give_up(lexer));
         }
@@ -239,7 +346,7 @@ impl<
         ensures span { IfOk result (λ e. Spans (expr_at e.value) (next_of lexer.old) (end_of lexer.new)) }
         ensures placed { IfOk result (λ e. IsPlaced (told_expr e.value) (view_expr e.value) lexer.old lexer.new) }
         ensures shorter { OnOk result (left lexer.new < left lexer.old) }
-        ensures ended { OnOk result (IsTrue (settled (place_of lexer.new))) }
+        ensures ended { OnOk result (IsTrue (closed (place_of lexer.new))) }
         ensures refused { Refused result (Barred so_far (around_of context.entry.around) (Part (grammar.Expr 0)) (place_of lexer.old)) }
     {
         let first = self.inner(context, lexer, ASSIGNMENT)?;
@@ -255,10 +362,10 @@ impl<
     ) -> Result<Box<Expr<'s>>, ParseError>
         requires nests { ReadsWithin (suc (left lexer.old)) (F.pre self.now.inner) (F.post self.now.inner) self.now.body }
         requires bodies { ReadsBodies (left lexer.old) (B.pre self.now.body) (B.post self.now.body) }
-        requires settled { IsTrue (settled (place_of lexer.old)) }
+        requires settled { IsTrue (closed (place_of lexer.old)) }
         ensures read { IfOk result (λ e. IsGathered (around_of context.entry.around) first.entry.value lexer.old e.value lexer.new) }
         ensures within { OnOk result (left lexer.new ≤ left lexer.old) }
-        ensures ended { OnOk result (IsTrue (settled (place_of lexer.new))) }
+        ensures ended { OnOk result (IsTrue (closed (place_of lexer.new))) }
         ensures refused { Refused result (NotGathered (around_of context.entry.around) (view_expr first.entry.value) (place_of lexer.old)) }
     {
         if !lexer.take(Fixed::Comma) {
@@ -274,30 +381,6 @@ impl<
                 return Ok(make::sequence(context.alloc, span_to(lo, lexer), all)?);
             }
         }
-    }
-
-    /// An expression in parentheses behind its `(`: `(a)` (ECMA-262 section 13.2.9). No `=>` comes behind it.
-    pub(crate) fn parenthesized<'s>(
-        &self,
-        context: Context,
-        lexer: &mut Lexer<'s>,
-    ) -> Result<Box<Expr<'s>>, ParseError>
-        requires nests { ReadsWithin (suc (left lexer.old)) (F.pre self.now.inner) (F.post self.now.inner) self.now.body }
-        requires bodies { ReadsBodies (left lexer.old) (B.pre self.now.body) (B.post self.now.body) }
-        ensures read { IfOk result (λ e. Built so_far (around_of context.entry.around) (tail (row_so_far (expression Parenthesized))) (expression Parenthesized) (λ ts. ts) (view_expr e.value) (place_of lexer.old) (place_of lexer.new)) }
-        ensures span { IfOk result (λ e. Spans (expr_at e.value) (begin_of lexer.old) (end_of lexer.new)) }
-        ensures placed { IfOk result (λ e. IsPlacedBehind (opening_sign (expression Parenthesized)) lexer.old (told_expr e.value) (view_expr e.value) lexer.new) }
-        ensures shorter { OnOk result (left lexer.new < left lexer.old) }
-        ensures ended { OnOk result (IsTrue (settled (place_of lexer.new))) }
-        ensures refused { Refused result (NoRow so_far (around_of context.entry.around) (tail (row_so_far (expression Parenthesized))) (place_of lexer.old)) }
-    {
-        let lo = lexer.last_place();
-        let inner = self.sequence(context, lexer)?;
-        expect(context, lexer, Fixed::Close)?;
-        if lexer.is_before_arrow() {
-            return Err(give_up(lexer));
-        }
-        Ok(make::paren(context.alloc, span_to(lo, lexer), inner)?)
     }
 
     /// What goes on with an expression, behind its first token. It has no frame of its own.
@@ -316,7 +399,8 @@ impl<
         ensures span { IfOk result (λ e. Extends (expr_at first.entry.value) (expr_at e.value) (end_of lexer.new)) }
         ensures placed { IfOk result (λ e. IsPlacedOn (mark (growth_kind growth)) first.entry.value lexer.old e.value lexer.new) }
         ensures within { OnOk result (left lexer.new ≤ left lexer.old) }
-        ensures ended { OnOk result (IsTrue (settled (place_of lexer.new))) }
+        ensures ended { OnOk result (IsTrue (closed (place_of lexer.new))) }
+        ensures settles { OnOk result (Settles (level_of_kind (growth_kind growth)) (place_of lexer.new)) }
         ensures refused { Refused result (NotGrown (around_of context.entry.around) (growth_kind growth) (place_of lexer.old)) }
     {
         match growth {

@@ -2,6 +2,7 @@
 #![tactic(auto)]
 
 mod access;
+mod arrow;
 mod chains;
 pub mod class;
 pub mod expression;

@@ -1,7 +1,7 @@
 //! Methods, getters and setters, of objects and of classes, and fields (ECMA-262 sections 15.4 and 15.7).
 
 ghost use Rattle.std.specs.Prelude.{◌≡◌, ◌<◌, ◌≤◌, IfOk, OnOk, IsFalse, IsTrue, suc, true};
-ghost use Rattle.jsx_tree.specs.Kinds.{InObject, none, part};
+ghost use Rattle.jsx_tree.specs.Kinds.{none, part};
 ghost use Rattle.jsx_tree.specs.Nonterminals as grammar;
 ghost use Rattle.jsx_tree.specs.Grammar.{Part};
 ghost use Rattle.jsx_tree.specs.StaticRules.{first_is_constructor, has_plain_params, is_word};
@@ -10,29 +10,30 @@ ghost use Rattle.jsx_tree.specs.Told.{told_expr, told_key, told_optional, told_p
 ghost use Rattle.jsx_tree.specs.View.{holder_of, optional_of, view_expr, view_key, view_member, view_pat};
 ghost use Rattle.jsx_tree.specs.Walk.{one};
 ghost use Rattle.jsx_tree.specs.Answers.{Barred, NoRow, Only, OnlyRow};
-ghost use Rattle.jsx_make.specs.Members.{view_prop};
 ghost use Rattle.jsx_operand.specs.Around.{around_of, in_field, in_method};
 ghost use Rattle.jsx_operand.specs.Answers.{Refused};
 ghost use Rattle.jsx_operand.specs.Bodies.{ReadsBodies, told_of, view_body};
 ghost use Rattle.jsx_operand.specs.SoFar.{so_far};
-ghost use Rattle.jsx_operand.specs.Spans.{IsPlaced, IsPlacedBehind, IsPlacedPast, IsPlacedRow};
+ghost use Rattle.jsx_operand.specs.Spans.{IsPlaced, IsPlacedRow};
 ghost use Rattle.jsx_token.specs.Here.{left, place_of, sign_of};
 ghost use Rattle.jsx_token.specs.declared.lexer.Fixed.TheVariants as fixed;
 ghost use Rattle.jsx_token.specs.declared.word.Word.TheVariants as word;
 ghost use Rattle.jsx_token.specs.Places.{Takes, begin_of, next_of};
 ghost use Rattle.jsx_expression.specs.Functions.{NoOwnCode, code_symbols, own_row, parts_of, told_parts};
-ghost use Rattle.jsx_expression.specs.Methods.{BeginsKey, IsPlacedFrom, IsPlacedMember, IsPrefix, NoKey, NoPrefix, NoSetter, NoneFromKey, NoneKeyed, OnlyFromKey, OnlyKeyed, OnlySetterParam, field_row, field_symbols, getter_row, getter_symbols, getter_words, holder_at, holder_words, is_classed, is_field, is_getter, is_method, is_setter, keyed_in_class, keyed_in_object, owner_at, setter_parts, setter_row, setter_symbols, setter_words, suits_setter, told_setter};
+ghost use Rattle.jsx_expression.specs.Methods.{BeginsKey, IsPlacedFrom, IsPlacedMember, IsPrefix, NoKey, NoPrefix, NoSetter, NoneFromKey, NoneKeyed, OnlyFromKey, OnlyKeyed, OnlySetterParam, field_row, field_symbols, getter_row, getter_symbols, getter_words, holder_at, holder_words, is_classed, is_field, is_getter, is_method, is_setter, keyed_in_class, owner_at, setter_parts, setter_row, setter_symbols, setter_words, suits_setter, told_setter};
+ghost use Rattle.jsx_expression.specs.Covers.{CoversKeyed, IsPlacedPair, NoCoverKeyed};
 ghost use Rattle.jsx_expression.specs.Within.{ReadsWithin};
 
 use crate::function::{FunctionCode, Parameter, suits};
 use crate::grammar::Expressions;
+use crate::literals::Member;
 use jsx_base::BytePos;
 use jsx_make::make;
 use jsx_operand::member::is_constructor_key;
 use jsx_operand::operand::{ASSIGNMENT, literal_key};
 use jsx_operand::parser::{expect, give_up, semicolon, span_to};
 use jsx_operand::pattern::is_compound;
-use jsx_operand::{Body, Context, Labels, ParseError};
+use jsx_operand::{Body, Context, Cover, Labels, ParseError};
 use jsx_token::{Ending, Fixed, Leaf, Lexer, Word};
 use jsx_tree::{Expr, Key, Pat, Placement, Prop, Text};
 
@@ -127,7 +128,7 @@ pub(crate) fn take_prefix(lexer: &mut Lexer, word: Word) -> bool
 }
 
 impl<
-    F: for<'c, 's> Fn(Context<'c>, &mut Lexer<'s>, u8, B) -> Result<Box<Expr<'s>>, ParseError>,
+    F: for<'c, 's> Fn(Context<'c>, &mut Lexer<'s>, u8, B) -> Result<Cover<'s>, ParseError>,
     B: Copy + for<'c, 's> Fn(Context<'c>, &mut Lexer<'s>) -> Result<Body<'s>, ParseError>,
 > Expressions<F, B> {
     /// The key of a member: a name, a string, a number, or an expression in brackets.
@@ -462,16 +463,17 @@ impl<
         lexer: &mut Lexer<'s>,
         lo: BytePos,
         key: Key<'s>,
-    ) -> Result<Box<Prop<'s>>, ParseError>
+    ) -> Result<Member<'s>, ParseError>
         requires nests { ReadsWithin (suc (left lexer.old)) (F.pre self.now.inner) (F.post self.now.inner) self.now.body }
         requires bodies { ReadsBodies (left lexer.old) (B.pre self.now.body) (B.post self.now.body) }
-        ensures read { IfOk result (λ m. OnlyKeyed keyed_in_object (around_of context.entry.around) (view_key key.entry) (view_prop m.value) (place_of lexer.old) (place_of lexer.new)) }
-        ensures placed { IfOk result (λ m. IsPlacedPast lo.0 (told_key key.entry) (view_key key.entry) lexer.old (told_prop m.value) (view_prop m.value) lexer.new) }
+        ensures read { IfOk result (λ m. CoversKeyed (around_of context.entry.around) (view_key key.entry) m (place_of lexer.old) (place_of lexer.new)) }
+        ensures placed { IfOk result (λ m. IsPlacedPair lo.0 (told_key key.entry) (view_key key.entry) lexer.old m lexer.new) }
         ensures shorter { OnOk result (left lexer.new < left lexer.old) }
-        ensures refused { Refused result (NoneKeyed keyed_in_object (around_of context.entry.around) (view_key key.entry) (place_of lexer.old)) }
+        ensures refused { Refused result (NoCoverKeyed (around_of context.entry.around) (view_key key.entry) (place_of lexer.old)) }
     {
         if lexer.is_before(Fixed::Open) {
-            return Ok(self.method(context, lexer, lo, Home::Object, key)?);
+            let prop = self.method(context, lexer, lo, Home::Object, key)?;
+            return Ok(Member::settled(prop));
         }
         Ok(self.property(context, lexer, lo, key)?)
     }

@@ -13,7 +13,8 @@ ghost use Rattle.jsx_operand.specs.SoFar.{so_far};
 ghost use Rattle.jsx_token.specs.Marks.{row_so_far};
 ghost use Rattle.jsx_token.specs.Here.{place_of, left};
 ghost use Rattle.jsx_operand.specs.Answers.{Refused};
-ghost use Rattle.jsx_token.specs.Growths.{mark, opening_sign, settled};
+ghost use Rattle.jsx_token.specs.Growths.{closed, mark, opening_sign, settled};
+ghost use Rattle.jsx_expression.specs.Covers.{IsAssigned, IsPlacedAssigned, NotAssigned};
 ghost use Rattle.jsx_make.specs.NodeSpans.{expr_at};
 ghost use Rattle.jsx_operand.specs.Spans.{Extends, IsPlacedBehind, IsPlacedOn, Spans};
 ghost use Rattle.jsx_token.specs.Places.{begin_of, end_of};
@@ -24,7 +25,8 @@ use crate::grammar::Expressions;
 use jsx_make::make;
 use jsx_operand::operand::{ASSIGNMENT, deletes_name, is_target, start_of, target_of};
 use jsx_operand::parser::{expect, give_up, span_to};
-use jsx_operand::{Body, Context, ParseError};
+use jsx_operand::turn::turn;
+use jsx_operand::{Body, Context, Cover, ParseError};
 use jsx_token::{Fixed, Lexer, growth};
 use jsx_tree::{AssignOp, BinaryOp, Expr, UnaryOp, UpdateOp};
 
@@ -35,7 +37,7 @@ const UNARY: u8 = 15;
 pub(crate) const MEMBER: u8 = 17;
 
 impl<
-    F: for<'c, 's> Fn(Context<'c>, &mut Lexer<'s>, u8, B) -> Result<Box<Expr<'s>>, ParseError>,
+    F: for<'c, 's> Fn(Context<'c>, &mut Lexer<'s>, u8, B) -> Result<Cover<'s>, ParseError>,
     B: Copy + for<'c, 's> Fn(Context<'c>, &mut Lexer<'s>) -> Result<Body<'s>, ParseError>,
 > Expressions<F, B> {
     /// A conditional expression behind its `?`: `a ? b : c` (ECMA-262 section 13.14).
@@ -51,7 +53,7 @@ impl<
         ensures span { IfOk result (λ e. Extends (expr_at test.entry.value) (expr_at e.value) (end_of lexer.new)) }
         ensures placed { IfOk result (λ e. IsPlacedOn (mark (expression Cond)) test.entry.value lexer.old e.value lexer.new) }
         ensures shorter { OnOk result (left lexer.new < left lexer.old) }
-        ensures ended { OnOk result (IsTrue (settled (place_of lexer.new))) }
+        ensures ended { OnOk result (IsTrue (closed (place_of lexer.new))) }
         ensures refused { Refused result (NoRow so_far (around_of context.entry.around) (tail (tail (row_so_far (expression Cond)))) (place_of lexer.old)) }
     {
         let then = self.inner(context, lexer, ASSIGNMENT)?;
@@ -96,13 +98,37 @@ impl<
         ensures span { IfOk result (λ e. Extends (expr_at first.entry.value) (expr_at e.value) (end_of lexer.new)) }
         ensures placed { IfOk result (λ e. IsPlacedOn (mark (expression Assign)) first.entry.value lexer.old e.value lexer.new) }
         ensures shorter { OnOk result (left lexer.new < left lexer.old) }
-        ensures ended { OnOk result (IsTrue (settled (place_of lexer.new))) }
+        ensures ended { OnOk result (IsTrue (closed (place_of lexer.new))) }
         ensures refused { Refused result (NoRow so_far (around_of context.entry.around) (tail (tail (row_so_far (expression Assign)))) (place_of lexer.old)) }
     {
         let value = self.inner(context, lexer, ASSIGNMENT)?;
         let span = span_to(start_of(&first), lexer);
         let target = target_of(context.alloc, first)?;
         Ok(make::assign(context.alloc, span, target, value)?)
+    }
+
+    /// An assignment to a pattern behind its `=`: `[a] = b`, of the array or the object that was read before it (ECMA-262 section
+    /// 13.15.5). It is kept out of the frame that each level of nesting takes.
+    #[inline(never)]
+    pub(crate) fn pattern_assignment<'s>(
+        &self,
+        context: Context,
+        lexer: &mut Lexer<'s>,
+        first: Cover<'s>,
+    ) -> Result<Box<Expr<'s>>, ParseError>
+        requires nests { ReadsWithin (suc (left lexer.old)) (F.pre self.now.inner) (F.post self.now.inner) self.now.body }
+        requires bodies { ReadsBodies (left lexer.old) (B.pre self.now.body) (B.post self.now.body) }
+        ensures read { IfOk result (λ e. IsAssigned (around_of context.entry.around) first.entry (view_expr e.value) (place_of lexer.old) (place_of lexer.new)) }
+        ensures span { IfOk result (λ e. Extends (expr_at first.entry.expr.value) (expr_at e.value) (end_of lexer.new)) }
+        ensures placed { IfOk result (λ e. IsPlacedAssigned first.entry lexer.old e.value lexer.new) }
+        ensures shorter { OnOk result (left lexer.new < left lexer.old) }
+        ensures ended { OnOk result (IsTrue (closed (place_of lexer.new))) }
+        ensures refused { Refused result (NotAssigned (around_of context.entry.around) first.entry (place_of lexer.old)) }
+    {
+        let lo = start_of(&first.expr);
+        let target = turn(context.alloc, lexer.last_place(), first)?;
+        let value = self.inner(context, lexer, ASSIGNMENT)?;
+        Ok(make::assign(context.alloc, span_to(lo, lexer), target, value)?)
     }
 
     /// An assignment with an operator, behind that: `a += b` (ECMA-262 section 13.15).
@@ -119,7 +145,7 @@ impl<
         ensures span { IfOk result (λ e. Extends (expr_at first.entry.value) (expr_at e.value) (end_of lexer.new)) }
         ensures placed { IfOk result (λ e. IsPlacedOn (mark (expression (OpAssign (assign_of operator)))) first.entry.value lexer.old e.value lexer.new) }
         ensures shorter { OnOk result (left lexer.new < left lexer.old) }
-        ensures ended { OnOk result (IsTrue (settled (place_of lexer.new))) }
+        ensures ended { OnOk result (IsTrue (closed (place_of lexer.new))) }
         ensures refused { Refused result (NoRow so_far (around_of context.entry.around) (tail (tail (row_so_far (expression (OpAssign (assign_of operator)))))) (place_of lexer.old)) }
     {
         let value = self.inner(context, lexer, ASSIGNMENT)?;

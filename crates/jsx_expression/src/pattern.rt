@@ -26,14 +26,14 @@ ghost use Rattle.jsx_expression.specs.Elements.{NoItem};
 ghost use Rattle.jsx_expression.specs.Patterns.{IsElement, NoElement, NoPart, NoShort, OnlyPair, OnlyPart, OnlyShort, OnlySlot, behind_bracket, behind_pattern_brace};
 ghost use Rattle.jsx_expression.specs.Within.{ReadsWithin};
 
-use crate::expression::expression;
+use crate::expression::cover;
 use crate::grammar::Expressions;
 use jsx_base::BytePos;
 use jsx_make::make;
 use jsx_operand::operand::{ASSIGNMENT, literal_key};
 use jsx_operand::parser::{binding_identifier, bound_name, expect, give_up, span_to};
 use jsx_operand::pattern::start_of_pattern;
-use jsx_operand::{Body, Context, ParseError};
+use jsx_operand::{Body, Context, Cover, ParseError};
 use jsx_token::{Fixed, Leaf, Lexer, is_bound};
 use jsx_tree::{Expr, Ident, Key, Pat, Text};
 
@@ -61,7 +61,7 @@ fn rest_property<'s>(context: Context, lexer: &mut Lexer<'s>) -> Result<Box<Pat<
 }
 
 impl<
-    F: for<'c, 's> Fn(Context<'c>, &mut Lexer<'s>, u8, B) -> Result<Box<Expr<'s>>, ParseError>,
+    F: for<'c, 's> Fn(Context<'c>, &mut Lexer<'s>, u8, B) -> Result<Cover<'s>, ParseError>,
     B: Copy + for<'c, 's> Fn(Context<'c>, &mut Lexer<'s>) -> Result<Body<'s>, ParseError>,
 > Expressions<F, B> {
     /// What binds names: a name, or a pattern in brackets (ECMA-262 section 14.3.3).
@@ -349,7 +349,7 @@ where
     ensures refused { Refused result (Barred so_far (around_of context.entry.around) (Part (grammar.Pat Binds)) (place_of lexer.old)) }
 {
     Expressions {
-        inner: expression::<B>,
+        inner: cover::<B>,
         body,
     }
     .binding(context, lexer)

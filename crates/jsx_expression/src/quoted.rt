@@ -29,12 +29,12 @@ use jsx_make::make;
 use jsx_operand::operand::{level, start_of};
 use jsx_operand::parser::{expect, give_up, span_to};
 use jsx_operand::template::{Template, middle, piece_text, whole_template};
-use jsx_operand::{Body, Context, ParseError};
+use jsx_operand::{Body, Context, Cover, ParseError};
 use jsx_token::{Fixed, Leaf, Lexer, Piece};
 use jsx_tree::{Expr, Text};
 
 impl<
-    F: for<'c, 's> Fn(Context<'c>, &mut Lexer<'s>, u8, B) -> Result<Box<Expr<'s>>, ParseError>,
+    F: for<'c, 's> Fn(Context<'c>, &mut Lexer<'s>, u8, B) -> Result<Cover<'s>, ParseError>,
     B: Copy + for<'c, 's> Fn(Context<'c>, &mut Lexer<'s>) -> Result<Body<'s>, ParseError>,
 > Expressions<F, B> {
     /// A template behind its first piece: `a}b${c}d`.

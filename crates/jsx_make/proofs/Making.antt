@@ -1,9 +1,10 @@
 -- What a box that was made shows, from what was put in it.
 use Rattle.std.proofs.Common.{◌≡◌, List, [], ◌∷◌, map, refl, ap, ◌∙◌, Result, Box, IfOk, Global}
 use Rattle.std.proofs.lemmas.Result.{IfOk-weaker}
+use Rattle.jsx_tree.specs.declared.tree.Pat.{Pat}
 use Rattle.jsx_tree.specs.declared.tree.Prop.{Prop}
-use Rattle.jsx_tree.specs.Kinds.{part}
-use Rattle.jsx_tree.specs.View.{forest, inside, members_of_class, members_of_object, view_member}
+use Rattle.jsx_tree.specs.Kinds.{Assigns, part}
+use Rattle.jsx_tree.specs.View.{forest, forest_at, inside, members_of_class, members_of_object, view_member, view_pattern, view_target}
 use Rattle.jsx_make.specs.Members.{view_class_member, view_prop}
 
 pub shows : {T V E : Type 0} {u : V} (f : T → V) (r : Result (Box T Global) E) (x : T) → IfOk r (λ b. b.value ≡ x) → f x ≡ u → IfOk r (λ b. f b.value ≡ u)
@@ -21,3 +22,8 @@ members_forest (m ∷ ms) = ap (part (view_prop m.value)) (members_forest ms)
 pub class_forest : (ms : List (Box Prop Global)) → members_of_class (map (inside view_member) ms) ≡ forest (map (inside view_class_member) ms)
 class_forest [] = refl
 class_forest (m ∷ ms) = ap (part (view_class_member m.value)) (class_forest ms)
+
+-- the parts of a pattern that assigns
+pub assigned_forest : (ps : List (Box Pat Global)) → forest_at Assigns (map (inside view_pattern) ps) ≡ forest (map (inside view_target) ps)
+assigned_forest [] = refl
+assigned_forest (p ∷ ps) = ap (part (view_target p.value)) (assigned_forest ps)

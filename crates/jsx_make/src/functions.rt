@@ -1,8 +1,8 @@
 //! The makers of functions, of patterns and what stands among parameters, and of `return`.
 
 ghost use Rattle.std.specs.Prelude.{◌≡◌, [], ◌∷◌, IfOk, map};
-ghost use Rattle.jsx_tree.specs.Kinds.{Role, FunctionExpr, FunctionDecl, Return, WithInit, RestPat, ArrayPat, ObjectPat, PropertyPat, ShorthandPat, ShorthandInit, RestProperty, Binds, leaf, statement, function, node, list, none, part};
-ghost use Rattle.jsx_tree.specs.View.{name_of, inside, forest, body, optional_of, view_expr, view_key, view_pattern, view_pat, view_stmt};
+ghost use Rattle.jsx_tree.specs.Kinds.{Role, FunctionExpr, FunctionDecl, Return, WithInit, RestPat, ArrayPat, ObjectPat, PropertyPat, ShorthandPat, ShorthandInit, RestProperty, Assigns, Binds, leaf, statement, function, node, list, none, part};
+ghost use Rattle.jsx_tree.specs.View.{name_of, inside, forest, body, optional_of, view_expr, view_key, view_pattern, view_pat, view_stmt, view_target};
 ghost use Rattle.jsx_tree.specs.Told.{told_list, told_optional, told_ident, told_text, told_body, told_node, told_expr, told_key, told_pat, told_stmt};
 ghost use Rattle.jsx_base.specs.Token.{Elision};
 ghost use Rattle.jsx_tree.specs.Spans.{no_tales, tells};
@@ -91,13 +91,14 @@ pub fn rest<'s>(
     boxed(alloc, Pat::Rest(at, target))
 }
 
-/// `[a, , ...b]` as a pattern that binds.
+/// `[a, , ...b]` as a pattern.
 pub fn array_pattern<'s>(
     alloc: Global,
     at: Option<Span>,
     slots: Vec<Box<Pat<'s>>>,
 ) -> Result<Box<Pat<'s>>, AllocError>
     ensures view { IfOk result (λ p. view_pat p.value ≡ node (function (ArrayPat Binds)) (part (list (forest (map (inside view_pat) slots.entry.items))) none)) }
+    ensures assigns { IfOk result (λ p. view_target p.value ≡ node (function (ArrayPat Assigns)) (part (list (forest (map (inside view_target) slots.entry.items))) none)) }
     ensures told { IfOk result (λ p. told_pat p.value ≡ told_node at (told_list (map (inside told_pat) slots.entry.items) ∷ [])) }
     ensures span { IfOk result (λ p. pat_at p.value ≡ at) }
 {
@@ -112,13 +113,14 @@ pub fn pattern_hole<'s>(alloc: Global) -> Result<Box<Pat<'s>>, AllocError>
     boxed(alloc, Pat::Hole)
 }
 
-/// `{ a, b: c }` as a pattern that binds.
+/// `{ a, b: c }` as a pattern.
 pub fn object_pattern<'s>(
     alloc: Global,
     at: Option<Span>,
     parts: Vec<Box<Pat<'s>>>,
 ) -> Result<Box<Pat<'s>>, AllocError>
     ensures view { IfOk result (λ p. view_pat p.value ≡ node (function (ObjectPat Binds)) (part (list (forest (map (inside view_pat) parts.entry.items))) none)) }
+    ensures assigns { IfOk result (λ p. view_target p.value ≡ node (function (ObjectPat Assigns)) (part (list (forest (map (inside view_target) parts.entry.items))) none)) }
     ensures told { IfOk result (λ p. told_pat p.value ≡ told_node at (told_list (map (inside told_pat) parts.entry.items) ∷ [])) }
     ensures span { IfOk result (λ p. pat_at p.value ≡ at) }
 {

@@ -11,6 +11,7 @@ ghost use Rattle.jsx_tree.specs.Spans.{no_tales, tells};
 ghost use Rattle.jsx_make.specs.NodeSpans.{expr_at, member_at, pat_at};
 ghost use Rattle.jsx_make.specs.Members.{view_prop};
 
+pub use crate::arrows::{arrow, arrow_block, bare_arrow, bare_arrow_block};
 pub use crate::classes::{
     class_declaration, class_expression, field, getter, method, setter, super_call, super_index,
     super_member,

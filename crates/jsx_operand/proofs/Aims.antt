@@ -1,8 +1,8 @@
 -- What may be assigned to, in the language so far: an expression, and the target that it is.
-use Rattle.std.proofs.Common.{◌≡◌, ℕ, Bool, true, false, cond, refl, sym, ap, subst}
+use Rattle.std.proofs.Common.{◌≡◌, ℕ, Bool, true, false, not, cond, refl, sym, ◌∙◌, ap, subst}
 use Rattle.std.specs.Prelude.{◌&&◌, ◌||◌}
 use Rattle.jsx_base.specs.Token.{Text, TokenKind, IdentifierName}
-use Rattle.jsx_tree.specs.Kinds.{Assigns, Member, Index, SuperMember, SuperIndex, ParenTarget, Parenthesized, Kind, function, expression, Tree, leaf, node, list, Forest, none, part}
+use Rattle.jsx_tree.specs.Kinds.{Assigns, ArrayPat, ObjectPat, Member, Index, SuperMember, SuperIndex, ParenTarget, Parenthesized, Kind, function, expression, Tree, leaf, node, list, Forest, none, part}
 use Rattle.jsx_tree.specs.Nonterminals.{Nonterminal, Expr, SimpleTarget, Pat, homes, in_homes, leaf_in, is_bound, is_value_word}
 use Rattle.jsx_tree.specs.Form.{is, is_leaf, admits, fits_below}
 use Rattle.jsx_tree.specs.Reading.{Place}
@@ -11,14 +11,14 @@ use Rattle.jsx_tree.specs.Grows.{takes_target, as_target, seen, is_aim}
 use Rattle.jsx_tree.proofs.Tokens.{and_left, and_right, and_both}
 use Rattle.jsx_tree.proofs.Apart.{clash}
 use Rattle.jsx_tree.proofs.Rows.Firsts.{kind_home}
-use Rattle.jsx_tree.proofs.Rows.Stopping.{or_cases}
+use Rattle.jsx_tree.proofs.Rows.Stopping.{is_not, or_cases}
 use Rattle.jsx_tree.proofs.Rows.Targets.{as_value, is_member, Aim, named, member, paired, Target, name_target, member_target, pair_target, Level, Left, value_read, target_read}
 use Rattle.jsx_token.specs.Stage.{has_kind, leaf_at, in_stage}
 use Rattle.jsx_token.proofs.Levels.{is_left}
 use Rattle.jsx_operand.specs.SoFar.{Staged}
 use Rattle.jsx_operand.specs.Climbing.{is_target}
-use Rattle.jsx_token.proofs.Listed.{Listed}
-use Rattle.jsx_operand.proofs.Homes.{Taken, taken, Value, literal, made}
+use Rattle.jsx_token.proofs.Listed.{Listed, of_each}
+use Rattle.jsx_operand.proofs.Homes.{Taken, taken, Value, literal, made, is_bracket, in_brackets}
 use Rattle.jsx_operand.proofs.Standing.{standing}
 
 -- ---- what stands at the left, as it is seen there
@@ -133,9 +133,9 @@ leaf_target (Pat Assigns) l IdentifierName t i s = name_target i
 leaf_target (Pat Assigns) l _ t i s = cc
 leaf_target _ l k t i s = cc
 
-target_kind : (c : Nonterminal) → is_left c ≡ true → (k : Kind) → Taken k → in_homes c (homes k) ≡ true → (is_member k || is_pair_target k) ≡ true
-target_kind SimpleTarget l k t h = standing SimpleTarget (λ j. is_member j || is_pair_target j) refl k t h
-target_kind (Pat Assigns) l k t h = standing (Pat Assigns) (λ j. is_member j || is_pair_target j) refl k t h
+target_kind : (c : Nonterminal) → is_left c ≡ true → (k : Kind) → Taken k → in_homes c (homes k) ≡ true → (is_bracket k || (is_member k || is_pair_target k)) ≡ true
+target_kind SimpleTarget l k t h = standing SimpleTarget (λ j. is_bracket j || (is_member j || is_pair_target j)) refl k t h
+target_kind (Pat Assigns) l k t h = standing (Pat Assigns) (λ j. is_bracket j || (is_member j || is_pair_target j)) refl k t h
 target_kind _ l k t h = cc
 
 no_pair : (c : Nonterminal) (t u : Tree) (us : Forest) → is c (node (function ParenTarget) (part t (part u us))) ≡ true → ⊥
@@ -143,37 +143,74 @@ no_pair c t u us h =
     let f : (admits SimpleTarget t && (fits_below SimpleTarget t && false)) ≡ true = and_right (admits c (node (function ParenTarget) (part t (part u us)))) _ h in
     let bad : false ≡ true = and_right (fits_below SimpleTarget t) false (and_right (admits SimpleTarget t) _ f) in cc
 
--- a kind that stands there and is no pair of parentheses is that of a member
-member_there : (c : Nonterminal) → is_left c ≡ true → (k : Kind) (ts : Forest) → is c (node k ts) ≡ true → in_stage c (node k ts) ≡ true → is_pair_target k ≡ false → Target (node k ts)
-member_there c l k ts i s e = or_cases (is_member k) (is_pair_target k) (target_kind c l k (taken k (and_left (has_kind k) _ s)) (kind_home c k ts (and_left (admits c (node k ts)) (fits_below c (node k ts)) i))) (λ m. member_target m) (λ p. absurd (clash (is_pair_target k) p e))
+-- a kind that stands there and is neither a pattern in brackets nor a pair of parentheses is that of a member
+member_there : (c : Nonterminal) → is_left c ≡ true → (k : Kind) (ts : Forest) → is c (node k ts) ≡ true → in_stage c (node k ts) ≡ true → is_bracket k ≡ false → is_pair_target k ≡ false → Target (node k ts)
+member_there c l k ts i s b e =
+    or_cases (is_bracket k) (is_member k || is_pair_target k) (target_kind c l k (taken k (and_left (has_kind k) _ s)) (kind_home c k ts (and_left (admits c (node k ts)) (fits_below c (node k ts)) i))) (λ h. absurd (clash (is_bracket k) h b))
+    (λ o. or_cases (is_member k) (is_pair_target k) o (λ m. member_target m) (λ p. absurd (clash (is_pair_target k) p e)))
 
-none_there : (c : Nonterminal) → is_left c ≡ true → (k : Kind) → is c (node k none) ≡ true → in_stage c (node k none) ≡ true → (b : Bool) → is_pair_target k ≡ b → Target (node k none)
-none_there c l k i s false e = member_there c l k none i s e
-none_there c l (function ParenTarget) i s true e = let bad : false ≡ true = and_right (admits c (node (function ParenTarget) none)) false i in cc
-none_there c l _ i s true e = cc
+none_there : (c : Nonterminal) → is_left c ≡ true → (k : Kind) → is c (node k none) ≡ true → in_stage c (node k none) ≡ true → is_bracket k ≡ false → (b : Bool) → is_pair_target k ≡ b → Target (node k none)
+none_there c l k i s n false e = member_there c l k none i s n e
+none_there c l (function ParenTarget) i s n true e = let bad : false ≡ true = and_right (admits c (node (function ParenTarget) none)) false i in cc
+none_there c l _ i s n true e = cc
 
-one_there : (c : Nonterminal) → is_left c ≡ true → (k : Kind) (t : Tree) → is c (node k (part t none)) ≡ true → in_stage c (node k (part t none)) ≡ true → (is SimpleTarget t ≡ true → in_stage SimpleTarget t ≡ true → Target t) → (b : Bool) → is_pair_target k ≡ b → Target (node k (part t none))
-one_there c l k t i s within false e = member_there c l k (part t none) i s e
-one_there c l (function ParenTarget) t i s within true e =
+one_there : (c : Nonterminal) → is_left c ≡ true → (k : Kind) (t : Tree) → is c (node k (part t none)) ≡ true → in_stage c (node k (part t none)) ≡ true → (is SimpleTarget t ≡ true → in_stage SimpleTarget t ≡ true → Target t) → is_bracket k ≡ false → (b : Bool) → is_pair_target k ≡ b → Target (node k (part t none))
+one_there c l k t i s within n false e = member_there c l k (part t none) i s n e
+one_there c l (function ParenTarget) t i s within n true e =
     let f : (admits SimpleTarget t && (fits_below SimpleTarget t && true)) ≡ true = and_right (admits c (node (function ParenTarget) (part t none))) _ i in
     let g : (in_stage SimpleTarget t && true) ≡ true = s in
     pair_target (within (and_both _ _ (and_left (admits SimpleTarget t) _ f) (and_left (fits_below SimpleTarget t) true (and_right (admits SimpleTarget t) _ f))) (and_left (in_stage SimpleTarget t) true g))
-one_there c l _ t i s within true e = cc
+one_there c l _ t i s within n true e = cc
 
-more_there : (c : Nonterminal) → is_left c ≡ true → (k : Kind) (t u : Tree) (us : Forest) → is c (node k (part t (part u us))) ≡ true → in_stage c (node k (part t (part u us))) ≡ true → (b : Bool) → is_pair_target k ≡ b → Target (node k (part t (part u us)))
-more_there c l k t u us i s false e = member_there c l k (part t (part u us)) i s e
-more_there c l (function ParenTarget) t u us i s true e = absurd (no_pair c t u us i)
-more_there c l _ t u us i s true e = cc
+more_there : (c : Nonterminal) → is_left c ≡ true → (k : Kind) (t u : Tree) (us : Forest) → is c (node k (part t (part u us))) ≡ true → in_stage c (node k (part t (part u us))) ≡ true → is_bracket k ≡ false → (b : Bool) → is_pair_target k ≡ b → Target (node k (part t (part u us)))
+more_there c l k t u us i s n false e = member_there c l k (part t (part u us)) i s n e
+more_there c l (function ParenTarget) t u us i s n true e = absurd (no_pair c t u us i)
+more_there c l _ t u us i s n true e = cc
 
-pub target_there : (c : Nonterminal) → is_left c ≡ true → (u : Tree) → is c u ≡ true → in_stage c u ≡ true → Target u
-target_there c l (leaf k t) i s = leaf_target c l k t (and_left (leaf_in c k t) (is_leaf k t) i) s
-target_there c l (node k none) i s = none_there c l k i s (is_pair_target k) refl
-target_there c l (node k (part t none)) i s = one_there c l k t i s (λ j r. target_there SimpleTarget refl t j r) (is_pair_target k) refl
-target_there c l (node k (part t (part u us))) i s = more_there c l k t u us i s (is_pair_target k) refl
-target_there c l (list ts) i s = let bad : false ≡ true = and_left (admits c (list ts)) (fits_below c (list ts)) i in cc
+-- in parentheses no pattern in brackets stands
+pub bare_target : (t : Tree) → is SimpleTarget t ≡ true → (b : Bool) → in_brackets t ≡ b → b ≡ false
+bare_target t i false e = refl
+bare_target (node (function (ArrayPat Assigns)) ts) i true e = absurd (clash (in_homes SimpleTarget (homes (function (ArrayPat Assigns)))) (kind_home SimpleTarget (function (ArrayPat Assigns)) ts (and_left (admits SimpleTarget (node (function (ArrayPat Assigns)) ts)) (fits_below SimpleTarget (node (function (ArrayPat Assigns)) ts)) i)) refl)
+bare_target (node (function (ObjectPat Assigns)) ts) i true e = absurd (clash (in_homes SimpleTarget (homes (function (ObjectPat Assigns)))) (kind_home SimpleTarget (function (ObjectPat Assigns)) ts (and_left (admits SimpleTarget (node (function (ObjectPat Assigns)) ts)) (fits_below SimpleTarget (node (function (ObjectPat Assigns)) ts)) i)) refl)
+bare_target (node _ ts) i true e = cc
+bare_target _ i true e = cc
 
-pub target_reads : {v : Surroundings} {x y : Place} (c : Nonterminal) → is_left c ≡ true → (u : Tree) → Staged v false c x u y → Target u
-target_reads c l u r = target_there c l u r.reads.is r.staged
+pub target_there : (c : Nonterminal) → is_left c ≡ true → (u : Tree) → in_brackets u ≡ false → is c u ≡ true → in_stage c u ≡ true → Target u
+target_there c l (leaf k t) n i s = leaf_target c l k t (and_left (leaf_in c k t) (is_leaf k t) i) s
+target_there c l (node k none) n i s = none_there c l k i s n (is_pair_target k) refl
+target_there c l (node k (part t none)) n i s = one_there c l k t i s (λ j r. target_there SimpleTarget refl t (bare_target t j (in_brackets t) refl) j r) n (is_pair_target k) refl
+target_there c l (node k (part t (part u us))) n i s = more_there c l k t u us i s n (is_pair_target k) refl
+target_there c l (list ts) n i s = let bad : false ≡ true = and_left (admits c (list ts)) (fits_below c (list ts)) i in cc
+
+pub target_reads : {v : Surroundings} {x y : Place} (c : Nonterminal) → is_left c ≡ true → (u : Tree) → in_brackets u ≡ false → Staged v false c x u y → Target u
+target_reads c l u n r = target_there c l u n r.reads.is r.staged
+
+pub simple_reads : {v : Surroundings} {x y : Place} (u : Tree) → Staged v false SimpleTarget x u y → Target u
+simple_reads u r = target_reads SimpleTarget refl u (bare_target u r.reads.is (in_brackets u) refl) r
+
+-- ---- a pattern in brackets, which is no expression
+
+pub bracket_plain : (t : Tree) → in_brackets t ≡ true → is_pair t ≡ false
+bracket_plain (node (function (ArrayPat Assigns)) ts) h = refl
+bracket_plain (node (function (ObjectPat Assigns)) ts) h = refl
+bracket_plain (node _ ts) h = cc
+bracket_plain _ h = cc
+
+pub bracket_calm : (t : Tree) → in_brackets t ≡ true → is_aim t ≡ false
+bracket_calm (node (function (ArrayPat Assigns)) ts) h = refl
+bracket_calm (node (function (ObjectPat Assigns)) ts) h = refl
+bracket_calm (node _ ts) h = cc
+bracket_calm _ h = cc
+
+pub value_open : {t : Tree} → Value t → in_brackets t ≡ false
+value_open (literal l w) = refl
+value_open (made {k} {ts} m) = is_not _ (of_each (λ j. not (is_bracket j)) refl k m)
+
+-- nor is a value one as it is seen where it is assigned to
+pub open_value : (t : Tree) → Value t → (b : Bool) → is_pair t ≡ b → in_brackets (as_target t) ≡ false
+open_value t w false e = ap in_brackets (target_plain t e) ∙ value_open w
+open_value (node (expression Parenthesized) ts) w true e = refl
+open_value _ w true e = cc
 
 -- ---- an expression that is a target once it is assigned to may be
 

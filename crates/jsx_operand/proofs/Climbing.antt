@@ -1,25 +1,25 @@
 -- An expression that grows to the right at some level: which step comes next, and where none does. Each fact on the kinds is one test of all of them.
 use Rattle.std.proofs.Common.{◌≡◌, ℕ, nat_eq, nat_le, Bool, true, false, not, cond, List, [], ◌∷◌, refl, sym, ◌∙◌, ap, subst, arith}
-use Rattle.std.specs.Prelude.{IsTrue, Some, ◌&&◌, ◌||◌}
+use Rattle.std.specs.Prelude.{IsTrue, Some, codes, ◌&&◌, ◌||◌}
 use Rattle.std.proofs.lemmas.Bool.{leb-true, le-leb}
-use Rattle.jsx_base.specs.Token.{Lexeme, Text, Operator, IdentifierName, NumericLiteral, BigIntLiteral, StringLiteral, TokenKind, breaks, token, same, RegExpLiteral, NoSubstitution, TemplateHead}
-use Rattle.jsx_tree.specs.Signs.{Ending, AfterExpr, SameLine, Sign}
-use Rattle.jsx_tree.specs.Kinds.{Imported, Exported, From, Specifier, SpecifierAs, FunctionBody, FunctionExpr, ClassExpr, InObject, InClass, Static, Method, Getter, Setter, Field, SuperCall, SuperMember, SuperIndex, Binds, WithInit, RestPat, ArrayPat, ObjectPat, PropertyPat, ShorthandPat, ShorthandInit, RestProperty, Module, Var, ConstWord, Declarator, ExprStmt, Assigns, Assign, OpAssign, Delete, Void, TypeOf, Positive, Negative, Complement, Not, Unary, Binary, Cond, Call, Member, Index, New, NewWithoutArguments, ImportCall, Parenthesized, Element, Kind, program, statement, expression, jsx, Tree, leaf, node, Forest, part, PrefixUpdate, PostfixUpdate, Seq, Spread, Array, ComputedKey, function, PlainTemplate, SubstitutedTemplate, TemplateSpan, Tagged, Chain, NameLink, IndexLink, CallLink, list}
+use Rattle.jsx_base.specs.Token.{Lexeme, Text, Operator, IdentifierName, Punctuator, NumericLiteral, BigIntLiteral, StringLiteral, TokenKind, is_token, among, breaks, token, same, RegExpLiteral, NoSubstitution, TemplateHead}
+use Rattle.jsx_tree.specs.Signs.{Ending, AfterBlock, AfterExpr, SameLine, Sign}
+use Rattle.jsx_tree.specs.Kinds.{Assigns, BareArrow, BareArrowBlock, Call, Member, Index, Parenthesized, Kind, expression, Tree, leaf, node, Forest, part, PlainTemplate, SubstitutedTemplate, Tagged, Chain, NameLink, IndexLink, CallLink, list}
 use Rattle.jsx_tree.specs.Nonterminals.{Nonterminal, Expr, NullishLeft, MemberObject, DotObject, SimpleTarget, Pat, homes, in_homes, leaf_in, is_value_word, TemplatePart, ChainLink, TagName}
 use Rattle.jsx_tree.specs.Grammar.{Context, Fixed, Part, pun, OneOrMore}
 use Rattle.jsx_tree.specs.Form.{admits, fits_below, enough}
 use Rattle.jsx_tree.specs.Reading.{Place, Lost, At, forth, go_if, is_backquote}
-use Rattle.jsx_tree.specs.StaticRules.{Surroundings, rule, stands, has_plain_params, first_of_list, is_optional}
-use Rattle.jsx_token.specs.Stage.{has_kind, leaf_at, value_leaf}
+use Rattle.jsx_tree.specs.StaticRules.{Surroundings, has_plain_params, first_of_list, is_optional}
+use Rattle.jsx_token.specs.Stage.{leaf_at, value_leaf}
 use Rattle.jsx_tree.specs.Walk.{is_found, one, Relation, IsRead, Piece, piece, tail, sign, tree, Walk, next, around, steady, Items, nil, last, more, many, done}
 use Rattle.jsx_tree.specs.Language.{Whole}
-use Rattle.jsx_tree.specs.Stops.{quotes, stops}
+use Rattle.jsx_tree.specs.Stops.{going, quotes, stops}
 use Rattle.jsx_tree.specs.Answers.{Moves, Only, Barred, NoRow, NoNode, Built, BuiltNode, OnlyRow}
-use Rattle.jsx_tree.specs.Grows.{starts, Onward, stay, step, Steps, Decides, Joins, Stays, takes_target, as_target, seen}
+use Rattle.jsx_tree.specs.Grows.{starts, Follows, Onward, stay, step, Steps, Decides, Joins, Stays, takes_target, as_target, seen}
 use Rattle.jsx_tree.proofs.Rows.Targets.{left_simple, left_pattern}
-use Rattle.jsx_operand.proofs.Aims.{is_pair, seen_plain, calm_of, aim_of, aim_is, aim_back, staged_target, target_reads}
+use Rattle.jsx_operand.proofs.Aims.{is_pair, seen_plain, calm_of, aim_of, aim_is, aim_back, staged_target, target_reads, open_value}
 use Rattle.jsx_operand.specs.SoFar.{Staged, so_far}
-use Rattle.jsx_token.specs.Marks.{goes_on_so_far, marks, is_sign, is_mark, ends_so_far, row_so_far, goers, goes_by_mark, goes_by_quote, is_quoted}
+use Rattle.jsx_token.specs.Marks.{goes_on_so_far, marks, steps, is_sign, is_mark, ends_so_far, row_so_far, goers, goes_by_mark, goes_by_quote, is_quoted}
 use Rattle.jsx_token.specs.Here.{Here, place_of}
 use Rattle.jsx_tree.proofs.Tokens.{and_left, and_right, and_both}
 use Rattle.jsx_tree.proofs.Apart.{clash}
@@ -28,13 +28,12 @@ use Rattle.jsx_tree.proofs.Rows.Stopping.{stays as stays_on, is_not, heeds, sign
 use Rattle.jsx_tree.proofs.Rows.Guarded.{whole_walk, loosen, to_grammar}
 use Rattle.jsx_tree.proofs.Rows.Bodies.{plain}
 use Rattle.jsx_tree.proofs.Rows.Firsts.{kind_home}
-use Rattle.jsx_tree.proofs.Rows.Closers.{any_operand}
 use Rattle.jsx_tree.proofs.Rows.Placing.{free_around, moved}
 use Rattle.jsx_tree.proofs.Rows.Spines.{grows}
 use Rattle.jsx_tree.proofs.Rows.Growing.{grown_only, step_barred, left_barred}
 use Rattle.jsx_tree.proofs.Rows.Steps.{on, then', only_sign}
 use Rattle.jsx_operand.proofs.OfSoFar.{of_so_far}
-use Rattle.jsx_token.specs.Growths.{Rung, asked, is_rung, least, reaches, seat, OnLine, begins_line, lead, mark, on_line, past_line, same_sign, level_of_kind, fits_by, settled, rung, callee, is_chain, is_code, growth_kind}
+use Rattle.jsx_token.specs.Growths.{Rung, asked, is_rung, least, reaches, seat, OnLine, begins_line, lead, mark, on_line, past_line, same_sign, level_of_kind, fits_by, is_blocked, settled, rung, callee, is_chain, is_code, growth_kind}
 use Rattle.jsx_operand.proofs.Growing.{grown_follows, none_grown}
 use Rattle.jsx_token.specs.declared.growth.Growth.{Growth}
 use Rattle.jsx_operand.specs.declared.link.Linking.{Linking}
@@ -43,20 +42,21 @@ use Rattle.jsx_operand.specs.Links.{link_sign}
 use Rattle.jsx_operand.proofs.Standing.{standing}
 use Rattle.jsx_operand.specs.Climbing.{behind, level, fits, is_target_kind, is_target, Climbs, Ended, Grown, NotGrown}
 use Rattle.jsx_operand.specs.Templates.{NotTagged}
-use Rattle.jsx_token.proofs.Listed.{Listed, code, every_two, of_two, one_place, implies, implied, agree, agreed, listed, of_level}
-use Rattle.jsx_token.proofs.Marks.{mark_by, seen_sign, one_sign}
+use Rattle.jsx_token.proofs.Listed.{Listed, code, every, kinds, of_each, every_two, of_two, one_place, implies, implied, agree, agreed, listed, of_level}
+use Rattle.jsx_token.proofs.Marks.{by_sign, mark_by, seen_sign, one_sign}
 use Rattle.jsx_operand.proofs.Homes.{Literal, IsName, IsNumber, IsLong, IsString, IsPattern, token_kind, Value, literal, made, value, taken_by, home_of, wholes, heads, no_list}
-use Rattle.jsx_token.proofs.Levels.{signed, Fitting, Formed, Leaves, assigned, at_level, edge, fitting_in, formed, grows_on, is_left, is_ruled, is_side, mark_among, mark_is_code, seat_asks, side, side_of, Quoted, undivided, divided, is_template, quoted_kind, steps_on, Marked, is_tagged, marked, marks_on, tagged_kind, growth_listed, growth_marks}
-use Rattle.jsx_operand.proofs.Rungs.{clear, clear_left, clear_node, leads_as, leaf_seat, least_home, least_top, level_reaches, literal_seat, reaches_level, rung_single, seat_admits, staged_clear}
-use Rattle.jsx_operand.proofs.Values.{lead_row, led_sign, node_to, leaf_to, or_right, listed_node, Quote}
+use Rattle.jsx_token.proofs.Levels.{signed, Fitting, Formed, Leaves, assigned, at_level, edge, fitting_in, formed, grows_on, is_left, is_side, mark_among, mark_is_code, seat_asks, side, side_of, Quoted, undivided, divided, is_template, quoted_kind, steps_on, Marked, is_named, is_tagged, marked, marks_on, tagged_kind, growth_listed, growth_marks}
+use Rattle.jsx_operand.proofs.Rungs.{clear, clear_left, clear_node, leads_as, leads_on, leaf_seat, least_home, least_top, level_reaches, literal_seat, reaches_level, rung_single, seat_admits, staged_clear}
+use Rattle.jsx_operand.proofs.Values.{front_of, lead_row, led_sign, node_to, leaf_to, or_right, listed_node, Quote}
 use Rattle.jsx_operand.proofs.Tags.{quote_goes, sign_piece, sign_unquoted, tagged_walk}
+use Rattle.jsx_operand.proofs.PlainKinds.{plain_kind}
 
--- of two: what may stand at the left of the first; and that with the mark of the first, behind the second, the second's last part has ended, as before the template of a tag
+-- of two: what may stand at the left of the first, which nothing of the level of a conditional may; and that with the mark of the first, behind the second, the second's last part has ended, as before the template of a tag
 abbrev hears : Kind → Kind → Bool
 hears l k = cond (is_tagged l) (is_never (edge k)) (heeds (edge k) (mark l))
 
 abbrev sinks : Kind → Kind → Bool
-sinks l k = implies (steps_on l && in_homes (side l) (homes k)) (nat_le (level_of_kind l) (level_of_kind k) && hears l k)
+sinks l k = implies (leads_on l && in_homes (side l) (homes k)) (steps_on l && (nat_le 3 (level_of_kind k) && (nat_le (level_of_kind l) (level_of_kind k) && hears l k)))
 
 all_sink : every_two sinks ≡ true
 all_sink = refl
@@ -67,6 +67,13 @@ apart l k = implies (marks_on l && marks_on k) (implies (same_sign (mark l) (mar
 all_apart : every_two apart ≡ true
 all_apart = refl
 
+-- nor is one the arrow of a function
+abbrev arrowless : Kind → Bool
+arrowless k = implies (marks_on k) (not (same_sign (mark k) (pun "=>")))
+
+all_arrowless : every arrowless kinds ≡ true
+all_arrowless = refl
+
 abbrev fitting : Kind → Kind → Bool
 fitting k l = implies (steps_on k) (agree (cond (takes_target k) (is_target_kind l) (fits_by k (level_of_kind l))) (in_homes (side k) (homes l)))
 
@@ -74,13 +81,22 @@ all_fitting : every_two fitting ≡ true
 all_fitting = refl
 
 record Sunk (l k : Kind) : Type 0 where
+  goes_on : steps_on l ≡ true
+  high : nat_le 3 (level_of_kind k) ≡ true
   below : nat_le (level_of_kind l) (level_of_kind k) ≡ true
   heard : hears l k ≡ true
 
-sunk : (l k : Kind) → Listed l → Listed k → steps_on l ≡ true → in_homes (side l) (homes k) ≡ true → Sunk l k
+sunk : (l k : Kind) → Listed l → Listed k → leads_on l ≡ true → in_homes (side l) (homes k) ≡ true → Sunk l k
 sunk l k m n g h =
-    let a = implied (steps_on l && in_homes (side l) (homes k)) _ (of_two sinks all_sink l k m n) (and_both _ _ g h) in
-    record { below = and_left (nat_le (level_of_kind l) (level_of_kind k)) _ a; heard = and_right (nat_le (level_of_kind l) (level_of_kind k)) _ a }
+    let a = implied (leads_on l && in_homes (side l) (homes k)) _ (of_two sinks all_sink l k m n) (and_both _ _ g h) in
+    let b = and_right (steps_on l) _ a in
+    let d = and_right (nat_le 3 (level_of_kind k)) _ b in
+    record {
+      goes_on = and_left (steps_on l) _ a;
+      high = and_left (nat_le 3 (level_of_kind k)) _ b;
+      below = and_left (nat_le (level_of_kind l) (level_of_kind k)) _ d;
+      heard = and_right (nat_le (level_of_kind l) (level_of_kind k)) _ d;
+    }
 
 -- ---- rows
 
@@ -155,6 +171,9 @@ clear_seen r k t c = by (is_pair t) refl
 goes : (k : Kind) → steps_on k ≡ true → grows (row_so_far k) ≡ true
 goes k g = and_left (grows_on k) _ g
 
+steps_of : (k : Kind) → marks_on k ≡ true → steps_on k ≡ true
+steps_of k g = and_left (steps_on k) _ g
+
 -- ---- a step
 
 pub node_home : {v : Surroundings} {c : Nonterminal} {k : Kind} {x y : Place} {ts : Forest} → Staged v false c x (node k ts) y → in_homes c (homes k) ≡ true
@@ -163,7 +182,7 @@ node_home {c = c} {k = k} {ts = ts} r = kind_home c k ts (and_left (admits c (no
 side_is : (k : Kind) {c : Nonterminal} → starts (row_so_far k) ≡ Some c → side k ≡ c
 side_is k e = ap side_of e
 
-step_listed : {v : Surroundings} {c : Nonterminal} {x a y : Place} {t : Tree} {l : Kind} {ts : Forest} → Steps so_far v c x t a l ts y → Listed l
+pub step_listed : {v : Surroundings} {c : Nonterminal} {x a y : Place} {t : Tree} {l : Kind} {ts : Forest} → Steps so_far v c x t a l ts y → Listed l
 step_listed p = listed_node p.operand p.begins p.reads
 
 -- no value is the first piece of a template
@@ -187,16 +206,20 @@ no_quoted : {v : Surroundings} {l : Kind} {c : Nonterminal} {x y : Place} {t : T
 no_quoted {v} {x = x} {y} {t} undivided b w r = no_whole w (subst (λ d. Staged v false d x t y) (sym (side_is (expression (PlainTemplate false)) b)) r)
 no_quoted {v} {x = x} {y} {t} divided b w r = no_head w (subst (λ d. Staged v false d x t y) (sym (side_is (expression (SubstitutedTemplate false)) b)) r)
 
--- so what a value stands at the left of goes on with it
-pub left_steps : {v : Surroundings} {c : Nonterminal} {x y : Place} {t : Tree} (l : Kind) → Listed l → starts (row_so_far l) ≡ Some c → Value t → Staged v false c x (seen l t) y → steps_on l ≡ true
-left_steps l m b w r = by (is_template l) refl
+left_whole : {v : Surroundings} {c : Nonterminal} {x y : Place} {t : Tree} (l : Kind) → Listed l → starts (row_so_far l) ≡ Some c → Value t → Staged v false c x (seen l t) y → is_template l ≡ false
+left_whole l m b w r = by (is_template l) refl
   where
-    by : (q : Bool) → is_template l ≡ q → steps_on l ≡ true
-    by false e = and_both _ _ (begins_grows (row_so_far l) b) (ap not e)
+    by : (q : Bool) → is_template l ≡ q → is_template l ≡ false
+    by false e = e
     by true e = absurd (no_quoted (quoted_kind l m e) b w r)
 
-step_grows : {v : Surroundings} {c : Nonterminal} {x a y : Place} {t : Tree} {l : Kind} {ts : Forest} → Value t → Steps so_far v c x t a l ts y → steps_on l ≡ true
-step_grows {l = l} w p = left_steps l (step_listed p) p.begins w p.left
+-- so what a value stands at the left of begins with it
+pub left_leads : {v : Surroundings} {c : Nonterminal} {x y : Place} {t : Tree} (l : Kind) → Listed l → starts (row_so_far l) ≡ Some c → Value t → Staged v false c x (seen l t) y → leads_on l ≡ true
+left_leads l m b w r = and_both _ _ (begins_grows (row_so_far l) b) (ap not (left_whole l m b w r))
+
+-- and goes on with it, but for an arrow function without parentheses
+left_steps : {v : Surroundings} {c : Nonterminal} {x y : Place} {t : Tree} (l : Kind) → Listed l → starts (row_so_far l) ≡ Some c → Value t → Staged v false c x (seen l t) y → is_named l ≡ false → steps_on l ≡ true
+left_steps l m b w r n = and_both _ _ (begins_grows (row_so_far l) b) (and_both _ _ (ap not (left_whole l m b w r)) (ap not n))
 
 -- the kinds of links
 abbrev pub is_link : Kind → Bool
@@ -232,26 +255,38 @@ next_mark {a = a} l f r w = by (is_chain l) refl
     by false e = mark_found (tail (row_so_far l)) (f.led ∙ ap not e) w
     by true e = cc
 
-step_sign : {v : Surroundings} {c : Nonterminal} {x a y : Place} {t : Tree} {l : Kind} {ts : Forest} → marks_on l ≡ true → Steps so_far v c x t a l ts y → IsTrue (is_found (forth (mark l) a))
+pub step_sign : {v : Surroundings} {c : Nonterminal} {x a y : Place} {t : Tree} {l : Kind} {ts : Forest} → marks_on l ≡ true → Steps so_far v c x t a l ts y → IsTrue (is_found (forth (mark l) a))
 step_sign {l = l} g p = next_mark l (marked l (step_listed p) g) p.reads p.walk
 
--- with a mark, or with the piece with which a template begins
+-- with a mark, with the piece with which a template begins, or with the arrow behind a name
 pub data Going (a : Place) (l : Kind) : Type 0 where
   by_mark : marks_on l ≡ true → Going a l
   by_piece : is_tagged l ≡ true → Quote a → Going a l
+  by_arrow : is_named l ≡ true → forth SameLine a ≡ a → IsTrue (is_found (forth (pun "=>") a)) → Going a l
 
 tagged_walk_of : {v : Surroundings} {a y : Place} {t : Tree} {ts : Forest} (l : Kind) → is_tagged l ≡ true → Walk Staged (around v (part t ts)) (tail (row_so_far l)) a ts y → Quote a
 tagged_walk_of (expression Tagged) e w = tagged_walk w
 tagged_walk_of _ e w = cc
 
-pub goes_next : {v : Surroundings} {c : Nonterminal} {x a y : Place} {t : Tree} {ts : Forest} (l : Kind) → Listed l → starts (row_so_far l) ≡ Some c → Value t → Staged v false c x (seen l t) a → Walk Staged (around v (part (seen l t) ts)) (tail (row_so_far l)) a ts y → Going a l
-goes_next {v} {a = a} {t = t} {ts} l m b w r walk = by (is_tagged l) refl
-  where
-    by : (q : Bool) → is_tagged l ≡ q → Going a l
-    by false e = by_mark (and_both _ _ (left_steps l m b w r) (ap not e))
-    by true e = by_piece e (tagged_walk_of {t = seen l t} l e walk)
+arrow_found : {v : Surroundings} {a y : Place} {t : Tree} {ts : Forest} (l : Kind) → is_named l ≡ true → Walk Staged (around v (part t ts)) (tail (row_so_far l)) a ts y → IsTrue (is_found (forth (pun "=>") a))
+arrow_found (expression BareArrow) e w = mark_found (tail (row_so_far (expression BareArrow))) refl w
+arrow_found (expression BareArrowBlock) e w = mark_found (tail (row_so_far (expression BareArrowBlock))) refl w
+arrow_found _ e w = cc
 
-step_next : {v : Surroundings} {c : Nonterminal} {x a y : Place} {t : Tree} {l : Kind} {ts : Forest} → Value t → Steps so_far v c x t a l ts y → Going a l
+arrow_line : {v : Surroundings} {a y : Place} {t : Tree} {ts : Forest} (l : Kind) → is_named l ≡ true → Walk Staged (around v (part t ts)) (tail (row_so_far l)) a ts y → forth SameLine a ≡ a
+arrow_line (expression BareArrow) e w = line_kept (tail (row_so_far (expression BareArrow))) refl w
+arrow_line (expression BareArrowBlock) e w = line_kept (tail (row_so_far (expression BareArrowBlock))) refl w
+arrow_line _ e w = cc
+
+pub goes_next : {v : Surroundings} {c : Nonterminal} {x a y : Place} {t : Tree} {ts : Forest} (l : Kind) → Listed l → starts (row_so_far l) ≡ Some c → Value t → Staged v false c x (seen l t) a → Walk Staged (around v (part (seen l t) ts)) (tail (row_so_far l)) a ts y → Going a l
+goes_next {v} {a = a} {t = t} {ts} l m b w r walk = by (is_named l) (is_tagged l) refl refl
+  where
+    by : (n q : Bool) → is_named l ≡ n → is_tagged l ≡ q → Going a l
+    by true q n e = by_arrow n (arrow_line {t = seen l t} l n walk) (arrow_found {t = seen l t} l n walk)
+    by false false n e = by_mark (and_both _ _ (left_steps l m b w r n) (ap not e))
+    by false true n e = by_piece e (tagged_walk_of {t = seen l t} l e walk)
+
+pub step_next : {v : Surroundings} {c : Nonterminal} {x a y : Place} {t : Tree} {l : Kind} {ts : Forest} → Value t → Steps so_far v c x t a l ts y → Going a l
 step_next {l = l} w p = goes_next l (step_listed p) p.begins w p.left p.walk
 
 step_line : {v : Surroundings} {c : Nonterminal} {x a y : Place} {t : Tree} {l : Kind} {ts : Forest} → Steps so_far v c x t a l ts y → OnLine l a
@@ -277,7 +312,7 @@ left_low {v} r {l} {c} {d} {x} {y} {t} h m b e i w o p = by (is_pair t) refl
     by : (a : Bool) → is_pair t ≡ a → Staged v false (seat r) x t y
     by true a = value_low r h w (subst (λ n. nat_le (least r) n ≡ true) (sym (pair_level t a)) (least_top r h)) i o
     by false a =
-        let g = left_steps l m b w p in
+        let g = left_leads l m b w p in
         let q : Staged v false (side l) x t y = subst (λ s. Staged v false s x t y) (sym (side_is l b)) (subst (λ u. Staged v false c x u y) (seen_plain l t a) p) in
         value_low r h w (value_level r h w (λ k ts is j. below_level (least r) (level_of_kind l) (level_of_kind k) e (sunk l k m j g (node_home (subst (λ u. Staged v false (side l) x u y) is q))).below)) i o
 
@@ -292,10 +327,10 @@ low r h w' s stay q = q
 low r {t = t} h w' s (step k c d {ts = ts} b i w o p on) q =
     let m = listed_node o b p in
     let up = low r h (made m) p on q in
-    let left = clear_seen r k t (clear_left r k (seen k t) ts (sym (leads_as k m) ∙ left_steps k m b w' i) (staged_clear r (node k (part (seen k t) ts)) up)) in
+    let left = clear_seen r k t (clear_left r k (seen k t) ts (sym (leads_as k m) ∙ left_leads k m b w' i) (staged_clear r (node k (part (seen k t) ts)) up)) in
     left_low r h m b (node_level r h m up) left w' s i
 
-step_low : {v : Surroundings} (r : Rung) {x a y : Place} {t : Tree} {l : Kind} {ts : Forest} → is_rung r ≡ true → Steps so_far v (seat r) x t a l ts y → reaches r l ≡ true
+pub step_low : {v : Surroundings} (r : Rung) {x a y : Place} {t : Tree} {l : Kind} {ts : Forest} → is_rung r ≡ true → Steps so_far v (seat r) x t a l ts y → reaches r l ≡ true
 step_low r h p = node_reaches r h (step_listed p) (low r h (made (step_listed p)) p.reads p.onward p.whole.reads)
 
 -- ---- what a step's row ends with has come to its end
@@ -313,14 +348,15 @@ edge_on {v} s {x} {y} {us = us} k m h j e (step l c d b i r o q on) w = by (is_p
     by true a = of_so_far.ends_there (edge k) y (never_stops (edge k) y (subst (λ n. is_never n ≡ true) (sym (pair_edge k us (subst (λ u. is_pair u ≡ true) e a))) refl))
     by false a =
         let n' = listed_node o b q in
-        let g = left_steps l n' b (subst Value (sym e) (made j)) i in
+        let g = left_leads l n' b (subst Value (sym e) (made j)) i in
         let home : in_homes (side l) (homes k) ≡ true = node_home (subst (λ p. Staged v false (side l) x p y) (seen_plain l m a ∙ e) (subst (λ s. Staged v false s x (seen l m) y) (sym (side_is l b)) i)) in
-        of_so_far.ends_there (edge k) y (heard_on (is_tagged l) refl n' g q r (sunk l k n' j g home).heard)
+        let h = sunk l k n' j g home in
+        of_so_far.ends_there (edge k) y (heard_on (is_tagged l) refl n' h.goes_on q r h.heard)
 
-step_ends : {v : Surroundings} (r : Rung) {x a y : Place} {t : Tree} {k : Kind} {ts : Forest} → is_rung r ≡ true → Value t → Steps so_far v (seat r) x t a k ts y → Walk (Whole so_far) (steady v) (tail (row_so_far k)) a ts y
-step_ends {v} r {t = t} {k} {ts} h w p =
+pub step_ends : {v : Surroundings} (r : Rung) {x a y : Place} {t : Tree} {k : Kind} {ts : Forest} → is_rung r ≡ true → steps_on k ≡ true → Steps so_far v (seat r) x t a k ts y → Walk (Whole so_far) (steady v) (tail (row_so_far k)) a ts y
+step_ends {v} r {t = t} {k} {ts} h g p =
     let m = step_listed p in
-    let f = formed k m (step_grows w p) in
+    let f = formed k m g in
     moved (λ a i. free_around a (part (seen k t) ts) v i) f.freed (whole_walk of_so_far (edge k) (tail (row_so_far k)) f.closed (edge_on r k (node k (part (seen k t) ts)) h m refl p.onward p.whole) p.walk)
 
 -- ---- the token that comes next
@@ -329,12 +365,17 @@ step_ends {v} r {t = t} {k} {ts} h w p =
 mark_piece : (k : Kind) → Listed k → marks_on k ≡ true → (a : Place) → IsTrue (is_found (forth (mark k) a)) → Quote a → ⊥
 mark_piece k m g a f q = let k' = marked k m g in sign_piece (mark k) a k'.coded k'.unquoted f q
 
-step_kind : {v : Surroundings} {c : Nonterminal} {x a y : Place} {t : Tree} {k l : Kind} {ts : Forest} → Listed k → marks_on k ≡ true → IsTrue (is_found (forth (mark k) a)) → Value t → Steps so_far v c x t a l ts y → l ≡ k
+-- nor do a mark and an arrow
+pub mark_arrow : (k : Kind) → Listed k → marks_on k ≡ true → (a : Place) → IsTrue (is_found (forth (mark k) a)) → IsTrue (is_found (forth (pun "=>") a)) → ⊥
+mark_arrow k m g a f q = clash (same_sign (mark k) (pun "=>")) (one_sign (mark k) (pun "=>") a (marked k m g).coded refl f q) (is_not _ (implied (marks_on k) _ (of_each arrowless all_arrowless k m) g))
+
+pub step_kind : {v : Surroundings} {c : Nonterminal} {x a y : Place} {t : Tree} {k l : Kind} {ts : Forest} → Listed k → marks_on k ≡ true → IsTrue (is_found (forth (mark k) a)) → Value t → Steps so_far v c x t a l ts y → l ≡ k
 step_kind {a = a} {k = k} {l = l} m g f w p = by (step_next w p)
   where
     by : Going a l → l ≡ k
     by (by_mark h) = let n = step_listed p in one_place l k n m (implied (same_sign (mark l) (mark k)) _ (implied (marks_on l && marks_on k) _ (of_two apart all_apart l k n m) (and_both _ _ h g)) (one_sign (mark l) (mark k) a (marked l n h).coded (marked k m g).coded (step_sign h p) f))
     by (by_piece h q) = absurd (mark_piece k m g a f q)
+    by (by_arrow h o q) = absurd (mark_arrow k m g a f q)
 
 pub mark_is_one : (k : Kind) → Listed k → marks_on k ≡ true → (x : Lexeme) → is_sign x (mark k) ≡ true → is_mark x marks ≡ true
 mark_is_one k m g x e = mark_by (mark k) marks (marked k m g).listed_mark x e
@@ -372,11 +413,35 @@ mark_goes r k (At q AfterExpr text) h m g s o f =
     let i = seen_sign (mark k) q AfterExpr text (mark_is_code k m g) f in
     let raw = mark_among r k h m g (breaks text) (token Operator (same q []) text) i ∙ ((λ j. reaches r k && not (no_break k q AfterExpr text o j)) ∙ and_true (reaches r k)) in
     let none = sign_unquoted (mark k) (token Operator (same q []) text) (marked k m g).unquoted i in
-    let there : is_mark (token Operator (same q []) text) goers ≡ true = or_right (is_sign (token Operator (same q []) text) (pun ",")) _ (mark_is_one k m g (token Operator (same q []) text) i) in
+    let there : is_mark (token Operator (same q []) text) goers ≡ true = or_right (is_sign (token Operator (same q []) text) (pun ",")) _ (or_right (is_sign (token Operator (same q []) text) (pun "=>")) _ (mark_is_one k m g (token Operator (same q []) text) i)) in
     ap (λ l. not (goes_on_so_far l AfterExpr (breaks text) (token Operator false text))) (seat_asks r)
     ∙ (ap (λ b. not (goes_by_mark (asked r) (breaks text) (token Operator b text) || goes_by_quote (asked r) (token Operator b text))) (sym (is_not (same q []) s))
     ∙ ((λ j. not ((raw j && there j) || unquoted (asked r) (token Operator (same q []) text) none j)) ∙ ((λ j. not (or_false (reaches r k && true) j)) ∙ ap not (and_true _))))
 mark_goes r k (At q _ text) h m g s o f = cc
+
+-- and so does the arrow of a function without parentheses that may stand there
+arrow_level : (r : Rung) (l : Kind) → is_rung r ≡ true → is_named l ≡ true → reaches r l ≡ true → among (codes "=>") (going (asked r)) ≡ true
+arrow_level (rung n) (expression BareArrow) h e i = implied (nat_le n 1) _ (of_level (λ m. implies (nat_le m 1) (among (codes "=>") (going m))) refl {n = n} h) i
+arrow_level (rung n) (expression BareArrowBlock) h e i = implied (nat_le n 1) _ (of_level (λ m. implies (nat_le m 1) (among (codes "=>") (going m))) refl {n = n} h) i
+arrow_level callee (expression BareArrow) h e i = cc
+arrow_level callee (expression BareArrowBlock) h e i = cc
+arrow_level r _ h e i = cc
+
+single_level : (r : Rung) → is_rung r ≡ true → nat_eq (asked r) 0 ≡ false
+single_level (rung n) h = is_not _ (of_level (λ m. not (nat_eq m 0)) refl {n = n} h)
+single_level callee h = refl
+
+pub arrow_goes : (r : Rung) (a : Place) → settled a ≡ true → among (codes "=>") (going (asked r)) ≡ true → IsTrue (is_found (forth (pun "=>") a)) → ends_so_far (seat r) a ≡ false
+arrow_goes r Lost s g f = cc
+arrow_goes r (At q AfterExpr text) s g f =
+    let x = token Operator (same q []) text in
+    let i = seen_sign (pun "=>") q AfterExpr text refl f in
+    let raw : among x.raw (going (asked r)) ≡ true = by_sign (λ t. among t (going (asked r))) (pun "=>") x g i in
+    let there : is_mark x goers ≡ true = or_right (is_sign x (pun ",")) _ (ap (λ b. b || is_mark x marks) i) in
+    ap (λ l. not (goes_on_so_far l AfterExpr (breaks text) (token Operator false text))) (seat_asks r)
+    ∙ (ap (λ b. not (goes_by_mark (asked r) (breaks text) (token Operator b text) || goes_by_quote (asked r) (token Operator b text))) (sym (is_not (same q []) s))
+    ∙ (λ j. not (((raw j || (nat_le (asked r) 16 && (not (breaks text) && among x.raw steps))) && there j) || goes_by_quote (asked r) x)))
+arrow_goes r (At q _ text) s g f = cc
 
 -- ---- what the parser's loop says
 
@@ -389,18 +454,19 @@ stays {v} r {x} {a} {t} h w s e = record {
     none : {l : Kind} {ts : Forest} {y : Place} → Going a l → Steps so_far v (seat r) x t a l ts y → ⊥
     none {l} (by_mark g) p = let b : ends_so_far (seat r) a ≡ not (reaches r l) = mark_goes r l a h (step_listed p) g s (step_line p) (step_sign g p) in clash (reaches r l) (step_low r h p) (is_not _ (sym b ∙ e))
     none (by_piece g q) p = clash (ends_so_far (seat r) a) e (quote_goes r a h s q)
+    none {l} (by_arrow g o q) p = clash (ends_so_far (seat r) a) e (arrow_goes r a s (arrow_level r l h g (step_low r h p)) q)
 
 pub climb_only : {v : Surroundings} (r : Rung) {x a : Place} {t : Tree} → is_rung r ≡ true → Climbs v r x t a → ends_so_far (seat r) a ≡ true → Only so_far v (Part (seat r)) x (one t) a
 climb_only r {t = t} h c e = grown_only c.follows (stays r h (value t (rung_single r h) c.reads) c.ended e) c.reads e
 
 -- a mark that comes next and goes on there decides
-decides : {v : Surroundings} (r : Rung) {x a : Place} {t : Tree} {k : Kind} → is_rung r ≡ true → Climbs v r x t a → Listed k → marks_on k ≡ true → reaches r k ≡ true → OnLine k a → IsTrue (is_found (forth (mark k) a)) → Decides so_far v (seat r) x t a k (tail (row_so_far k))
+pub decides : {v : Surroundings} (r : Rung) {x a : Place} {t : Tree} {k : Kind} → is_rung r ≡ true → Climbs v r x t a → Listed k → marks_on k ≡ true → reaches r k ≡ true → OnLine k a → IsTrue (is_found (forth (mark k) a)) → Decides so_far v (seat r) x t a k (tail (row_so_far k))
 decides r {a = a} {t} {k} h c m g e o f =
     let w = value t (rung_single r h) c.reads in
     record {
       goes = λ i. clash (ends_so_far (seat r) a) i (mark_goes r k a h m g c.ended o f ∙ ap not e);
       kind = λ l ts y p. step_kind m g f w p;
-      ends = λ ts y p. step_ends r h w p;
+      ends = λ ts y p. step_ends r h (steps_of k g) p;
     }
 
 -- and so does a piece
@@ -408,7 +474,7 @@ decides_tagged : {v : Surroundings} (r : Rung) {x a : Place} {t : Tree} → is_r
 decides_tagged {v} r {x} {a} {t} h c q = record {
   goes = λ i. clash (ends_so_far (seat r) a) i (quote_goes r a h c.ended q);
   kind = λ l ts y p. by (step_next w p) p;
-  ends = λ ts y p. step_ends r h w p;
+  ends = λ ts y p. step_ends r h refl p;
 }
   where
     w : Value t
@@ -417,6 +483,7 @@ decides_tagged {v} r {x} {a} {t} h c q = record {
     by : {l : Kind} {ts : Forest} {y : Place} → Going a l → Steps so_far v (seat r) x t a l ts y → l ≡ expression Tagged
     by {l} (by_mark g) p = absurd (mark_piece l (step_listed p) g a (step_sign g p) q)
     by {l} (by_piece g n) p = tagged_kind l g
+    by {l} (by_arrow g o f) p = absurd (sign_piece (pun "=>") a refl refl f q)
 
 -- what fits stands at the left of the kind; what doesn't, doesn't
 side_admits : (c : Nonterminal) (l : Kind) (ts : Forest) → is_side c ≡ true → in_homes c (homes l) ≡ true → admits c (node l ts) ≡ true
@@ -482,80 +549,12 @@ plain_unfit k m g fi e (literal l {t} w) f r = clash _ fi.leaves f
 plain_unfit k m g fi e (made {k = l} {ts} j) f r =
     clash _ (agreed (cond (takes_target k) (is_target_kind l) (fits_by k (level_of_kind l))) (in_homes (side k) (homes l)) (implied (steps_on k) _ (of_two fitting all_fitting k l m j) g) ∙ node_home r) (ap (λ b. cond b (is_target_kind l) (fits_by k (level_of_kind l))) e ∙ f)
 
-value_unfit : {v : Surroundings} {d : Nonterminal} {x y : Place} {t : Tree} (k : Kind) → Listed k → steps_on k ≡ true → Value t → fits k t ≡ false → Staged v false d x t y → Staged v false (side k) x (seen k t) y → ⊥
+pub value_unfit : {v : Surroundings} {d : Nonterminal} {x y : Place} {t : Tree} (k : Kind) → Listed k → steps_on k ≡ true → Value t → fits k t ≡ false → Staged v false d x t y → Staged v false (side k) x (seen k t) y → ⊥
 value_unfit {v} {d = d} {x = x} {y} {t} k m g w f o r = at (formed k m g).leaves
   where
     at : Leaves k → ⊥
-    at (assigned e s) = clash (is_target t) (aim_is (aim_back d t (calm_of w) o.reads.is (target_reads (side k) s (as_target t) (subst (λ b. Staged v false (side k) x (cond b (as_target t) t) y) e r)))) (by_fits k t true false e f)
+    at (assigned e s) = clash (is_target t) (aim_is (aim_back d t (calm_of w) o.reads.is (target_reads (side k) s (as_target t) (open_value t w (is_pair t) refl) (subst (λ b. Staged v false (side k) x (cond b (as_target t) t) y) e r)))) (by_fits k t true false e f)
     at (fitting_in e fi) = plain_unfit k m g fi e w (by_fits k t false false e f) (subst (λ b. Staged v false (side k) x (cond b (as_target t) t) y) e r)
-
--- the rules of a kind of expression ask nothing of its parts, but for these
-pub plain_kind : (k : Kind) (ts : Forest) (v : Surroundings) → is_ruled k ≡ false → has_kind k ≡ true → any_operand (homes k) ≡ true → has_plain_params ts ≡ true → (rule k ts && stands k ts v) ≡ true
-plain_kind (expression Seq) ts v n h a p = and_both _ _ p refl
-plain_kind (expression (Binary o)) ts v n h a p = and_both _ _ p refl
-plain_kind (expression Assign) ts v n h a p = and_both _ _ p refl
-plain_kind (expression (OpAssign o)) ts v n h a p = and_both _ _ p refl
-plain_kind (expression Cond) ts v n h a p = and_both _ _ p refl
-plain_kind (expression (Unary Delete)) ts v n h a p = cc
-plain_kind (expression (Unary Void)) ts v n h a p = and_both _ _ p refl
-plain_kind (expression (Unary TypeOf)) ts v n h a p = and_both _ _ p refl
-plain_kind (expression (Unary Positive)) ts v n h a p = and_both _ _ p refl
-plain_kind (expression (Unary Negative)) ts v n h a p = and_both _ _ p refl
-plain_kind (expression (Unary Complement)) ts v n h a p = and_both _ _ p refl
-plain_kind (expression (Unary Not)) ts v n h a p = and_both _ _ p refl
-plain_kind (expression Call) ts v n h a p = and_both _ _ p refl
-plain_kind (expression Member) ts v n h a p = and_both _ _ p refl
-plain_kind (expression Index) ts v n h a p = and_both _ _ p refl
-plain_kind (expression Tagged) ts v n h a p = and_both _ _ p refl
-plain_kind (expression (PostfixUpdate o)) ts v n h a p = and_both _ _ p refl
-plain_kind (expression (PrefixUpdate o)) ts v n h a p = and_both _ _ p refl
-plain_kind (expression ImportCall) ts v n h a p = and_both _ _ p refl
-plain_kind (expression New) ts v n h a p = and_both _ _ p refl
-plain_kind (expression NewWithoutArguments) ts v n h a p = and_both _ _ p refl
-plain_kind (expression Parenthesized) ts v n h a p = and_both _ _ p refl
-plain_kind (expression Array) ts v n h a p = and_both _ _ p refl
-plain_kind (expression Spread) ts v n h a p = and_both _ _ p refl
-plain_kind (jsx Element) ts v n h a p = and_both _ _ p refl
-plain_kind (program Module) ts v n h a p = cc
-plain_kind (program FunctionBody) ts v n h a p = cc
-plain_kind (program (Specifier Imported)) ts v n h a p = cc
-plain_kind (program (Specifier Exported)) ts v n h a p = cc
-plain_kind (program (Specifier From)) ts v n h a p = cc
-plain_kind (program (SpecifierAs Imported)) ts v n h a p = cc
-plain_kind (program (SpecifierAs Exported)) ts v n h a p = cc
-plain_kind (program (SpecifierAs From)) ts v n h a p = cc
-plain_kind (function FunctionExpr) ts v n h a p = cc
-plain_kind (function ClassExpr) ts v n h a p = cc
-plain_kind (function (Method InObject)) ts v n h a p = cc
-plain_kind (function (Method InClass)) ts v n h a p = cc
-plain_kind (function (Method Static)) ts v n h a p = cc
-plain_kind (function (Getter InObject)) ts v n h a p = cc
-plain_kind (function (Getter InClass)) ts v n h a p = cc
-plain_kind (function (Getter Static)) ts v n h a p = cc
-plain_kind (function (Setter InObject)) ts v n h a p = cc
-plain_kind (function (Setter InClass)) ts v n h a p = cc
-plain_kind (function (Setter Static)) ts v n h a p = cc
-plain_kind (function (Field InObject)) ts v n h a p = cc
-plain_kind (function (Field InClass)) ts v n h a p = cc
-plain_kind (function (Field Static)) ts v n h a p = cc
-plain_kind (expression SuperCall) ts v n h a p = cc
-plain_kind (expression SuperMember) ts v n h a p = cc
-plain_kind (expression SuperIndex) ts v n h a p = cc
-plain_kind (function (WithInit Binds)) ts v n h a p = cc
-plain_kind (function (RestPat Binds)) ts v n h a p = cc
-plain_kind (function (ArrayPat Binds)) ts v n h a p = cc
-plain_kind (function (ObjectPat Binds)) ts v n h a p = cc
-plain_kind (function (PropertyPat Binds)) ts v n h a p = cc
-plain_kind (function (ShorthandPat Binds)) ts v n h a p = cc
-plain_kind (function (ShorthandInit Binds)) ts v n h a p = cc
-plain_kind (function (RestProperty Binds)) ts v n h a p = cc
-plain_kind (function ComputedKey) ts v n h a p = cc
-plain_kind (statement ExprStmt) ts v n h a p = cc
-plain_kind (statement Declarator) ts v n h a p = cc
-plain_kind (statement (Var ConstWord)) ts v n h a p = cc
-plain_kind (expression (TemplateSpan true)) ts v n h a p = cc
-plain_kind (expression (TemplateSpan false)) ts v n h a p = cc
-plain_kind _ ts v n h a p = cc
 
 whole_row : {v : Surroundings} {x a y : Place} {t : Tree} {ts : Forest} (k : Kind) → Formed k → steps_on k ≡ true → Staged v false (side k) x t a → Walk (Whole so_far) (steady v) (tail (row_so_far k)) a ts y → Walk Staged (around v (part t ts)) (row_so_far k) x (part t ts) y
 whole_row {v} {x} {y = y} {t} {ts} k fm g s w = subst (λ ps. Walk Staged (around v (part t ts)) ps x (part t ts) y) (led_row (row_so_far k) (goes k g)) (next (tree s) (loosen (moved (λ a h. sym (free_around a (part t ts) v h)) fm.freed w)))
@@ -626,7 +625,7 @@ signed_node {v} {k} {w} {a} {y = y} ps l m b = subst (λ qs. BuiltNode so_far v 
 pub signed_no_node : {v : Surroundings} {k : Kind} {a b : Place} (ps : List Piece) → signed ps ≡ true → Moves (lead ps) a b → NoNode so_far v (tail ps) k b → NoNode so_far v ps k a
 signed_no_node {v} {k} {a} {b} ps l m n = subst (λ qs. NoNode so_far v qs k a) (lead_row ps l) (record { no = at })
   where
-    at : (us : Forest) (w : Place) → Walk (Whole so_far) (steady v) (piece [] (Fixed (lead ps)) ∷ tail ps) a us w → so_far.keeps k v us ≡ true → ⊥
+    at : (us : Forest) (w : Place) → Walk (Whole so_far) (steady v) (piece (front_of ps) (Fixed (lead ps)) ∷ tail ps) a us w → so_far.keeps k v us ≡ true → ⊥
     at us w (next (sign e f) walk) h = n.no us w (subst (λ p. Walk (Whole so_far) (steady v) (tail ps) p us w) (sym e ∙ sym m.is) walk) h
 
 pub signed_none : {v : Surroundings} {a b : Place} (ps : List Piece) → signed ps ≡ true → Moves (lead ps) a b → NoRow so_far v (tail ps) b → NoRow so_far v ps a
@@ -697,27 +696,61 @@ step_ended r {y = y} {t} {k} {ts} h p = record {
   unlinked = λ c s. record { none = chain_ended y s (subst (λ d. ends_so_far d y ≡ true) (chain_edge k c) (edge_on r k (node k (part (seen k t) ts)) h (step_listed p) refl p.onward p.whole)) };
 }
 
+-- whatever is read there begins with the tree, which may stand there
+pub record Climbed (v : Surroundings) (r : Rung) (x : Place) (t : Tree) (a : Place) : Type 0 where
+  pub follows : Follows so_far v (seat r) x t a
+  pub reads : Staged v false (seat r) x t a
+
 -- the step is read
-climb_step : {v : Surroundings} (r : Rung) {x a y : Place} {t w : Tree} {us : Forest} (k : Kind) → is_rung r ≡ true → Listed k → steps_on k ≡ true → Climbs v r x t a → Decides so_far v (seat r) x t a k (tail (row_so_far k)) → reaches r k ≡ true → fits k t ≡ true → (is_chain k ≡ true → IsTrue (is_found (forth (mark k) a)))
-    → w ≡ node k (part (seen k t) us) → Walk (Whole so_far) (steady v) (tail (row_so_far k)) a us y → ((ts : Forest) (z : Place) → Walk (Whole so_far) (steady v) (tail (row_so_far k)) a ts z → Ended k z → (us ≡ ts) × (y ≡ z)) → settled y ≡ true → Climbs v r x w y
-climb_step {v} r {x} {a} {y} {t} {w} {us} k h m g c d e i f is walk alone s =
+climbed : {v : Surroundings} (r : Rung) {x a y : Place} {t w : Tree} {us : Forest} (k : Kind) → is_rung r ≡ true → Listed k → steps_on k ≡ true → Climbs v r x t a → Decides so_far v (seat r) x t a k (tail (row_so_far k)) → reaches r k ≡ true → fits k t ≡ true → (is_chain k ≡ true → IsTrue (is_found (forth (mark k) a)))
+    → w ≡ node k (part (seen k t) us) → Walk (Whole so_far) (steady v) (tail (row_so_far k)) a us y → ((ts : Forest) (z : Place) → Walk (Whole so_far) (steady v) (tail (row_so_far k)) a ts z → Ended k z → (us ≡ ts) × (y ≡ z)) → Climbed v r x w y
+climbed {v} r {x} {a} {y} {t} {w} {us} k h m g c d e i f is walk alone =
     let fm = formed k m g in
     let left = value_side k m g (value t (rung_single r h) c.reads) i c.reads in
     let j = staged_clear r t c.reads in
     record {
       follows = grown_follows of_so_far c.follows d (joins r h m g e f left) is walk (λ ts z p. alone ts z (d.ends ts z p) (step_ended r h p));
       reads = subst (λ u. Staged v false (seat r) x u y) (sym is) (of_so_far.to_node k (grown_admits r t k h m e j us) (record { walk = whole_row k fm g left walk; keeps = keeps k fm g f left walk }));
-      ended = s;
     }
+
+pub climb_step : {v : Surroundings} {r : Rung} {x y : Place} {w : Tree} → Climbed v r x w y → settled y ≡ true → Climbs v r x w y
+climb_step q s = record { follows = q.follows; reads = q.reads; ended = s }
+
+climbed_on : {v : Surroundings} (r : Rung) {x a b y : Place} {t w : Tree} (k : Kind) → is_rung r ≡ true → Listed k → marks_on k ≡ true → Climbs v r x t a → OnLine k a → Moves (mark k) a b → reaches r k ≡ true → fits k t ≡ true → Grown v k t b w y → Climbed v r x w y
+climbed_on r {a = a} k h m g c o f e i n = let found = found_at (sym f.is) f.found in climbed r k h m (steps_of k g) c (decides r h c m g e o found) e i (λ q. found) n.is (n.walk a o f) (n.alone a o f)
 
 unfit_step : {v : Surroundings} (r : Rung) {x a : Place} {t : Tree} (k : Kind) → is_rung r ≡ true → Listed k → steps_on k ≡ true → Climbs v r x t a → Decides so_far v (seat r) x t a k (tail (row_so_far k)) → fits k t ≡ false → Barred so_far v (Part (seat r)) x
 unfit_step r {t = t} k h m g c d i = left_barred c.follows d (begins_side (row_so_far k) (goes k g)) (λ q. value_unfit k m g (value t (rung_single r h) c.reads) i c.reads q)
 
-steps_of : (k : Kind) → marks_on k ≡ true → steps_on k ≡ true
-steps_of k g = and_left (steps_on k) _ g
-
 pub climb_on : {v : Surroundings} (r : Rung) {x a b y : Place} {t w : Tree} (k : Kind) → is_rung r ≡ true → Listed k → marks_on k ≡ true → Climbs v r x t a → OnLine k a → Moves (mark k) a b → reaches r k ≡ true → fits k t ≡ true → Grown v k t b w y → settled y ≡ true → Climbs v r x w y
-climb_on r {a = a} k h m g c o f e i n s = let found = found_at (sym f.is) f.found in climb_step r k h m (steps_of k g) c (decides r h c m g e o found) e i (λ q. found) n.is (n.walk a o f) (n.alone a o f) s
+climb_on r k h m g c o f e i n s = climb_step (climbed_on r k h m g c o f e i n) s
+
+-- ---- of the level of a conditional, or below: it stands at the left of nothing
+
+low_plain : (k : Kind) (us : Forest) → nat_le (level_of_kind k) 2 ≡ true → (b : Bool) → is_pair (node k us) ≡ b → b ≡ false
+low_plain k us e false h = refl
+low_plain k us e true h = absurd (clash (nat_le (level_of_kind k) 2) e (ap (λ n. nat_le n 2) (pair_level (node k us) h)))
+
+pub stays_low : {v : Surroundings} {c : Nonterminal} {x a : Place} {us : Forest} (k : Kind) → Listed k → nat_le (level_of_kind k) 2 ≡ true → Stays so_far v c x (node k us) a
+stays_low {v} {c} {x} {a} {us} k m e = record { none_on = λ l ts y p. none p }
+  where
+    none : {l : Kind} {ts : Forest} {y : Place} → Steps so_far v c x (node k us) a l ts y → ⊥
+    none {l} p =
+        let n = step_listed p in
+        let here = subst (λ s. Staged v false s x (seen l (node k us)) a) (sym (side_is l p.begins)) p.left in
+        let home = node_home (subst (λ u. Staged v false (side l) x u a) (seen_plain l (node k us) (low_plain k us e (is_pair (node k us)) refl)) here) in
+        clash (nat_le 3 2) (below_level 3 (level_of_kind k) 2 (sunk l k n m (left_leads l n p.begins (made m) p.left) home).high e) refl
+
+-- behind the block of an arrow function it has ended
+pub blocked_ends : (r : Rung) (y : Place) → is_rung r ≡ true → is_blocked y ≡ true → ends_so_far (seat r) y ≡ true
+blocked_ends r Lost h b = cc
+blocked_ends r (At q AfterBlock text) h b =
+    ap (λ l. not (goes_on_so_far l AfterBlock (breaks text) (token Operator false text))) (seat_asks r)
+    ∙ ap (λ c. not (c && is_token (token Operator false text) Punctuator (codes ","))) (single_level r h)
+blocked_ends r (At q _ text) h b = cc
+
+pub climb_blocked : {v : Surroundings} (r : Rung) {x a b y : Place} {t w : Tree} (k : Kind) → is_rung r ≡ true → Listed k → marks_on k ≡ true → Climbs v r x t a → OnLine k a → Moves (mark k) a b → reaches r k ≡ true → fits k t ≡ true → Grown v k t b w y → nat_le (level_of_kind k) 2 ≡ true → is_blocked y ≡ true → Only so_far v (Part (seat r)) x (one w) y
+climb_blocked {v} r {x} {y = y} k h m g c o f e i n low b = let q = climbed_on r k h m g c o f e i n in grown_only q.follows (subst (λ u. Stays so_far v (seat r) x u y) (sym n.is) (stays_low k m low)) q.reads (blocked_ends r y h b)
 
 -- it can't be read, or the tree may not stand at its left
 pub climb_barred : {v : Surroundings} (r : Rung) {x a b : Place} {t : Tree} (k : Kind) → is_rung r ≡ true → Listed k → marks_on k ≡ true → Climbs v r x t a → OnLine k a → Moves (mark k) a b → reaches r k ≡ true → NotGrown v k b → Barred so_far v (Part (seat r)) x
@@ -736,7 +769,7 @@ tagged_reaches (rung n) h = of_level (λ m. nat_le m 18) refl {n = n} h
 tagged_reaches callee h = refl
 
 pub climb_tagged : {v : Surroundings} (r : Rung) {x a y : Place} {t w : Tree} → is_rung r ≡ true → Climbs v r x t a → Quote a → fits (expression Tagged) t ≡ true → Built so_far v (tail (row_so_far (expression Tagged))) (expression Tagged) (part t) w a y → settled y ≡ true → Climbs v r x w y
-climb_tagged r h c q i built s = climb_step r (expression Tagged) h tagged_listed refl c (decides_tagged r h c q) (tagged_reaches r h) i (λ e. absurd (clash false e refl)) built.is built.row.walk (λ ts z walk e. built.row.alone ts z walk) s
+climb_tagged r h c q i built s = climb_step (climbed r (expression Tagged) h tagged_listed refl c (decides_tagged r h c q) (tagged_reaches r h) i (λ e. absurd (clash false e refl)) built.is built.row.walk (λ ts z walk e. built.row.alone ts z walk)) s
 
 pub tagged_unread : {v : Surroundings} (r : Rung) {x a : Place} {t : Tree} → is_rung r ≡ true → Climbs v r x t a → Quote a → NotTagged v t a → Barred so_far v (Part (seat r)) x
 tagged_unread {v} r {x} {t = t} h c q n = by (fits (expression Tagged) t) refl

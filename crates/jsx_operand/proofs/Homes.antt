@@ -3,8 +3,8 @@ use Rattle.std.proofs.Common.{◌≡◌, Bool, true, false, not, refl, sym, ◌�
 use Rattle.std.specs.Prelude.{IsTrue, codes, [], ◌∷◌, ◌&&◌, ◌||◌}
 use Rattle.jsx_base.specs.Token.{Text, Operator, TokenKind, IdentifierName, NumericLiteral, BigIntLiteral, StringLiteral, NoSubstitution, TemplateHead, TemplateMiddle, TemplateTail, JsxName, Elision, RegExpLiteral, among}
 use Rattle.jsx_tree.specs.Signs.{Tok}
-use Rattle.jsx_tree.specs.Kinds.{VarWord, LetWord, ConstWord, FunctionBody, ImportBare, Import, ImportAll, ImportList, ImportBoth, Specifier, SpecifierAs, ExportNames, ExportFrom, ExportAll, ExportAllAs, ExportDecl, ExportDefaultFn, ExportDefaultExpr, Return, FunctionDecl, FunctionExpr, WithInit, RestPat, ArrayPat, ObjectPat, PropertyPat, ShorthandPat, ShorthandInit, RestProperty, Block, Empty, If, Do, While, Continue, Break, Label, Throw, Debugger, Module, Directive, Var, Declarator, ExprStmt, Binds, Assigns, Assign, OpAssign, Nullish, Or, And, BitOr, BitXor, BitAnd, ShiftLeft, ShiftRight, ShiftOut, Add, Subtract, Multiply, Divide, Remainder, Exponentiate, Void, TypeOf, Positive, Negative, Complement, Not, Unary, Binary, Cond, Call, Member, Index, ImportCall, Parenthesized, Element, Kind, program, statement, expression, jsx, Tree, leaf, node, list, Forest, Delete, PrefixUpdate, PostfixUpdate, Increment, Decrement, Seq, For, ForDeclaration, Switch, Case, Default, Array, Spread, Try, Catch, Object, Property, Shorthand, ComputedKey, function, New, NewWithoutArguments, NewTarget, ImportMeta, ForIn, ForOf, ForBinding, PlainTemplate, SubstitutedTemplate, TemplateSpan, Tagged, Chain, NameLink, IndexLink, CallLink, ParenTarget, ExportDefaultClass, ClassDecl, ClassExpr, InClass, Static, Method, Getter, Setter, Field, SuperCall, SuperMember, SuperIndex}
-use Rattle.jsx_tree.specs.Nonterminals.{Nonterminal, Expr, NullishLeft, MemberObject, DotObject, SimpleTarget, Argument, Ident, BindingIdent, Param, Name, StringOnly, Pat, PatElement, Slot, TagName, Attributes, is_ident, is_bound, is_value_word, leaf_in, homes, NewCallee, TemplatePart}
+use Rattle.jsx_tree.specs.Kinds.{VarWord, LetWord, ConstWord, FunctionBody, ImportBare, Import, ImportAll, ImportList, ImportBoth, Specifier, SpecifierAs, ExportNames, ExportFrom, ExportAll, ExportAllAs, ExportDecl, ExportDefaultFn, ExportDefaultExpr, Return, FunctionDecl, FunctionExpr, WithInit, RestPat, ArrayPat, ObjectPat, PropertyPat, ShorthandPat, ShorthandInit, RestProperty, Block, Empty, If, Do, While, Continue, Break, Label, Throw, Debugger, Module, Directive, Var, Declarator, ExprStmt, Binds, Assigns, Assign, OpAssign, Nullish, Or, And, BitOr, BitXor, BitAnd, ShiftLeft, ShiftRight, ShiftOut, Add, Subtract, Multiply, Divide, Remainder, Exponentiate, Void, TypeOf, Positive, Negative, Complement, Not, Unary, Binary, Cond, Call, Member, Index, ImportCall, Parenthesized, Element, Kind, program, statement, expression, jsx, Tree, leaf, node, list, Forest, Delete, PrefixUpdate, PostfixUpdate, Increment, Decrement, Seq, For, ForDeclaration, Switch, Case, Default, Array, Spread, Try, Catch, Object, Property, Shorthand, ComputedKey, function, New, NewWithoutArguments, NewTarget, ImportMeta, ForIn, ForOf, ForBinding, PlainTemplate, SubstitutedTemplate, TemplateSpan, Tagged, Chain, NameLink, IndexLink, CallLink, ParenTarget, ExportDefaultClass, ClassDecl, ClassExpr, InClass, Static, Method, Getter, Setter, Field, SuperCall, SuperMember, SuperIndex, Arrow, ArrowBlock, BareArrow, BareArrowBlock, Script}
+use Rattle.jsx_tree.specs.Nonterminals.{Nonterminal, Expr, NullishLeft, MemberObject, DotObject, SimpleTarget, Argument, Ident, BindingIdent, Param, Name, StringOnly, Pat, PatElement, Slot, TagName, Attributes, is_ident, is_bound, is_value_word, leaf_in, homes, takes, ForOfHead, NewCallee, TemplatePart}
 use Rattle.jsx_tree.specs.Grammar.{Part}
 use Rattle.jsx_tree.specs.Form.{admits, fits_below, is_leaf}
 use Rattle.jsx_tree.specs.Spelling.{mode_of, spelled}
@@ -20,7 +20,7 @@ use Rattle.jsx_tree.proofs.Tokens.{and_left, and_right, and_both, one_text}
 use Rattle.jsx_tree.proofs.Apart.{clash}
 use Rattle.jsx_tree.proofs.Rows.Bridge.{found_at}
 use Rattle.jsx_tree.proofs.Rows.Texts.{has_token, leaf_read}
-use Rattle.jsx_tree.proofs.Rows.Stopping.{is_never, never_stops, is_not}
+use Rattle.jsx_tree.proofs.Rows.Stopping.{is_never, never_stops, is_not, or_cases}
 use Rattle.jsx_tree.proofs.Rows.Firsts.{kind_home}
 use Rattle.jsx_tree.proofs.Rows.Closers.{any_operand, homes_operand}
 use Rattle.jsx_operand.proofs.OfSoFar.{of_so_far}
@@ -29,7 +29,7 @@ use Rattle.jsx_token.specs.declared.heading.Heading.{Heading}
 use Rattle.jsx_token.specs.declared.heading.Heading.TheVariants as heading
 use Rattle.jsx_token.specs.Headings.{Begins, own, over_keys, over_items}
 use Rattle.jsx_token.proofs.Headings.{every_begun, of_begun}
-use Rattle.jsx_operand.proofs.Inners.{Inner, import_bare, import_from, export_names, export_from, export_all, export_all_as, export_declared, export_function, export_value, function_body, with_init, rest_part, array_pattern, object_pattern, pair_pattern, short_pattern, short_default, rest_property, import_all, import_list, import_both, specifier, specifier_as, portal, directive, declarator, declaration, binding, case', default', inner_kind, every_inner, of_inner, catch', property, shorthand, computed, span, tagged_plain, tagged_substituted, name_link, index_link, call_link, export_class, method, getter, setter, field, static_field}
+use Rattle.jsx_operand.proofs.Inners.{Inner, import_bare, import_from, export_names, export_from, export_all, export_all_as, export_declared, export_function, export_value, script, function_body, with_init, rest_part, array_pattern, object_pattern, pair_pattern, short_pattern, short_default, rest_property, import_all, import_list, import_both, specifier, specifier_as, portal, directive, declarator, declaration, binding, case', default', inner_kind, every_inner, of_inner, catch', property, shorthand, computed, span, tagged_plain, tagged_substituted, name_link, index_link, call_link, export_class, method, getter, setter, field, static_field}
 use Rattle.jsx_token.proofs.Listed.{Listed, listed, listed_binary, kinds, every, of_each}
 use Rattle.jsx_token.proofs.Lives.{is_lone, is_single, lives}
 
@@ -48,6 +48,7 @@ pub data Taken : Kind → Type 0 where
 pub taken : (k : Kind) → has_kind k ≡ true → Taken k
 taken (program Module) h = module'
 taken (program Directive) h = inner directive
+taken (program Script) h = inner script
 taken (program FunctionBody) h = inner function_body
 taken (program ImportBare) h = inner (portal import_bare)
 taken (program Import) h = inner (portal import_from)
@@ -105,16 +106,20 @@ taken (function (Field Static)) h = inner static_field
 taken (expression SuperCall) h = operand (listed (expression SuperCall) refl refl refl)
 taken (expression SuperMember) h = operand (listed (expression SuperMember) refl refl refl)
 taken (expression SuperIndex) h = operand (listed (expression SuperIndex) refl refl refl)
-taken (function (WithInit Binds)) h = inner with_init
-taken (function (RestPat Binds)) h = inner rest_part
-taken (function (ArrayPat Binds)) h = inner array_pattern
-taken (function (ObjectPat Binds)) h = inner object_pattern
-taken (function (PropertyPat Binds)) h = inner pair_pattern
-taken (function (ShorthandPat Binds)) h = inner short_pattern
-taken (function (ShorthandInit Binds)) h = inner short_default
-taken (function (RestProperty Binds)) h = inner rest_property
+taken (function (WithInit r)) h = inner (with_init r)
+taken (function (RestPat r)) h = inner (rest_part r)
+taken (function (ArrayPat r)) h = inner (array_pattern r)
+taken (function (ObjectPat r)) h = inner (object_pattern r)
+taken (function (PropertyPat r)) h = inner (pair_pattern r)
+taken (function (ShorthandPat r)) h = inner (short_pattern r)
+taken (function (ShorthandInit r)) h = inner (short_default r)
+taken (function (RestProperty r)) h = inner (rest_property r)
 taken (expression (Binary o)) h = operand (listed_binary o)
 taken (expression Assign) h = operand (listed (expression Assign) refl refl refl)
+taken (expression Arrow) h = operand (listed (expression Arrow) refl refl refl)
+taken (expression ArrowBlock) h = operand (listed (expression ArrowBlock) refl refl refl)
+taken (expression BareArrow) h = operand (listed (expression BareArrow) refl refl refl)
+taken (expression BareArrowBlock) h = operand (listed (expression BareArrowBlock) refl refl refl)
 taken (expression (OpAssign Nullish)) h = operand (listed (expression (OpAssign Nullish)) refl refl refl)
 taken (expression (OpAssign Or)) h = operand (listed (expression (OpAssign Or)) refl refl refl)
 taken (expression (OpAssign And)) h = operand (listed (expression (OpAssign And)) refl refl refl)
@@ -422,22 +427,36 @@ operand_leaf _ k t o i h = cc
 pub no_operand : (d : Nonterminal) (k : Kind) (ts : Forest) → is_operand d ≡ true → any_operand (homes k) ≡ false → admits d (node k ts) ≡ true → ⊥
 no_operand d k ts o n h = clash _ (homes_operand d (homes k) o (kind_home d k ts h)) n
 
-pub operand_kind : (d : Nonterminal) {k : Kind} {ts : Forest} → is_lone d ≡ true → is_aim (node k ts) ≡ false → Taken k → admits d (node k ts) ≡ true → Value (node k ts)
-operand_kind d o a (operand l) h = made l
-operand_kind d o a module' h = absurd (no_operand d _ _ (and_left (is_operand d) _ o) refl h)
-operand_kind d o a (headed b) h = absurd (no_operand d _ _ (and_left (is_operand d) _ o) (is_not _ (of_begun (λ j. not (any_operand (homes j))) refl b)) h)
-operand_kind d o a (inner i) h = absurd (no_operand d _ _ (and_left (is_operand d) _ o) (is_not _ (of_inner (λ j. not (any_operand (homes (inner_kind j)))) refl i)) h)
-operand_kind d o a evaluation h = absurd (no_operand d _ _ (and_left (is_operand d) _ o) refl h)
-operand_kind d o a labelled h = absurd (no_operand d _ _ (and_left (is_operand d) _ o) refl h)
-operand_kind d {ts = ts} o a sequence h = absurd (clash _ (kind_home d (expression Seq) ts h) (is_not _ (and_left (not (lives d (expression Seq))) _ (and_right (is_operand d) _ o))))
-operand_kind d {ts = ts} o a spread h = absurd (clash _ (kind_home d (expression Spread) ts h) (is_not _ (and_left (not (lives d (expression Spread))) _ (and_right (not (lives d (expression Seq))) _ (and_right (is_operand d) _ o)))))
-operand_kind d {ts = ts} o a aimed h = cc
+-- a pattern in brackets that assigns, which stands where a target does
+abbrev pub is_bracket : Kind → Bool
+is_bracket (function (ArrayPat Assigns)) = true
+is_bracket (function (ObjectPat Assigns)) = true
+is_bracket k = false
 
--- what stands where an expression does that is no sequence, and no target in parentheses
-pub lone_value : {v : Surroundings} {d : Nonterminal} {x y : Place} (t : Tree) → is_lone d ≡ true → is_aim t ≡ false → Staged v false d x t y → Value t
-lone_value {d = d} (leaf k t) o a r = value_kind k t (operand_leaf d k t o (and_left (leaf_in d k t) (is_leaf k t) r.reads.is) r.staged)
-lone_value {d = d} (node k ts) o a r = operand_kind d o a (taken_by r) (home_of r)
-lone_value (list ts) o a r = absurd (no_list r)
+abbrev pub in_brackets : Tree → Bool
+in_brackets (node k ts) = is_bracket k
+in_brackets t = false
+
+-- of the other parts none stands where an operand does
+no_inner : (d : Nonterminal) (i : Inner) (ts : Forest) → is_operand d ≡ true → is_bracket (inner_kind i) ≡ false → admits d (node (inner_kind i) ts) ≡ true → ⊥
+no_inner d i ts o b h = no_operand d (inner_kind i) ts o (is_not _ (or_cases (is_bracket (inner_kind i)) (not (any_operand (homes (inner_kind i)))) (of_inner (λ j. is_bracket (inner_kind j) || not (any_operand (homes (inner_kind j)))) refl i) (λ e. absurd (clash _ e b)) (λ e. e))) h
+
+pub operand_kind : (d : Nonterminal) {k : Kind} {ts : Forest} → is_lone d ≡ true → is_aim (node k ts) ≡ false → is_bracket k ≡ false → Taken k → admits d (node k ts) ≡ true → Value (node k ts)
+operand_kind d o a b (operand l) h = made l
+operand_kind d o a b module' h = absurd (no_operand d _ _ (and_left (is_operand d) _ o) refl h)
+operand_kind d o a b (headed g) h = absurd (no_operand d _ _ (and_left (is_operand d) _ o) (is_not _ (of_begun (λ j. not (any_operand (homes j))) refl g)) h)
+operand_kind d {ts = ts} o a b (inner i) h = absurd (no_inner d i ts (and_left (is_operand d) _ o) b h)
+operand_kind d o a b evaluation h = absurd (no_operand d _ _ (and_left (is_operand d) _ o) refl h)
+operand_kind d o a b labelled h = absurd (no_operand d _ _ (and_left (is_operand d) _ o) refl h)
+operand_kind d {ts = ts} o a b sequence h = absurd (clash _ (kind_home d (expression Seq) ts h) (is_not _ (and_left (not (lives d (expression Seq))) _ (and_right (is_operand d) _ o))))
+operand_kind d {ts = ts} o a b spread h = absurd (clash _ (kind_home d (expression Spread) ts h) (is_not _ (and_left (not (lives d (expression Spread))) _ (and_right (not (lives d (expression Seq))) _ (and_right (is_operand d) _ o)))))
+operand_kind d {ts = ts} o a b aimed h = cc
+
+-- what stands where an expression does that is no sequence, no target in parentheses and no pattern in brackets
+pub lone_value : {v : Surroundings} {d : Nonterminal} {x y : Place} (t : Tree) → is_lone d ≡ true → is_aim t ≡ false → in_brackets t ≡ false → Staged v false d x t y → Value t
+lone_value {d = d} (leaf k t) o a b r = value_kind k t (operand_leaf d k t o (and_left (leaf_in d k t) (is_leaf k t) r.reads.is) r.staged)
+lone_value {d = d} (node k ts) o a b r = operand_kind d o a b (taken_by r) (home_of r)
+lone_value (list ts) o a b r = absurd (no_list r)
 
 -- where no target stands
 no_aim : (d : Nonterminal) (k : Kind) (ts : Forest) → lives d (function ParenTarget) ≡ false → lives d k ≡ true → (b : Bool) → is_aim (node k ts) ≡ b → b ≡ false
@@ -445,9 +464,28 @@ no_aim d k ts n h false e = refl
 no_aim d (function ParenTarget) ts n h true e = absurd (clash _ h n)
 no_aim d _ ts n h true e = cc
 
+-- where a pattern in brackets stands a target in parentheses may
+aim_too : (c : Nonterminal) → lives c (function (ArrayPat Assigns)) ≡ true → lives c (function ParenTarget) ≡ true
+aim_too NullishLeft h = cc
+aim_too NewCallee h = cc
+aim_too DotObject h = cc
+aim_too ForOfHead h = refl
+aim_too (Expr n) h = cc
+aim_too c h = or_second (takes c SimpleTarget) h
+  where
+    or_second : (a : Bool) {b : Bool} → b ≡ true → (a || b) ≡ true
+    or_second true e = refl
+    or_second false e = e
+
+no_bracket : (d : Nonterminal) (k : Kind) → is_single d ≡ true → lives d k ≡ true → (b : Bool) → is_bracket k ≡ b → b ≡ false
+no_bracket d k o h false e = refl
+no_bracket d (function (ArrayPat Assigns)) o h true e = absurd (clash _ (aim_too d h) (is_not _ (and_right (is_lone d) _ o)))
+no_bracket d (function (ObjectPat Assigns)) o h true e = absurd (clash _ (aim_too d h) (is_not _ (and_right (is_lone d) _ o)))
+no_bracket d _ o h true e = cc
+
 pub value : {v : Surroundings} {d : Nonterminal} {x y : Place} (t : Tree) → is_single d ≡ true → Staged v false d x t y → Value t
-value {d = d} (leaf k t) o r = lone_value (leaf k t) (and_left (is_lone d) _ o) refl r
-value {d = d} (node k ts) o r = lone_value (node k ts) (and_left (is_lone d) _ o) (no_aim d k ts (is_not _ (and_right (is_lone d) _ o)) (kind_home d k ts (home_of r)) (is_aim (node k ts)) refl) r
+value {d = d} (leaf k t) o r = lone_value (leaf k t) (and_left (is_lone d) _ o) refl refl r
+value {d = d} (node k ts) o r = lone_value (node k ts) (and_left (is_lone d) _ o) (no_aim d k ts (is_not _ (and_right (is_lone d) _ o)) (kind_home d k ts (home_of r)) (is_aim (node k ts)) refl) (no_bracket d k o (kind_home d k ts (home_of r)) (is_bracket k) refl) r
 value (list ts) o r = absurd (no_list r)
 
 -- what stands where a sequence may
@@ -462,7 +500,7 @@ whole_kind {ts = ts} spread h = absurd (clash _ (kind_home (Expr 0) (expression 
 whole_kind {ts = ts} aimed h = absurd (clash _ (kind_home (Expr 0) (function ParenTarget) ts h) refl)
 whole_kind {ts = ts} module' h = absurd (no_operand (Expr 0) (program Module) ts refl refl h)
 whole_kind {k} {ts} (headed b) h = absurd (no_operand (Expr 0) k ts refl (is_not _ (of_begun (λ j. not (any_operand (homes j))) refl b)) h)
-whole_kind {ts = ts} (inner i) h = absurd (no_operand (Expr 0) (inner_kind i) ts refl (is_not _ (of_inner (λ j. not (any_operand (homes (inner_kind j)))) refl i)) h)
+whole_kind {ts = ts} (inner i) h = absurd (clash (lives (Expr 0) (inner_kind i)) (kind_home (Expr 0) (inner_kind i) ts h) (is_not _ (of_inner (λ j. not (lives (Expr 0) (inner_kind j))) refl i)))
 whole_kind {ts = ts} evaluation h = absurd (no_operand (Expr 0) (statement ExprStmt) ts refl refl h)
 whole_kind {ts = ts} labelled h = absurd (no_operand (Expr 0) (statement Label) ts refl refl h)
 

@@ -1,7 +1,7 @@
--- The kinds that stand within statements, before them, in functions, in objects, in classes, in templates, in chains or in modules alone, in one list: what a test finds of all of them holds of each.
+-- Scripts, and the kinds that stand within statements, before them, in functions, in objects, in classes, in templates, in chains or in modules alone, in one list: what a test finds of all of them holds of each.
 use Rattle.std.proofs.Common.{◌≡◌, Bool, true, false}
 use Rattle.std.specs.Prelude.{◌&&◌}
-use Rattle.jsx_tree.specs.Kinds.{DeclareWord, VarWord, LetWord, ConstWord, Side, Imported, Exported, From, FunctionBody, Directive, ImportBare, Import, ImportAll, ImportList, ImportBoth, Specifier, SpecifierAs, ExportNames, ExportFrom, ExportAll, ExportAllAs, ExportDecl, ExportDefaultFn, ExportDefaultExpr, Declarator, ForDeclaration, ForBinding, Case, Default, Catch, Binds, ComputedKey, WithInit, RestPat, ArrayPat, ObjectPat, PropertyPat, ShorthandPat, ShorthandInit, RestProperty, Property, Shorthand, NameLink, IndexLink, CallLink, Kind, program, statement, function, expression, PlainTemplate, SubstitutedTemplate, TemplateSpan, Field, Setter, Getter, Method, Static, InClass, InObject, Holder, ExportDefaultClass}
+use Rattle.jsx_tree.specs.Kinds.{DeclareWord, VarWord, LetWord, ConstWord, Side, Imported, Exported, From, FunctionBody, Directive, ImportBare, Import, ImportAll, ImportList, ImportBoth, Specifier, SpecifierAs, ExportNames, ExportFrom, ExportAll, ExportAllAs, ExportDecl, ExportDefaultFn, ExportDefaultExpr, Declarator, ForDeclaration, ForBinding, Case, Default, Catch, Role, Binds, Assigns, ComputedKey, WithInit, RestPat, ArrayPat, ObjectPat, PropertyPat, ShorthandPat, ShorthandInit, RestProperty, Property, Shorthand, NameLink, IndexLink, CallLink, Kind, program, statement, function, expression, PlainTemplate, SubstitutedTemplate, TemplateSpan, Field, Setter, Getter, Method, Static, InClass, InObject, Holder, ExportDefaultClass, Script}
 use Rattle.jsx_tree.proofs.Tokens.{and_left, and_right}
 
 -- imports and exports, the items of a module that are no statements
@@ -46,15 +46,16 @@ pub data Inner : Type 0 where
   name_link : Bool → Inner
   index_link : Bool → Inner
   call_link : Bool → Inner
+  script : Inner
   function_body : Inner
-  with_init : Inner
-  rest_part : Inner
-  array_pattern : Inner
-  object_pattern : Inner
-  pair_pattern : Inner
-  short_pattern : Inner
-  short_default : Inner
-  rest_property : Inner
+  with_init : Role → Inner
+  rest_part : Role → Inner
+  array_pattern : Role → Inner
+  object_pattern : Role → Inner
+  pair_pattern : Role → Inner
+  short_pattern : Role → Inner
+  short_default : Role → Inner
+  rest_property : Role → Inner
   method : Holder → Inner
   getter : Holder → Inner
   setter : Holder → Inner
@@ -84,15 +85,16 @@ inner_kind tagged_substituted = expression (SubstitutedTemplate true)
 inner_kind (name_link q) = expression (NameLink q)
 inner_kind (index_link q) = expression (IndexLink q)
 inner_kind (call_link q) = expression (CallLink q)
+inner_kind script = program Script
 inner_kind function_body = program FunctionBody
-inner_kind with_init = function (WithInit Binds)
-inner_kind rest_part = function (RestPat Binds)
-inner_kind array_pattern = function (ArrayPat Binds)
-inner_kind object_pattern = function (ObjectPat Binds)
-inner_kind pair_pattern = function (PropertyPat Binds)
-inner_kind short_pattern = function (ShorthandPat Binds)
-inner_kind short_default = function (ShorthandInit Binds)
-inner_kind rest_property = function (RestProperty Binds)
+inner_kind (with_init r) = function (WithInit r)
+inner_kind (rest_part r) = function (RestPat r)
+inner_kind (array_pattern r) = function (ArrayPat r)
+inner_kind (object_pattern r) = function (ObjectPat r)
+inner_kind (pair_pattern r) = function (PropertyPat r)
+inner_kind (short_pattern r) = function (ShorthandPat r)
+inner_kind (short_default r) = function (ShorthandInit r)
+inner_kind (rest_property r) = function (RestProperty r)
 inner_kind (method h) = function (Method h)
 inner_kind (getter h) = function (Getter h)
 inner_kind (setter h) = function (Setter h)
@@ -140,13 +142,20 @@ of_form p a false = and_right (p true) _ a
 abbrev pub every_link : (Inner → Bool) → Bool
 every_link p = every_form (λ q. p (name_link q)) && (every_form (λ q. p (index_link q)) && every_form (λ q. p (call_link q)))
 
--- those of a function
+abbrev pub every_role : (Role → Bool) → Bool
+every_role p = p Binds && p Assigns
+
+of_role : (p : Role → Bool) → every_role p ≡ true → (r : Role) → p r ≡ true
+of_role p a Binds = and_left (p Binds) _ a
+of_role p a Assigns = and_right (p Binds) _ a
+
+-- a script, and those of a function
 abbrev pub every_of_function : (Inner → Bool) → Bool
-every_of_function p = p function_body && (p with_init && p rest_part)
+every_of_function p = p script && (p function_body && (every_role (λ r. p (with_init r)) && every_role (λ r. p (rest_part r))))
 
 -- those of patterns
 abbrev pub every_of_pattern : (Inner → Bool) → Bool
-every_of_pattern p = p array_pattern && (p object_pattern && (p pair_pattern && (p short_pattern && (p short_default && p rest_property))))
+every_of_pattern p = every_role (λ r. p (array_pattern r)) && (every_role (λ r. p (object_pattern r)) && (every_role (λ r. p (pair_pattern r)) && (every_role (λ r. p (short_pattern r)) && (every_role (λ r. p (short_default r)) && every_role (λ r. p (rest_property r))))))
 
 abbrev pub every_holder : (Holder → Bool) → Bool
 every_holder p = p InObject && (p InClass && p Static)
@@ -232,30 +241,47 @@ of_piece p a =
     by e f false = f
 
 record OfFunction (p : Inner → Bool) : Type 0 where
+  of_script : p script ≡ true
   of_body : p function_body ≡ true
-  of_init : p with_init ≡ true
-  of_rest : p rest_part ≡ true
+  of_init : (r : Role) → p (with_init r) ≡ true
+  of_rest : (r : Role) → p (rest_part r) ≡ true
 
 of_function : (p : Inner → Bool) → every_of_function p ≡ true → OfFunction p
 of_function p a =
-    let b = and_right (p function_body) _ a in
-    record { of_body = and_left (p function_body) _ a; of_init = and_left (p with_init) _ b; of_rest = and_right (p with_init) _ b }
+    let inits = every_role (λ r. p (with_init r)) in
+    let rests = every_role (λ r. p (rest_part r)) in
+    let s = and_right (p script) (p function_body && (inits && rests)) a in
+    let b = and_right (p function_body) (inits && rests) s in
+    record { of_script = and_left (p script) (p function_body && (inits && rests)) a; of_body = and_left (p function_body) (inits && rests) s; of_init = of_role (λ r. p (with_init r)) (and_left inits rests b); of_rest = of_role (λ r. p (rest_part r)) (and_right inits rests b) }
 
 record OfPattern (p : Inner → Bool) : Type 0 where
-  of_array : p array_pattern ≡ true
-  of_object : p object_pattern ≡ true
-  of_pair : p pair_pattern ≡ true
-  of_short : p short_pattern ≡ true
-  of_default : p short_default ≡ true
-  of_rest_property : p rest_property ≡ true
+  of_array : (r : Role) → p (array_pattern r) ≡ true
+  of_object : (r : Role) → p (object_pattern r) ≡ true
+  of_pair : (r : Role) → p (pair_pattern r) ≡ true
+  of_short : (r : Role) → p (short_pattern r) ≡ true
+  of_default : (r : Role) → p (short_default r) ≡ true
+  of_rest_property : (r : Role) → p (rest_property r) ≡ true
 
 of_pattern : (p : Inner → Bool) → every_of_pattern p ≡ true → OfPattern p
 of_pattern p a =
-    let b = and_right (p array_pattern) _ a in
-    let c = and_right (p object_pattern) _ b in
-    let d = and_right (p pair_pattern) _ c in
-    let e = and_right (p short_pattern) _ d in
-    record { of_array = and_left (p array_pattern) _ a; of_object = and_left (p object_pattern) _ b; of_pair = and_left (p pair_pattern) _ c; of_short = and_left (p short_pattern) _ d; of_default = and_left (p short_default) _ e; of_rest_property = and_right (p short_default) _ e }
+    let arrays = every_role (λ r. p (array_pattern r)) in
+    let objects = every_role (λ r. p (object_pattern r)) in
+    let pairs = every_role (λ r. p (pair_pattern r)) in
+    let shorts = every_role (λ r. p (short_pattern r)) in
+    let defaults = every_role (λ r. p (short_default r)) in
+    let rests = every_role (λ r. p (rest_property r)) in
+    let b = and_right arrays _ a in
+    let c = and_right objects _ b in
+    let d = and_right pairs _ c in
+    let e = and_right shorts _ d in
+    record {
+      of_array = of_role (λ r. p (array_pattern r)) (and_left arrays _ a);
+      of_object = of_role (λ r. p (object_pattern r)) (and_left objects _ b);
+      of_pair = of_role (λ r. p (pair_pattern r)) (and_left pairs _ c);
+      of_short = of_role (λ r. p (short_pattern r)) (and_left shorts _ d);
+      of_default = of_role (λ r. p (short_default r)) (and_left defaults _ e);
+      of_rest_property = of_role (λ r. p (rest_property r)) (and_right defaults _ e);
+    }
 
 record Element (p : Inner → Bool) : Type 0 where
   of_method : (h : Holder) → p (method h) ≡ true
@@ -343,15 +369,16 @@ of_inner p a i =
     by (name_link q) d s m r l f n u k o = l.of_name q
     by (index_link q) d s m r l f n u k o = l.of_index q
     by (call_link q) d s m r l f n u k o = l.of_call q
+    by script d q m r l f n u k o = f.of_script
     by function_body d q m r l f n u k o = f.of_body
-    by with_init d q m r l f n u k o = f.of_init
-    by rest_part d q m r l f n u k o = f.of_rest
-    by array_pattern d q m r l f n u k o = n.of_array
-    by object_pattern d q m r l f n u k o = n.of_object
-    by pair_pattern d q m r l f n u k o = n.of_pair
-    by short_pattern d q m r l f n u k o = n.of_short
-    by short_default d q m r l f n u k o = n.of_default
-    by rest_property d q m r l f n u k o = n.of_rest_property
+    by (with_init x) d q m r l f n u k o = f.of_init x
+    by (rest_part x) d q m r l f n u k o = f.of_rest x
+    by (array_pattern x) d q m r l f n u k o = n.of_array x
+    by (object_pattern x) d q m r l f n u k o = n.of_object x
+    by (pair_pattern x) d q m r l f n u k o = n.of_pair x
+    by (short_pattern x) d q m r l f n u k o = n.of_short x
+    by (short_default x) d q m r l f n u k o = n.of_default x
+    by (rest_property x) d q m r l f n u k o = n.of_rest_property x
     by import_all d q m r l f n u k o = k.of_all
     by import_list d q m r l f n u k o = k.of_list
     by import_both d q m r l f n u k o = k.of_both

@@ -7,10 +7,13 @@ pub mod Aims
 pub mod Slashes
 pub mod Rungs
 pub mod Values
+pub mod Headless
 pub mod Tags
 pub mod Growing
+pub mod PlainKinds
 pub mod Climbing
 pub mod Openings
+pub mod BracketSteps
 pub mod PlacedTargets
 pub mod Operators
 pub mod Keys
@@ -32,3 +35,11 @@ pub mod Entering
 pub mod Bodies
 pub mod Compounds
 pub mod Patterns
+pub mod Turning
+pub mod Tokens
+pub mod Binding
+pub mod Arrows
+pub mod Turned
+pub mod Variants
+pub mod Turners
+pub mod Suiting

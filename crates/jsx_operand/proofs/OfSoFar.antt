@@ -1,8 +1,8 @@
 -- The language so far is read by its rows.
 use Rattle.std.proofs.Common.{◌≡◌, ℕ, nat_le, Bool, not, true, false, List, [], ◌∷◌, refl, ap}
-use Rattle.std.specs.Prelude.{codes, Option, Some, None, ◌&&◌, ◌||◌}
+use Rattle.std.specs.Prelude.{codes, nat_eq, Option, Some, None, ◌&&◌, ◌||◌}
 use Rattle.jsx_base.specs.Token.{Text, Punctuator, Lexeme, among, breaks, is_kind, is_token, same}
-use Rattle.jsx_tree.specs.Signs.{Ending, AfterExpr, AfterBinding, Tok, Semicolon, TrailingComma, Unless, SameLine, Ends}
+use Rattle.jsx_tree.specs.Signs.{Ending, AfterExpr, AfterBlock, AfterBinding, Tok, Semicolon, TrailingComma, Unless, SameLine, Ends}
 use Rattle.jsx_tree.specs.Kinds.{Forest}
 use Rattle.jsx_tree.specs.Nonterminals.{Nonterminal}
 use Rattle.jsx_tree.specs.Grammar.{ListShape, Fixed, Part, Optional, Many, Within, Context, Production, production}
@@ -87,13 +87,13 @@ no_or : (a b : Bool) → (a || b) ≡ false → a ≡ false
 no_or true b e = cc
 no_or false b e = refl
 
-by_equals : (g : Bool) (x : Lexeme) (t : Text) → (g && same x.raw t) ≡ false → (g && is_token x Punctuator t) ≡ false
-by_equals true x t e = and_false' (is_kind x.kind Punctuator) (same x.raw t) e
+by_text : (g : Bool) (x : Lexeme) (t : Text) → (g && same x.raw t) ≡ false → (g && is_token x Punctuator t) ≡ false
+by_text true x t e = and_false' (is_kind x.kind Punctuator) (same x.raw t) e
   where
     and_false' : (a b : Bool) → b ≡ false → (a && b) ≡ false
     and_false' true b e = e
     and_false' false b e = refl
-by_equals false x t e = refl
+by_text false x t e = refl
 
 no_middle : (a b c : Bool) → (a || (b || c)) ≡ false → (a || c) ≡ false
 no_middle true b c e = cc
@@ -114,7 +114,8 @@ goes_less None e b x f = refl
 goes_less (Some n) AfterExpr b x f =
     let mark = not_one (goes_at n b x.raw) (is_mark x goers) (no_middle (among x.raw (going n)) (quotes n && is_backquote x.raw) _ f) in
     let quote = quote_less (quotes n) (is_backquote x.raw) (is_quoted x) (middle (among x.raw (going n)) (quotes n && is_backquote x.raw) _ f) in (λ i. mark i || quote i)
-goes_less (Some n) AfterBinding b x f = by_equals (among x.raw (going n)) x (codes "=") f
+goes_less (Some n) AfterBlock b x f = by_text (nat_eq n 0) x (codes ",") f
+goes_less (Some n) AfterBinding b x f = by_text (among x.raw (going n)) x (codes "=") f
 goes_less (Some n) _ b x f = refl
 
 both_no : (p q : Bool) → p ≡ false → q ≡ false → (p || q) ≡ false
@@ -143,6 +144,9 @@ goes_cover None (Some n) e b x c f = cc
 goes_cover (Some m) (Some n) AfterExpr b x c f =
     both_no (goes_by_mark n b x) (goes_by_quote n x) (smaller (goes_at n b x.raw) (goes_at m b x.raw) (is_mark x goers) (less_at m n b x.raw c) (no_or (goes_by_mark m b x) (goes_by_quote m x) f))
     (narrower (quotes n) (quotes m) (is_backquote x.raw && is_quoted x) (and_left (not (quotes n) || quotes m) _ (and_right (subset (going n) (going m)) _ c)) (no_second (goes_by_mark m b x) (goes_by_quote m x) f))
+goes_cover (Some m) (Some n) AfterBlock b x c f =
+    let c1 = and_right (subset (going n) (going m)) _ c in
+    narrower (nat_eq n 0) (nat_eq m 0) (is_token x Punctuator (codes ",")) (and_right (not (nat_le n 16) || nat_le m 16) _ (and_right (not (quotes n) || quotes m) _ c1)) f
 goes_cover (Some m) (Some n) AfterBinding b x c f = smaller (among x.raw (going n)) (among x.raw (going m)) _ (not_among x.raw (going n) (going m) (and_left (subset (going n) (going m)) _ c)) f
 goes_cover (Some m) (Some n) _ b x c f = refl
 

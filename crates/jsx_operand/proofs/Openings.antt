@@ -4,38 +4,40 @@ use Rattle.std.specs.Prelude.{IsTrue, ◌&&◌, ◌||◌}
 use Rattle.std.proofs.lemmas.Bool.{eqb-true}
 use Rattle.jsx_base.specs.Token.{Text, Operator, Punctuator, kind_number, token, same}
 use Rattle.jsx_tree.specs.Signs.{AfterExpr, Sign, Tok}
-use Rattle.jsx_tree.specs.Kinds.{ImportCall, ImportMeta, New, NewWithoutArguments, NewTarget, SuperCall, SuperMember, SuperIndex, Seq, Spread, ParenTarget, Element, Kind, function, expression, jsx, Tree, leaf, node, list, Forest, PlainTemplate, SubstitutedTemplate}
+use Rattle.jsx_tree.specs.Kinds.{Binds, Assigns, ArrayPat, ObjectPat, Array, Object, Parenthesized, Arrow, ArrowBlock, ImportCall, ImportMeta, New, NewWithoutArguments, NewTarget, SuperCall, SuperMember, SuperIndex, Seq, Spread, ParenTarget, Element, Kind, function, expression, jsx, Tree, leaf, node, list, Forest, PlainTemplate, SubstitutedTemplate}
 use Rattle.jsx_tree.specs.Nonterminals.{Nonterminal, Expr, homes, in_homes}
-use Rattle.jsx_tree.specs.Grammar.{Fixed, Part, Context}
+use Rattle.jsx_tree.specs.Grammar.{Fixed, Part, Context, pun}
 use Rattle.jsx_tree.specs.Reading.{Place, Lost, At, forth, go_if}
 use Rattle.jsx_tree.specs.StaticRules.{Surroundings}
 use Rattle.jsx_tree.specs.Form.{admits}
 use Rattle.jsx_tree.specs.Walk.{is_found, one, Given, Past, Piece, piece, sign, tree, tail, Walk, next, around, steady}
 use Rattle.jsx_tree.specs.Language.{Whole}
 use Rattle.jsx_tree.specs.Answers.{Moves, Only, Barred, NoRow, NoNode, Built, BuiltNode}
-use Rattle.jsx_tree.specs.Grows.{Onward}
+use Rattle.jsx_tree.specs.Grows.{Onward, Stays}
 use Rattle.jsx_token.specs.Stage.{has_kind, value_leaf}
 use Rattle.jsx_operand.specs.SoFar.{Staged, so_far}
 use Rattle.jsx_token.specs.Marks.{row_so_far}
 use Rattle.jsx_tree.proofs.Tokens.{and_left, and_right, and_both, same_is}
 use Rattle.jsx_tree.proofs.Apart.{clash}
 use Rattle.jsx_tree.proofs.Rows.Bridge.{found_at}
-use Rattle.jsx_tree.proofs.Rows.Stopping.{is_never, never_stops, or_cases}
+use Rattle.jsx_tree.proofs.Rows.Stopping.{is_never, never_stops, is_not, or_cases}
 use Rattle.jsx_tree.proofs.Rows.Guarded.{guarded, whole_walk, loosen, to_grammar}
 use Rattle.jsx_tree.proofs.Rows.Bodies.{bodiless, plain as plain_row}
 use Rattle.jsx_tree.proofs.Rows.Closers.{any_operand, homes_operand}
 use Rattle.jsx_tree.proofs.Rows.Spines.{grows}
+use Rattle.jsx_tree.proofs.Rows.Growing.{grown_only}
 use Rattle.jsx_tree.proofs.Rows.Placing.{Chosen, free, free_around, moved}
 use Rattle.jsx_operand.proofs.OfSoFar.{of_so_far}
-use Rattle.jsx_token.specs.Growths.{Rung, rung, is_rung, level_of_kind, reaches, seat, lead, settled, opening_sign, opening_signs, same_sign, has_sign, is_code, NoOpening}
-use Rattle.jsx_operand.specs.Climbing.{Begins, NoneBegins, rises}
+use Rattle.jsx_token.specs.Growths.{Rung, rung, is_blocked, is_rung, level_of_kind, reaches, seat, lead, settled, opening_sign, opening_signs, same_sign, has_sign, is_code, NoOpening}
+use Rattle.jsx_operand.specs.Climbing.{Begins, Climbs, NoneBegins, rises}
 use Rattle.jsx_operand.specs.Openings.{opens_with, OnlyParts, NoParts, OnlyOpened, NoneOpened}
 use Rattle.jsx_token.proofs.Listed.{Listed, listed, code, is_apart, kinds, every, every_two, of_each, of_two, one_place, implies, implied}
 use Rattle.jsx_operand.proofs.Homes.{Literal, IsName, IsNumber, IsLong, IsString, token_kind, IsPattern, Value, made, no_list}
-use Rattle.jsx_operand.proofs.Values.{First, name, opened, less_literal, lead_row, led_sign, Opener, angle, plain, SameFirst, begun, onto, same_both, literal_sign, literal_opening, one_opening, opener_of, opened_sign, opened_led, quoted, Quote, one_piece, whole_row, head_row, piece_row, piece_of, literal_piece, opener_piece}
+use Rattle.jsx_operand.proofs.Values.{First, name, opened, less_literal, lead_row, led_sign, Opener, angle, plain, SameFirst, begun, onto, same_both, literal_sign, literal_opening, one_opening, opener_of, opened_sign, opened_led, quoted, Bracketed, in_array, in_object, bracketed, literal_kind, bracket_opener, bracket_sign, bracket_none, unbracketed, Quote, one_piece, whole_row, head_row, piece_row, piece_of, literal_piece, opener_piece}
 use Rattle.jsx_operand.proofs.Rungs.{clear_first, leads_as, reaches_level, rises_node, rung_operand, rung_single, seat_admits, clear}
 use Rattle.jsx_token.proofs.Levels.{grows_on, edge, at_level, is_ruled, signed, Quoted, undivided, divided, is_template}
-use Rattle.jsx_operand.proofs.Climbing.{edge_on, low, node_reaches, plain_kind}
+use Rattle.jsx_operand.proofs.Climbing.{Climbed, blocked_ends, climb_step, edge_on, low, node_reaches, stays_low}
+use Rattle.jsx_operand.proofs.PlainKinds.{plain_kind}
 
 -- ---- of each kind
 
@@ -59,6 +61,11 @@ is_shared (expression NewTarget) = true
 is_shared (expression SuperCall) = true
 is_shared (expression SuperMember) = true
 is_shared (expression SuperIndex) = true
+is_shared (expression Parenthesized) = true
+is_shared (expression Arrow) = true
+is_shared (expression ArrowBlock) = true
+is_shared (expression Array) = true
+is_shared (expression Object) = true
 is_shared k = false
 
 abbrev opens_apart : Kind → Kind → Bool
@@ -121,7 +128,7 @@ free_none k f n = record { no = λ us z w h. n.no us z (steadied us f w) h }
 
 -- a row without the sign that it begins with
 pub peel : {V : List Context → Surroundings} (ps : List Piece) {x a z : Place} {ts : Forest} → signed ps ≡ true → forth (lead ps) x ≡ a → Walk (Whole so_far) V ps x ts z → Walk (Whole so_far) V (tail ps) a ts z
-peel {V} (piece [] (Fixed s) ∷ ps) {z = z} l e (next {ts = us} (sign d f) w) = subst (λ p. Walk (Whole so_far) V ps p us z) (sym d ∙ e) w
+peel {V} (piece a (Fixed s) ∷ ps) {z = z} l e (next {ts = us} (sign d f) w) = subst (λ p. Walk (Whole so_far) V ps p us z) (sym d ∙ e) w
 peel _ l e w = cc
 
 -- and with it
@@ -170,6 +177,24 @@ kind_whole r {ts = ts} k i l c q o w = whole_walk of_so_far (edge k) (row_so_far
 opened_whole : {v : Surroundings} (r : Rung) {d : Nonterminal} {x y z : Place} {u : Tree} {ts : Forest} (k : Kind) → is_rung r ≡ true → Listed k → grows_on k ≡ false → Staged v false d x (node k ts) y → Onward so_far v x (node k ts) y u z → Whole so_far v false (seat r) x u z → Walk (Whole so_far) (around v ts) (row_so_far k) x ts y
 opened_whole r k i l g q o w = kind_whole r k i l (opens k l g).closed q o w
 
+-- no pattern in brackets is what is read whole there begins with
+pub record NoBracket (v : Surroundings) (r : Rung) (x : Place) : Type 0 where
+  pub on : {d : Nonterminal} {p : Place} {ts : Forest} {u : Tree} {z : Place} {k : Kind} → Bracketed k → Staged v false d x (node k ts) p → Onward so_far v x (node k ts) p u z → Whole so_far v false (seat r) x u z → ⊥
+
+-- where another sign stands none does
+pub no_bracket_by : {v : Surroundings} {x : Place} (k : Kind) → Listed k → grows_on k ≡ false → unbracketed (opening_sign k) ≡ true → IsTrue (is_found (forth (opening_sign k) x)) → (r : Rung) → NoBracket v r x
+no_bracket_by k l g n f r = record { on = λ b s o w. bracket_none (opener_of k l g) n f b s }
+
+-- a kind that no other begins as begins with neither
+abbrev unbracketed_kind : Kind → Bool
+unbracketed_kind k = grows_on k || (is_shared k || unbracketed (opening_sign k))
+
+all_unbracketed : every unbracketed_kind kinds ≡ true
+all_unbracketed = refl
+
+sole_unbracketed : (k : Kind) → Listed k → grows_on k ≡ false → is_shared k ≡ false → unbracketed (opening_sign k) ≡ true
+sole_unbracketed k l g n = or_cases (grows_on k) _ (of_each unbracketed_kind all_unbracketed k l) (λ h. absurd (clash _ h g)) (λ o. or_cases (is_shared k) _ o (λ h. absurd (clash _ h n)) (λ e. e))
+
 -- a node, and that no other begins from there with the sign that it begins with
 record OnlyFirst (v : Surroundings) (t : Tree) (x y : Place) : Type 0 where
   kind : Kind
@@ -179,10 +204,11 @@ record OnlyFirst (v : Surroundings) (t : Tree) (x y : Place) : Type 0 where
   alone : (j : Kind) (ts : Forest) (z : Place) → Listed j → grows_on j ≡ false → same_sign (opening_sign j) (opening_sign kind) ≡ true → Walk (Whole so_far) (around v ts) (row_so_far j) x ts z → so_far.keeps j v ts ≡ true → SameFirst (node j ts) t z y
 
 -- so it is what everything that is read from there begins with
-to_opened : {v : Surroundings} (r : Rung) {x y p z : Place} {f t u : Tree} → is_rung r ≡ true → OnlyFirst v t x y → First v x f p → Onward so_far v x f p u z → Whole so_far v false (seat r) x u z → SameFirst f t p y
-to_opened r {x = x} i b (name m {t = s} h q e e') o w = absurd (literal_opening m s (opening_sign b.kind) x (opener_of b.kind b.listed b.still) h (found_at e e') (led_sign (row_so_far b.kind) (opened_led b.kind b.listed b.still) b.built.walk))
-to_opened r {x = x} i b (quoted d q s) o w = absurd (opener_piece x (opener_of b.kind b.listed b.still) (led_sign (row_so_far b.kind) (opened_led b.kind b.listed b.still) b.built.walk) (piece_of q s))
-to_opened r {x = x} {p = p} i b (opened d {k = j} {ts} m h q) o w =
+to_opened : {v : Surroundings} (r : Rung) {x y p z : Place} {f t u : Tree} → is_rung r ≡ true → NoBracket v r x → OnlyFirst v t x y → First v x f p → Onward so_far v x f p u z → Whole so_far v false (seat r) x u z → SameFirst f t p y
+to_opened r {x = x} i n b (name m {t = s} h q e e') o w = absurd (literal_opening m s (opening_sign b.kind) x (opener_of b.kind b.listed b.still) h (found_at e e') (led_sign (row_so_far b.kind) (opened_led b.kind b.listed b.still) b.built.walk))
+to_opened r i n b (bracketed d q s) o w = absurd (n.on q s o w)
+to_opened r {x = x} i n b (quoted d q s) o w = absurd (opener_piece x (opener_of b.kind b.listed b.still) (led_sign (row_so_far b.kind) (opened_led b.kind b.listed b.still) b.built.walk) (piece_of q s))
+to_opened r {x = x} {p = p} i n b (opened d {k = j} {ts} m h q) o w =
     let here = led_sign (row_so_far b.kind) (opened_led b.kind b.listed b.still) b.built.walk in
     b.alone j ts p m h (one_opening (opening_sign j) (opening_sign b.kind) x (opener_of j m h) (opener_of b.kind b.listed b.still) (opened_sign j m h q) here) (opened_whole r j i m h q o w) (of_so_far.from_node j q).keeps
 
@@ -207,35 +233,49 @@ kept_whole {v} k l g n bare b =
     record { parts = b.parts; is = b.is; row = b.row; keeps = and_both _ _ f.taken (plain_kind k b.parts v n f.taken f.stood (plain_row (row_so_far k) bare (to_grammar of_so_far b.row.walk))) }
 
 -- what is read from there begins with this node
-record Leads (v : Surroundings) (x : Place) (t : Tree) (y : Place) : Type 0 where
-  on : (r : Rung) {f u : Tree} {p z : Place} → is_rung r ≡ true → First v x f p → Onward so_far v x f p u z → Whole so_far v false (seat r) x u z → SameFirst f t p y
+record Leads (v : Surroundings) (r : Rung) (x : Place) (t : Tree) (y : Place) : Type 0 where
+  on : {f u : Tree} {p z : Place} → First v x f p → Onward so_far v x f p u z → Whole so_far v false (seat r) x u z → SameFirst f t p y
 
 -- above its level nothing is read that begins with it
-too_low : {v : Surroundings} (r : Rung) {x y : Place} {t : Tree} (k : Kind) → is_rung r ≡ true → Listed k → Leads v x t y → OnlyIn v (row_so_far k) k t x y → rises r t ≡ false → Barred so_far v (Part (seat r)) x
+too_low : {v : Surroundings} (r : Rung) {x y : Place} {t : Tree} (k : Kind) → is_rung r ≡ true → Listed k → Leads v r x t y → OnlyIn v (row_so_far k) k t x y → rises r t ≡ false → Barred so_far v (Part (seat r)) x
 too_low {v} r {x} {y} {t} k i l c b e = record { no = at }
   where
     at : (h : Given) (z : Place) → Past (Whole so_far) v (Part (seat r)) x h z → ⊥
     at h z (tree {t = u} q) =
         let m = begun (rung_single r i) u q.reads in
-        let o : Onward so_far v x t y u z = onto (c.on r i m.first m.onward q) m.onward in
+        let o : Onward so_far v x t y u z = onto (c.on m.first m.onward q) m.onward in
         let here : Staged v false (Expr 1) x t y = subst (λ w. Staged v false (Expr 1) x w y) (sym b.is) (staged_at (rung 1) k refl (of_each (λ j. nat_le 1 (level_of_kind j)) refl k l) l refl b.walk b.keeps) in
         clash (rises r t) (ap (rises r) b.is ∙ (rises_node r k b.parts ∙ node_reaches r i l (subst (λ w. Staged v false (seat r) x w y) b.is (low r i (subst Value (sym b.is) (made l)) here o q.reads)))) e
 
-node_follows : {v : Surroundings} {x y : Place} {t : Tree} (k : Kind) → Listed k → Leads v x t y → (b : OnlyIn v (row_so_far k) k t x y) → ((r : Rung) → reaches r k ≡ true → clear r (node k b.parts) ≡ true) → settled y ≡ true → Begins v x t y
-node_follows {v} {x} {y} {t} k l c b d s = record {
-  on = λ r i e.
-      let up : reaches r k ≡ true = sym (rises_node r k b.parts) ∙ (sym (ap (rises r) b.is) ∙ e) in
-      let reads : Staged v false (seat r) x t y = subst (λ u. Staged v false (seat r) x u y) (sym b.is) (staged_at r k i up l (d r up) b.walk b.keeps) in
-      record {
-        follows = record { home = seat r; operand = rung_operand r; reads = reads; all = λ u z q. let m = begun (rung_single r i) u q.reads in onto (c.on r i m.first m.onward q) m.onward };
-        reads = reads;
-        ended = s;
-      };
-  low = λ r i e. too_low r k i l c b e;
-}
+-- at one rung: wherever the tree may stand there, and else nothing is read
+pub record Rises (v : Surroundings) (r : Rung) (x : Place) (t : Tree) (y : Place) : Type 0 where
+  pub climbs : rises r t ≡ true → Climbs v r x t y
+  pub low : rises r t ≡ false → Barred so_far v (Part (seat r)) x
 
-only_follows : {v : Surroundings} {x y : Place} {t : Tree} → OnlyFirst v t x y → settled y ≡ true → Begins v x t y
-only_follows b s = node_follows b.kind b.listed (record { on = λ r i f o w. to_opened r i b f o w }) b.built (λ r e. clear_first r b.kind b.built.parts (sym (leads_as b.kind b.listed) ∙ ap (λ g. g && not (is_template b.kind)) b.still) e) s
+node_climbed : {v : Surroundings} {x y : Place} {t : Tree} (r : Rung) → is_rung r ≡ true → (k : Kind) → Listed k → Leads v r x t y → (b : OnlyIn v (row_so_far k) k t x y) → (reaches r k ≡ true → clear r (node k b.parts) ≡ true) → rises r t ≡ true → Climbed v r x t y
+node_climbed {v} {x} {y} {t} r i k l c b d e =
+    let up : reaches r k ≡ true = sym (rises_node r k b.parts) ∙ (sym (ap (rises r) b.is) ∙ e) in
+    let reads : Staged v false (seat r) x t y = subst (λ u. Staged v false (seat r) x u y) (sym b.is) (staged_at r k i up l (d up) b.walk b.keeps) in
+    record {
+      follows = record { home = seat r; operand = rung_operand r; reads = reads; all = λ u z q. let m = begun (rung_single r i) u q.reads in onto (c.on m.first m.onward q) m.onward };
+      reads = reads;
+    }
+
+node_rises : {v : Surroundings} {x y : Place} {t : Tree} (r : Rung) → is_rung r ≡ true → (k : Kind) → Listed k → Leads v r x t y → (b : OnlyIn v (row_so_far k) k t x y) → (reaches r k ≡ true → clear r (node k b.parts) ≡ true) → settled y ≡ true → Rises v r x t y
+node_rises r i k l c b d s = record { climbs = λ e. climb_step (node_climbed r i k l c b d e) s; low = λ e. too_low r k i l c b e }
+
+node_follows : {v : Surroundings} {x y : Place} {t : Tree} (k : Kind) → Listed k → ((r : Rung) → is_rung r ≡ true → Leads v r x t y) → (b : OnlyIn v (row_so_far k) k t x y) → ((r : Rung) → reaches r k ≡ true → clear r (node k b.parts) ≡ true) → settled y ≡ true → Begins v x t y
+node_follows k l c b d s = record { on = λ r i e. (node_rises r i k l (c r i) b (d r) s).climbs e; low = λ r i e. (node_rises r i k l (c r i) b (d r) s).low e; ended = s }
+
+-- no call stands at its left end
+only_clear : {v : Surroundings} {x y : Place} {t : Tree} (r : Rung) (b : OnlyFirst v t x y) → reaches r b.kind ≡ true → clear r (node b.kind b.built.parts) ≡ true
+only_clear r b e = clear_first r b.kind b.built.parts (sym (leads_as b.kind b.listed) ∙ ap (λ g. g && not (is_template b.kind)) b.still) e
+
+only_rises : {v : Surroundings} {x y : Place} {t : Tree} (r : Rung) → is_rung r ≡ true → NoBracket v r x → OnlyFirst v t x y → settled y ≡ true → Rises v r x t y
+only_rises r i n b s = node_rises r i b.kind b.listed (record { on = λ f o w. to_opened r i n b f o w }) b.built (only_clear r b) s
+
+only_follows : {v : Surroundings} {x y : Place} {t : Tree} → ((r : Rung) → NoBracket v r x) → OnlyFirst v t x y → settled y ≡ true → Begins v x t y
+only_follows n b s = node_follows b.kind b.listed (λ r i. record { on = λ f o w. to_opened r i (n r) b f o w }) b.built (λ r e. only_clear r b e) s
 
 -- a node that was read is what is read as one of its kind
 
@@ -256,8 +296,12 @@ sole_first {v} {x} {y} {t} k l g n b = record {
   alone = λ j ts z m h e w keeps. subst (λ i. Walk (Whole so_far) (around v ts) (row_so_far i) x ts z → so_far.keeps i v ts ≡ true → SameFirst (node i ts) t z y) (sym (sole_kind j k m h l g n e)) (same_node k b) w keeps;
 }
 
+-- nor does a pattern in brackets
+sole_clear : {v : Surroundings} {x y : Place} {t : Tree} (k : Kind) → Listed k → grows_on k ≡ false → is_shared k ≡ false → OnlyIn v (row_so_far k) k t x y → (r : Rung) → NoBracket v r x
+sole_clear k l g n b = no_bracket_by k l g (sole_unbracketed k l g n) (led_sign (row_so_far k) (opened_led k l g) b.walk)
+
 pub opened_follows : {v : Surroundings} {x y : Place} {t : Tree} (k : Kind) → Listed k → grows_on k ≡ false → is_shared k ≡ false → free (row_so_far k) ≡ true → BuiltNode so_far v (row_so_far k) k t x y → settled y ≡ true → Begins v x t y
-opened_follows k l g n f b s = only_follows (sole_first k l g n (free_in k f b)) s
+opened_follows k l g n f b s = only_follows (sole_clear k l g n (free_in k f b)) (sole_first k l g n (free_in k f b)) s
 
 -- ---- what stands behind a sign, of all kinds that begin with it
 
@@ -274,6 +318,10 @@ not_apart : (s : Sign) (k : Kind) → opens_with s k ≡ true → is_apart k ≡
 not_apart s (expression Seq) e = cc
 not_apart s (expression Spread) e = cc
 not_apart s (function ParenTarget) e = cc
+not_apart s (function (ArrayPat Binds)) e = cc
+not_apart s (function (ArrayPat Assigns)) e = cc
+not_apart s (function (ObjectPat Binds)) e = cc
+not_apart s (function (ObjectPat Assigns)) e = cc
 not_apart s _ e = refl
 
 pub opens_listed : (s : Sign) (k : Kind) → opens_with s k ≡ true → Listed k
@@ -350,15 +398,40 @@ one_quoted divided undivided r w = absurd (one_piece (whole_row (of_so_far.from_
 
 to_quoted : {v : Surroundings} (r : Rung) {x y p z : Place} {f t u : Tree} {k : Kind} → Quoted k → is_rung r ≡ true → OnlyIn v (row_so_far k) k t x y → First v x f p → Onward so_far v x f p u z → Whole so_far v false (seat r) x u z → SameFirst f t p y
 to_quoted r {x = x} q i b (name m {t = s} h w e e') o u = absurd (literal_piece m s x (found_at e e') (piece_row q (loosen b.walk)))
+to_quoted r {x = x} q i b (bracketed d n s) o u = absurd (opener_piece x (bracket_opener n) (bracket_sign n s) (piece_row q (loosen b.walk)))
 to_quoted r {x = x} q i b (opened d {k = j} m h s) o u = absurd (opener_piece x (opener_of j m h) (opened_sign j m h s) (piece_row q (loosen b.walk)))
 to_quoted {v} r {x} {y} {p} {t = t} {k = k} q i b (quoted d {k = j} {ts} h s) o w = subst (λ c. Walk (Whole so_far) (around v ts) (row_so_far c) x ts p → so_far.keeps c v ts ≡ true → SameFirst (node c ts) t p y) (sym (one_quoted q h s (loosen b.walk))) (same_node k b) (quoted_whole r h i s o w) (of_so_far.from_node j s).keeps
 
 pub quoted_follows : {v : Surroundings} {x y : Place} {t : Tree} {k : Kind} → Quoted k → BuiltNode so_far v (row_so_far k) k t x y → settled y ≡ true → Begins v x t y
-quoted_follows {k = k} q b s = let n = free_in k (quoted_freed q) b in node_follows k (quoted_listed q) (record { on = λ r i f o w. to_quoted r q i n f o w }) n (λ r e. clear_quoted r n.parts q e) s
+quoted_follows {k = k} q b s = let n = free_in k (quoted_freed q) b in node_follows k (quoted_listed q) (λ r i. record { on = λ f o w. to_quoted r q i n f o w }) n (λ r e. clear_quoted r n.parts q e) s
 
 -- with the sign before it
-pub signed_follows : {v : Surroundings} {x a y : Place} {t : Tree} (k : Kind) → Listed k → grows_on k ≡ false → Moves (opening_sign k) x a → OnlyOpened v (opening_sign k) t a y → settled y ≡ true → Begins v x t y
-signed_follows k l g m o s = only_follows (opened_first k l g m o) s
+pub signed_follows : {v : Surroundings} {x a y : Place} {t : Tree} (k : Kind) → Listed k → grows_on k ≡ false → unbracketed (opening_sign k) ≡ true → Moves (opening_sign k) x a → OnlyOpened v (opening_sign k) t a y → settled y ≡ true → Begins v x t y
+signed_follows k l g n m o s = only_follows (no_bracket_by k l g n (found_at (sym m.is) m.found)) (opened_first k l g m o) s
+
+-- of an arrow function with its block, with which nothing goes on
+pub record EndsAt (v : Surroundings) (x : Place) (t : Tree) (y : Place) : Type 0 where
+  pub whole : (r : Rung) → is_rung r ≡ true → rises r t ≡ true → Only so_far v (Part (seat r)) x (one t) y
+  pub low : (r : Rung) → is_rung r ≡ true → rises r t ≡ false → Barred so_far v (Part (seat r)) x
+
+pub signed_blocked : {v : Surroundings} {x a y : Place} {t : Tree} (k : Kind) → Listed k → grows_on k ≡ false → unbracketed (opening_sign k) ≡ true → Moves (opening_sign k) x a → (o : OnlyOpened v (opening_sign k) t a y) → nat_le (level_of_kind o.kind) 2 ≡ true → is_blocked y ≡ true → EndsAt v x t y
+unfolding opened_first
+signed_blocked {v} {x} {a} {y} {t} k l g n m o e b = record { whole = at; low = λ r i h. too_low r first.kind i first.listed (leads r i) first.built h }
+  where
+    first : OnlyFirst v t x y
+    first = opened_first k l g m o
+
+    leads : (r : Rung) → is_rung r ≡ true → Leads v r x t y
+    leads r i = record { on = λ f w q. to_opened r i (no_bracket_by k l g n (found_at (sym m.is) m.found) r) first f w q }
+
+    at : (r : Rung) → is_rung r ≡ true → rises r t ≡ true → Only so_far v (Part (seat r)) x (one t) y
+    at r i h =
+        let c = node_climbed r i first.kind first.listed (leads r i) first.built (only_clear r first) h in
+        grown_only c.follows (subst (λ u. Stays so_far v (seat r) x u y) (sym first.built.is) (stays_low first.kind first.listed e)) c.reads (blocked_ends r y i b)
+
+-- with a bracket before it, where no pattern begins what is read
+pub bracket_rises : {v : Surroundings} {x a y : Place} {t : Tree} (r : Rung) → is_rung r ≡ true → (k : Kind) → Listed k → grows_on k ≡ false → NoBracket v r x → Moves (opening_sign k) x a → OnlyOpened v (opening_sign k) t a y → settled y ≡ true → Rises v r x t y
+bracket_rises r i k l g n m o s = only_rises r i n (opened_first k l g m o) s
 
 -- a kind that no other begins as
 abbrev self_signed : Kind → Bool
@@ -408,16 +481,18 @@ opened_by {v} {s} {a} {y} {t} k e f b others = record { kind = k; begins = e; bu
 
 -- ---- where no expression stands
 
--- what is read from there begins with neither a literal nor a node, nor is it a template
+-- what is read from there begins with neither a literal nor a node, nor with a pattern in brackets, nor is it a template
 record NoFirst (v : Surroundings) (x : Place) : Type 0 where
   literal : (l : Literal) (t : Text) → value_leaf (token_kind l) t ≡ true → IsTrue (is_found (forth (literal_sign l t) x)) → ⊥
   quoted : (r : Rung) {d : Nonterminal} {p : Place} {ts : Forest} {u : Tree} {z : Place} {k : Kind} → is_rung r ≡ true → Quoted k → Staged v false d x (node k ts) p → Onward so_far v x (node k ts) p u z → Whole so_far v false (seat r) x u z → ⊥
   node : (r : Rung) {d : Nonterminal} {p : Place} {ts : Forest} {u : Tree} {z : Place} (k : Kind) → is_rung r ≡ true → Listed k → grows_on k ≡ false → Staged v false d x (node k ts) p → Onward so_far v x (node k ts) p u z → Whole so_far v false (seat r) x u z → ⊥
+  bracketed : (r : Rung) → is_rung r ≡ true → NoBracket v r x
 
 none_first : {v : Surroundings} (r : Rung) {x p z : Place} {f u : Tree} → NoFirst v x → is_rung r ≡ true → First v x f p → Onward so_far v x f p u z → Whole so_far v false (seat r) x u z → ⊥
 none_first r b i (name l {t} h q e g) o w = b.literal l t h (found_at e g)
 none_first r b i (opened d {k} l g q) o w = b.node r k i l g q o w
 none_first r b i (quoted d q s) o w = b.quoted r i q s o w
+none_first r b i (bracketed d q s) o w = (b.bracketed r i).on q s o w
 
 none_begins : {v : Surroundings} {x : Place} → NoFirst v x → NoneBegins v x
 none_begins {v} {x} b = record { on = λ r i. record { no = at r i } }
@@ -439,6 +514,15 @@ no_node {v} r {d} {x} {p} {z} {ts} {u} k unopened e i l g q o w = or_cases (nat_
 no_angle : {v : Surroundings} {x : Place} (l : Literal) (t : Text) → IsTrue (is_found (forth (literal_sign l t) x)) → NoRow so_far v (row_so_far (jsx Element)) x
 no_angle {v} {x} l t f = record { no = λ ts y w. less_literal l t x (led_sign (row_so_far (jsx Element)) refl w) f }
 
+-- nor does a pattern in brackets where none of the signs stands
+unopened_bracket : {v : Surroundings} {x : Place} → NoOpening x → (r : Rung) → NoBracket v r x
+unfolding opening_signs
+unopened_bracket {v} {x} n r = record { on = λ b s o w. by b s }
+  where
+    by : {d : Nonterminal} {p : Place} {k : Kind} {ts : Forest} → Bracketed k → Staged v false d x (node k ts) p → ⊥
+    by in_array s = lost_there (pun "[") x (n.on (pun "[") refl refl) (bracket_sign in_array s)
+    by in_object s = lost_there (pun "{") x (n.on (pun "{") refl refl) (bracket_sign in_object s)
+
 -- the literal that stands there may not
 pub unfit_literal : {v : Surroundings} {x y : Place} (l : Literal) (t : Text) → NoOpening x → y ≡ forth (literal_sign l t) x → IsTrue (is_found y) → value_leaf (token_kind l) t ≡ false → NoneBegins v x
 unfit_literal {v} {x} {y} l t unopened e f n =
@@ -447,6 +531,7 @@ unfit_literal {v} {x} {y} l t unopened e f n =
       literal = λ m s h g. let q = same_both m l s t x g there in clash _ (subst (λ k. value_leaf (token_kind k) t ≡ true) q.kinds (subst (λ r. value_leaf (token_kind m) r ≡ true) q.texts h)) n;
       node = λ r k i j g q o w. no_node r k unopened (no_angle l t there) i j g q o w;
       quoted = λ r i q s o w. literal_piece l t x there (piece_of q s);
+      bracketed = λ r i. unopened_bracket unopened r;
     })
 
 pub no_value : {v : Surroundings} {x : Place} → NoOpening x → ((t : Text) → forth (literal_sign IsName t) x ≡ Lost) → ((t : Text) → forth (literal_sign IsNumber t) x ≡ Lost) → ((t : Text) → forth (literal_sign IsLong t) x ≡ Lost) → ((t : Text) → forth (literal_sign IsString t) x ≡ Lost) → ((t : Text) → forth (literal_sign IsPattern t) x ≡ Lost) → NoRow so_far v (row_so_far (jsx Element)) x → (Quote x → ⊥) → NoneBegins v x
@@ -454,6 +539,7 @@ no_value {v} {x} unopened a b d c p r z = none_begins (record {
   literal = λ m s h g. lost_there (literal_sign m s) x (n m s) g;
   node = λ s k i j g q o w. no_node s k unopened r i j g q o w;
   quoted = λ s i q n o w. z (piece_of q n);
+  bracketed = λ r i. unopened_bracket unopened r;
 })
   where
     n : (l : Literal) (t : Text) → forth (literal_sign l t) x ≡ Lost
@@ -464,8 +550,8 @@ no_value {v} {x} unopened a b d c p r z = none_begins (record {
     n IsPattern t = p t
 
 -- the sign stands there, and what is behind it can't be read
-pub unread_opening : {v : Surroundings} {x a : Place} (k : Kind) → Listed k → grows_on k ≡ false → Moves (opening_sign k) x a → NoneOpened v (opening_sign k) a → NoneBegins v x
-unread_opening {v} {x} {a} k l g m n =
+pub unread_opening : {v : Surroundings} {x a : Place} (k : Kind) → Listed k → grows_on k ≡ false → ((r : Rung) → is_rung r ≡ true → NoBracket v r x) → Moves (opening_sign k) x a → NoneOpened v (opening_sign k) a → NoneBegins v x
+unread_opening {v} {x} {a} k l g clear m n =
     let there = found_at (sym m.is) m.found in
     none_begins (record {
       literal = λ o t h f. literal_opening o t (opening_sign k) x (opener_of k l g) h f there;
@@ -473,7 +559,26 @@ unread_opening {v} {x} {a} k l g m n =
           let e = one_opening (opening_sign j) (opening_sign k) x (opener_of j h f) (opener_of k l g) (opened_sign j h f q) there in
           (n.no j (with_sign k j h f e)).no ts _ (behind_sign j k h f l g m e (opened_whole r j i h f q o w)) (of_so_far.from_node j q).keeps;
       quoted = λ r i q s o w. opener_piece x (opener_of k l g) there (piece_of q s);
+      bracketed = clear;
     })
+
+-- the same of a bracket at one rung
+pub unread_bracket : {v : Surroundings} {x a : Place} (r : Rung) → is_rung r ≡ true → (k : Kind) → Listed k → grows_on k ≡ false → NoBracket v r x → Moves (opening_sign k) x a → NoneOpened v (opening_sign k) a → Barred so_far v (Part (seat r)) x
+unread_bracket {v} {x} {a} r i k l g none m n = record { no = at }
+  where
+    there : IsTrue (is_found (forth (opening_sign k) x))
+    there = found_at (sym m.is) m.found
+
+    by : {f u : Tree} {p z : Place} → First v x f p → Onward so_far v x f p u z → Whole so_far v false (seat r) x u z → ⊥
+    by (name o {t} h q e f) w s = literal_opening o t (opening_sign k) x (opener_of k l g) h (found_at e f) there
+    by {p = p} (opened d {k = j} {ts} h f q) o w =
+        let e = one_opening (opening_sign j) (opening_sign k) x (opener_of j h f) (opener_of k l g) (opened_sign j h f q) there in
+        (n.no j (with_sign k j h f e)).no ts p (behind_sign j k h f l g m e (opened_whole r j i h f q o w)) (of_so_far.from_node j q).keeps
+    by (quoted d q s) o w = opener_piece x (opener_of k l g) there (piece_of q s)
+    by (bracketed d b s) o w = none.on b s o w
+
+    at : (h : Given) (z : Place) → Past (Whole so_far) v (Part (seat r)) x h z → ⊥
+    at h z (tree {t = u} q) = let f = begun (rung_single r i) u q.reads in by f.first f.onward q
 
 -- a template begins there, and none can be read
 pub unread_quoted : {v : Surroundings} {x : Place} → Quote x → ((k : Kind) → Quoted k → NoNode so_far v (row_so_far k) k x) → NoneBegins v x
@@ -481,4 +586,37 @@ unread_quoted {x = x} p n = none_begins (record {
   literal = λ l t h f. literal_piece l t x f p;
   node = λ r k i l g s o w. opener_piece x (opener_of k l g) (opened_sign k l g s) p;
   quoted = λ r {p = q} {ts = ts} {k = k} i h s o w. (n k h).no ts q (steadied ts (quoted_freed h) (quoted_whole r h i s o w)) (of_so_far.from_node k s).keeps;
+  bracketed = λ r i. record { on = λ b s o w. opener_piece x (bracket_opener b) (bracket_sign b s) p };
 })
+
+-- ---- behind a bracket, of one thing that is read whole: it begins with the literal, or with a pattern in brackets
+
+pub data BegunSo (v : Surroundings) (x : Place) (t : Tree) (y : Place) (u : Tree) (z : Place) : Type 0 where
+  so_opened : Onward so_far v x t y u z → BegunSo v x t y u z
+  so_bracketed : {d : Nonterminal} {k : Kind} {ts : Forest} {p : Place} → Bracketed k → Staged v false d x (node k ts) p → Onward so_far v x (node k ts) p u z → BegunSo v x t y u z
+
+by_first : {v : Surroundings} {x y p z : Place} {f t u : Tree} → OnlyFirst v t x y → (r : Rung) → is_rung r ≡ true → First v x f p → Onward so_far v x f p u z → Whole so_far v false (seat r) x u z → BegunSo v x t y u z
+by_first {x = x} b r i (name m {t = s} h q e e') o w = absurd (literal_opening m s (opening_sign b.kind) x (opener_of b.kind b.listed b.still) h (found_at e e') (led_sign (row_so_far b.kind) (opened_led b.kind b.listed b.still) b.built.walk))
+by_first b r i (bracketed d q s) o w = so_bracketed q s o
+by_first {x = x} b r i (quoted d q s) o w = absurd (opener_piece x (opener_of b.kind b.listed b.still) (led_sign (row_so_far b.kind) (opened_led b.kind b.listed b.still) b.built.walk) (piece_of q s))
+by_first {x = x} {p = p} b r i (opened d {k = j} {ts} m h q) o w =
+    let here = led_sign (row_so_far b.kind) (opened_led b.kind b.listed b.still) b.built.walk in
+    so_opened (onto (b.alone j ts p m h (one_opening (opening_sign j) (opening_sign b.kind) x (opener_of j m h) (opener_of b.kind b.listed b.still) (opened_sign j m h q) here) (opened_whole r j i m h q o w) (of_so_far.from_node j q).keeps) o)
+
+pub opened_begun : {v : Surroundings} {x a y z : Place} {t u : Tree} (k : Kind) → Listed k → grows_on k ≡ false → Moves (opening_sign k) x a → OnlyOpened v (opening_sign k) t a y → (r : Rung) → is_rung r ≡ true → Whole so_far v false (seat r) x u z → BegunSo v x t y u z
+opened_begun {u = u} k l g m o r i w = let f = begun (rung_single r i) u w.reads in by_first (opened_first k l g m o) r i f.first f.onward w
+
+-- where the literal isn't read, with a pattern
+pub unopened_begun : {v : Surroundings} {x a z : Place} {u : Tree} (t : Tree) (y : Place) (k : Kind) → Listed k → grows_on k ≡ false → Moves (opening_sign k) x a → NoneOpened v (opening_sign k) a → (r : Rung) → is_rung r ≡ true → Whole so_far v false (seat r) x u z → BegunSo v x t y u z
+unopened_begun {v} {x} {u = u} t y k l g m n r i w = let f = begun (rung_single r i) u w.reads in by f.first f.onward w
+  where
+    there : IsTrue (is_found (forth (opening_sign k) x))
+    there = found_at (sym m.is) m.found
+
+    by : {f u : Tree} {p z : Place} → First v x f p → Onward so_far v x f p u z → Whole so_far v false (seat r) x u z → BegunSo v x t y u z
+    by (name o {t = s} h q e f) w s' = absurd (literal_opening o s (opening_sign k) x (opener_of k l g) h (found_at e f) there)
+    by {p = p} (opened d {k = j} {ts} h f q) o w =
+        let e = one_opening (opening_sign j) (opening_sign k) x (opener_of j h f) (opener_of k l g) (opened_sign j h f q) there in
+        absurd ((n.no j (with_sign k j h f e)).no ts p (behind_sign j k h f l g m e (opened_whole r j i h f q o w)) (of_so_far.from_node j q).keeps)
+    by (quoted d q s) o w = absurd (opener_piece x (opener_of k l g) there (piece_of q s))
+    by (bracketed d b s) o w = so_bracketed b s o

@@ -7,7 +7,7 @@ use Rattle.jsx_base.specs.declared.place.Span.{Span}
 use Rattle.jsx_tree.specs.declared.text.Text.{Text as TreeText}
 use Rattle.jsx_tree.specs.declared.tree.Jsx.{Jsx}
 use Rattle.jsx_tree.specs.Signs.{End, Pad, Space, AfterExpr, Tok, TrailingComma, Sign}
-use Rattle.jsx_tree.specs.Kinds.{BinaryOp, Nullish, Exponentiate, UnaryOp, Delete, Void, TypeOf, Positive, Negative, Complement, Not, Assign, OpAssign, Unary, Binary, Cond, Call, Member, Index, New, NewWithoutArguments, NewTarget, SuperCall, SuperMember, SuperIndex, ClassExpr, ClassDecl, statement, ImportCall, ImportMeta, Element, expression, jsx, Tree, leaf, node, list, Forest, none, part, UpdateOp, Increment, Decrement, PrefixUpdate, PostfixUpdate, Seq, Array, Object, Property, Shorthand, Spread, ComputedKey, function, PlainTemplate, SubstitutedTemplate, TemplateSpan, Tagged, Binds, WithInit, RestPat, ArrayPat, ObjectPat, PropertyPat, ShorthandPat, ShorthandInit, RestProperty}
+use Rattle.jsx_tree.specs.Kinds.{BinaryOp, Nullish, Exponentiate, UnaryOp, Delete, Void, TypeOf, Positive, Negative, Complement, Not, Assign, OpAssign, Unary, Binary, Cond, Call, Member, Index, New, NewWithoutArguments, NewTarget, SuperCall, SuperMember, SuperIndex, ClassExpr, ClassDecl, statement, ImportCall, ImportMeta, Element, expression, jsx, Tree, leaf, node, list, Forest, none, part, UpdateOp, Increment, Decrement, PrefixUpdate, PostfixUpdate, Seq, Array, Object, Property, Shorthand, Spread, ComputedKey, function, PlainTemplate, SubstitutedTemplate, TemplateSpan, Tagged, Role, WithInit, RestPat, ArrayPat, ObjectPat, PropertyPat, ShorthandPat, ShorthandInit, RestProperty}
 use Rattle.jsx_tree.specs.Nonterminals as grammar
 use Rattle.jsx_tree.specs.Grammar.{Commas, Fixed, TwoOrMore, InMembers, Many, Optional, Part, Production, Within, braced_lines, key, p, pun, sp, count, left_of, right_of, Elisions, Adjacent}
 use Rattle.jsx_tree.specs.Grows.{operator_sign}
@@ -234,32 +234,32 @@ class_declaration_row m l r s = node_is (λ c e ps. refl) (λ ms text. refl) s (
 
 -- ---- parameters
 
-pub default_row : {at : Option Span} {d e : Told} {t u : Tree} {w z x y : Here} → IsPlaced d t w z → Takes (sign_of fixed.Equals) z x → IsPlaced e u x y → Spans at (next_of w) (end_of y) → IsPlaced (told_node at (d ∷ e ∷ [])) (node (function (WithInit Binds)) (part t (part u none))) w y
+pub default_row : {r : Role} {at : Option Span} {d e : Told} {t u : Tree} {w z x y : Here} → IsPlaced d t w z → Takes (sign_of fixed.Equals) z x → IsPlaced e u x y → Spans at (next_of w) (end_of y) → IsPlaced (told_node at (d ∷ e ∷ [])) (node (function (WithInit r)) (part t (part u none))) w y
 default_row l sign r s = node_is (λ c e ps. refl) (led l _) s (row_part l (row_quiet (λ q. refl) (row_quiet (λ q. refl) (row_sign sign (row_quiet (λ q. refl) (row_part r row_end))))))
 
-pub rest_pattern_row : {at : Option Span} {e : Told} {u : Tree} {w x y : Here} → Takes (sign_of fixed.Dots) w x → IsPlaced e u x y → Spans at (next_of w) (end_of y) → IsPlaced (told_node at (e ∷ [])) (node (function (RestPat Binds)) (part u none)) w y
+pub rest_pattern_row : {r : Role} {at : Option Span} {e : Told} {u : Tree} {w x y : Here} → Takes (sign_of fixed.Dots) w x → IsPlaced e u x y → Spans at (next_of w) (end_of y) → IsPlaced (told_node at (e ∷ [])) (node (function (RestPat r)) (part u none)) w y
 rest_pattern_row sign r s = node_is (λ c e ps. refl) (λ ms text. refl) s (row_sign sign (row_part r (row_unless row_end)))
 
 -- ---- patterns
 
-pub array_pattern_placed : {at : Option Span} {ds : Tales} {us : Forest} {w x y : Here} → Takes (sign_of fixed.OpenBracket) w x → IsPlacedRow (Many Elisions (grammar.Slot Binds) ∷ p "]" ∷ []) (tale (tells [] ds) no_tales) (part (list us) none) x y → Spans at (next_of w) (end_of y)
-    → IsPlaced (tells (spans at ∷ []) (tale (tells [] ds) no_tales)) (node (function (ArrayPat Binds)) (part (list us) none)) w y
+pub array_pattern_placed : {r : Role} {at : Option Span} {ds : Tales} {us : Forest} {w x y : Here} → Takes (sign_of fixed.OpenBracket) w x → IsPlacedRow (Many Elisions (grammar.Slot r) ∷ p "]" ∷ []) (tale (tells [] ds) no_tales) (part (list us) none) x y → Spans at (next_of w) (end_of y)
+    → IsPlaced (tells (spans at ∷ []) (tale (tells [] ds) no_tales)) (node (function (ArrayPat r)) (part (list us) none)) w y
 array_pattern_placed sign r s = node_is (λ c e ps. refl) (λ ms text. refl) s (row_quiet (λ q. refl) (row_sign sign r))
 
-pub object_pattern_placed : {at : Option Span} {ds : Tales} {us : Forest} {w x y : Here} → Takes (sign_of fixed.OpenBrace) w x → IsPlacedRow (Many Commas (grammar.PatProp Binds) ∷ Fixed Pad ∷ p "}" ∷ []) (tale (tells [] ds) no_tales) (part (list us) none) x y → Spans at (next_of w) (end_of y)
-    → IsPlaced (tells (spans at ∷ []) (tale (tells [] ds) no_tales)) (node (function (ObjectPat Binds)) (part (list us) none)) w y
+pub object_pattern_placed : {r : Role} {at : Option Span} {ds : Tales} {us : Forest} {w x y : Here} → Takes (sign_of fixed.OpenBrace) w x → IsPlacedRow (Many Commas (grammar.PatProp r) ∷ Fixed Pad ∷ p "}" ∷ []) (tale (tells [] ds) no_tales) (part (list us) none) x y → Spans at (next_of w) (end_of y)
+    → IsPlaced (tells (spans at ∷ []) (tale (tells [] ds) no_tales)) (node (function (ObjectPat r)) (part (list us) none)) w y
 object_pattern_placed sign r s = node_is (λ c e ps. refl) (λ ms text. refl) s (row_quiet (λ q. refl) (row_sign sign (row_quiet (λ q. refl) r)))
 
-pub pair_pattern_placed : {at : Option Span} {d e : Told} {t u : Tree} {w z x y : Here} → IsPlaced d t w z → Takes (sign_of fixed.Colon) z x → IsPlaced e u x y → Spans at (next_of w) (end_of y) → IsPlaced (told_node at (d ∷ e ∷ [])) (node (function (PropertyPat Binds)) (part t (part u none))) w y
+pub pair_pattern_placed : {r : Role} {at : Option Span} {d e : Told} {t u : Tree} {w z x y : Here} → IsPlaced d t w z → Takes (sign_of fixed.Colon) z x → IsPlaced e u x y → Spans at (next_of w) (end_of y) → IsPlaced (told_node at (d ∷ e ∷ [])) (node (function (PropertyPat r)) (part t (part u none))) w y
 pair_pattern_placed l colon r s = node_is (λ c e ps. refl) (led l _) s (row_quiet (λ q. refl) (row_part l (row_sign colon (row_quiet (λ q. refl) (row_part r row_end)))))
 
-pub short_pattern_placed : {at : Option Span} {d : Told} {t : Tree} {w z : Here} → IsPlaced d t w z → Spans at (next_of w) (end_of z) → IsPlaced (told_node at (d ∷ [])) (node (function (ShorthandPat Binds)) (part t none)) w z
+pub short_pattern_placed : {r : Role} {at : Option Span} {d : Told} {t : Tree} {w z : Here} → IsPlaced d t w z → Spans at (next_of w) (end_of z) → IsPlaced (told_node at (d ∷ [])) (node (function (ShorthandPat r)) (part t none)) w z
 short_pattern_placed l s = node_is (λ c e ps. refl) (led l _) s (row_quiet (λ q. refl) (row_part l row_end))
 
-pub short_default_placed : {at : Option Span} {d e : Told} {t u : Tree} {w z x y : Here} → IsPlaced d t w z → Takes (sign_of fixed.Equals) z x → IsPlaced e u x y → Spans at (next_of w) (end_of y) → IsPlaced (told_node at (d ∷ e ∷ [])) (node (function (ShorthandInit Binds)) (part t (part u none))) w y
+pub short_default_placed : {r : Role} {at : Option Span} {d e : Told} {t u : Tree} {w z x y : Here} → IsPlaced d t w z → Takes (sign_of fixed.Equals) z x → IsPlaced e u x y → Spans at (next_of w) (end_of y) → IsPlaced (told_node at (d ∷ e ∷ [])) (node (function (ShorthandInit r)) (part t (part u none))) w y
 short_default_placed l sign r s = node_is (λ c e ps. refl) (led l _) s (row_quiet (λ q. refl) (row_quiet (λ q. refl) (row_part l (row_quiet (λ q. refl) (row_quiet (λ q. refl) (row_sign sign (row_quiet (λ q. refl) (row_part r (row_quiet (λ q. refl) row_end)))))))))
 
-pub rest_property_placed : {at : Option Span} {d : Told} {t : Tree} {w x y : Here} → Takes (sign_of fixed.Dots) w x → IsPlaced d t x y → Spans at (next_of w) (end_of y) → IsPlaced (told_node at (d ∷ [])) (node (function (RestProperty Binds)) (part t none)) w y
+pub rest_property_placed : {r : Role} {at : Option Span} {d : Told} {t : Tree} {w x y : Here} → Takes (sign_of fixed.Dots) w x → IsPlaced d t x y → Spans at (next_of w) (end_of y) → IsPlaced (told_node at (d ∷ [])) (node (function (RestProperty r)) (part t none)) w y
 rest_property_placed sign r s = node_is (λ c e ps. refl) (λ ms text. refl) s (row_sign sign (row_part r (row_unless row_end)))
 
 -- ---- templates

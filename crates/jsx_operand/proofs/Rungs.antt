@@ -14,7 +14,7 @@ use Rattle.jsx_tree.proofs.Rows.Stopping.{is_not}
 use Rattle.jsx_token.specs.Stage.{leaf_at, value_leaf}
 use Rattle.jsx_token.specs.Growths.{Rung, rung, callee, is_rung, least, level_of_kind, reaches, seat}
 use Rattle.jsx_token.proofs.Listed.{Listed, kinds, every, of_each, of_level, agree, agreed}
-use Rattle.jsx_token.proofs.Levels.{steps_on}
+use Rattle.jsx_token.proofs.Levels.{grows_on, is_template}
 use Rattle.jsx_token.proofs.Lives.{is_single}
 use Rattle.jsx_operand.specs.SoFar.{Staged}
 use Rattle.jsx_operand.specs.Climbing.{rises}
@@ -117,14 +117,17 @@ level_reaches callee k ts e c = and_both _ _ e (ap not (halves (calls k) _ (is_n
 
 -- what a row begins with is all that counts; of a template that is no part in the definition
 
+abbrev pub leads_on : Kind → Bool
+leads_on k = grows_on k && not (is_template k)
+
 abbrev led : Kind → Bool
-led k = agree (steps_on k) (leads (production k))
+led k = agree (leads_on k) (leads (production k))
 
 all_led : every led kinds ≡ true
 all_led = refl
 
-pub leads_as : (k : Kind) → Listed k → steps_on k ≡ leads (production k)
-leads_as k m = agreed (steps_on k) (leads (production k)) (of_each led all_led k m)
+pub leads_as : (k : Kind) → Listed k → leads_on k ≡ leads (production k)
+leads_as k m = agreed (leads_on k) (leads (production k)) (of_each led all_led k m)
 
 pub clear_left : (r : Rung) (k : Kind) (t : Tree) (ts : Forest) → leads (production k) ≡ true → clear r (node k (part t ts)) ≡ true → clear r t ≡ true
 clear_left (rung n) k t ts l c = refl

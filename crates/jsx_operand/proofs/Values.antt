@@ -1,43 +1,43 @@
 -- Expressions of the language so far: what they begin with, where they may stand, and how they go on.
 use Rattle.std.proofs.Common.{◌≡◌, ℕ, nat_eq, Bool, true, false, not, cond, [], ◌∷◌, refl, sym, ◌∙◌, ap, subst, List}
-use Rattle.std.proofs.lemmas.Bool.{eqb-true, eq-eqb}
+use Rattle.std.proofs.lemmas.Bool.{eqb-true}
 use Rattle.std.specs.Prelude.{IsTrue, codes, Option, Some, None, ◌&&◌, ◌||◌}
-use Rattle.jsx_base.specs.Token.{Text, Mode, Operand, Operator, kind_number, TokenKind, NoToken, IdentifierName, Punctuator, NumericLiteral, BigIntLiteral, StringLiteral, RegExpLiteral, NoSubstitution, TemplateHead, Lexeme, is_kind, is_token, among, no_token, breaks, skip, first_is, at_front, token, same}
-use Rattle.jsx_tree.specs.Signs.{Ending, AfterExpr, Sign, Tok, Unless}
-use Rattle.jsx_tree.specs.Kinds.{Label, Seq, ParenTarget, Parenthesized, function, statement, expression, Kind, Tree, leaf, node, list, Forest, part, FunctionExpr, ClassExpr, Object, Spread, PlainTemplate, SubstitutedTemplate}
+use Rattle.jsx_base.specs.Token.{Text, Mode, Operand, Operator, kind_number, TokenKind, NoToken, IdentifierName, Punctuator, NumericLiteral, BigIntLiteral, StringLiteral, RegExpLiteral, NoSubstitution, TemplateHead, is_kind, is_token, no_token, breaks, skip, first_is, at_front, token, same}
+use Rattle.jsx_tree.specs.Signs.{Ending, AfterExpr, Sign, Tok}
+use Rattle.jsx_tree.specs.Kinds.{Label, Seq, Assigns, Binds, ArrayPat, ObjectPat, ParenTarget, Parenthesized, function, statement, expression, Kind, Tree, leaf, node, list, Forest, part, Array, Object, Spread, PlainTemplate, SubstitutedTemplate}
 use Rattle.jsx_tree.specs.Nonterminals.{Nonterminal, Expr, Argument, Name, homes, in_homes, leaf_in, is_value_word, TemplatePart}
-use Rattle.jsx_tree.specs.Grammar.{ListShape, TwoOrMore, Context, Part, Fixed, heads, key, pun}
-use Rattle.jsx_tree.specs.Form.{admits, enough, is_leaf}
+use Rattle.jsx_tree.specs.Grammar.{Context, Part, Fixed, pun}
+use Rattle.jsx_tree.specs.Form.{admits, is_leaf}
 use Rattle.jsx_tree.specs.Spelling.{mode_of}
 use Rattle.jsx_tree.specs.Reading.{Place, Lost, At, forth}
 use Rattle.jsx_tree.specs.StaticRules.{Surroundings}
 use Rattle.jsx_token.specs.Stage.{has_kind, leaf_at, value_leaf}
-use Rattle.jsx_tree.specs.Walk.{is_found, is_text, Given, Items, nil, last, more, Past, one, sign, tree, many, Relation, Piece, piece, tail, Walk, next, around}
+use Rattle.jsx_tree.specs.Walk.{is_found, Given, Past, one, sign, tree, Relation, Piece, piece, tail, Walk, next}
 use Rattle.jsx_tree.specs.Language.{Whole}
 use Rattle.jsx_tree.specs.Answers.{Stuck, Only}
 use Rattle.jsx_tree.specs.Grows.{is_operand, takes_target, as_target, seen, is_aim, Seen, Onward, starts, stay, step}
 use Rattle.jsx_operand.specs.SoFar.{Staged, so_far}
 use Rattle.jsx_token.specs.Marks.{row_so_far}
 use Rattle.jsx_tree.proofs.Tokens.{and_left, and_right, and_both, one_text, same_is}
-use Rattle.jsx_tree.proofs.Apart.{by_not, clash, one_token, less_or_other, less_first, less_other, found_token}
-use Rattle.jsx_base.proofs.Fronts.{none_ahead, other_ahead}
+use Rattle.jsx_tree.proofs.Apart.{by_not, clash, one_token, less_first, less_other, found_token}
+use Rattle.jsx_base.proofs.Fronts.{none_ahead}
 use Rattle.jsx_tree.proofs.Signs.{not_first}
 use Rattle.jsx_tree.proofs.Rows.Bridge.{found_at}
 use Rattle.jsx_tree.proofs.Rows.Firsts.{kind_home}
 use Rattle.jsx_tree.proofs.Rows.Closers.{any_operand, homes_operand}
-use Rattle.jsx_tree.proofs.Rows.Stopping.{is_not, not_among, or_cases}
+use Rattle.jsx_tree.proofs.Rows.Stopping.{is_not, or_cases}
 use Rattle.jsx_tree.proofs.Rows.Turns.{whole_of}
 use Rattle.jsx_tree.proofs.Rows.Spines.{grows, grown, Covers, spine}
 use Rattle.jsx_tree.proofs.Rows.Targets.{as_value, target_back, calm_value, level_17}
-use Rattle.jsx_operand.proofs.Aims.{is_pair, seen_plain, calm_of, target_reads, staged_value}
+use Rattle.jsx_operand.proofs.Aims.{is_pair, seen_plain, calm_of, target_reads, staged_value, bracket_plain, bracket_calm}
 use Rattle.jsx_operand.proofs.OfSoFar.{of_so_far}
 use Rattle.jsx_operand.proofs.Slashes.{is_slash, regexp_slash}
 use Rattle.jsx_token.specs.Growths.{Rung, is_rung, seat, lead, opening_sign, same_sign, settled}
 use Rattle.jsx_operand.specs.Climbing.{Begins, rises}
-use Rattle.jsx_token.proofs.Listed.{Listed, listed, code, kinds, every, of_each, one_place, is_apart}
+use Rattle.jsx_token.proofs.Listed.{Listed, listed, kinds, every, of_each, is_apart}
 use Rattle.jsx_token.proofs.Headings.{of_begun}
 use Rattle.jsx_operand.proofs.Inners.{inner_kind, of_inner}
-use Rattle.jsx_operand.proofs.Homes.{Literal, IsName, IsNumber, IsLong, IsString, IsPattern, token_kind, Value, literal, made, value, AtWhole, single, several, at_whole, Taken, module', headed, inner, evaluation, labelled, sequence, operand, staged_leaf, taken_by, home_of, no_list, no_operand, names, spread, wholes, heads as heads_of, aimed, lone_value, bound_word}
+use Rattle.jsx_operand.proofs.Homes.{Literal, IsName, IsNumber, IsLong, IsString, IsPattern, token_kind, Value, literal, made, value, Taken, module', headed, inner, evaluation, labelled, sequence, operand, staged_leaf, taken_by, home_of, no_list, no_operand, names, spread, wholes, heads as heads_of, aimed, lone_value, bound_word, in_brackets}
 use Rattle.jsx_token.proofs.Lives.{is_lone, is_single, lives}
 use Rattle.jsx_operand.proofs.Rungs.{leaf_seat, literal_seat, rises_leaf, rung_operand, rung_single}
 use Rattle.jsx_token.proofs.Levels.{signed, Quoted, undivided, divided, is_template, quoted_kind, is_left, side, side_of}
@@ -107,14 +107,14 @@ plain_there IsLong t x p f = f
 plain_there IsString t x p f = f
 plain_there IsPattern t x p f = cc
 
-pattern_is : (l : Literal) → is_plain l ≡ false → l ≡ IsPattern
+pub pattern_is : (l : Literal) → is_plain l ≡ false → l ≡ IsPattern
 pattern_is IsPattern p = refl
 pattern_is IsName p = cc
 pattern_is IsNumber p = cc
 pattern_is IsLong p = cc
 pattern_is IsString p = cc
 
-pattern_there : {l : Literal} (t : Text) (x : Place) → l ≡ IsPattern → IsTrue (is_found (forth (literal_sign l t) x)) → IsTrue (is_found (forth (Tok Operand RegExpLiteral t) x))
+pub pattern_there : {l : Literal} (t : Text) (x : Place) → l ≡ IsPattern → IsTrue (is_found (forth (literal_sign l t) x)) → IsTrue (is_found (forth (Tok Operand RegExpLiteral t) x))
 pattern_there t x e f = subst (λ l. IsTrue (is_found (forth (literal_sign l t) x))) e f
 
 -- a literal by the number of its kind
@@ -201,12 +201,17 @@ less_literal l t x a b = by (is_plain l) refl
 
 -- ---- the signs with which an expression begins that is no literal
 
-pub lead_row : (ps : List Piece) → signed ps ≡ true → piece [] (Fixed (lead ps)) ∷ tail ps ≡ ps
-lead_row (piece [] (Fixed s) ∷ ps) g = refl
+-- what the sign stands in, which it doesn't hear
+abbrev pub front_of : List Piece → List Context
+front_of (piece a p ∷ ps) = a
+front_of [] = []
+
+pub lead_row : (ps : List Piece) → signed ps ≡ true → piece (front_of ps) (Fixed (lead ps)) ∷ tail ps ≡ ps
+lead_row (piece a (Fixed s) ∷ ps) g = refl
 lead_row _ g = cc
 
 pub led_sign : {R : Relation} {V : List Context → Surroundings} (ps : List Piece) {a y : Place} {ts : Forest} → signed ps ≡ true → Walk R V ps a ts y → IsTrue (is_found (forth (lead ps) a))
-led_sign (piece [] (Fixed s) ∷ ps) h (next (sign e f) w) = found_at e f
+led_sign (piece a (Fixed s) ∷ ps) h (next (sign e f) w) = found_at e f
 led_sign _ h w = cc
 
 abbrev pub is_opening : Sign → Bool
@@ -219,7 +224,7 @@ is_opening s = false
 pub record IsOpener (k : TokenKind) (d : ℕ) (t : Text) : Type 0 where
   unslashed : is_slash (d ∷ t) ≡ false
   pub low : nat_eq d 60 ≡ false
-  some : is_kind NoToken k ≡ false
+  pub some : is_kind NoToken k ≡ false
   other : (l : Literal) (u : Text) → value_leaf (token_kind l) u ≡ true → (is_kind k (token_kind l) && same (d ∷ t) u) ≡ false
   no_whole : is_kind k NoSubstitution ≡ false
   no_head : is_kind k TemplateHead ≡ false
@@ -372,13 +377,51 @@ opened_led k l g = and_left (signed (row_so_far k)) _ (opens_so k l g)
 pub opened_sign : {v : Surroundings} {d : Nonterminal} {x p : Place} {ts : Forest} (k : Kind) → Listed k → grows (row_so_far k) ≡ false → Staged v false d x (node k ts) p → IsTrue (is_found (forth (opening_sign k) x))
 opened_sign k l g r = led_sign (row_so_far k) (opened_led k l g) (of_so_far.from_node k r).walk
 
+-- ---- a pattern in brackets, which begins with the sign of a literal
+
+pub data Bracketed : Kind → Type 0 where
+  in_array : Bracketed (function (ArrayPat Assigns))
+  in_object : Bracketed (function (ObjectPat Assigns))
+
+-- the literal that begins so
+abbrev pub literal_kind : {k : Kind} → Bracketed k → Kind
+literal_kind in_array = expression Array
+literal_kind in_object = expression Object
+
+pub literal_listed : {k : Kind} (b : Bracketed k) → Listed (literal_kind b)
+literal_listed in_array = listed (expression Array) refl refl refl
+literal_listed in_object = listed (expression Object) refl refl refl
+
+pub literal_still : {k : Kind} (b : Bracketed k) → grows (row_so_far (literal_kind b)) ≡ false
+literal_still in_array = refl
+literal_still in_object = refl
+
+pub bracket_opener : {k : Kind} (b : Bracketed k) → Opener (opening_sign (literal_kind b))
+bracket_opener b = opener_of (literal_kind b) (literal_listed b) (literal_still b)
+
+pub bracket_sign : {v : Surroundings} {d : Nonterminal} {x p : Place} {k : Kind} {ts : Forest} (b : Bracketed k) → Staged v false d x (node k ts) p → IsTrue (is_found (forth (opening_sign (literal_kind b)) x))
+bracket_sign in_array r = led_sign (row_so_far (function (ArrayPat Assigns))) refl (of_so_far.from_node (function (ArrayPat Assigns)) r).walk
+bracket_sign in_object r = led_sign (row_so_far (function (ObjectPat Assigns))) refl (of_so_far.from_node (function (ObjectPat Assigns)) r).walk
+
+-- where another sign stands there is none
+abbrev pub unbracketed : Sign → Bool
+unbracketed s = not (same_sign (pun "[") s) && not (same_sign (pun "{") s)
+
+bracket_same : {j : Kind} (s : Sign) (b : Bracketed j) → unbracketed s ≡ true → same_sign (opening_sign (literal_kind b)) s ≡ true → ⊥
+bracket_same s in_array n e = clash _ e (is_not _ (and_left (not (same_sign (pun "[") s)) _ n))
+bracket_same s in_object n e = clash _ e (is_not _ (and_right (not (same_sign (pun "[") s)) _ n))
+
+pub bracket_none : {v : Surroundings} {d : Nonterminal} {x p : Place} {k : Kind} {ts : Forest} {s : Sign} → Opener s → unbracketed s ≡ true → IsTrue (is_found (forth s x)) → (b : Bracketed k) → Staged v false d x (node k ts) p → ⊥
+bracket_none {x = x} {s = s} o n f b r = bracket_same s b n (one_opening (opening_sign (literal_kind b)) s x (bracket_opener b) o (bracket_sign b r) f)
+
 -- ---- what an expression begins with
 
--- what stands there is a literal, a node whose row begins with a sign, or a template
+-- what stands there is a literal, a node whose row begins with a sign, a template, or a pattern in brackets
 pub data First (v : Surroundings) (x : Place) : Tree → Place → Type 0 where
   name : (l : Literal) {t : Text} {p : Place} → value_leaf (token_kind l) t ≡ true → is_leaf (token_kind l) t ≡ true → forth (literal_sign l t) x ≡ p → IsTrue (is_found p) → First v x (leaf (token_kind l) t) p
   opened : (d : Nonterminal) {k : Kind} {ts : Forest} {p : Place} → Listed k → grows (row_so_far k) ≡ false → Staged v false d x (node k ts) p → First v x (node k ts) p
   quoted : (d : Nonterminal) {k : Kind} {ts : Forest} {p : Place} → Quoted k → Staged v false d x (node k ts) p → First v x (node k ts) p
+  bracketed : (d : Nonterminal) {k : Kind} {ts : Forest} {p : Place} → Bracketed k → Staged v false d x (node k ts) p → First v x (node k ts) p
 
 pub leaf_forth : {v : Surroundings} {d : Nonterminal} {x p : Place} {t : Text} (l : Literal) → Staged v false d x (leaf (token_kind l) t) p → forth (literal_sign l t) x ≡ p
 leaf_forth IsName r = r.reads.scans
@@ -408,7 +451,7 @@ begins_single (Some c) = is_lone c
 single_start : (d : Nonterminal) {k : Kind} (ts : Forest) → is_operand d ≡ true → Taken k → admits d (node k ts) ≡ true → is_template k ≡ false → begins_single (starts (row_so_far k)) ≡ true
 single_start d ts o module' h n = refl
 single_start d ts o (headed b) h n = of_begun (λ j. begins_single (starts (row_so_far j))) refl b
-single_start d ts o (inner i) h n = absurd (no_operand d (inner_kind i) ts o (is_not _ (of_inner (λ j. not (any_operand (homes (inner_kind j)))) refl i)) h)
+single_start d ts o (inner i) h n = or_cases (begins_single (starts (row_so_far (inner_kind i)))) _ (of_inner (λ j. begins_single (starts (row_so_far (inner_kind j))) || not (any_operand (homes (inner_kind j)))) refl i) (λ e. e) (λ m. absurd (no_operand d (inner_kind i) ts o (is_not _ m) h))
 single_start d ts o evaluation h n = refl
 single_start d ts o labelled h n = absurd (no_operand d (statement Label) ts o refl h)
 single_start d ts o sequence h n = refl
@@ -420,20 +463,35 @@ not_apart : (k : Kind) {c : Nonterminal} → starts (row_so_far k) ≡ Some c �
 not_apart (expression Seq) b = cc
 not_apart (expression Spread) b = cc
 not_apart (function ParenTarget) b = cc
+not_apart (function (ArrayPat Binds)) b = cc
+not_apart (function (ArrayPat Assigns)) b = cc
+not_apart (function (ObjectPat Binds)) b = cc
+not_apart (function (ObjectPat Assigns)) b = cc
 not_apart _ b = refl
 
 pub listed_node : {v : Surroundings} {c d : Nonterminal} {k : Kind} {x y : Place} {ts : Forest} → is_operand c ≡ true → starts (row_so_far k) ≡ Some d → Staged v false c x (node k ts) y → Listed k
 listed_node {c = c} {k = k} {ts = ts} o b r = listed k (and_left (has_kind k) _ r.staged) (homes_operand c (homes k) o (kind_home c k ts (home_of r))) (not_apart k b)
 
 -- parentheses are an expression wherever they stand; all else is at the left as it is elsewhere
-left_value : {v : Surroundings} {c : Nonterminal} {x y : Place} (k : Kind) (f : Tree) → is_aim f ≡ false → is_lone c ≡ true → Staged v false c x (seen k f) y → Value f
-left_value {v} {c} {x} {y} k f a o r = by f (is_pair f) refl a r
+left_value : {v : Surroundings} {c : Nonterminal} {x y : Place} (k : Kind) (f : Tree) → is_aim f ≡ false → in_brackets f ≡ false → is_lone c ≡ true → Staged v false c x (seen k f) y → Value f
+left_value {v} {c} {x} {y} k f a n o r = by f (is_pair f) refl a n r
   where
-    by : (f : Tree) (b : Bool) → is_pair f ≡ b → is_aim f ≡ false → Staged v false c x (seen k f) y → Value f
-    by f false e a r = lone_value f o a (subst (λ u. Staged v false c x u y) (seen_plain k f e) r)
-    by (node (expression Parenthesized) ts) true e a r = made (listed (expression Parenthesized) refl refl refl)
-    by (node _ ts) true e a r = cc
-    by _ true e a r = cc
+    by : (f : Tree) (b : Bool) → is_pair f ≡ b → is_aim f ≡ false → in_brackets f ≡ false → Staged v false c x (seen k f) y → Value f
+    by f false e a n r = lone_value f o a n (subst (λ u. Staged v false c x u y) (seen_plain k f e) r)
+    by (node (expression Parenthesized) ts) true e a n r = made (listed (expression Parenthesized) refl refl refl)
+    by (node _ ts) true e a n r = cc
+    by _ true e a n r = cc
+
+-- what stands first at the left: a value, or a pattern in brackets
+left_first : {v : Surroundings} {c d : Nonterminal} {x y p : Place} (k : Kind) (f : Tree) → is_aim f ≡ false → is_lone c ≡ true → Staged v false c x (seen k f) y → grown so_far f ≡ false → Staged v false d x f p → First v x f p
+left_first {v} {c} {d} {x} {y} {p} k f a o r g s = by f (in_brackets f) refl a r g s
+  where
+    by : (f : Tree) (b : Bool) → in_brackets f ≡ b → is_aim f ≡ false → Staged v false c x (seen k f) y → grown so_far f ≡ false → Staged v false d x f p → First v x f p
+    by f false e a r g s = first_by (left_value k f a e o r) g s
+    by (node (function (ArrayPat Assigns)) ts) true e a r g s = bracketed d in_array s
+    by (node (function (ObjectPat Assigns)) ts) true e a r g s = bracketed d in_object s
+    by (node _ ts) true e a r g s = cc
+    by _ true e a r g s = cc
 
 -- ---- what stands at the left is an expression, seen as it is there
 
@@ -478,17 +536,21 @@ covers = record {
 }
   where
     see : {v : Surroundings} {c : Nonterminal} {x y : Place} (k : Kind) → starts (row_so_far k) ≡ Some c → Listed k → (t : Tree) → Staged v false c x t y → (a : Bool) → takes_target k ≡ a → Seen so_far k v x t y
-    see {c = c} k b m t r true e =
-        let l : is_left c ≡ true = subst (λ d. is_left d ≡ true) (side_is k b) (subst (λ a. cond a (is_left (side k)) (not (grows (row_so_far k) && lives (side k) (function ParenTarget))) ≡ true) e (of_each unaimed all_unaimed k m)) in
-        let p = target_reads c l t r in
-        record {
-          whole = as_value t;
-          is = ap (λ a. cond a (as_target (as_value t)) (as_value t)) e ∙ target_back p;
-          aims = calm_value p;
-          home = Expr 17;
-          operand = refl;
-          reads = staged_value level_17 bound_word p r;
-        }
+    see {v} {c = c} {x} {y} k b m t r true e = by (in_brackets t) refl
+      where
+        by : (n : Bool) → in_brackets t ≡ n → Seen so_far k v x t y
+        by true n = record { whole = t; is = seen_plain k t (bracket_plain t n); aims = bracket_calm t n; home = c; operand = start_operand k b m; reads = r }
+        by false n =
+            let l : is_left c ≡ true = subst (λ d. is_left d ≡ true) (side_is k b) (subst (λ a. cond a (is_left (side k)) (not (grows (row_so_far k) && lives (side k) (function ParenTarget))) ≡ true) e (of_each unaimed all_unaimed k m)) in
+            let p = target_reads c l t n r in
+            record {
+              whole = as_value t;
+              is = ap (λ a. cond a (as_target (as_value t)) (as_value t)) e ∙ target_back p;
+              aims = calm_value p;
+              home = Expr 17;
+              operand = refl;
+              reads = staged_value level_17 bound_word p r;
+            }
     see {c = c} k b m t r false e =
         let h = is_not _ (subst (λ a. cond a (is_left (side k)) (not (grows (row_so_far k) && lives (side k) (function ParenTarget))) ≡ true) e (of_each unaimed all_unaimed k m)) in
         let n : lives c (function ParenTarget) ≡ false = subst (λ d. lives d (function ParenTarget) ≡ false) (side_is k b) (second_not (grows (row_so_far k)) (lives (side k) (function ParenTarget)) h (started (row_so_far k) b)) in
@@ -501,14 +563,14 @@ covers = record {
           reads = r;
         }
 
--- what stands first where no sequence does: a literal, or a node; of a template that is its piece, and the next step the template
+-- what stands first where no sequence does: a literal, a node, or a pattern in brackets; of a template that is its piece, and the next step the template
 begun_by : {v : Surroundings} {c d : Nonterminal} {x p z : Place} {f u : Tree} → is_single c ≡ true → Staged v false c x u z → grown so_far f ≡ false → is_aim f ≡ false → Staged v false d x f p → Onward so_far v x f p u z → Begun v x u z
 begun_by {p = p} {f = f} o r g a s stay = record { tree = f; place = p; first = first_by (value f o r) g r; onward = stay }
 begun_by {v} {x = x} {p = p} {z = z} {f = f} {u = u} o r g a s (step {z = y} k c d {ts = ts} b i w e q on) = by (is_template k) refl
   where
     by : (t : Bool) → is_template k ≡ t → Begun v x u z
     by true h = record { tree = node k (part (seen k f) ts); place = y; first = quoted d (quoted_kind k (listed_node e b q) h) q; onward = on }
-    by false h = record { tree = f; place = p; first = first_by (left_value k f a (subst (λ a. begins_single a ≡ true) b (single_start d (part (seen k f) ts) e (taken_by q) (home_of q) h)) i) g s; onward = step k c d b i w e q on }
+    by false h = record { tree = f; place = p; first = left_first k f a (subst (λ a. begins_single a ≡ true) b (single_start d (part (seen k f) ts) e (taken_by q) (home_of q) h)) i g s; onward = step k c d b i w e q on }
 
 pub begun : {v : Surroundings} {c : Nonterminal} {x z : Place} → is_single c ≡ true → (u : Tree) → Staged v false c x u z → Begun v x u z
 begun {c = c} o u r = let s = spine of_so_far covers u (and_left (is_operand c) _ (and_left (is_lone c) _ o)) r in begun_by o r s.stands (s.calm (calm_of (value u o r))) s.reads s.onward
@@ -589,6 +651,7 @@ to_literal : {v : Surroundings} {x y p : Place} {f : Tree} (l : Literal) (t : Te
 to_literal {x = x} l t i e g (name m {t = u} h w e' g') =
     let s = same_both m l u t x (found_at e' g') (found_at (sym e) g) in
     record { tree = leaf_is s.kinds s.texts; place = sym e' ∙ ((λ i. forth (literal_sign (s.kinds i) (s.texts i)) x) ∙ sym e) }
+to_literal {x = x} l t i e g (bracketed d b r) = absurd (literal_opening l t (opening_sign (literal_kind b)) x (bracket_opener b) i (found_at (sym e) g) (bracket_sign b r))
 to_literal {x = x} l t i e g (quoted d q r) = absurd (literal_piece l t x (found_at (sym e) g) (piece_of q r))
 to_literal {x = x} l t i e g (opened d {k} m o r) = absurd (literal_opening l t (opening_sign k) x (opener_of k m o) i (found_at (sym e) g) (opened_sign k m o r))
 
@@ -603,6 +666,7 @@ literal_follows {x = x} l t h w e f = record {
     ended = settled_token (mode_of (token_kind l)) (token_kind l) t x (leaf_full l t w) (sym e) f;
   };
   low = λ r i j. absurd (clash (rises r (leaf (token_kind l) t)) (rises_leaf r (token_kind l) t i) j);
+  ended = settled_token (mode_of (token_kind l)) (token_kind l) t x (leaf_full l t w) (sym e) f;
 }
 
 -- ---- where a name and a sign ended
@@ -619,175 +683,3 @@ name_ended {t = t} o = name_settled t (whole_of o.past).reads
 -- behind a bracket
 pub sign_ended : {v : Surroundings} {m : _} {k : TokenKind} {c : ℕ} {t : Text} {x y : Place} {g : Given} → Past (Whole so_far) v (Fixed (Tok m k (c ∷ t))) x g y → settled y ≡ true
 sign_ended {m = m} {k} {c} {t} {x} (sign e f) = settled_token m k (c ∷ t) x refl e f
-
--- ---- no expression begins as another statement does
-
-not_same : (t u : Text) (p : Text → Bool) → p t ≡ true → p u ≡ false → same t u ≡ false
-not_same t u p a b = by_not _ (λ h. clash (p u) (subst (λ v. p v ≡ true) (same_is t u h) a) b)
-
-none_of : (t : Text) → same t (codes "{") ≡ false → same t (codes "function") ≡ false → same t (codes "class") ≡ false → among t heads ≡ false
-none_of t a b c = (λ i. a i || (b i || (c i || false)))
-
-abbrev may_be : Literal → Text → Bool
-may_be l t = value_leaf (token_kind l) t && is_leaf (token_kind l) t
-
-no_head : (l : Literal) (t : Text) → may_be l t ≡ true → among t heads ≡ false
-no_head IsName t a = none_of t (not_same t (codes "{") (may_be IsName) a refl) (not_same t (codes "function") (may_be IsName) a refl) (not_same t (codes "class") (may_be IsName) a refl)
-no_head IsNumber t a = none_of t (not_same t (codes "{") (may_be IsNumber) a refl) (not_same t (codes "function") (may_be IsNumber) a refl) (not_same t (codes "class") (may_be IsNumber) a refl)
-no_head IsLong t a = none_of t (not_same t (codes "{") (may_be IsLong) a refl) (not_same t (codes "function") (may_be IsLong) a refl) (not_same t (codes "class") (may_be IsLong) a refl)
-no_head IsPattern t a = none_of t (not_same t (codes "{") (may_be IsPattern) a refl) (not_same t (codes "function") (may_be IsPattern) a refl) (not_same t (codes "class") (may_be IsPattern) a refl)
-no_head IsString t a = none_of t (not_same t (codes "{") (may_be IsString) a refl) (not_same t (codes "function") (may_be IsString) a refl) (not_same t (codes "class") (may_be IsString) a refl)
-
-raw_not : (x : Lexeme) (t : Text) → is_token x x.kind t ≡ false → same x.raw t ≡ false
-raw_not x t e = by_not _ (λ h. clash _ (and_both _ _ (eq-eqb (kind_number x.kind) (kind_number x.kind) refl) h) e)
-
-less_no_head : (f : Bool) (s : Text) → first_is (nat_eq 60) s ≡ true → among (at_front Operator f s).raw heads ≡ false
-less_no_head f s h =
-    let x = at_front Operator f s in
-    none_of x.raw
-    (raw_not x (codes "{") ((other_ahead x.kind 123 [] Operator s (less_or_other 123 s refl h)).not_it f))
-    (raw_not x (codes "function") ((other_ahead x.kind 102 (codes "unction") Operator s (less_or_other 102 s refl h)).not_it f))
-    (raw_not x (codes "class") ((other_ahead x.kind 99 (codes "lass") Operator s (less_or_other 99 s refl h)).not_it f))
-
-no_literal : (l : Literal) (t s : Text) → is_token (no_token s) (token_kind l) t ≡ false
-no_literal IsName t s = refl
-no_literal IsNumber t s = refl
-no_literal IsLong t s = refl
-no_literal IsString t s = refl
-no_literal IsPattern t s = refl
-
-go_on : (b : Bool) (x : Place) → b ≡ false → cond (not b) x Lost ≡ x
-go_on true x e = cc
-go_on false x e = refl
-
-no_token_is : (k : TokenKind) (t s : Text) → is_kind NoToken k ≡ false → is_token (no_token s) k t ≡ false
-no_token_is k t s n = ap (λ b. b && same (no_token s).raw t) n
-
--- whether the text of a sign is none of these
-abbrev is_headless : Sign → Bool
-is_headless (Tok Operand Punctuator t) = true
-is_headless (Tok m k t) = not (among t heads)
-is_headless s = true
-
-opener_heads : {s : Sign} (x : Place) → Opener s → is_headless s ≡ true → IsTrue (is_found (forth s x)) → forth (Unless heads) x ≡ x
-opener_heads Lost o h f = refl
-opener_heads (At q e text) angle h f = go_on _ _ (less_no_head (breaks text) (skip text) (less_first (same q [] || breaks text) (skip text) (found_token _ (At (codes "<") AfterExpr (token Operand (same q []) text).rest) f)))
-opener_heads (At q e text) (plain {k} {d} {t} o) h f =
-    let m = token Operator (same q []) text in
-    let i : is_token m k (d ∷ t) ≡ true = found_token (is_token m k (d ∷ t)) (At (d ∷ t) AfterExpr m.rest) f in
-    let raw : (token Operator false text).raw ≡ d ∷ t = ap (λ x. x.raw) (not_first (λ x. is_token x k (d ∷ t)) (λ s. no_token_is k (d ∷ t) s o.some) (same q []) text i) ∙ same_is m.raw (d ∷ t) (and_right _ _ i) in
-    go_on _ _ (ap (λ v. among v heads) raw ∙ is_not _ h)
-
-slash_head : (t : Text) → is_slash t ≡ true → among t heads ≡ false
-slash_head t h = or_cases (same t (codes "/")) (same t (codes "/=")) h (λ e. ap (λ v. among v heads) (same_is t (codes "/") e)) (λ e. ap (λ v. among v heads) (same_is t (codes "/=") e))
-
-pattern_heads : (t : Text) (x : Place) → IsTrue (is_found (forth (Tok Operand RegExpLiteral t) x)) → forth (Unless heads) x ≡ x
-pattern_heads t Lost f = refl
-pattern_heads t (At q e text) f =
-    let m = token Operator (same q []) text in
-    let i : is_slash m.raw ≡ true = (regexp_slash t q e text f).text in
-    let raw : (token Operator false text).raw ≡ m.raw = ap (λ x. x.raw) (not_first (λ x. is_slash x.raw) (λ s. refl) (same q []) text i) in
-    go_on _ _ (ap (λ v. among v heads) raw ∙ slash_head m.raw i)
-
-plain_heads : (l : Literal) (t : Text) (x : Place) → (value_leaf (token_kind l) t && is_leaf (token_kind l) t) ≡ true → IsTrue (is_found (forth (Tok Operator (token_kind l) t) x)) → forth (Unless heads) x ≡ x
-plain_heads l t Lost h f = refl
-plain_heads l t (At q e text) h f =
-    let m = token Operator (same q []) text in
-    let i : is_token m (token_kind l) t ≡ true = found_token (is_token m (token_kind l) t) (At t AfterExpr m.rest) f in
-    let raw : (token Operator false text).raw ≡ t = ap (λ x. x.raw) (not_first (λ x. is_token x (token_kind l) t) (no_literal l t) (same q []) text i) ∙ same_is m.raw t (and_right _ _ i) in
-    go_on _ _ (ap (λ v. among v heads) raw ∙ no_head l t h)
-
-literal_heads : (l : Literal) (t : Text) (x : Place) → (value_leaf (token_kind l) t && is_leaf (token_kind l) t) ≡ true → IsTrue (is_found (forth (literal_sign l t) x)) → forth (Unless heads) x ≡ x
-literal_heads l t x h f = by (is_plain l) refl
-  where
-    by : (c : Bool) → is_plain l ≡ c → forth (Unless heads) x ≡ x
-    by true p = plain_heads l t x h (plain_there l t x p f)
-    by false p = pattern_heads t x (pattern_there t x (pattern_is l p) f)
-
--- nor is a piece one of them
-no_head_piece : (k : TokenKind) (t : Text) → is_leaf k t ≡ true → is_leaf k (codes "{") ≡ false → is_leaf k (codes "function") ≡ false → is_leaf k (codes "class") ≡ false → among t heads ≡ false
-no_head_piece k t a b c d = none_of t (not_same t (codes "{") (is_leaf k) a b) (not_same t (codes "function") (is_leaf k) a c) (not_same t (codes "class") (is_leaf k) a d)
-
-token_clear : (ts : List Text) (k : TokenKind) (t : Text) (x : Place) → is_kind NoToken k ≡ false → among t ts ≡ false → IsTrue (is_found (forth (Tok Operator k t) x)) → forth (Unless ts) x ≡ x
-token_clear ts k t Lost n h f = refl
-token_clear ts k t (At q e text) n h f =
-    let m = token Operator (same q []) text in
-    let i : is_token m k t ≡ true = found_token (is_token m k t) (At t AfterExpr m.rest) f in
-    let raw : (token Operator false text).raw ≡ t = ap (λ x. x.raw) (not_first (λ x. is_token x k t) (λ s. no_token_is k t s n) (same q []) text i) ∙ same_is m.raw t (and_right _ _ i) in
-    go_on _ _ (ap (λ v. among v ts) raw ∙ h)
-
-piece_heads : (x : Place) → Quote x → forth (Unless heads) x ≡ x
-piece_heads x (whole_there q) = token_clear heads NoSubstitution q.text x refl (no_head_piece NoSubstitution q.text q.whole refl refl refl) q.found
-piece_heads x (head_there q) = token_clear heads TemplateHead q.text x refl (no_head_piece TemplateHead q.text q.whole refl refl refl) q.found
-
--- a brace and the words of a function and a class are those of them that an expression begins with
-abbrev heads_well : Kind → Bool
-heads_well k = grows (row_so_far k) || (is_headless (opening_sign k) || (nat_eq (code k) (code (expression Object)) || (nat_eq (code k) (code (function FunctionExpr)) || nat_eq (code k) (code (function ClassExpr)))))
-
-all_heads_well : every heads_well kinds ≡ true
-all_heads_well = refl
-
-stuck_lost : {s : Sign} {x : Place} → Stuck s x → IsTrue (is_found (forth s x)) → ⊥
-stuck_lost s f = let bad : IsTrue (is_found Lost) = subst (λ p. IsTrue (is_found p)) s.is f in cc
-
-first_heads : {v : Surroundings} {x p : Place} {f : Tree} → Stuck (pun "{") x → Stuck (key "function") x → Stuck (key "class") x → First v x f p → forth (Unless heads) x ≡ x
-first_heads {x = x} s o c (name l {t = t} h w g f) = literal_heads l t x (and_both _ _ h w) (found_at g f)
-first_heads {x = x} s o c (quoted d q r) = piece_heads x (piece_of q r)
-first_heads {x = x} s o c (opened d {k} l g r) =
-    or_cases (grows (row_so_far k)) _ (of_each heads_well all_heads_well k l) (λ h. absurd (clash _ h g))
-    (λ e. or_cases (is_headless (opening_sign k)) _ e (λ h. opener_heads x (opener_of k l g) h there)
-    (λ i. or_cases (nat_eq (code k) (code (expression Object))) _ i (λ h. absurd (at_stuck (expression Object) (listed (expression Object) refl refl refl) s h))
-    (λ j. or_cases (nat_eq (code k) (code (function FunctionExpr))) (nat_eq (code k) (code (function ClassExpr))) j (λ h. absurd (at_stuck (function FunctionExpr) (listed (function FunctionExpr) refl refl refl) o h)) (λ h. absurd (at_stuck (function ClassExpr) (listed (function ClassExpr) refl refl refl) c h)))))
-  where
-    there : IsTrue (is_found (forth (opening_sign k) x))
-    there = opened_sign k l g r
-
-    at_stuck : (j : Kind) → Listed j → Stuck (opening_sign j) x → nat_eq (code k) (code j) ≡ true → ⊥
-    at_stuck j m n h = stuck_lost n (subst (λ i. IsTrue (is_found (forth (opening_sign i) x))) (one_place k j l m h) there)
-
--- what a sequence begins with
-pub record Item (v : Surroundings) (x : Place) : Type 0 where
-  pub tree : Tree
-  pub place : Place
-  pub reads : Staged v false (Expr 1) x tree place
-
-first_item : {v : Surroundings} {s : ListShape} {x z : Place} {ts : Forest} → enough TwoOrMore ts ≡ true → Items Staged v s (Expr 1) x ts z → is_text s ≡ false → Item v x
-first_item n (nil f) c = cc
-first_item {v} {s} {x} n (last {y = y} {t = t} r e f) c = record { tree = t; place = y; reads = subst (λ b. Staged v b (Expr 1) x t y) c r }
-first_item {v} {s} {x} n (more {y = y} {t = t} m r e all) c = record { tree = t; place = y; reads = subst (λ b. Staged v b (Expr 1) x t y) c r }
-
-item_of_walk : {v : Surroundings} (us : Forest) {x z : Place} {ts : Forest} → Walk Staged (around v us) (row_so_far (expression Seq)) x ts z → Item v x
-item_of_walk us (next (many e all) w) = first_item e all refl
-
-whole_heads : {v : Surroundings} {x z : Place} {u : Tree} → Stuck (pun "{") x → Stuck (key "function") x → Stuck (key "class") x → AtWhole u → Staged v false (Expr 0) x u z → forth (Unless heads) x ≡ x
-whole_heads {u = u} s o c (single a) r = first_heads s o c (begun refl u (move at_one a r)).first
-whole_heads s o c (several {ts}) r = let i = item_of_walk ts (of_so_far.from_node (expression Seq) r).walk in first_heads s o c (begun refl i.tree i.reads).first
-
-pub no_heads : {v : Surroundings} {x z : Place} {u : Tree} → Stuck (pun "{") x → Stuck (key "function") x → Stuck (key "class") x → Staged v false (Expr 0) x u z → forth (Unless heads) x ≡ x
-no_heads {u = u} s o c r = whole_heads s o c (at_whole u r) r
-
--- ---- nor does one begin as what is exported by itself, but for a function and a class
-
-abbrev pub default_heads : List Text
-default_heads = codes "function" ∷ codes "class" ∷ []
-
-guard_off : (b : Bool) (q : Text) (e : Ending) (text : Text) → cond (not b) (At q e text) Lost ≡ At q e text → b ≡ false
-guard_off true q e text h = let bad : IsTrue (is_found Lost) = subst (λ p. IsTrue (is_found p)) (sym h) refl in cc
-guard_off false q e text h = refl
-
-fewer_heads : (x : Place) → forth (Unless heads) x ≡ x → forth (Unless default_heads) x ≡ x
-fewer_heads Lost h = refl
-fewer_heads (At q e text) h =
-    let raw = (token Operator false text).raw in
-    go_on (among raw default_heads) (At q e text) (not_among raw default_heads heads refl (guard_off (among raw heads) q e text h))
-
-lost_by : (x : Place) → is_found x ≡ false → x ≡ Lost
-lost_by Lost h = refl
-lost_by (At q e text) h = cc
-
-pub no_default : {v : Surroundings} {x z : Place} {u : Tree} → Stuck (key "function") x → Stuck (key "class") x → Staged v false (Expr 1) x u z → forth (Unless default_heads) x ≡ x
-no_default {x = x} {u = u} o c r = by (is_found (forth (pun "{") x)) refl
-  where
-    by : (b : Bool) → is_found (forth (pun "{") x) ≡ b → forth (Unless default_heads) x ≡ x
-    by true h = token_clear default_heads Punctuator (codes "{") x refl refl h
-    by false h = fewer_heads x (first_heads (record { is = lost_by (forth (pun "{") x) h }) o c (begun refl u r).first)

@@ -82,6 +82,7 @@ pub record Climbs (v : Surroundings) (r : Rung) (x : Place) (t : Tree) (a : Plac
 pub record Begins (v : Surroundings) (x : Place) (t : Tree) (a : Place) : Type 0 where
   pub on : (r : Rung) → is_rung r ≡ true → rises r t ≡ true → Climbs v r x t a
   pub low : (r : Rung) → is_rung r ≡ true → rises r t ≡ false → Barred so_far v (Part (seat r)) x
+  pub ended : settled a ≡ true
 
 pub record NoneBegins (v : Surroundings) (x : Place) : Type 0 where
   pub on : (r : Rung) → is_rung r ≡ true → Barred so_far v (Part (seat r)) x

@@ -9,3 +9,6 @@ pub mod Openings
 pub mod Templates
 pub mod Bodies
 pub mod Patterns
+pub mod Turning
+pub mod Covers
+pub mod Taken

@@ -20,7 +20,7 @@ use Rattle.jsx_tree.specs.Spans.{from_first, extent, is_text, start, list_starts
 use Rattle.jsx_tree.specs.Walk.{is_found}
 use Rattle.jsx_token.specs.Here.{Here, place_of}
 use Rattle.jsx_make.specs.NodeSpans.{expr_at}
-use Rattle.jsx_token.specs.Places.{Takes, begin_of, end_of, next_of}
+use Rattle.jsx_token.specs.Places.{FailsNear, Takes, begin_of, end_of, next_of}
 
 -- from one place to another
 pub record Spans (at : Option Span) (lo hi : ℕ) : Type 0 where
@@ -37,11 +37,11 @@ pub record Extends (before at : Option Span) (hi : ℕ) : Type 0 where
 pub record Starts (at : Option Span) (p : BytePos) : Type 0 where
   pub on : (lo hi : ℕ) → Spans at lo hi → p.0 ≡ lo
 
--- an error at a place
-pub record FailsAt (e : ParseError) (place : ℕ) : Type 0 where
+-- an error at the token that was taken last, or at the one behind it
+pub record FailsAt (e : ParseError) (h : Here) : Type 0 where
   pub at : BytePos
   pub is : e ≡ Syntax at
-  pub place_is : at.0 ≡ place
+  pub place_is : FailsNear h at.0
 
 -- the span of a whole program
 abbrev pub program_at : Program → Span

@@ -1,11 +1,14 @@
 //! What a node stands in, for the early errors that ask (ECMA-262 sections 13 to 16).
 
-ghost use Rattle.std.specs.Prelude.{◌≡◌, [], true};
+ghost use Rattle.std.specs.Prelude.{◌≡◌, [], map, true};
 ghost use Rattle.jsx_tree.specs.Kinds.{none};
-ghost use Rattle.jsx_tree.specs.Grammar.{InFunction};
+ghost use Rattle.jsx_tree.specs.Grammar.{InArrow, InFunction, InClassCode};
 ghost use Rattle.jsx_tree.specs.StaticRules.{enter};
-ghost use Rattle.jsx_operand.specs.Around.{around_of, in_field, in_members, in_method, labels_of, within_module};
+ghost use Rattle.jsx_tree.specs.View.{directive, forest};
+ghost use Rattle.jsx_operand.specs.Around.{around_of, in_code, in_field, in_members, in_method, labels_of, within_module, within_script};
 
+use crate::body::makes_strict;
+use jsx_tree::Text;
 use std::alloc::Global;
 
 /// The labels that enclose, the innermost first (ECMA-262 section 14.13).
@@ -20,6 +23,8 @@ pub enum Labels<'a> {
 #[derive(Clone, Copy)]
 pub struct Around<'a> {
     pub is_module: bool,
+    /// Strict code (ECMA-262 section 11.2.2).
+    pub is_strict: bool,
     /// A function that `return` ends.
     pub returns: bool,
     /// What `new.target` speaks of.
@@ -43,6 +48,25 @@ impl<'a> Around<'a> {
     {
         Around {
             is_module: true,
+            is_strict: true,
+            returns: false,
+            has_target: false,
+            has_super: false,
+            calls_super: false,
+            is_derived: false,
+            in_loop: false,
+            breakable: false,
+            labels,
+        }
+    }
+
+    /// What the statements of a script stand in, as far as its directives say nothing else.
+    pub fn of_script(labels: &'a Labels<'a>) -> Around<'a>
+        ensures { around_of result ≡ within_script (labels_of labels.now) }
+    {
+        Around {
+            is_module: false,
+            is_strict: false,
             returns: false,
             has_target: false,
             has_super: false,
@@ -107,6 +131,24 @@ impl<'a> Context<'a> {
         Context { around, ..self }
     }
 
+    /// The same in an arrow function, where no label encloses. What `new.target` and `super` speak of stays (ECMA-262
+    /// section 15.3).
+    pub fn of_arrow<'b>(self, labels: &'b Labels<'b>) -> Context<'b>
+    where
+        'a: 'b,
+        requires { labels_of labels.now ≡ [] }
+        ensures { around_of result.around ≡ enter none InArrow (around_of self.entry.around) }
+    {
+        let around = Around {
+            returns: true,
+            in_loop: false,
+            breakable: false,
+            labels,
+            ..self.around
+        };
+        Context { around, ..self }
+    }
+
     /// The same in a method, a getter or a setter, where `super()` may stand in the constructor of a class with `extends`
     /// alone (ECMA-262 sections 15.4 and 15.7).
     pub fn of_method<'b>(self, labels: &'b Labels<'b>, is_constructor: bool) -> Context<'b>
@@ -148,11 +190,35 @@ impl<'a> Context<'a> {
         Context { around, ..self }
     }
 
+    /// The same behind the directives of a script or of a body, which may make it strict (ECMA-262 section 11.2.2).
+    pub fn of_code(self, directives: &[Text]) -> Context<'a>
+        ensures { around_of result.around ≡ in_code (forest (map directive directives.now)) (around_of self.entry.around) }
+    {
+        let is_strict = self.around.is_strict || makes_strict(directives);
+        let around = Around {
+            is_strict,
+            ..self.around
+        };
+        Context { around, ..self }
+    }
+
+    /// The same in a class, all parts of which are strict code (ECMA-262 section 11.2.2).
+    pub fn of_class(self) -> Context<'a>
+        ensures { around_of result.around ≡ enter none InClassCode (around_of self.entry.around) }
+    {
+        let around = Around {
+            is_strict: true,
+            ..self.around
+        };
+        Context { around, ..self }
+    }
+
     /// The same in the members of a class, with `extends` or without (ECMA-262 section 15.7).
     pub fn of_members(self, is_derived: bool) -> Context<'a>
         ensures { around_of result.around ≡ in_members is_derived (around_of self.entry.around) }
     {
         let around = Around {
+            is_strict: true,
             is_derived,
             ..self.around
         };

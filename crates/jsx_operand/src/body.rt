@@ -1,10 +1,10 @@
 //! The body of a function, as it is read: what its directives say of it (ECMA-262 sections 11.2.1 and 15.2).
 
-ghost use Rattle.std.specs.Prelude.{◌≡◌, [], ◌∷◌, codes};
+ghost use Rattle.std.specs.Prelude.{◌≡◌, [], ◌∷◌, codes, map, nat_le};
 ghost use Rattle.std.specs.Str.{chars};
 ghost use Rattle.jsx_base.specs.Token.{among};
-ghost use Rattle.jsx_tree.specs.StaticRules.{is_strict_body, is_strict_directive};
-ghost use Rattle.jsx_tree.specs.View.{directive};
+ghost use Rattle.jsx_tree.specs.StaticRules.{count_of, is_strict_body, is_strict_directive};
+ghost use Rattle.jsx_tree.specs.View.{directive, forest};
 ghost use Rattle.jsx_operand.specs.Bodies.{view_body};
 
 use jsx_tree::{Stmt, Text};
@@ -35,11 +35,18 @@ fn is_strict_directive(text: &Text) -> bool
     }
 }
 
+/// Whether one of some directives makes code strict.
+pub(crate) fn makes_strict(directives: &[Text]) -> bool
+    ensures { result ≡ nat_le 1 (count_of is_strict_directive (forest (map directive directives.now))) }
+{
+    directives.iter().any(is_strict_directive)
+}
+
 impl<'s> Body<'s> {
     /// Whether a directive of its own makes it strict code.
     pub fn is_strict(&self) -> bool
         ensures { result ≡ is_strict_body (view_body self.now) }
     {
-        self.directives.iter().any(is_strict_directive)
+        makes_strict(&self.directives)
     }
 }

@@ -4,6 +4,7 @@
 pub mod argument;
 mod around;
 mod body;
+pub mod cover;
 mod error;
 pub mod link;
 pub mod member;
@@ -12,8 +13,10 @@ pub mod parser;
 pub mod pattern;
 pub mod proto;
 pub mod template;
+pub mod turn;
 
 pub use around::{Around, Context, Labels};
 pub use body::Body;
+pub use cover::Cover;
 pub use error::ParseError;
 pub use parser::{binding_identifier, expect, give_up, semicolon, span_to};

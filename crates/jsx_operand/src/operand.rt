@@ -215,7 +215,7 @@ pub fn is_target(expr: &Expr) -> bool
     }
 }
 
-fn is_bound_text(text: &Text) -> bool
+pub(crate) fn is_bound_text(text: &Text) -> bool
     ensures { result ≡ grammar.is_bound (text_of text.now) }
 {
     match text {

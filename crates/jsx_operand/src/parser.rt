@@ -36,11 +36,11 @@ pub fn span_to(lo: BytePos, lexer: &Lexer) -> Option<Span>
     Some(Span { lo, hi })
 }
 
-/// The error at the token that was taken last.
+/// The error at the token that was looked at last, or taken.
 pub fn give_up(lexer: &Lexer) -> ParseError
-    ensures { FailsAt result (begin_of lexer.now) }
+    ensures { FailsAt result lexer.now }
 {
-    ParseError::Syntax(lexer.last_place())
+    ParseError::Syntax(lexer.failing_place())
 }
 
 /// Takes a token with one spelling.

@@ -1,20 +1,18 @@
 -- The statements of a block, up to its brace.
-use Rattle.std.proofs.Common.{◌≡◌, Bool, true, false, not, List, [], ◌∷◌, refl, sym, ◌∙◌, ap, subst}
-use Rattle.std.specs.Prelude.{IsTrue, ◌||◌}
-use Rattle.jsx_tree.specs.Kinds.{Block, statement, Tree, leaf, node, list, Forest, none, part}
+use Rattle.std.proofs.Common.{◌≡◌, true, not, List, [], ◌∷◌, refl, sym, ◌∙◌, ap, subst}
+use Rattle.std.specs.Prelude.{IsTrue}
+use Rattle.jsx_tree.specs.Kinds.{Block, statement, Tree, list, Forest, none, part}
 use Rattle.jsx_tree.specs.Nonterminals.{Nonterminal, Stmt}
 use Rattle.jsx_tree.specs.Grammar.{Context, Lines, Many, Part, Fixed, pun}
 use Rattle.jsx_tree.specs.Reading.{Place, Lost, forth}
 use Rattle.jsx_tree.specs.StaticRules.{Surroundings}
-use Rattle.jsx_tree.specs.Walk.{is_found, one, Piece, piece, tail, Items, nil, last, more, many, sign, tree, Walk, done, next, steady}
+use Rattle.jsx_tree.specs.Walk.{is_found, one, Piece, piece, tail, Items, nil, last, more, many, sign, tree, Walk, next, steady}
 use Rattle.jsx_tree.specs.Language.{Language, Whole}
-use Rattle.jsx_tree.specs.Answers.{Moves, Stuck, Missed, Only, Barred, OnlyRow, NoRow, BuiltNode}
-use Rattle.jsx_tree.proofs.Tokens.{and_both, found_first}
+use Rattle.jsx_tree.specs.Answers.{Moves, Stuck, Missed, Only, Barred, OnlyRow, NoRow}
+use Rattle.jsx_tree.proofs.Tokens.{found_first}
 use Rattle.jsx_tree.proofs.Apart.{clash}
 use Rattle.jsx_tree.proofs.Rows.Stopping.{is_not}
 use Rattle.jsx_tree.proofs.Rows.Bridge.{found_at}
-use Rattle.jsx_tree.proofs.Rows.Guarded.{to_grammar}
-use Rattle.jsx_tree.proofs.Rows.Bodies.{plain}
 use Rattle.jsx_tree.proofs.Rows.Laws.{Lawful, end_found}
 use Rattle.jsx_tree.proofs.Rows.Closers.{closes}
 use Rattle.jsx_tree.proofs.Rows.Lists.{brace, closed}
@@ -109,11 +107,3 @@ line_ended {v} {x} {y} {z} ts so m =
     let there = found_at (sym m.is) m.found in
     subst (λ us. OnlyRow so_far v braced x (part (list us) none) z) (both_none ts)
     (turn_only so (turn_only (turn_none_left (found_first (pun "}" ∷ []) y there) (none_begins stmts (record { on = no_heading m }) (closes brace there))) (closed m)))
-
--- ---- a function may be among them, since all code is strict
-
-strictly : (a b : Bool) → a ≡ true → (a || b) ≡ true
-strictly a b e = ap (λ c. c || b) e
-
-pub block_built : {v : Surroundings} {x y : Place} {ts : Forest} {t : Tree} → v.strict ≡ true → OnlyRow so_far v braced x (part (list ts) none) y → t ≡ node (statement Block) (part (list ts) none) → BuiltNode so_far v braced (statement Block) t x y
-block_built {v} s o is = record { parts = _; is = is; row = o; keeps = and_both _ _ (plain braced refl (to_grammar of_so_far o.walk)) (strictly v.strict _ s) }

@@ -9,7 +9,7 @@ use Rattle.jsx_tree.specs.Nonterminals.{Nonterminal, Expr, CaseClause, Stmt}
 use Rattle.jsx_tree.specs.Grammar.{Context, InSwitch, Lines, Symbol, Many, Part, Fixed, key, pun}
 use Rattle.jsx_tree.specs.Form.{admits}
 use Rattle.jsx_tree.specs.Reading.{Place, Lost, forth}
-use Rattle.jsx_tree.specs.StaticRules.{Surroundings, all_of, at_most, count_of, enter, is_default, list_rule}
+use Rattle.jsx_tree.specs.StaticRules.{Surroundings, all_of, at_most, count_of, enter, is_default, is_function, list_rule, rule}
 use Rattle.jsx_tree.specs.Walk.{is_found, nothing, one, Given, Piece, piece, Items, nil, last, more, Past, sign, tree, many, tail, with, Walk, done, next, around, steady}
 use Rattle.jsx_tree.specs.Language.{Whole}
 use Rattle.jsx_tree.specs.Answers.{Moves, Missed, Only, Barred, OnlyRow, NoRow, NoNode, BuiltNode}
@@ -24,7 +24,7 @@ use Rattle.jsx_tree.proofs.Rows.Placing.{no_node}
 use Rattle.jsx_tree.proofs.Rows.Steps.{bar, both, on, only_sign, then'}
 use Rattle.jsx_statement.proofs.Controls.{barred_in, only_in}
 use Rattle.jsx_tree.proofs.Rows.Stopping.{is_not, never_stops, or_cases}
-use Rattle.jsx_tree.proofs.Rows.Turns.{Turn, early, prepend, prepend_cons, turn_as, turn_both, turn_none, turn_only, turn_symbol, whole_of}
+use Rattle.jsx_tree.proofs.Rows.Turns.{Turn, early, prepend, prepend_cons, turn_as, turn_both, turn_only, turn_symbol, whole_of}
 use Rattle.jsx_statement.specs.Cases.{IsBody, IsCase, IsDefault, MoreCases, NoCase, NoCases, body_row, cases_row, default_row, one_default, with_case}
 use Rattle.jsx_token.specs.CaseEnds.{ends_case}
 use Rattle.jsx_token.specs.Growths.{is_code, same_sign}
@@ -40,6 +40,8 @@ use Rattle.jsx_operand.proofs.Homes.{Taken, no_list, taken_by, home_of}
 use Rattle.jsx_operand.proofs.Standing.{standing}
 use Rattle.jsx_tree.proofs.Rows.Firsts.{kind_home}
 use Rattle.jsx_operand.proofs.Values.{led_sign}
+use Rattle.jsx_statement.specs.Inners.{NoInner, NoInners, are_inner, first_inner, is_inner_list}
+use Rattle.jsx_statement.proofs.Inners.{first_line, next_inner, signed_inners}
 use Rattle.jsx_statement.proofs.Blocks.{both_none, no_heading, turn_line, turn_none_left}
 use Rattle.jsx_statement.proofs.Heads.{as_front, as_turn, behind_both, head_of, items_of, rest_of}
 use Rattle.jsx_statement.proofs.Statements.{KeySign, Spot, coded, heading_stands, keyed, named, none_begins, spot_kind, stmts, unlabelled_word, worded_evaluation}
@@ -171,19 +173,16 @@ ahead_more {v} {x} {z = z} {t = t} ts us a o e = subst (λ vs. Ahead v x vs z) (
 pub body_more : {v : Surroundings} {x y z : Place} {t : Tree} (ts us : Forest) → Turn so_far v body_row body_row x y (prepend ts) → ends_case y ≡ false → Only so_far v (Part Stmt) y (one t) z → us ≡ both ts (part t none) → Turn so_far v body_row body_row x z (prepend us)
 body_more {t = t} ts us so n o e = turn_as (λ vs. prepend_cons ts t vs ∙ (λ i. prepend (sym e i) vs)) (turn_both so (turn_line of_so_far refl o (no_cases_at n)))
 
-no_body : {v : Surroundings} {x : Place} → Barred so_far v (Part Stmt) x → NoRow so_far v cases_row x → NoRow so_far v body_row x
-no_body {v} {x} b n = record { no = at }
+pub body_barred : {v : Surroundings} {x y : Place} (ts : Forest) → Turn so_far v body_row body_row x y (prepend ts) → ends_case y ≡ false → NoInner v y → NoInners v body_row x
+body_barred {v} {x} {y} ts so n b = record { no = λ us w walk h. let f = so.from us w walk in at f.parts w f.walk (subst (λ vs. first_inner v vs ≡ true) (sym f.is) h) }
   where
-    at : (us : Forest) (w : Place) → Walk (Whole so_far) (steady v) body_row x us w → ⊥
-    at us w (next {ts = vs} (many m (nil f)) rest) = n.no vs w rest
-    at us w (next (many m (last {t = t} r e f)) rest) = b.no (one t) _ (tree r)
-    at us w (next (many m (more {t = t} p r e all)) rest) = b.no (one t) _ (tree r)
+    at : (us : Forest) (w : Place) → Walk (Whole so_far) (steady v) body_row y us w → first_inner v (prepend ts us) ≡ true → ⊥
+    at us w (next {ts = vs} (many m (nil f)) rest) h = (no_cases_at n).no vs w rest
+    at us w (next (many {ts = part t cs} m all) rest) h = let r = first_line all in b.no t r.end r.whole (next_inner v ts t cs h)
 
-pub body_barred : {v : Surroundings} {x y : Place} (ts : Forest) → Turn so_far v body_row body_row x y (prepend ts) → ends_case y ≡ false → Barred so_far v (Part Stmt) y → NoRow so_far v body_row x
-body_barred ts so n b = turn_none so (no_body b (no_cases_at n))
-
-pub body_ended : {v : Surroundings} {x y : Place} (ts : Forest) → Ahead v x ts y → Turn so_far v body_row body_row x y (prepend ts) → ends_case y ≡ true → IsTrue (is_found y) → IsBody v x (list ts) y
-body_ended {v} {x} {y} ts a so e f = record {
+pub body_ended : {v : Surroundings} {x y : Place} (ts : Forest) → are_inner v ts ≡ true → Ahead v x ts y → Turn so_far v body_row body_row x y (prepend ts) → ends_case y ≡ true → IsTrue (is_found y) → IsBody v x (list ts) y
+body_ended {v} {x} {y} ts i a so e f = record {
+  inner = i;
   stands = subst (λ us. Past (Whole so_far) v (Many Lines Stmt) x (one (list us)) y) (both_none ts) (many refl (a.on none y (nil f)));
   front = as_front (turn_as (λ us. ap (λ vs. part (list vs) us) (both_none ts)) (turn_both so (turn_none_left f (ended_barred y e))));
 }
@@ -202,10 +201,24 @@ record CaseBehind (v : Surroundings) (x : Place) (ts us : Forest) (w : Place) : 
   test : Tree
   body : Tree
   is : ts ≡ part test (part body none)
+  inner : is_inner_list v body ≡ true
   walk : Walk (Whole so_far) (steady v) case_row x (part test (part body us)) w
 
-case_behind : {v : Surroundings} {x x1 y w : Place} {ts us : Forest} → Moves (key "case") x x1 → Walk (Whole so_far) (around v ts) (row_so_far (statement Case)) x ts y → Walk (Whole so_far) (steady v) cases_row y us w → CaseBehind v x1 ts us w
-case_behind {v} {w = w} {us = us} m (next (sign e f) (next {y = p} (tree {t = t} q) (next (sign d g) (next (many {ts = ss} n all) (done h))))) rest = record {
+-- the rule of its statements, of the rule of all its parts
+of_rule : (a b c d : Bool) → (a || (b && (c && d))) ≡ true → (a || c) ≡ true
+of_rule true b c d h = refl
+of_rule false true true d h = refl
+of_rule false true false d h = cc
+of_rule false false c d h = cc
+
+of_rules : (a b c : Bool) → (a || (b && c)) ≡ true → (a || b) ≡ true
+of_rules true b c h = refl
+of_rules false true c h = refl
+of_rules false false c h = cc
+
+case_behind : {v : Surroundings} {x x1 y w : Place} {ts us : Forest} → Moves (key "case") x x1 → Walk (Whole so_far) (around v ts) (row_so_far (statement Case)) x ts y → so_far.keeps (statement Case) v ts ≡ true → Walk (Whole so_far) (steady v) cases_row y us w → CaseBehind v x1 ts us w
+case_behind {v} {w = w} {us = us} m (next (sign e f) (next {y = p} (tree {t = t} q) (next (sign d g) (next (many {ts = ss} n all) (done h))))) k rest = record {
+  inner = of_rule v.strict (list_rule (at_most 0 is_function) t) (at_most 0 is_function ss) true (and_right (rule (statement Case) (part t (part (list ss) none))) _ k);
   test = t;
   body = list ss;
   is = refl;
@@ -215,10 +228,12 @@ case_behind {v} {w = w} {us = us} m (next (sign e f) (next {y = p} (tree {t = t}
 record DefaultBehind (v : Surroundings) (x : Place) (ts us : Forest) (w : Place) : Type 0 where
   body : Tree
   is : ts ≡ part body none
+  inner : is_inner_list v body ≡ true
   walk : Walk (Whole so_far) (steady v) default_row x (part body us) w
 
-default_behind : {v : Surroundings} {x x1 y w : Place} {ts us : Forest} → Moves (key "default") x x1 → Walk (Whole so_far) (around v ts) (row_so_far (statement Default)) x ts y → Walk (Whole so_far) (steady v) cases_row y us w → DefaultBehind v x1 ts us w
-default_behind {v} {w = w} {us = us} m (next (sign e f) (next (sign d g) (next (many {ts = ss} n all) (done h)))) rest = record {
+default_behind : {v : Surroundings} {x x1 y w : Place} {ts us : Forest} → Moves (key "default") x x1 → Walk (Whole so_far) (around v ts) (row_so_far (statement Default)) x ts y → so_far.keeps (statement Default) v ts ≡ true → Walk (Whole so_far) (steady v) cases_row y us w → DefaultBehind v x1 ts us w
+default_behind {v} {w = w} {us = us} m (next (sign e f) (next (sign d g) (next (many {ts = ss} n all) (done h)))) k rest = record {
+  inner = of_rules v.strict (at_most 0 is_function ss) true (and_right (rule (statement Default) (part (list ss) none)) _ k);
   body = list ss;
   is = refl;
   walk = subst (λ a. Walk (Whole so_far) (steady v) default_row a (part (list ss) us) w) (sym (m.is ∙ e)) (next (sign d g) (next (many n all) rest));
@@ -227,26 +242,40 @@ default_behind {v} {w = w} {us = us} m (next (sign e f) (next (sign d g) (next (
 -- the first case where one of the words stands
 case_first : {v : Surroundings} {x x1 y w : Place} {t : Tree} (us vs : Forest) → Moves (key "case") x x1 → Clause v x t y → Walk (Whole so_far) (steady v) cases_row y (part (list us) vs) w → (ts : Forest) × ((t ≡ node (statement Case) ts) × CaseBehind v x1 ts (part (list us) vs) w)
 case_first {x = x} us vs m (a_default ts f n) rest = absurd (never_both IdentifierName IdentifierName (codes "case") (codes "default") x refl (found_at (sym m.is) m.found) f)
-case_first us vs m (a_case ts f n) rest = (ts, (refl, case_behind m (whole_walk of_so_far CaseClause (row_so_far (statement Case)) refl n.ends_there (of_so_far.from_node (statement Case) n.reads).walk) rest))
+case_first us vs m (a_case ts f n) rest = let r = of_so_far.from_node (statement Case) n.reads in (ts, (refl, case_behind m (whole_walk of_so_far CaseClause (row_so_far (statement Case)) refl n.ends_there r.walk) r.keeps rest))
 
 default_first : {v : Surroundings} {x x1 y w : Place} {t : Tree} (us vs : Forest) → Moves (key "default") x x1 → Clause v x t y → Walk (Whole so_far) (steady v) cases_row y (part (list us) vs) w → (ts : Forest) × ((t ≡ node (statement Default) ts) × DefaultBehind v x1 ts (part (list us) vs) w)
 default_first {x = x} us vs m (a_case ts f n) rest = absurd (never_both IdentifierName IdentifierName (codes "default") (codes "case") x refl (found_at (sym m.is) m.found) f)
-default_first us vs m (a_default ts f n) rest = (ts, (refl, default_behind m (whole_walk of_so_far CaseClause (row_so_far (statement Default)) refl n.ends_there (of_so_far.from_node (statement Default) n.reads).walk) rest))
+default_first us vs m (a_default ts f n) rest = let r = of_so_far.from_node (statement Default) n.reads in (ts, (refl, default_behind m (whole_walk of_so_far CaseClause (row_so_far (statement Default)) refl n.ends_there r.walk) r.keeps rest))
 
-pub no_case : {v : Surroundings} {x x1 : Place} → Moves (key "case") x x1 → NoRow so_far v case_row x1 → NoCase v x
+-- no case is there behind its word: no row; a row without statements that may stand there
+pub record NoneBehind (v : Surroundings) (x : Place) : Type 0 where
+  pub no : (t : Tree) (us : Forest) (w : Place) → Walk (Whole so_far) (steady v) case_row x (part t us) w → first_inner v us ≡ true → ⊥
+
+pub none_behind : {v : Surroundings} {x : Place} → NoRow so_far v case_row x → NoneBehind v x
+none_behind n = record { no = λ t us w walk h. n.no (part t us) w walk }
+
+pub none_inner : {v : Surroundings} {x y z : Place} {e : Tree} → Only so_far v (Part (Expr 0)) x (one e) y → Only so_far v (Fixed (pun ":")) y nothing z → NoInners v body_row z → NoneBehind v x
+none_inner {v} {x} {y} {z} {e} o c n = record { no = λ t us w walk h. at walk t us refl h }
+  where
+    at : {ts : Forest} {w : Place} → Walk (Whole so_far) (steady v) case_row x ts w → (t : Tree) (us : Forest) → ts ≡ part t us → first_inner v us ≡ true → ⊥
+    at {w = w} (next {y = y'} {ts = vs} (tree {t = u} q) walk) t us is h =
+        (signed_inners c n).no vs w (subst (λ p. Walk (Whole so_far) (steady v) default_row p vs w) (sym (o.alone (one u) y' (tree q)).1) walk) (subst (λ ws. first_inner v ws ≡ true) (sym (ap rest_of is)) h)
+
+pub no_case : {v : Surroundings} {x x1 : Place} → Moves (key "case") x x1 → NoneBehind v x1 → NoCase v x
 no_case m n = record {
   no = λ t us vs w walk.
       let f = first_case walk in
       let c = case_first us vs m (clause_of t f.whole) f.walk in
-      n.no _ w c.1.1.walk;
+      n.no _ _ w c.1.1.walk c.1.1.inner;
 }
 
-pub no_default : {v : Surroundings} {x x1 : Place} → Moves (key "default") x x1 → NoRow so_far v default_row x1 → NoCase v x
+pub no_default : {v : Surroundings} {x x1 : Place} → Moves (key "default") x x1 → NoInners v default_row x1 → NoCase v x
 no_default m n = record {
   no = λ t us vs w walk.
       let f = first_case walk in
       let c = default_first us vs m (clause_of t f.whole) f.walk in
-      n.no _ w c.1.1.walk;
+      n.no _ w c.1.1.walk c.1.1.inner;
 }
 
 -- neither of the words
@@ -285,9 +314,21 @@ rule_whole f (leaf k r) q = refl
 rule_whole f (node k ts) q = refl
 rule_whole f (list ts) q = absurd (no_list q)
 
--- the tokens and parts of a case, and then what the cases behind it are: a function may stand among its statements, since all code is strict
-pub case_is : {v : Surroundings} {x x1 x2 x3 y : Place} {e b t : Tree} → v.strict ≡ true → Moves (key "case") x x1 → Only so_far v (Part (Expr 0)) x1 (one e) x2 → Only so_far v (Fixed (pun ":")) x2 nothing x3 → IsBody v x3 b y → t ≡ node (statement Case) (part e (part b none)) → IsCase v x t y
-case_is {v} {x} {x1} {y = y} {e = e} {b = b} {t} strict m o c s is = subst (λ u. IsCase v x u y) (sym is) (record { whole = whole; to = λ us w walk. cases_before whole us walk; from = from })
+-- the rules of its parts, of that of its statements
+to_rule : (a b c : Bool) → b ≡ true → (a || c) ≡ true → (a || (b && (c && true))) ≡ true
+to_rule true b c g h = refl
+to_rule false true true g h = refl
+to_rule false true false g h = cc
+to_rule false false c g h = cc
+
+to_rules : (a b : Bool) → (a || b) ≡ true → (a || (b && true)) ≡ true
+to_rules true b h = refl
+to_rules false true h = refl
+to_rules false false h = cc
+
+-- the tokens and parts of a case, and then what the cases behind it are
+pub case_is : {v : Surroundings} {x x1 x2 x3 y : Place} {e b t : Tree} → Moves (key "case") x x1 → Only so_far v (Part (Expr 0)) x1 (one e) x2 → Only so_far v (Fixed (pun ":")) x2 nothing x3 → IsBody v x3 b y → t ≡ node (statement Case) (part e (part b none)) → IsCase v x t y
+case_is {v} {x} {x1} {y = y} {e = e} {b = b} {t} m o c s is = subst (λ u. IsCase v x u y) (sym is) (record { whole = whole; to = λ us w walk. cases_before whole us walk; from = from })
   where
     ts : Forest
     ts = part e (part b none)
@@ -296,7 +337,7 @@ case_is {v} {x} {x1} {y = y} {e = e} {b = b} {t} strict m o c s is = subst (λ u
     walk = next (sign (sym m.is) m.found) (next o.past (next c.past (next s.stands (done (list_end s.stands)))))
 
     whole : Whole so_far v false CaseClause x (node (statement Case) ts) y
-    whole = case_ends (of_so_far.to_node (statement Case) refl (record { walk = loosen walk; keeps = and_both _ _ (plain (row_so_far (statement Case)) refl (to_grammar of_so_far walk)) (or_left v.strict _ strict) }))
+    whole = case_ends (of_so_far.to_node (statement Case) refl (record { walk = loosen walk; keeps = and_both _ _ (plain (row_so_far (statement Case)) refl (to_grammar of_so_far walk)) (to_rule v.strict (list_rule (at_most 0 is_function) e) (list_rule (at_most 0 is_function) b) (rule_whole (at_most 0 is_function) e (whole_of o.past).reads) s.inner) }))
 
     turn : Turn so_far v case_row cases_row x1 y (λ us. part e (part b us))
     turn = turn_both (turn_symbol o) (turn_both (turn_symbol c) (as_turn s.front))
@@ -314,8 +355,8 @@ case_is {v} {x} {x1} {y = y} {e = e} {b = b} {t} strict m o c s is = subst (λ u
           walk = r.walk;
         }
 
-pub default_is : {v : Surroundings} {x x1 y : Place} {t : Tree} → v.strict ≡ true → Moves (key "default") x x1 → IsDefault v x1 t y → IsCase v x t y
-default_is {v} {x} {x1} {y} {t} strict m d = subst (λ u. IsCase v x u y) (sym d.is) (record { whole = whole; to = λ us w walk. cases_before whole us walk; from = from })
+pub default_is : {v : Surroundings} {x x1 y : Place} {t : Tree} → Moves (key "default") x x1 → IsDefault v x1 t y → IsCase v x t y
+default_is {v} {x} {x1} {y} {t} m d = subst (λ u. IsCase v x u y) (sym d.is) (record { whole = whole; to = λ us w walk. cases_before whole us walk; from = from })
   where
     ts : Forest
     ts = part d.body none
@@ -327,7 +368,7 @@ default_is {v} {x} {x1} {y} {t} strict m d = subst (λ u. IsCase v x u y) (sym d
     walk = next (sign (sym m.is) m.found) (next colon (next d.reads.stands (done (list_end d.reads.stands))))
 
     whole : Whole so_far v false CaseClause x (node (statement Default) ts) y
-    whole = case_ends (of_so_far.to_node (statement Default) refl (record { walk = loosen walk; keeps = and_both _ _ (plain (row_so_far (statement Default)) refl (to_grammar of_so_far walk)) (or_left v.strict _ strict) }))
+    whole = case_ends (of_so_far.to_node (statement Default) refl (record { walk = loosen walk; keeps = and_both _ _ (plain (row_so_far (statement Default)) refl (to_grammar of_so_far walk)) (to_rules v.strict (list_rule (at_most 0 is_function) d.body) d.reads.inner) }))
 
     turn : Turn so_far v default_row cases_row x1 y (part d.body)
     turn = turn_both (turn_symbol (only_sign (record { is = d.colon; found = start_of d.reads.stands }))) (as_turn d.reads.front)

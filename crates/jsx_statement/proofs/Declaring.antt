@@ -1,7 +1,7 @@
 -- A declaration with which a `for` begins, and what the token behind its first name tells.
 use Rattle.std.proofs.Common.{◌≡◌, ℕ, true, refl, sym, ◌∙◌, ap, subst}
 use Rattle.std.specs.Prelude.{IsTrue, codes}
-use Rattle.jsx_base.specs.Token.{Text, TokenKind, Operator, IdentifierName, Punctuator, same}
+use Rattle.jsx_base.specs.Token.{Text, TokenKind, Operator, IdentifierName, Punctuator}
 use Rattle.jsx_tree.specs.Signs.{AfterBinding, AfterExpr, Ends, Sign, Tok}
 use Rattle.jsx_tree.specs.Kinds.{DeclareWord, Binds, ForBinding, statement, Tree, node, list, Forest, none, part}
 use Rattle.jsx_tree.specs.Nonterminals.{Declarators, Pat}

@@ -1,37 +1,49 @@
--- Directives, in a module or in the body of a function: the strings that come first, and what stands behind them. A string reads alike as a statement and as a directive.
-use Rattle.std.proofs.Common.{◌≡◌, length, Bool, true, false, not, cond, List, [], ◌∷◌, ◌++◌, map, refl, sym, ◌∙◌, ap, subst}
-use Rattle.std.specs.Prelude.{IsTrue}
-use Rattle.jsx_base.specs.Token.{StringLiteral}
-use Rattle.jsx_tree.specs.declared.text.Text.{Text as TreeText}
-use Rattle.jsx_tree.specs.Signs.{Sign, Unless}
+-- Directives, in a program or in the body of a function: the strings that come first, and what stands behind them. A string reads alike as a statement and as a directive, whatever it stands in.
+use Rattle.std.proofs.Common.{◌≡◌, Bool, true, false, not, refl, sym, ◌∙◌, ap, subst}
+use Rattle.std.specs.Prelude.{IsTrue, codes}
+use Rattle.jsx_base.specs.Token.{Text, Operator, Punctuator, IdentifierName, StringLiteral}
+use Rattle.jsx_tree.specs.Signs.{Sign, Semicolon, Tok, Unless}
 use Rattle.jsx_tree.specs.Kinds.{Directive, FunctionBody, ExprStmt, Kind, program, statement, function, expression, Tree, leaf, node, list, Forest, none, part, FunctionExpr, ClassExpr, Object}
 use Rattle.jsx_tree.specs.Nonterminals.{Nonterminal, Body, Expr, Item, Stmt, DirectiveOnly, StringOnly}
-use Rattle.jsx_tree.specs.Grammar.{Lines, TopLines, Many, Part, Fixed, heads, key, pun, InCode}
-use Rattle.jsx_tree.specs.Form.{admits}
+use Rattle.jsx_tree.specs.Grammar.{Lines, TopLines, Part, heads, key, pun}
+use Rattle.jsx_tree.specs.Form.{admits, is_leaf}
 use Rattle.jsx_tree.specs.Reading.{Place, Lost, At, forth}
-use Rattle.jsx_tree.specs.StaticRules.{Surroundings, enter, first_of_list, is_string_stmt, rule}
-use Rattle.jsx_tree.specs.View.{directive, forest}
-use Rattle.jsx_tree.specs.Walk.{is_found, one, Piece, piece, Given, Items, nil, last, more, sign, tree, many, Walk, done, next, around, steady}
+use Rattle.jsx_tree.specs.StaticRules.{Surroundings, first_of_list, is_string_stmt, rule}
+use Rattle.jsx_tree.specs.Walk.{is_found, one, Given, Past, Items, nil, last, more, sign, tree, many, Walk, done, next, around, steady}
 use Rattle.jsx_tree.specs.Language.{Whole}
-use Rattle.jsx_tree.specs.Answers.{OnlyRow, NoRow, Stuck}
+use Rattle.jsx_tree.specs.Answers.{Moves, Only, OnlyRow, NoRow, Stuck}
 use Rattle.jsx_tree.proofs.Tokens.{and_left, and_both}
+use Rattle.jsx_tree.proofs.Apart.{clash, never_both}
 use Rattle.jsx_tree.proofs.Rows.Bridge.{found_at}
 use Rattle.jsx_tree.proofs.Rows.Firsts.{kind_home}
-use Rattle.jsx_tree.proofs.Rows.Guarded.{weaken_items, whole_items}
+use Rattle.jsx_tree.proofs.Rows.Guarded.{weaken_items, whole_items_found}
 use Rattle.jsx_tree.proofs.Rows.Laws.{start_found}
-use Rattle.jsx_tree.proofs.Rows.Steps.{both}
-use Rattle.jsx_tree.proofs.Rows.Stopping.{is_never, is_not, not_is, never_stops, stays}
-use Rattle.jsx_tree.proofs.Rows.Turns.{early, no_rest}
-use Rattle.jsx_token.specs.Growths.{opening_sign}
+use Rattle.jsx_tree.proofs.Rows.Steps.{both, only_sign}
+use Rattle.jsx_tree.proofs.Rows.Stopping.{is_never, is_not, not_is, never_stops, sign_stops, stays}
+use Rattle.jsx_tree.proofs.Rows.Turns.{early, item_of, no_rest, whole_of}
+use Rattle.jsx_token.specs.declared.heading.Heading.TheVariants as heading
+use Rattle.jsx_token.specs.Growths.{rung}
+use Rattle.jsx_token.specs.Headings.{NoHeading, heading_sign}
+use Rattle.jsx_token.specs.Here.{Here, place_of}
 use Rattle.jsx_token.specs.Marks.{ends_so_far, row_so_far}
-use Rattle.jsx_token.proofs.Listed.{Listed, listed}
+use Rattle.jsx_token.proofs.Headings.{of_heading}
+use Rattle.jsx_token.proofs.Listed.{listed}
+use Rattle.jsx_operand.specs.Around.{in_code}
 use Rattle.jsx_operand.specs.Bodies.{body_row}
 use Rattle.jsx_operand.specs.SoFar.{Staged, so_far}
+use Rattle.jsx_operand.proofs.Climbing.{climb_only}
 use Rattle.jsx_operand.proofs.OfSoFar.{of_so_far}
 use Rattle.jsx_operand.proofs.Homes.{IsString, Taken, taken_by, home_of, no_list, strings}
 use Rattle.jsx_operand.proofs.Standing.{standing}
-use Rattle.jsx_operand.proofs.Values.{literal_opening, no_heads, opener_of}
-use Rattle.jsx_statement.proofs.Blocks.{braced}
+use Rattle.jsx_operand.proofs.Values.{leaf_forth, literal_follows, literal_opening, opener_of, same_both}
+use Rattle.jsx_operand.proofs.Headless.{no_heads}
+use Rattle.jsx_expression.proofs.Sequences.{closed_of, comma_goes, whole_only}
+use Rattle.jsx_statement.specs.Directives.{IsDirective, NoDirective, Prologue, begun, ended}
+use Rattle.jsx_statement.specs.Labels.{NoLabel}
+use Rattle.jsx_statement.proofs.Blocks.{both_none, braced}
+use Rattle.jsx_statement.proofs.Heads.{behind_both}
+use Rattle.jsx_statement.proofs.Items.{statement_built}
+use Rattle.jsx_statement.proofs.Statements.{lost_there, plain_only, stmts}
 
 -- what may stand behind directives: a statement, or an item
 pub record Listing (c : Nonterminal) : Type 0 where
@@ -140,6 +152,103 @@ statement_of {v} {c} {x} {y} l (node k ts) r =
     let e = directive_kind k ts (taken_by r) (home_of r) in
     subst (λ j. StatementOf v c x (node j ts) y) (sym e) (statement_walk l (of_so_far.from_node (program Directive) (subst (λ j. Staged v false DirectiveOnly x (node j ts) y) e r)).walk)
 
+-- ---- where a string stands no word and no mark does, and nothing else begins a statement
+
+abbrev no_string : Sign → Bool
+no_string (Tok Operator Punctuator t) = true
+no_string (Tok Operator IdentifierName t) = true
+no_string s = false
+
+apart : (s : Sign) (u : Text) (x : Place) → no_string s ≡ true → IsTrue (is_found (forth s x)) → IsTrue (is_found (forth (Tok Operator StringLiteral u) x)) → ⊥
+apart (Tok Operator Punctuator t) u x h f g = never_both Punctuator StringLiteral t u x refl f g
+apart (Tok Operator IdentifierName t) u x h f g = never_both IdentifierName StringLiteral t u x refl f g
+apart _ u x h f g = cc
+
+string_heads : {x : Place} (u : Text) → IsTrue (is_found (forth (Tok Operator StringLiteral u) x)) → NoHeading x
+string_heads {x} u g = record { on = λ h. lost_from (forth (heading_sign h) x) (λ f. apart (heading_sign h) u x (of_heading (λ j. no_string (heading_sign j)) refl h) f g) }
+
+string_label : {x : Place} (u : Text) → IsTrue (is_found (forth (Tok Operator StringLiteral u) x)) → NoLabel x
+string_label {x} u g = record { on = λ name i. ap (forth (pun ":")) (lost_from (forth (Tok Operator IdentifierName name) x) (λ f. never_both IdentifierName StringLiteral name u x refl f g)) }
+
+abbrev pub string_of : Text → Tree
+string_of t = node (statement ExprStmt) (part (leaf StringLiteral t) none)
+
+-- a string with its semicolon is a statement, and no other begins there: what goes on with an expression isn't where a semicolon is, written or missing
+pub string_only : {v : Surroundings} {x y z : Place} (t : Text) → is_leaf StringLiteral t ≡ true → Moves (Tok Operator StringLiteral t) x y → Moves Semicolon y z → Only so_far v (Part Stmt) x (one (string_of t)) z
+string_only {v = v} {x} {y} t w s m =
+    let g : IsTrue (is_found (forth (Tok Operator StringLiteral t) x)) = found_at (sym s.is) s.found in
+    let h : IsTrue (is_found (forth Semicolon y)) = found_at (sym m.is) m.found in
+    let n = string_heads t g in
+    let c = (literal_follows {v = v} IsString t refl w s.is s.found).on (rung 1) refl refl in
+    let e : ends_so_far (Expr 0) y ≡ true = of_so_far.ends_there (Expr 0) y (sign_stops (Expr 0) Semicolon y refl h) in
+    let comma : forth (pun ",") y ≡ Lost = lost_from (forth (pun ",") y) (λ f. clash (ends_so_far (Expr 0) y) e (comma_goes y (closed_of y c.ended) f)) in
+    plain_only stmts n (string_label t g)
+    (statement_built (record { is = n.on heading.Block }) (record { is = n.on heading.Function }) (record { is = n.on heading.Class })
+    (whole_only (climb_only (rung 1) refl c (of_so_far.ends_there (Expr 1) y (sign_stops (Expr 1) Semicolon y refl h))) (closed_of y c.ended) comma) (only_sign m) refl)
+
+-- ---- a directive
+
+pub at_directive : {v : Surroundings} {x y : Place} {t : Tree} → IsDirective x t y → Only so_far v (Part DirectiveOnly) x (one t) y
+at_directive {v = v} {x} {y} {t} d = record { past = tree (never_whole refl (subst (λ u. Staged v false DirectiveOnly x u y) (sym d.is) (directive_of (string_of d.raw) refl (whole_of o.past).reads))); alone = at }
+  where
+    o : Only so_far v (Part Stmt) x (one (string_of d.raw)) y
+    o = string_only d.raw d.whole d.string d.semicolon
+
+    at : (g : Given) (z : Place) → Past (Whole so_far) v (Part DirectiveOnly) x g z → (one t ≡ g) × (y ≡ z)
+    at g z (tree {t = u} q) =
+        let s = statement_of statements u q.reads in
+        let e = o.alone (one (as_statement u)) z (tree (never_whole refl s.reads)) in
+        (ap one (d.is ∙ (ap (λ h. as_directive (item_of h)) e.0 ∙ s.back)), e.1)
+
+-- what may stand behind directives is the string alone where one stands
+pub record Strings (c : Nonterminal) : Type 0 where
+  pub string : {v : Surroundings} {x y z : Place} {t u : Tree} → IsDirective x t y → Whole so_far v false c x u z → is_string_stmt u ≡ true
+
+pub string_statements : Strings Stmt
+string_statements = record { string = λ {v} {x} {y} {z} {t} {u} d w. ap (λ h. is_string_stmt (item_of h)) (sym ((string_only {v = v} d.raw d.whole d.string d.semicolon).alone (one u) z (tree w)).0) }
+
+-- ---- where none stands
+
+record StringThere (x : Place) : Type 0 where
+  raw : Text
+  found : IsTrue (is_found (forth (Tok Operator StringLiteral raw) x))
+  ended : IsTrue (is_found (forth Semicolon (forth (Tok Operator StringLiteral raw) x)))
+
+text_there : {v : Surroundings} {x y z : Place} (u : Tree) → Staged v false StringOnly x u y → forth Semicolon y ≡ z → IsTrue (is_found z) → StringThere x
+text_there (leaf StringLiteral t) r e f = record { raw = t; found = found_at (leaf_forth IsString r) r.reads.found; ended = subst (λ p. IsTrue (is_found (forth Semicolon p))) (sym (leaf_forth IsString r)) (found_at e f) }
+text_there (leaf _ t) r e f = let bad = r.staged in cc
+text_there (node k ts) r e f = absurd (strings.node k ts (taken_by r) (home_of r))
+text_there (list ts) r e f = absurd (no_list r)
+
+directive_there : {v : Surroundings} {x y : Place} (t : Tree) → Staged v false DirectiveOnly x t y → StringThere x
+directive_there (leaf k t) r = let bad = r.staged in cc
+directive_there (list ts) r = absurd (no_list r)
+directive_there {v} {x} {y} (node k ts) r = at (of_so_far.from_node (program Directive) (subst (λ j. Staged v false DirectiveOnly x (node j ts) y) (directive_kind k ts (taken_by r) (home_of r)) r)).walk
+  where
+    at : {V : _} {z : Place} {us : Forest} → Walk Staged V (row_so_far (program Directive)) x us z → StringThere x
+    at (next (tree {t = u} q) (next (sign e f) (done h))) = text_there u q e f
+
+none_there : {x : Place} → (StringThere x → ⊥) → NoDirective x
+none_there {x} n = record { on = λ v. record { no = λ g y p. at p } }
+  where
+    at : {v : Surroundings} {g : Given} {y : Place} → Past (Whole so_far) v (Part DirectiveOnly) x g y → ⊥
+    at (tree {t = t} q) = n (directive_there t q.reads)
+
+pub no_text : {h x : Here} → h ≡ x → ((t : Text) → forth (Tok Operator StringLiteral t) (place_of h) ≡ Lost) → NoDirective (place_of x)
+no_text {h} {x} e n = none_there (λ s. lost_there (Tok Operator StringLiteral s.raw) (place_of x) (subst (λ k. forth (Tok Operator StringLiteral s.raw) (place_of k) ≡ Lost) e (n s.raw)) s.found)
+
+pub no_end : {h x : Here} (k : Here) (t : Text) → h ≡ x → place_of k ≡ forth (Tok Operator StringLiteral t) (place_of h) → forth Semicolon (place_of k) ≡ Lost → NoDirective (place_of x)
+no_end {h} {x} k t e s n = none_there (λ d. lost_there Semicolon (place_of k) n (subst (λ p. IsTrue (is_found (forth Semicolon p))) (there d) d.ended))
+  where
+    here : place_of k ≡ forth (Tok Operator StringLiteral t) (place_of x)
+    here = subst (λ j. place_of k ≡ forth (Tok Operator StringLiteral t) (place_of j)) e s
+
+    there : (d : StringThere (place_of x)) → forth (Tok Operator StringLiteral d.raw) (place_of x) ≡ place_of k
+    there d = ap (λ u. forth (Tok Operator StringLiteral u) (place_of x)) (same_both IsString IsString d.raw t (place_of x) d.found (found_at (sym here) refl)).texts ∙ sym here
+
+pub directive_there_is : {h x : Here} (k y : Here) (t : Text) → h ≡ x → is_leaf StringLiteral t ≡ true → place_of k ≡ forth (Tok Operator StringLiteral t) (place_of h) → place_of y ≡ forth Semicolon (place_of k) → IsDirective (place_of x) (node (program Directive) (part (leaf StringLiteral t) none)) (place_of y)
+directive_there_is k y t e w s m = subst (λ j. IsDirective (place_of j) (node (program Directive) (part (leaf StringLiteral t) none)) (place_of y)) e (record { raw = t; is = refl; whole = w; behind = place_of k; string = record { is = s; found = refl }; semicolon = record { is = m; found = refl } })
+
 -- ---- trees one behind another, with nothing between them that reading hears
 
 pub data Run (v : Surroundings) (c : Nonterminal) : Place → Forest → Place → Type 0 where
@@ -170,134 +279,72 @@ to_lines n (run_end f) = nil f
 to_lines n (run_on r (run_end f)) = last r refl f
 to_lines {c = c} n (run_on {t = t} r (run_on q s)) = more (early c t n (of_so_far.is_read r.reads).is) r refl (to_lines n (run_on q s))
 
--- ---- statements, of which the strings that come first are directives
+pub found_behind : {v : Surroundings} {c : Nonterminal} {x z : Place} {ts : Forest} → Run v c x ts z → IsTrue (is_found z)
+found_behind (run_end f) = f
+found_behind (run_on r s) = found_behind s
 
-abbrev pub as_statements : Forest → Forest
-as_statements none = none
-as_statements (part t ts) = part (as_statement t) (as_statements ts)
+-- ---- directives up to where none stands
 
-abbrev pub leading : Forest → Forest
-leading none = none
-leading (part t ts) = cond (is_string_stmt t) (part (as_directive t) (leading ts)) none
+-- further ones
+pub record Ahead (x : Place) (ds : Forest) (y : Place) : Type 0 where
+  pub on : (es : Forest) (z : Place) → Prologue y es z → Prologue x (both ds es) z
 
-abbrev pub behind_leading : Forest → Forest
-behind_leading none = none
-behind_leading (part t ts) = cond (is_string_stmt t) (behind_leading ts) (part t ts)
+pub ahead_none : {x : Place} (ds : Forest) → ds ≡ none → Ahead x ds x
+ahead_none {x} ds e = subst (λ es. Ahead x es x) (sym e) (record { on = λ es z p. p })
 
-pub no_leading : (ts : Forest) → first_of_list is_string_stmt ts ≡ false → leading ts ≡ none
-no_leading none n = refl
-no_leading (part t ts) n = ap (λ b. cond b (part (as_directive t) (leading ts)) none) n
+pub ahead_more : {x y z : Place} {t : Tree} (ds es : Forest) → Ahead x ds y → IsDirective y t z → es ≡ both ds (part t none) → Ahead x es z
+ahead_more {x} {z = z} {t = t} ds es a d e = subst (λ us. Ahead x us z) (sym e) (record { on = λ us w p. subst (λ vs. Prologue x vs w) (behind_both ds t us) (a.on (part t us) w (begun d p)) })
 
-pub none_behind : (ts : Forest) → first_of_list is_string_stmt ts ≡ false → behind_leading ts ≡ ts
-none_behind none n = refl
-none_behind (part t ts) n = ap (λ b. cond b (behind_leading ts) (part t ts)) n
+pub ahead_end : {x y : Place} (ds : Forest) → Ahead x ds y → NoDirective y → Prologue x ds y
+ahead_end {x} {y} ds a n = subst (λ us. Prologue x us y) (both_none ds) (a.on none y (ended n))
 
-pub record Split (v : Surroundings) (c : Nonterminal) (x : Place) (ts : Forest) (z : Place) : Type 0 where
-  pub middle : Place
-  pub directives : Run v DirectiveOnly x (leading ts) middle
-  pub rest : Run v c middle (behind_leading ts) z
-  pub kept : first_of_list is_string_stmt (behind_leading ts) ≡ false
+pub prologue_end : {x m : Place} {ds : Forest} → Prologue x ds m → NoDirective m
+prologue_end (ended n) = n
+prologue_end (begun d p) = prologue_end p
 
-split_first : {v : Surroundings} {c : Nonterminal} {x y z : Place} {t : Tree} {ts : Forest} (b : Bool) → is_string_stmt t ≡ b → Whole so_far v false c x t y → Run v c y ts z → Split v c y ts z → Split v c x (part t ts) z
-split_first {v} {c} {x} {z = z} {t = t} {ts} true h r all s = record {
-  middle = s.middle;
-  directives = subst (λ b. Run v DirectiveOnly x (cond b (part (as_directive t) (leading ts)) none) s.middle) (sym h) (run_on (never_whole refl (directive_of t h r.reads)) s.directives);
-  rest = subst (λ b. Run v c s.middle (cond b (behind_leading ts) (part t ts)) z) (sym h) s.rest;
-  kept = subst (λ b. first_of_list is_string_stmt (cond b (behind_leading ts) (part t ts)) ≡ false) (sym h) s.kept;
-}
-split_first {v} {c} {x} {z = z} {t = t} {ts} false h r all s = record {
-  middle = x;
-  directives = subst (λ b. Run v DirectiveOnly x (cond b (part (as_directive t) (leading ts)) none) x) (sym h) (run_end (start_found of_so_far r.reads));
-  rest = subst (λ b. Run v c x (cond b (behind_leading ts) (part t ts)) z) (sym h) (run_on r all);
-  kept = subst (λ b. first_of_list is_string_stmt (cond b (behind_leading ts) (part t ts)) ≡ false) (sym h) h;
-}
+pub prologue_run : {v : Surroundings} {x m : Place} {ds : Forest} → Prologue x ds m → IsTrue (is_found m) → Run v DirectiveOnly x ds m
+prologue_run (ended n) f = run_end f
+prologue_run {v} (begun d p) f = run_on (whole_of (at_directive {v = v} d).past) (prologue_run p f)
 
-pub split : {v : Surroundings} {c : Nonterminal} {x z : Place} {ts : Forest} → Run v c x ts z → Split v c x ts z
-split {x = x} (run_end f) = record { middle = x; directives = run_end f; rest = run_end f; kept = refl }
-split (run_on {t = t} r all) = split_first (is_string_stmt t) refl r all (split all)
+-- no string stands where all has ended
+pub record NoString (x : Place) : Type 0 where
+  pub on : (t : Text) → is_leaf StringLiteral t ≡ true → IsTrue (is_found (forth (Tok Operator StringLiteral t) x)) → ⊥
 
--- and the other way
-pub record Joined (v : Surroundings) (c : Nonterminal) (x : Place) (ds ts : Forest) (z : Place) : Type 0 where
-  pub all : Run v c x (both (as_statements ds) ts) z
-  pub first : leading (both (as_statements ds) ts) ≡ ds
-  pub rest : behind_leading (both (as_statements ds) ts) ≡ ts
+pub no_string_at : {x : Place} → IsTrue (is_found (forth (pun "}") x)) → NoString x
+no_string_at {x} f = record { on = λ t l g. never_both Punctuator StringLiteral (codes "}") t x refl f g }
 
-join_one : {v : Surroundings} {c : Nonterminal} {x y z : Place} {t : Tree} {ds ts : Forest} → Listing c → Staged v false DirectiveOnly x t y → Joined v c y ds ts z → Joined v c x (part t ds) ts z
-join_one {t = t} {ds} {ts} l r j =
-    let s = statement_of l t r in
-    let us = both (as_statements ds) ts in
-    record {
-      all = run_on (never_whole l.never s.reads) j.all;
-      first = ap (λ b. cond b (part (as_directive (as_statement t)) (leading us)) none) s.is_string ∙ (λ i. part (s.back i) (j.first i));
-      rest = ap (λ b. cond b (behind_leading us) (part (as_statement t) us)) s.is_string ∙ j.rest;
-    }
+-- so whatever is read there has the same directives
+pub prologue_same : {v : Surroundings} {c : Nonterminal} {x m n y : Place} {ds es ts : Forest} → Strings c → Prologue x ds m → Run v DirectiveOnly x es n → Run v c n ts y → first_of_list is_string_stmt ts ≡ false → NoString y → (ds ≡ es) × (m ≡ n)
+prologue_same k (ended n) (run_end f) rest h s = (refl, refl)
+prologue_same {v} k (ended n) (run_on {t = t} r all) rest h s = absurd ((n.on v).no (one t) _ (tree r))
+prologue_same k (begun d p) (run_end f) (run_end g) h s = absurd (s.on d.raw d.whole (found_at (sym d.string.is) d.string.found))
+prologue_same k (begun d p) (run_end f) (run_on {t = u} r all) h s = absurd (clash (is_string_stmt u) (k.string d r) h)
+prologue_same {v} {n = n} k (begun d p) (run_on {y = b} {t = u} {ts = us} r all) rest h s =
+    let e = (at_directive {v = v} d).alone (one u) b (tree r) in
+    let q = prologue_same k p (subst (λ a. Run v DirectiveOnly a us n) (sym e.1) all) rest h s in
+    (λ i. part (item_of (e.0 i)) (q.0 i), q.1)
 
-pub join : {v : Surroundings} {c : Nonterminal} {x y z : Place} {ds ts : Forest} → Listing c → first_of_list is_string_stmt ts ≡ false → Run v DirectiveOnly x ds y → Run v c y ts z → Joined v c x ds ts z
-join {ts = ts} l n (run_end f) all = record { all = all; first = no_leading ts n; rest = none_behind ts n }
-join l n (run_on r ds) all = join_one l r.reads (join l n ds all)
-
--- ---- what was read so far, in the code's lists
-
--- the statements of directives, and others behind them
-abbrev pub run : List TreeText → Forest → Forest
-run ds ts = both (as_statements (forest (map directive ds))) ts
-
-pub run_first : (ds : List TreeText) (ts : Forest) → first_of_list is_string_stmt ts ≡ false → leading (run ds ts) ≡ forest (map directive ds)
-run_first [] ts n = no_leading ts n
-run_first (d ∷ ds) ts n = ap (part (directive d)) (run_first ds ts n)
-
-pub run_behind : (ds : List TreeText) (ts : Forest) → first_of_list is_string_stmt ts ≡ false → behind_leading (run ds ts) ≡ ts
-run_behind [] ts n = none_behind ts n
-run_behind (d ∷ ds) ts n = run_behind ds ts n
-
--- one more directive, and one more statement
-pub run_directive : (ds : List TreeText) (d : TreeText) → run (ds ++ d ∷ []) none ≡ both (run ds none) (part (as_statement (directive d)) none)
-run_directive [] d = refl
-run_directive (e ∷ ds) d = ap (part (as_statement (directive e))) (run_directive ds d)
-
-pub run_item : (ds : List TreeText) (ts : Forest) (t : Tree) → run ds (both ts (part t none)) ≡ both (run ds ts) (part t none)
-run_item [] ts t = refl
-run_item (d ∷ ds) ts t = ap (part (as_statement (directive d))) (run_item ds ts t)
-
-pub run_more : {A : Type 0} {t : Tree} (f : A → Tree) (xs : List A) (ds es : List TreeText) (d : TreeText) → xs ≡ [] → es ≡ ds ++ d ∷ [] → t ≡ as_statement (directive d) → run es (forest (map f xs)) ≡ both (run ds (forest (map f xs))) (part t none)
-run_more {t = t} f xs ds es d e is same = subst (λ ys. run es (forest (map f ys)) ≡ both (run ds (forest (map f ys))) (part t none)) (sym e) (ap (λ us. run us none) is ∙ (run_directive ds d ∙ ap (λ u. both (run ds none) (part u none)) (sym same)))
-
--- an expression statement begins as it may
-pub begins_free : {v : Surroundings} {c : Nonterminal} {x y : Place} {t : Tree} {ts : Forest} → t ≡ node (statement ExprStmt) ts → Staged v false c x t y → forth (Unless heads) x ≡ x
-begins_free {v} {c} {x} {y} e r = at (of_so_far.from_node (statement ExprStmt) (subst (λ u. Staged v false c x u y) e r)).walk
+-- and what stands behind them is no string first
+pub behind_first : {v : Surroundings} {c : Nonterminal} {m y : Place} {ts : Forest} → NoDirective m → Run v c m ts y → first_of_list is_string_stmt ts ≡ false
+behind_first n (run_end f) = refl
+behind_first {v} n (run_on {t = t} r all) = by (is_string_stmt t) refl
   where
-    at : {V : _} {z : Place} {us : Forest} → Walk Staged V (row_so_far (statement ExprStmt)) x us z → forth (Unless heads) x ≡ x
-    at (next (sign e f) w) = stays (Unless heads) x refl (found_at e f)
+    by : (b : Bool) → is_string_stmt t ≡ b → is_string_stmt t ≡ false
+    by true e = absurd ((n.on v).no (one (as_directive t)) _ (tree (never_whole refl (directive_of t e r.reads))))
+    by false e = e
 
--- the first item is no string: the one that comes first of all, or the one that did before
-pub first_more : (ts : Forest) (t : Tree) → first_of_list is_string_stmt ts ≡ false → is_string_stmt t ≡ false → first_of_list is_string_stmt (both ts (part t none)) ≡ false
-first_more none t n h = h
-first_more (part u ts) t n h = n
-
-pub first_stays : {A : Type 0} (f : A → Tree) (xs : List A) (t : Tree) → (xs ≡ [] → ⊥) → first_of_list is_string_stmt (forest (map f xs)) ≡ false → first_of_list is_string_stmt (both (forest (map f xs)) (part t none)) ≡ false
-first_stays f [] t h n = absurd (h refl)
-first_stays f (x ∷ xs) t h n = n
-
-pub no_length : {A : Type 0} (xs : List A) → length xs ≡ 0 → xs ≡ []
-no_length [] e = refl
-no_length (x ∷ xs) e = cc
-
--- ---- the body of a function, of its statements up to the brace
+-- ---- the body of a function: its directives say what its statements stand in
 
 abbrev pub body_of : Forest → Forest → Tree
 body_of ds ts = node (program FunctionBody) (part (list ds) (part (list ts) none))
-
--- code in which a directive changes nothing, as all strict code
-pub record IsSettled (v : Surroundings) : Type 0 where
-  pub on : (ts : Forest) → enter ts InCode v ≡ v
 
 record Parts (v : Surroundings) (x : Place) (t : Tree) (y : Place) : Type 0 where
   directives : Forest
   rest : Forest
   middle : Place
   is : t ≡ body_of directives rest
-  first : Run v DirectiveOnly x directives middle
-  second : Run v Stmt middle rest y
+  first : Run (in_code directives v) DirectiveOnly x directives middle
+  second : Run (in_code directives v) Stmt middle rest y
   kept : first_of_list is_string_stmt rest ≡ false
 
 whole_lines : {v : Surroundings} {c : Nonterminal} {x y : Place} {ts : Forest} → is_never c ≡ true → Items Staged v Lines c x ts y → Items (Whole so_far) v Lines c x ts y
@@ -305,18 +352,16 @@ whole_lines n (nil f) = nil f
 whole_lines n (last r e f) = last (never_whole n r) e f
 whole_lines n (more m r e all) = more m (never_whole n r) e (whole_lines n all)
 
-parts_walk : {v : Surroundings} {x y : Place} {us : Forest} → IsSettled v → Walk Staged (around v us) (row_so_far (program FunctionBody)) x us y → rule (program FunctionBody) us ≡ true → Parts v x (node (program FunctionBody) us) y
-parts_walk {v} {x} s (next {y = m} (many {ts = ds} e first) (next {y = z} (many {ts = ts} e' lines) (done f))) k =
-    let steady' = s.on (part (list ds) (part (list ts) none)) in
-    record {
-      directives = ds;
-      rest = ts;
-      middle = m;
-      is = refl;
-      first = of_lines (whole_lines refl (subst (λ u. Items Staged u Lines DirectiveOnly x ds m) steady' first));
-      second = of_lines (whole_lines refl (subst (λ u. Items Staged u Lines Stmt m ts z) steady' lines));
-      kept = is_not (first_of_list is_string_stmt ts) k;
-    }
+parts_walk : {v : Surroundings} {x y : Place} {us : Forest} → Walk Staged (around v us) (row_so_far (program FunctionBody)) x us y → rule (program FunctionBody) us ≡ true → Parts v x (node (program FunctionBody) us) y
+parts_walk (next {y = m} (many {ts = ds} e first) (next (many {ts = ts} e' lines) (done f))) k = record {
+  directives = ds;
+  rest = ts;
+  middle = m;
+  is = refl;
+  first = of_lines (whole_lines refl first);
+  second = of_lines (whole_lines refl lines);
+  kept = is_not (first_of_list is_string_stmt ts) k;
+}
 
 abbrev is_body : Kind → Bool
 is_body (program FunctionBody) = true
@@ -329,60 +374,62 @@ body_is _ h = cc
 body_kind : (l : Kind) (ts : Forest) → Taken l → admits Body (node l ts) ≡ true → l ≡ program FunctionBody
 body_kind l ts t h = body_is l (standing Body is_body refl l t (kind_home Body l ts h))
 
-parts_of : {v : Surroundings} {x y : Place} (t : Tree) → IsSettled v → Staged v false Body x t y → Parts v x t y
-parts_of (leaf k t) s r = let bad = r.staged in cc
-parts_of (list ts) s r = absurd (no_list r)
-parts_of {v} {x} {y} (node k ts) s r =
+parts_of : {v : Surroundings} {x y : Place} (t : Tree) → Staged v false Body x t y → Parts v x t y
+parts_of (leaf k t) r = let bad = r.staged in cc
+parts_of (list ts) r = absurd (no_list r)
+parts_of {v} {x} {y} (node k ts) r =
     let e = body_kind k ts (taken_by r) (home_of r) in
     let n = of_so_far.from_node (program FunctionBody) (subst (λ j. Staged v false Body x (node j ts) y) e r) in
-    subst (λ j. Parts v x (node j ts) y) (sym e) (parts_walk s n.walk (and_left (rule (program FunctionBody) ts) true n.keeps))
+    subst (λ j. Parts v x (node j ts) y) (sym e) (parts_walk n.walk (and_left (rule (program FunctionBody) ts) true n.keeps))
 
-body_whole : {v : Surroundings} {x m y : Place} {ds ts : Forest} → IsSettled v → Run v DirectiveOnly x ds m → Run v Stmt m ts y → first_of_list is_string_stmt ts ≡ false → IsTrue (is_found y) → Whole so_far v false Body x (body_of ds ts) y
-body_whole {v} {x} {m} {y} {ds} {ts} s first second n f = never_whole refl (of_so_far.to_node (program FunctionBody) refl (record {
-  walk = next (many refl (subst (λ u. Items Staged u Lines DirectiveOnly x ds m) steady' (weaken_items (λ v b c x t y r. r.reads) (to_lines refl first)))) (next (many refl (subst (λ u. Items Staged u Lines Stmt m ts y) steady' (weaken_items (λ v b c x t y r. r.reads) (to_lines refl second)))) (done f));
+body_whole : {v : Surroundings} {x m y : Place} {ds ts : Forest} → Run (in_code ds v) DirectiveOnly x ds m → Run (in_code ds v) Stmt m ts y → first_of_list is_string_stmt ts ≡ false → IsTrue (is_found y) → Whole so_far v false Body x (body_of ds ts) y
+body_whole {ts = ts} first second n f = never_whole refl (of_so_far.to_node (program FunctionBody) refl (record {
+  walk = next (many refl (weaken_items (λ v b c x t y r. r.reads) (to_lines refl first))) (next (many refl (weaken_items (λ v b c x t y r. r.reads) (to_lines refl second))) (done f));
   keeps = and_both (not (first_of_list is_string_stmt ts)) true (not_is _ n) refl;
 }))
-  where
-    steady' : v ≡ enter (part (list ds) (part (list ts) none)) InCode v
-    steady' = sym (s.on (part (list ds) (part (list ts) none)))
-
-found_behind : {v : Surroundings} {c : Nonterminal} {x z : Place} {ts : Forest} → Run v c x ts z → IsTrue (is_found z)
-found_behind (run_end f) = f
-found_behind (run_on r s) = found_behind s
 
 abbrev listed_first : Forest → Forest
 listed_first (part (list ts) us) = ts
 listed_first ts = ts
 
--- a body and its brace are read as its statements and the brace
-record Braced (v : Surroundings) (x : Place) (us : Forest) (w : Place) : Type 0 where
-  directives : Forest
+-- what is read of a body and its brace, behind the directives that come first
+record Behind (v : Surroundings) (ds : Forest) (m : Place) (us : Forest) (w : Place) : Type 0 where
   rest : Forest
-  is : us ≡ part (body_of directives rest) none
-  walk : Walk (Whole so_far) (steady v) braced x (part (list (both (as_statements directives) rest)) none) w
-  first : leading (both (as_statements directives) rest) ≡ directives
-  behind : behind_leading (both (as_statements directives) rest) ≡ rest
+  is : us ≡ part (body_of ds rest) none
+  walk : Walk (Whole so_far) (steady (in_code ds v)) braced m (part (list rest) none) w
 
-braced_of : {v : Surroundings} {x w : Place} {us : Forest} → IsSettled v → Walk (Whole so_far) (steady v) body_row x us w → Braced v x us w
-braced_of s (next (tree {t = t} q) (next (sign e f) (done g))) =
-    let p = parts_of t s q.reads in
-    let j = join statements p.kept p.first p.second in
-    record { directives = p.directives; rest = p.rest; is = ap (λ u. part u none) p.is; walk = next (many refl (to_lines refl j.all)) (next (sign e f) (done g)); first = j.first; behind = j.rest }
+behind_prologue : {v : Surroundings} {x m w : Place} {ds us : Forest} → Prologue x ds m → Walk (Whole so_far) (steady v) body_row x us w → Behind v ds m us w
+behind_prologue {v} {m = m} {w} {ds} p (next {y = z} (tree {t = t} q) (next (sign e f) (done g))) =
+    let b = parts_of t q.reads in
+    let s = prologue_same string_statements p b.first b.second b.kept (no_string_at (found_at e f)) in
+    record {
+      rest = b.rest;
+      is = ap (λ u. part u none) (b.is ∙ ap (λ es. body_of es b.rest) (sym s.0));
+      walk = subst (λ es. Walk (Whole so_far) (steady (in_code es v)) braced m (part (list b.rest) none) w) (sym s.0)
+          (subst (λ a. Walk (Whole so_far) (steady (in_code b.directives v)) braced a (part (list b.rest) none) w) (sym s.1) (next (many refl (to_lines refl b.second)) (next (sign e f) (done g))));
+    }
 
-of_braced : {v : Surroundings} {x w : Place} {us : Forest} → IsSettled v → Walk (Whole so_far) (steady v) braced x us w → Walk (Whole so_far) (steady v) body_row x (part (body_of (leading (listed_first us)) (behind_leading (listed_first us))) none) w
-of_braced s (next (many e lines) (next (sign e' f) (done g))) =
-    let p = split (of_lines lines) in
-    next (tree (body_whole s p.directives p.rest p.kept (found_behind p.rest))) (next (sign e' f) (done g))
-
-pub body_only : {v : Surroundings} {x y : Place} (all ds ts : Forest) → IsSettled v → OnlyRow so_far v braced x (part (list all) none) y → leading all ≡ ds → behind_leading all ≡ ts → OnlyRow so_far v body_row x (part (body_of ds ts) none) y
-body_only {v} {x} {y} all ds ts s o first behind = record { walk = subst (λ us. Walk (Whole so_far) (steady v) body_row x (part (body_of us ts) none) y) first (subst (λ us. Walk (Whole so_far) (steady v) body_row x (part (body_of (leading all) us) none) y) behind (of_braced s o.walk)); alone = at }
+pub body_only : {v : Surroundings} {x m y : Place} {ds ts : Forest} → Prologue x ds m → OnlyRow so_far (in_code ds v) braced m (part (list ts) none) y → OnlyRow so_far v body_row x (part (body_of ds ts) none) y
+body_only {v} {x} {m} {y} {ds} {ts} p o = record { walk = to o.walk refl; alone = at }
   where
+    to : {us : Forest} → Walk (Whole so_far) (steady (in_code ds v)) braced m us y → us ≡ part (list ts) none → Walk (Whole so_far) (steady v) body_row x (part (body_of ds ts) none) y
+    to (next (many e lines) (next (sign e' f) (done g))) is =
+        let all = of_lines lines in
+        subst (λ vs. Walk (Whole so_far) (steady v) body_row x (part (body_of ds vs) none) y) (ap listed_first is)
+        (next (tree (body_whole (prologue_run p (whole_items_found of_so_far lines)) all (behind_first (prologue_end p) all) (found_behind all))) (next (sign e' f) (done g)))
+
     at : (us : Forest) (w : Place) → Walk (Whole so_far) (steady v) body_row x us w → (part (body_of ds ts) none ≡ us) × (y ≡ w)
     at us w walk =
-        let b = braced_of s walk in
-        let same = o.alone _ w b.walk in
-        let e = ap listed_first same.0 in
-        ((λ i. part (body_of ((sym first ∙ (ap leading e ∙ b.first)) i) ((sym behind ∙ (ap behind_leading e ∙ b.behind)) i)) none) ∙ sym b.is, same.1)
+        let b = behind_prologue p walk in
+        let same = o.alone (part (list b.rest) none) w b.walk in
+        (ap (λ es. part (body_of ds (listed_first es)) none) same.0 ∙ sym b.is, same.1)
 
-pub no_body : {v : Surroundings} {x : Place} → IsSettled v → NoRow so_far v braced x → NoRow so_far v body_row x
-no_body s n = record { no = λ us w walk. n.no _ w (braced_of s walk).walk }
+pub no_body : {v : Surroundings} {x m : Place} {ds : Forest} → Prologue x ds m → NoRow so_far (in_code ds v) braced m → NoRow so_far v body_row x
+no_body p n = record { no = λ us w walk. let b = behind_prologue p walk in n.no (part (list b.rest) none) w b.walk }
+
+-- where they say that
+pub body_in : {u v : Surroundings} {x y : Place} {ts : Forest} → u ≡ v → OnlyRow so_far u braced x ts y → OnlyRow so_far v braced x ts y
+body_in {x = x} {y} {ts} e o = subst (λ w. OnlyRow so_far w braced x ts y) e o
+
+pub no_body_in : {u v : Surroundings} {x : Place} → u ≡ v → NoRow so_far u braced x → NoRow so_far v braced x
+no_body_in {x = x} e n = subst (λ w. NoRow so_far w braced x) e n

@@ -2,7 +2,7 @@
 use Rattle.std.proofs.Common.{◌≡◌, Bool, true, false, not, List, [], ◌∷◌, ◌++◌, refl, sym, ◌∙◌, ap, subst}
 use Rattle.std.specs.Prelude.{IsTrue, codes, ◌&&◌, ◌||◌}
 use Rattle.jsx_base.specs.Token.{Operator, IdentifierName, Punctuator, among, same, token}
-use Rattle.jsx_tree.specs.Signs.{AfterBinding, AfterExpr, Sign, Tok, Unless}
+use Rattle.jsx_tree.specs.Signs.{AfterBinding, AfterExpr, AfterBlock, Sign, Tok, Unless}
 use Rattle.jsx_tree.specs.Kinds.{DeclareWord, VarWord, LetWord, ConstWord, Var, For, ForDeclaration, Kind, statement, Tree, leaf, node, list, Forest, none, part}
 use Rattle.jsx_tree.specs.Nonterminals.{Expr, Declarators, ForInit, SubStmt, homes, in_homes}
 use Rattle.jsx_tree.specs.Grammar.{InLoop, NoTrailing, Fixed, Many, Optional, Part, pun, semi, vars}
@@ -39,7 +39,7 @@ use Rattle.jsx_token.specs.declared.lexer.Fixed.{Fixed as Mark}
 use Rattle.jsx_token.specs.declared.lexer.Fixed.TheVariants as fixed
 use Rattle.jsx_operand.proofs.OfSoFar.{of_so_far}
 use Rattle.jsx_token.proofs.Headings.{of_begun}
-use Rattle.jsx_operand.proofs.Inners.{declaration, inner_kind, of_inner}
+use Rattle.jsx_operand.proofs.Inners.{inner_kind, of_inner}
 use Rattle.jsx_token.proofs.Listed.{agree, agreed, of_each}
 use Rattle.jsx_token.proofs.Marks.{by_sign}
 use Rattle.jsx_operand.proofs.Homes.{Taken, module', headed, inner, evaluation, labelled, sequence, spread, aimed, operand, no_list, taken_by, home_of, AtWhole, single, several, at_whole, made, value_kind}
@@ -113,6 +113,7 @@ one_ends (At q e text) = refl
 list_ended : (y : Place) → in_list y ≡ true → forth (pun ",") y ≡ Lost → ends_so_far (Expr 1) y ≡ true → ends_so_far (Expr 0) y ≡ true
 list_ended Lost h l e = refl
 list_ended (At q AfterExpr text) h l e = no_comma_ends (At q AfterExpr text) h l e
+list_ended (At q AfterBlock text) h l e = no_comma_ends (At q AfterBlock text) h l e
 list_ended (At q AfterBinding text) h l e =
     let x = token Operator false text in
     ap not (and_equal (among x.raw (going 0)) (among x.raw (going 1)) (is_sign x (pun "=")) (λ k. agreed (among x.raw (going 0)) (among x.raw (going 1)) (by_sign (λ t. agree (among t (going 0)) (among t (going 1))) (pun "=") x refl k))) ∙ e

@@ -1,10 +1,10 @@
 -- Statements of the language so far.
 use Rattle.std.proofs.Common.{◌≡◌, Bool, true, false, not, cond, List, [], ◌∷◌, refl, sym, ◌∙◌, ap, subst}
 use Rattle.std.specs.Prelude.{IsTrue, codes, ◌&&◌}
-use Rattle.jsx_base.specs.Token.{Operator, IdentifierName, Punctuator, is_token, among, token, same}
+use Rattle.jsx_base.specs.Token.{Operator, Punctuator, is_token, among, token, same}
 use Rattle.jsx_tree.specs.Signs.{AfterExpr, AfterBinding, Sign, Unless, Ends}
 use Rattle.jsx_tree.specs.Kinds.{DeclareWord, VarWord, LetWord, ConstWord, Var, Declarator, ForDeclaration, ExprStmt, Binds, Kind, statement, Tree, leaf, node, list, Forest, none, part}
-use Rattle.jsx_tree.specs.Nonterminals.{Nonterminal, Expr, Pat, Declarators, leaf_in}
+use Rattle.jsx_tree.specs.Nonterminals.{Nonterminal, Expr, Pat, Declarators}
 use Rattle.jsx_tree.specs.Grammar.{NoTrailing, Part, Fixed, Many, key, pun, heads, semi}
 use Rattle.jsx_tree.specs.Form.{admits}
 use Rattle.jsx_tree.specs.Reading.{Place, Lost, At, forth}
@@ -29,13 +29,13 @@ use Rattle.jsx_tree.proofs.Rows.Laws.{lost_barred, end_found, start_found}
 use Rattle.jsx_tree.proofs.Rows.Placing.{Chosen, OnlyAt, NoneAt, then_at, only_at, barred_at}
 use Rattle.jsx_operand.proofs.OfSoFar.{of_so_far}
 use Rattle.jsx_operand.proofs.Patterns.{AtPattern, named, array, object, at_pattern, pattern_settled}
-use Rattle.jsx_operand.proofs.Homes.{IsName, no_list, Taken, taken_by, home_of}
+use Rattle.jsx_operand.proofs.Homes.{no_list, Taken, taken_by, home_of}
 use Rattle.jsx_statement.specs.Statements.{has_value}
-use Rattle.jsx_operand.proofs.Inners.{declaration}
 use Rattle.jsx_operand.proofs.Standing.{standing}
 use Rattle.jsx_tree.proofs.Rows.Firsts.{kind_home}
 use Rattle.jsx_token.specs.Growths.{settled}
-use Rattle.jsx_operand.proofs.Values.{settled_token, leaf_full, is_next, found_next, no_heads}
+use Rattle.jsx_operand.proofs.Values.{is_next, found_next}
+use Rattle.jsx_operand.proofs.Headless.{no_heads}
 
 -- ---- a variable and its initializer
 

@@ -36,7 +36,7 @@ use Rattle.jsx_operand.proofs.OfSoFar.{of_so_far}
 use Rattle.jsx_operand.proofs.Homes.{IsName, taken_by, home_of, no_list, staged_leaf}
 use Rattle.jsx_operand.proofs.Values.{found_next, leaf_full, literal_follows, or_left, settled_token}
 use Rattle.jsx_operand.proofs.Climbing.{climb_only}
-use Rattle.jsx_expression.proofs.Sequences.{whole_only}
+use Rattle.jsx_expression.proofs.Sequences.{closed_of, whole_only}
 use Rattle.jsx_token.proofs.Headings.{of_heading}
 use Rattle.jsx_token.proofs.Marks.{one_sign}
 use Rattle.jsx_token.proofs.Spellings.{by_both}
@@ -103,7 +103,7 @@ label_value : {v : Surroundings} {name : Text} {x y : Place} → (l : IsLabel na
 label_value {v} {name} {x} l =
     let c = found_at (sym l.colon.is) l.colon.found in
     let b = literal_follows {v = v} IsName name (or_left _ _ l.free) l.whole l.name_there.is l.name_there.found in
-    whole_only (climb_only (rung 1) refl (b.on (rung 1) refl refl) (of_so_far.ends_there (Expr 1) l.middle (sign_stops (Expr 1) (pun ":") l.middle refl c))) (label_settled l) (other_lost (pun ",") (pun ":") l.middle refl refl refl c)
+    whole_only (climb_only (rung 1) refl (b.on (rung 1) refl refl) (of_so_far.ends_there (Expr 1) l.middle (sign_stops (Expr 1) (pun ":") l.middle refl c))) (closed_of l.middle (label_settled l)) (other_lost (pun ",") (pun ":") l.middle refl refl refl c)
 
 -- so no expression statement does
 no_evaluation : {v : Surroundings} {name : Text} {x y z : Place} {us : Forest} → (l : IsLabel name x y) → Walk (Whole so_far) (steady v) (row_so_far (statement ExprStmt)) x us z → ⊥

@@ -4,11 +4,13 @@ pub mod PartWords
 pub mod Tries
 pub mod Elses
 pub mod Blocks
+pub mod Inners
 pub mod Controls
 pub mod OpenIn
 pub mod Heads
 pub mod Overs
 pub mod Stems
+pub mod Turned
 pub mod Declaring
 pub mod Lists
 pub mod Loops

@@ -4,8 +4,8 @@ use Rattle.std.specs.Prelude.{◌&&◌, ◌||◌}
 use Rattle.std.proofs.lemmas.Bool.{eqb-true}
 use Rattle.std.proofs.lemmas.List.{get_or-map, length-map}
 use Rattle.jsx_base.specs.Token.{NoSubstitution, TemplateHead, TemplateTail, Text, TokenKind}
-use Rattle.jsx_tree.specs.Kinds.{Role, Binds, Declarator, Seq, Element, ParenTarget, ClassExpr, Kind, statement, expression, function, jsx, Tree, leaf, node, list, Forest, none, part, PlainTemplate, SubstitutedTemplate, NameLink, IndexLink, CallLink}
-use Rattle.jsx_tree.specs.Nonterminals.{Nonterminal, BindingIdent, DotObject, Expr, MemberObject, Name, NewCallee, Pat, TagName, Attributes, Declarators, TemplatePart, TemplateOf, ChainLink, homes}
+use Rattle.jsx_tree.specs.Kinds.{Role, Assigns, ArrayPat, ObjectPat, Declarator, Seq, Element, ParenTarget, ClassExpr, Kind, statement, expression, function, jsx, Tree, leaf, node, list, Forest, none, part, PlainTemplate, SubstitutedTemplate, NameLink, IndexLink, CallLink}
+use Rattle.jsx_tree.specs.Nonterminals.{Nonterminal, BindingIdent, DotObject, Expr, MemberObject, Name, NewCallee, TagName, Attributes, Declarators, TemplatePart, TemplateOf, ChainLink}
 use Rattle.jsx_tree.specs.Grammar.{ListShape, NoTrailing, Spaced, TwoOrMore}
 use Rattle.jsx_tree.specs.Form.{Single, Maybe, Several, Position, position, positions, admits, shaped, fits_below, fit_slots, fit_each, is}
 use Rattle.jsx_tree.specs.Reading.{Place}
@@ -34,11 +34,11 @@ use Rattle.jsx_token.specs.Stage.{has_kind, in_stage, in_stages, each_in_stage}
 use Rattle.jsx_operand.specs.SoFar.{Staged, so_far}
 use Rattle.jsx_operand.specs.Templates.{IsOf, plain, substituted}
 use Rattle.jsx_token.specs.Marks.{row_so_far}
-use Rattle.jsx_statement.specs.OpenIn.{spreads, fronts, opens, any_of, first_of, is_several, opens_listed, opens_whole, some_of, opens_declared, any_opens}
+use Rattle.jsx_statement.specs.OpenIn.{spreads, fronts, lasts, opens, any_of, first_of, is_several, opens_listed, opens_whole, some_of, opens_declared, any_opens, second_of}
 use Rattle.jsx_operand.proofs.OfSoFar.{of_so_far}
 use Rattle.jsx_operand.proofs.Patterns.{pattern_shut}
 use Rattle.jsx_token.proofs.Listed.{Listed, kinds, every, of_each}
-use Rattle.jsx_operand.proofs.Homes.{Value, literal, made, operand_kind, nowhere, wholes, heads, tails, taken, taken_by, home_of, no_list, AtWhole, single, several, at_whole}
+use Rattle.jsx_operand.proofs.Homes.{Value, literal, made, is_bracket, operand_kind, nowhere, wholes, heads, tails, taken, taken_by, home_of, no_list, AtWhole, single, several, at_whole}
 use Rattle.jsx_token.proofs.Lives.{is_lone, lives}
 use Rattle.jsx_operand.proofs.Values.{at_one, move}
 use Rattle.jsx_operand.proofs.Climbing.{is_link}
@@ -120,6 +120,7 @@ all_shut [] = true
 all_shut (position f c g true a ∷ ss) = all_shut ss
 all_shut (position Single Name g false a ∷ ss) = all_shut ss
 all_shut (position Maybe BindingIdent g false a ∷ ss) = all_shut ss
+all_shut (position Single BindingIdent g false a ∷ ss) = all_shut ss
 all_shut (position Single (TemplatePart NoSubstitution) g false a ∷ ss) = all_shut ss
 all_shut (position Single (TemplatePart TemplateHead) g false a ∷ ss) = all_shut ss
 all_shut (position Single (TemplatePart TemplateTail) g false a ∷ ss) = all_shut ss
@@ -147,8 +148,14 @@ abbrev is_class : Kind → Bool
 is_class (function ClassExpr) = true
 is_class k = false
 
+-- the last stands outside of brackets, as a value; the parameters, or the one name, don't count
+abbrev last_plain : List Position → Bool
+last_plain (position f c g true a ∷ position Single d h false b ∷ []) = is_lone d
+last_plain (position Single BindingIdent g false a ∷ position Single d h false b ∷ []) = is_lone d
+last_plain ss = false
+
 abbrev placed_so : Kind → Bool
-placed_so k = cond (spreads k) (all_plain (positions k)) (cond (fronts k) (not (is_in_op k) && first_plain (positions k)) (not (is_in_op k) && (all_shut (positions k) || (is_element k || is_class k))))
+placed_so k = cond (spreads k) (all_plain (positions k)) (cond (fronts k) (not (is_in_op k) && first_plain (positions k)) (cond (lasts k) (not (is_in_op k) && last_plain (positions k)) (not (is_in_op k) && (all_shut (positions k) || (is_element k || is_class k)))))
 
 all_placed_so : every placed_so kinds ≡ true
 all_placed_so = refl
@@ -227,6 +234,7 @@ shut_same (q ∷ ss) none p f s = cc
 shut_same (position h c g true d ∷ ss) (part t ts) p f s = shut_same ss ts p (fit_rest h c t ss ts f) (and_right (in_stage c t) _ s)
 shut_same (position Single Name g false d ∷ ss) (part t ts) p f s = ap (λ b. b || open_ins ss ts) (name_shut t (fit_here Name t ss ts f) (and_left (in_stage Name t) _ s)) ∙ shut_same ss ts p (fit_rest Single Name t ss ts f) (and_right (in_stage Name t) _ s)
 shut_same (position Maybe BindingIdent g false d ∷ ss) (part t ts) p f s = ap (λ b. b || open_ins ss ts) (maybe_here t ss ts f (and_left (in_stage BindingIdent t) _ s)) ∙ shut_same ss ts p (fit_rest Maybe BindingIdent t ss ts f) (and_right (in_stage BindingIdent t) _ s)
+shut_same (position Single BindingIdent g false d ∷ ss) (part t ts) p f s = ap (λ b. b || open_ins ss ts) (bound_name t (fit_here BindingIdent t ss ts f) (and_left (in_stage BindingIdent t) _ s)) ∙ shut_same ss ts p (fit_rest Single BindingIdent t ss ts f) (and_right (in_stage BindingIdent t) _ s)
 shut_same (position Single (TemplatePart NoSubstitution) g false d ∷ ss) (part t ts) p f s = ap (λ b. b || open_ins ss ts) (whole_shut t (fit_here (TemplatePart NoSubstitution) t ss ts f) (and_left (in_stage (TemplatePart NoSubstitution) t) _ s)) ∙ shut_same ss ts p (fit_rest Single (TemplatePart NoSubstitution) t ss ts f) (and_right (in_stage (TemplatePart NoSubstitution) t) _ s)
 shut_same (position Single (TemplatePart TemplateHead) g false d ∷ ss) (part t ts) p f s = ap (λ b. b || open_ins ss ts) (head_shut t (fit_here (TemplatePart TemplateHead) t ss ts f) (and_left (in_stage (TemplatePart TemplateHead) t) _ s)) ∙ shut_same ss ts p (fit_rest Single (TemplatePart TemplateHead) t ss ts f) (and_right (in_stage (TemplatePart TemplateHead) t) _ s)
 shut_same (position Single (TemplatePart TemplateTail) g false d ∷ ss) (part t ts) p f s = ap (λ b. b || open_ins ss ts) (tail_shut t (fit_here (TemplatePart TemplateTail) t ss ts f) (and_left (in_stage (TemplatePart TemplateTail) t) _ s)) ∙ shut_same ss ts p (fit_rest Single (TemplatePart TemplateTail) t ss ts f) (and_right (in_stage (TemplatePart TemplateTail) t) _ s)
@@ -427,8 +435,14 @@ high_aim : (k : Kind) (ts : Forest) → is_aim (node k ts) ≡ true → fit_slot
 high_aim (function ParenTarget) ts e f s = shut_same (positions (function ParenTarget)) ts refl f s
 high_aim _ ts e f s = cc
 
+-- nor does one that a pattern's brackets enclose
+high_bracket : (k : Kind) (ts : Forest) → is_bracket k ≡ true → fit_slots (positions k) ts ≡ true → in_stages (positions k) ts ≡ true → open_in (node k ts) ≡ false
+high_bracket (function (ArrayPat Assigns)) ts e f s = shut_same (positions (function (ArrayPat Assigns))) ts refl f s
+high_bracket (function (ObjectPat Assigns)) ts e f s = shut_same (positions (function (ObjectPat Assigns))) ts refl f s
+high_bracket _ ts e f s = cc
+
 high_kind : (k : Kind) (ts : Forest) → AllHigh ts → (c : Nonterminal) → is_high c ≡ true → is c (node k ts) ≡ true → in_stage c (node k ts) ≡ true → open_in (node k ts) ≡ false
-high_kind k ts a c h i s = by (is_aim (node k ts)) refl
+high_kind k ts a c h i s = by (is_aim (node k ts)) (is_bracket k) refl refl
   where
     fit : fit_slots (positions k) ts ≡ true
     fit = and_right (admits c (node k ts)) _ i
@@ -439,10 +453,11 @@ high_kind k ts a c h i s = by (is_aim (node k ts)) refl
     home : admits c (node k ts) ≡ true
     home = and_left (admits c (node k ts)) _ i
 
-    by : (b : Bool) → is_aim (node k ts) ≡ b → open_in (node k ts) ≡ false
-    by true e = high_aim k ts e fit staged
-    by false e =
-        let l = node_listed (operand_kind c {ts = ts} (high_lone c h) e (taken k (and_left (has_kind k) _ s)) home) in
+    by : (b d : Bool) → is_aim (node k ts) ≡ b → is_bracket k ≡ d → open_in (node k ts) ≡ false
+    by true d e n = high_aim k ts e fit staged
+    by false true e n = high_bracket k ts n fit staged
+    by false false e n =
+        let l = node_listed (operand_kind c {ts = ts} (high_lone c h) e n (taken k (and_left (has_kind k) _ s)) home) in
         let w = or_cases (not (lives c k)) _ (of_each (high_well c) (all_high_well c h) k l) (λ n. absurd (clash (lives c k) (kind_home c k ts home) (is_not _ n))) (λ p. p) in
         ap (λ b. b || open_ins (positions k) ts) (is_not _ (and_left (not (is_in_op k)) _ w))
         ∙ or_cases (all_shut (positions k) || (is_element k || is_class k)) (high_front (positions k)) (and_right (not (is_in_op k)) _ w) (kind_shut k ts a fit staged) (λ p. high_first (positions k) ts p a fit staged)
@@ -455,28 +470,54 @@ all_high (part (list us) ts) = list_high (all_high us) (all_high ts)
 
 -- ---- a tree
 
+last_same : (ss : List Position) (ts : Forest) → last_plain ss ≡ true → AllOpened ts → fit_slots ss ts ≡ true → in_stages ss ts ≡ true → second_of ts ≡ open_ins ss ts
+last_same (position f c g true a ∷ position Single d h false b ∷ []) none p o i s = cc
+last_same (position f c g true a ∷ position Single d h false b ∷ []) (part t none) p o i s = let bad : false ≡ true = fit_rest f c t (position Single d h false b ∷ []) none i in cc
+last_same (position f c g true a ∷ position Single d h false b ∷ []) (part t (part u none)) p o i s =
+    here_opened d u [] none (head_opened (rest_opened o)) p (fit_rest f c t (position Single d h false b ∷ []) (part u none) i) (and_right (in_stage c t) _ s) ∙ sym (or_false (open_in u))
+last_same (position f c g true a ∷ position Single d h false b ∷ []) (part t (part u (part w ws))) p o i s =
+    let bad : false ≡ true = fit_rest Single d u [] (part w ws) (fit_rest f c t (position Single d h false b ∷ []) (part u (part w ws)) i) in
+    cc
+last_same (position Single BindingIdent g false a ∷ position Single d h false b ∷ []) none p o i s = cc
+last_same (position Single BindingIdent g false a ∷ position Single d h false b ∷ []) (part t none) p o i s = let bad : false ≡ true = fit_rest Single BindingIdent t (position Single d h false b ∷ []) none i in cc
+last_same (position Single BindingIdent g false a ∷ position Single d h false b ∷ []) (part t (part u none)) p o i s =
+    here_opened d u [] none (head_opened (rest_opened o)) p (fit_rest Single BindingIdent t (position Single d h false b ∷ []) (part u none) i) (and_right (in_stage BindingIdent t) _ s)
+    ∙ sym (ap (λ e. e || (open_in u || false)) (bound_name t (fit_here BindingIdent t (position Single d h false b ∷ []) (part u none) i) (and_left (in_stage BindingIdent t) _ s)) ∙ or_false (open_in u))
+last_same (position Single BindingIdent g false a ∷ position Single d h false b ∷ []) (part t (part u (part w ws))) p o i s =
+    let bad : false ≡ true = fit_rest Single d u [] (part w ws) (fit_rest Single BindingIdent t (position Single d h false b ∷ []) (part u (part w ws)) i) in
+    cc
+last_same _ ts p o i s = cc
+
 kind_opened : (k : Kind) (cs : Forest) → Listed k → AllOpened cs → fit_slots (positions k) cs ≡ true → in_stages (positions k) cs ≡ true → opens (node k cs) ≡ open_in (node k cs)
-kind_opened k cs l a f s = by (spreads k) (fronts k) (of_each placed_so all_placed_so k l)
+kind_opened k cs l a f s = by (spreads k) (fronts k) (lasts k) (of_each placed_so all_placed_so k l)
   where
     shut : (all_shut (positions k) || (is_element k || is_class k)) ≡ true → open_ins (positions k) cs ≡ false
     shut h = kind_shut k cs (all_high cs) f s h
 
-    by : (b d : Bool) → cond b (all_plain (positions k)) (cond d (not (is_in_op k) && first_plain (positions k)) (not (is_in_op k) && (all_shut (positions k) || (is_element k || is_class k)))) ≡ true → cond b (is_in_op k || any_of cs) (cond d (first_of cs) false) ≡ (is_in_op k || open_ins (positions k) cs)
-    by true d h = ap (λ b. is_in_op k || b) (plain_same (positions k) cs h a f s)
-    by false true h = first_same (positions k) cs (and_right (not (is_in_op k)) _ h) a f s ∙ sym (ap (λ b. b || open_ins (positions k) cs) (is_not _ (and_left (not (is_in_op k)) _ h)))
-    by false false h = sym (ap (λ b. b || open_ins (positions k) cs) (is_not _ (and_left (not (is_in_op k)) _ h)) ∙ shut (and_right (not (is_in_op k)) _ h))
+    by : (b d e : Bool) → cond b (all_plain (positions k)) (cond d (not (is_in_op k) && first_plain (positions k)) (cond e (not (is_in_op k) && last_plain (positions k)) (not (is_in_op k) && (all_shut (positions k) || (is_element k || is_class k))))) ≡ true → cond b (is_in_op k || any_of cs) (cond d (first_of cs) (cond e (second_of cs) false)) ≡ (is_in_op k || open_ins (positions k) cs)
+    by true d e h = ap (λ b. is_in_op k || b) (plain_same (positions k) cs h a f s)
+    by false true e h = first_same (positions k) cs (and_right (not (is_in_op k)) _ h) a f s ∙ sym (ap (λ b. b || open_ins (positions k) cs) (is_not _ (and_left (not (is_in_op k)) _ h)))
+    by false false true h = last_same (positions k) cs (and_right (not (is_in_op k)) _ h) a f s ∙ sym (ap (λ b. b || open_ins (positions k) cs) (is_not _ (and_left (not (is_in_op k)) _ h)))
+    by false false false h = sym (ap (λ b. b || open_ins (positions k) cs) (is_not _ (and_left (not (is_in_op k)) _ h)) ∙ shut (and_right (not (is_in_op k)) _ h))
 
 -- in a target's parentheses all stands in brackets
 aim_opened : (k : Kind) (ts : Forest) → is_aim (node k ts) ≡ true → fit_slots (positions k) ts ≡ true → in_stages (positions k) ts ≡ true → opens (node k ts) ≡ open_in (node k ts)
 aim_opened (function ParenTarget) ts e f s = sym (shut_same (positions (function ParenTarget)) ts refl f s)
 aim_opened _ ts e f s = cc
 
+-- and in those of a pattern
+bracket_opened : (k : Kind) (ts : Forest) → is_bracket k ≡ true → fit_slots (positions k) ts ≡ true → in_stages (positions k) ts ≡ true → opens (node k ts) ≡ open_in (node k ts)
+bracket_opened (function (ArrayPat Assigns)) ts e f s = sym (shut_same (positions (function (ArrayPat Assigns))) ts refl f s)
+bracket_opened (function (ObjectPat Assigns)) ts e f s = sym (shut_same (positions (function (ObjectPat Assigns))) ts refl f s)
+bracket_opened _ ts e f s = cc
+
 node_opened : (k : Kind) (ts : Forest) → AllOpened ts → Opened (node k ts)
-node_opened k ts a = record { on = λ c o i s. by c o i s (is_aim (node k ts)) refl }
+node_opened k ts a = record { on = λ c o i s. by c o i s (is_aim (node k ts)) (is_bracket k) refl refl }
   where
-    by : (c : Nonterminal) → is_lone c ≡ true → is c (node k ts) ≡ true → in_stage c (node k ts) ≡ true → (b : Bool) → is_aim (node k ts) ≡ b → opens (node k ts) ≡ open_in (node k ts)
-    by c o i s true e = aim_opened k ts e (and_right (admits c (node k ts)) _ i) (and_right (has_kind k) _ s)
-    by c o i s false e = kind_opened k ts (node_listed (operand_kind c {ts = ts} o e (taken k (and_left (has_kind k) _ s)) (and_left (admits c (node k ts)) _ i))) a (and_right (admits c (node k ts)) _ i) (and_right (has_kind k) _ s)
+    by : (c : Nonterminal) → is_lone c ≡ true → is c (node k ts) ≡ true → in_stage c (node k ts) ≡ true → (b d : Bool) → is_aim (node k ts) ≡ b → is_bracket k ≡ d → opens (node k ts) ≡ open_in (node k ts)
+    by c o i s true d e n = aim_opened k ts e (and_right (admits c (node k ts)) _ i) (and_right (has_kind k) _ s)
+    by c o i s false true e n = bracket_opened k ts n (and_right (admits c (node k ts)) _ i) (and_right (has_kind k) _ s)
+    by c o i s false false e n = kind_opened k ts (node_listed (operand_kind c {ts = ts} o e n (taken k (and_left (has_kind k) _ s)) (and_left (admits c (node k ts)) _ i))) a (and_right (admits c (node k ts)) _ i) (and_right (has_kind k) _ s)
 
 mutual
   tree_opened : (t : Tree) → Opened t

@@ -1,22 +1,19 @@
 -- The places of the statements that the parser makes: each along its row.
-use Rattle.std.proofs.Common.{◌≡◌, ◌-◌, true, false, not, List, [], ◌∷◌, ◌++◌, map, refl, sym, ◌∙◌, ap, subst, Option, Some, None}
+use Rattle.std.proofs.Common.{◌≡◌, true, not, [], ◌∷◌, refl, ap, subst, Option, Some, None}
 use Rattle.std.specs.Str.{chars}
-use Rattle.jsx_base.specs.Token.{Text, Operator, IdentifierName, StringLiteral, breaks}
-use Rattle.jsx_base.specs.Lines.{size}
+use Rattle.jsx_base.specs.Token.{Text, Operator, IdentifierName, breaks}
 use Rattle.jsx_base.specs.declared.place.Span.{Span}
 use Rattle.jsx_tree.specs.declared.text.Text.{Text as TreeText}
-use Rattle.jsx_tree.specs.Signs.{Sign, Space, SameLine, AfterExpr, AfterBinding, AfterWord, AfterDo, Tok, Semicolon, Unless, Ends}
-use Rattle.jsx_tree.specs.Kinds.{DeclareWord, Module, Block, Var, Declarator, Empty, ExprStmt, If, Do, While, Continue, Break, Throw, Debugger, program, statement, Tree, leaf, node, list, Forest, none, part, For, ForDeclaration, Switch, Case, Default, Try, Catch, Label as LabelKind, ForIn, ForOf, ForBinding}
+use Rattle.jsx_tree.specs.Signs.{Sign, Space, SameLine, AfterBinding, AfterWord, AfterDo, Tok, Semicolon, Ends}
+use Rattle.jsx_tree.specs.Kinds.{DeclareWord, Block, Var, Declarator, Empty, ExprStmt, If, Do, While, Continue, Break, Throw, Debugger, statement, Tree, leaf, node, list, Forest, none, part, For, ForDeclaration, Switch, Case, Default, Try, Catch, Label as LabelKind, ForIn, ForOf, ForBinding}
 use Rattle.jsx_tree.specs.Nonterminals.{Nonterminal}
-use Rattle.jsx_tree.specs.Grammar.{Optional, NoTrailing, TopLines, production, Lines, heads, key, vars, pun}
-use Rattle.jsx_tree.specs.Spelling.{leaf_signs, saids, spelled}
-use Rattle.jsx_tree.specs.Reading.{At, forth, go_if, scan}
-use Rattle.jsx_tree.specs.Spans.{Comes, spans, Told, tells, Tales, no_tales, tale, IsTold, AreTold, from_first, rest_at, starts, places, placed_in}
-use Rattle.jsx_tree.specs.View.{forest, directive, text_of, word_of}
+use Rattle.jsx_tree.specs.Grammar.{Optional, NoTrailing, Lines, key, vars, pun}
+use Rattle.jsx_tree.specs.Reading.{go_if}
+use Rattle.jsx_tree.specs.Spans.{Comes, spans, Told, tells, Tales, no_tales, tale}
+use Rattle.jsx_tree.specs.View.{text_of, word_of}
 use Rattle.jsx_tree.specs.declared.text.DeclareWord as code
 use Rattle.jsx_tree.specs.declared.text.DeclareWord.TheVariants as declare_word
-use Rattle.jsx_tree.specs.Told.{tales, told_leaf, told_list, told_node, told_text, told_directive}
-use Rattle.jsx_tree.specs.Walk.{is_found}
+use Rattle.jsx_tree.specs.Told.{told_list, told_node, told_text}
 use Rattle.jsx_token.specs.Here.{Here, place_of, sign_of}
 use Rattle.jsx_token.specs.declared.lexer.Fixed.{Fixed}
 use Rattle.jsx_token.specs.declared.lexer.Fixed.TheVariants as fixed
@@ -31,7 +28,7 @@ use Rattle.jsx_operand.specs.Spans.{Spans, IsPlaced, IsPlacedAs, IsPlacedFront, 
 use Rattle.jsx_token.specs.Places.{next_of, end_of, Takes}
 use Rattle.jsx_token.specs.Growths.{opening_sign}
 use Rattle.jsx_operand.proofs.PlacedExpressions.{name_placed}
-use Rattle.jsx_operand.proofs.Placing.{IsItem, PlacedFront, row_end, row_sign, row_quiet, row_unless, row_within, row_part, row_list, row_present, row_absent, row_guarded, row_unguarded, list_none, front_last, front_more, front_none, laid_last, laid_more, map_pushed, plain_top_lines, node_is, led, row_around}
+use Rattle.jsx_operand.proofs.Placing.{row_end, row_sign, row_quiet, row_unless, row_within, row_part, row_list, row_present, row_absent, row_guarded, row_unguarded, node_is, led, row_around}
 
 -- ---- nodes
 

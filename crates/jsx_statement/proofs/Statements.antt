@@ -7,7 +7,7 @@ use Rattle.jsx_base.proofs.Fronts.{none_ahead}
 use Rattle.jsx_tree.specs.Signs.{AfterExpr, Sign, Tok, Unless}
 use Rattle.jsx_tree.specs.Kinds.{Module, ExprStmt, Label, Seq, ParenTarget, Kind, program, statement, function, expression, Tree, leaf, node, list, Forest, Spread, ForIn, ForOf}
 use Rattle.jsx_tree.specs.Nonterminals.{Nonterminal, Expr, Ident, Stmt, SubStmt, is_ident}
-use Rattle.jsx_tree.specs.Grammar.{Part, Fixed, heads, pun, Context}
+use Rattle.jsx_tree.specs.Grammar.{Part, Fixed, heads, pun}
 use Rattle.jsx_tree.specs.Form.{admits, is_leaf}
 use Rattle.jsx_tree.specs.Reading.{Place, Lost, At, ended_at, forth, go_if}
 use Rattle.jsx_tree.specs.StaticRules.{Surroundings, has_plain_params}
@@ -243,13 +243,13 @@ plain_chosen {v} {c} {x} s n l = record {
 -- ---- behind its sign, and with it
 
 pub signed_row : {v : Surroundings} {x y z : Place} {ts : Forest} (ps : List Piece) → signed ps ≡ true → Moves (lead ps) x y → OnlyRow so_far v (tail ps) y ts z → OnlyRow so_far v ps x ts z
-signed_row (piece [] (Fixed s) ∷ ps) g m o = then' (only_sign m) o
+signed_row (piece c (Fixed s) ∷ ps) g m o = then' (only_sign m) o
 signed_row _ g m o = cc
 
 pub signed_none : {v : Surroundings} {x y : Place} (k : Kind) (ps : List Piece) → signed ps ≡ true → Moves (lead ps) x y → NoNode so_far v (tail ps) k y → NoNode so_far v ps k x
-signed_none {v} {x} {y} k (piece [] (Fixed s) ∷ ps) g m n = record { no = at }
+signed_none {v} {x} {y} k (piece c (Fixed s) ∷ ps) g m n = record { no = at }
   where
-    at : (ts : Forest) (z : Place) → Walk (Whole so_far) (steady v) (piece [] (Fixed s) ∷ ps) x ts z → so_far.keeps k v ts ≡ true → ⊥
+    at : (ts : Forest) (z : Place) → Walk (Whole so_far) (steady v) (piece c (Fixed s) ∷ ps) x ts z → so_far.keeps k v ts ≡ true → ⊥
     at ts z (next {ts = us} (sign e f) w) h = n.no us z (subst (λ p. Walk (Whole so_far) (steady v) ps p us z) (sym e ∙ sym m.is) w) h
 signed_none k _ g m n = cc
 

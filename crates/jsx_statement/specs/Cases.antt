@@ -11,6 +11,7 @@ use Rattle.jsx_tree.specs.Walk.{Piece, piece, pieces, one, Past, Walk, steady}
 use Rattle.jsx_tree.specs.Language.{Whole}
 use Rattle.jsx_operand.specs.SoFar.{so_far}
 use Rattle.jsx_statement.specs.Heads.{Front}
+use Rattle.jsx_statement.specs.Inners.{is_inner_list}
 
 -- the cases, and the brace behind them
 abbrev pub cases_symbols : Production
@@ -23,10 +24,11 @@ cases_row = pieces [] cases_symbols
 abbrev pub body_row : List Piece
 body_row = piece [] (Many Lines grammar.Stmt) ∷ cases_row
 
--- the statements of a case, which end before such a token
+-- the statements of a case, which end before such a token; a function stands among them in strict code alone
 pub record IsBody (v : Surroundings) (x : Place) (t : Tree) (y : Place) : Type 0 where
   pub stands : Past (Whole so_far) v (Many Lines grammar.Stmt) x (one t) y
   pub front : Front v body_row cases_row x t y
+  pub inner : is_inner_list v t ≡ true
 
 -- with a case in front
 abbrev pub with_case : Tree → Forest → Forest

@@ -1,16 +1,34 @@
--- Directives, which stand first in a module and in the body of a function (ECMA-262 section 11.2.1).
-use Rattle.std.specs.Prelude.{◌≡◌, [], ◌∷◌, Option}
-use Rattle.jsx_base.specs.Token.{StringLiteral}
-use Rattle.jsx_base.specs.declared.place.Span.{Span}
-use Rattle.jsx_tree.specs.declared.text.Text.{Text as TreeText}
-use Rattle.jsx_tree.specs.declared.tree.Stmt.{Stmt}
-use Rattle.jsx_tree.specs.Kinds.{ExprStmt, statement, leaf, node, none, part}
-use Rattle.jsx_tree.specs.Told.{told_leaf, told_node, told_stmt}
-use Rattle.jsx_tree.specs.View.{text_of, view_stmt}
+-- Directives, which stand first in a program and in the body of a function (ECMA-262 section 11.2.1).
+use Rattle.std.specs.Prelude.{◌≡◌, [], ◌∷◌, true}
+use Rattle.jsx_base.specs.Token.{Text, Operator, StringLiteral}
+use Rattle.jsx_tree.specs.Signs.{Semicolon, Tok}
+use Rattle.jsx_tree.specs.Kinds.{Directive, program, Tree, leaf, node, Forest, none, part}
+use Rattle.jsx_tree.specs.Form.{is_leaf}
+use Rattle.jsx_tree.specs.Nonterminals.{DirectiveOnly, StringOnly}
+use Rattle.jsx_tree.specs.Grammar.{Part, Production, semi}
+use Rattle.jsx_tree.specs.Reading.{Place}
+use Rattle.jsx_tree.specs.StaticRules.{Surroundings}
+use Rattle.jsx_tree.specs.Answers.{Barred, Moves}
+use Rattle.jsx_operand.specs.SoFar.{so_far}
 
--- the statement is this string alone
-pub record IsString (t : TreeText) (s : Stmt) : Type 0 where
-  pub view : view_stmt s ≡ node (statement ExprStmt) (part (leaf StringLiteral (text_of t)) none)
-  pub at : Option Span
-  pub inner : Option Span
-  pub told : told_stmt s ≡ told_node at (told_leaf inner t ∷ [])
+-- a string with its semicolon, written or missing: no other token goes on with it
+pub record IsDirective (x : Place) (t : Tree) (y : Place) : Type 0 where
+  pub raw : Text
+  pub is : t ≡ node (program Directive) (part (leaf StringLiteral raw) none)
+  pub whole : is_leaf StringLiteral raw ≡ true
+  pub behind : Place
+  pub string : Moves (Tok Operator StringLiteral raw) x behind
+  pub semicolon : Moves Semicolon behind y
+
+-- none stands there, whatever that stands in
+pub record NoDirective (x : Place) : Type 0 where
+  pub on : (v : Surroundings) → Barred so_far v (Part DirectiveOnly) x
+
+-- its row, as places are told
+abbrev pub directive_symbols : Production
+directive_symbols = Part StringOnly ∷ semi ∷ []
+
+-- directives one behind another, up to where none stands
+pub data Prologue : Place → Forest → Place → Type 0 where
+  ended : {x : Place} → NoDirective x → Prologue x none x
+  begun : {x y z : Place} {t : Tree} {ts : Forest} → IsDirective x t y → Prologue y ts z → Prologue x (part t ts) z

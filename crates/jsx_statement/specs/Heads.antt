@@ -1,5 +1,5 @@
 -- What stands in the parentheses of a `for`.
-use Rattle.jsx_token.specs.Growths.{rung}
+use Rattle.jsx_token.specs.Growths.{closed, is_blocked, rung}
 use Rattle.std.specs.Prelude.{◌≡◌, List, [], ◌∷◌, Bool, true, false, IsTrue, codes, map, Box}
 use Rattle.std.specs.Global.{Global}
 use Rattle.jsx_base.specs.Token.{IdentifierName, same}
@@ -15,7 +15,7 @@ use Rattle.jsx_tree.specs.Walk.{Piece, piece, pieces, is_found, one, Past, Walk,
 use Rattle.jsx_tree.specs.Language.{Whole}
 use Rattle.jsx_tree.specs.Answers.{Moves, Stuck, Only, Barred, OnlyRow, NoRow, NoNode}
 use Rattle.jsx_tree.specs.View.{forest, inside, optional_at_of, view_pat, view_pattern, view_target}
-use Rattle.jsx_tree.specs.Told.{tales, told_optional, told_pat}
+use Rattle.jsx_tree.specs.Told.{tales, told_expr, told_optional, told_pat}
 use Rattle.jsx_tree.specs.declared.text.DeclareWord as code
 use Rattle.jsx_tree.specs.declared.tree.Pat.{Pat}
 use Rattle.jsx_token.specs.declared.lexer.Fixed.{Fixed}
@@ -23,8 +23,11 @@ use Rattle.jsx_token.specs.declared.lexer.Fixed.TheVariants as fixed
 use Rattle.jsx_token.specs.Here.{Here, place_of, sign_of}
 use Rattle.jsx_token.specs.Marks.{ends_so_far}
 use Rattle.jsx_token.specs.Places.{Takes, begin_of, next_of}
-use Rattle.jsx_operand.specs.SoFar.{so_far}
+use Rattle.jsx_operand.specs.SoFar.{Staged, so_far}
 use Rattle.jsx_operand.specs.Climbing.{Climbs}
+use Rattle.jsx_operand.specs.Covers.{IsTurned, view_cover}
+use Rattle.jsx_operand.specs.Turning.{is_bracketed, is_literal, retold}
+use Rattle.jsx_operand.specs.declared.cover.Cover.{Cover}
 use Rattle.jsx_operand.specs.Spans.{IsPlaced, IsPlacedFront, IsPlacedList}
 use Rattle.jsx_token.specs.Headings.{declaring}
 use Rattle.jsx_statement.specs.declared.for_head.ForHead.{ForHead}
@@ -199,19 +202,47 @@ pub record IsPlacedHeadBehind (s : Sign) (y : Here) (h : ForHead) (z : Here) : T
 
 -- ---- an expression that no comma goes on with, as far as an `in` outside of its operands
 
--- whether a target may stand there with `in` or `of` behind it: what is read of operators that bind more tightly than `in` begins with the tree, or no target stands there so
+-- no expression of operators that bind more tightly than `in` stands there, or no target does with `in` or `of` behind it
+pub data Far (v : Surroundings) (x : Place) : Type 0 where
+  far_value : Barred so_far v (Part (grammar.Expr 11)) x → Far v x
+  far_over : NotOver v x → Far v x
+
+-- whether a target may stand there with the word behind it: what is read of those operators begins with the tree, or is it
 pub data Near (v : Surroundings) (x : Place) (t : Tree) (y : Place) : Type 0 where
   near : Climbs v (rung 11) x t y → Near v x t y
-  far : NotOver v x → Near v x t y
+  near_whole : is_blocked y ≡ true → Only so_far v (Part (grammar.Expr 11)) x (one t) y → Near v x t y
+  far : Far v x → Near v x t y
+
+-- what a `for` goes over stands behind there
+pub data Over (y : Place) : Type 0 where
+  over_keys : IsTrue (is_found (forth (key "in") y)) → Over y
+  over_items : IsTrue (is_found (forth (key "of") y)) → Over y
 
 pub data Stopped (y : Place) : Type 0 where
   at_in : IsTrue (is_found (forth (key "in") y)) → Stopped y
   at_end : ends_so_far (grammar.Expr 1) y ≡ true → Stopped y
+  at_block : is_blocked y ≡ true → Stopped y
 
-pub record IsStem (v : Surroundings) (x : Place) (t : Tree) (y : Place) : Type 0 where
-  pub climbs : Climbs v (rung 1) x t y
-  pub targets : Near v x t y
-  pub stopped : Stopped y
+-- no expression stands there
+pub record NoValue (v : Surroundings) (x : Place) : Type 0 where
+  pub whole : Barred so_far v (Part (grammar.Expr 1)) x
+  pub targets : Far v x
+
+pub record IsStem (v : Surroundings) (x : Place) (c : Cover) (y : Place) : Type 0 where
+  pub climbs : c.is_expr ≡ true → is_blocked y ≡ false → Climbs v (rung 1) x (view_cover c) y
+  pub blocked : c.is_expr ≡ true → is_blocked y ≡ true → Only so_far v (Part (grammar.Expr 1)) x (one (view_cover c)) y
+  pub none : c.is_expr ≡ false → NoValue v x
+  pub targets : c.is_expr ≡ true → Near v x (view_cover c) y
+  pub reads : (p : Tree) → IsTurned c p → Staged v false (grammar.Pat Assigns) x p y
+  pub patterns : (p : Tree) (z : Place) → is_bracketed p ≡ true → Staged v false (grammar.Pat Assigns) x p z → Over z → IsTurned c p × (y ≡ z)
+  pub may : is_literal (view_cover c) ≡ false → c.may_turn ≡ true
+  pub stopped : c.is_expr ≡ true → Stopped y
+  pub ended : closed y ≡ true
+
+-- the places of what it tells, as an expression and as what a `for` goes over
+pub record IsPlacedStem (c : Cover) (x y : Here) : Type 0 where
+  pub expr : c.is_expr ≡ true → IsPlaced (told_expr c.expr.value) (view_cover c) x y
+  pub pattern : (p : Tree) → IsTurned c p → IsPlaced (retold (view_cover c) (told_expr c.expr.value)) p x y
 
 pub record NoStem (v : Surroundings) (x : Place) : Type 0 where
   pub barred : Barred so_far v (Part (grammar.Expr 1)) x

@@ -7,4 +7,5 @@ pub mod Labels
 pub mod Tries
 pub mod OpenIn
 pub mod Directives
+pub mod Inners
 pub mod Functions

@@ -1,9 +1,9 @@
 -- An `in` that no bracket encloses, in the trees that the compiler takes so far.
 use Rattle.std.specs.Prelude.{Bool, true, false, cond, ◌||◌}
-use Rattle.jsx_tree.specs.Kinds.{Declarator, Seq, Assign, OpAssign, Cond, Binary, Unary, PrefixUpdate, PostfixUpdate, Call, Member, Index, New, NewWithoutArguments, Kind, statement, expression, Tree, leaf, node, list, Forest, none, part, Tagged, Chain}
+use Rattle.jsx_tree.specs.Kinds.{Declarator, Seq, Arrow, BareArrow, Assign, OpAssign, Cond, Binary, Unary, PrefixUpdate, PostfixUpdate, Call, Member, Index, New, NewWithoutArguments, Kind, statement, expression, Tree, leaf, node, list, Forest, none, part, Tagged, Chain}
 use Rattle.jsx_tree.specs.StaticRules.{is_in_op}
 
--- brackets of its own enclose no part, or all but the first; of the other kinds they enclose all
+-- brackets of its own enclose no part, or all but the first, or all but the last, which is the value of an arrow function; of the other kinds they enclose all
 abbrev pub spreads : Kind → Bool
 spreads (expression (Binary o)) = true
 spreads (expression Assign) = true
@@ -24,10 +24,15 @@ fronts (expression New) = true
 fronts (expression NewWithoutArguments) = true
 fronts k = false
 
+abbrev pub lasts : Kind → Bool
+lasts (expression Arrow) = true
+lasts (expression BareArrow) = true
+lasts k = false
+
 abbrev mutual
   pub opens : Tree → Bool
   opens (leaf s t) = false
-  opens (node k cs) = cond (spreads k) (is_in_op k || any_of cs) (cond (fronts k) (first_of cs) false)
+  opens (node k cs) = cond (spreads k) (is_in_op k || any_of cs) (cond (fronts k) (first_of cs) (cond (lasts k) (second_of cs) false))
   opens (list ts) = false
 
   pub any_of : Forest → Bool
@@ -38,6 +43,11 @@ abbrev mutual
   pub first_of : Forest → Bool
   first_of none = false
   first_of (part t ts) = opens t
+
+  pub second_of : Forest → Bool
+  second_of none = false
+  second_of (part t none) = false
+  second_of (part t (part u us)) = opens u
 
 abbrev pub some_of : (Tree → Bool) → Forest → Bool
 some_of f none = false

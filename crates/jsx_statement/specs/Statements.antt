@@ -15,6 +15,10 @@ use Rattle.jsx_tree.specs.Answers.{Barred, Only}
 use Rattle.jsx_operand.specs.Openings.{NoParts, OnlyParts}
 use Rattle.jsx_operand.specs.Patterns.{is_compound}
 use Rattle.jsx_operand.specs.SoFar.{so_far}
+use Rattle.jsx_operand.specs.Spans.{IsPlacedList}
+use Rattle.jsx_tree.specs.Spans.{Tales}
+use Rattle.jsx_token.specs.Here.{Here}
+use Rattle.jsx_token.specs.Places.{Takes}
 use Rattle.jsx_token.specs.Marks.{row_so_far}
 use Rattle.jsx_token.specs.Headings.{Begins}
 use Rattle.jsx_token.specs.declared.heading.Heading.{Heading}
@@ -23,6 +27,12 @@ use Rattle.jsx_tree.specs.Walk.{tail}
 -- the row of a block, behind its `{`
 abbrev pub block_symbols : Production
 block_symbols = Many Lines grammar.Stmt ∷ symbol.Fixed Outdent ∷ symbol.Fixed (pun "}") ∷ []
+
+-- statements up to the brace behind them, and that
+pub record IsPlacedLines (ds : Tales) (ts : Forest) (x z : Here) : Type 0 where
+  pub middle : Here
+  pub items : IsPlacedList Lines ds ts x middle
+  pub brace : Takes (pun "}") middle z
 
 -- the row of an `if`, behind its first statement
 abbrev pub alternative_symbols : Production

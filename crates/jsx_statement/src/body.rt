@@ -1,48 +1,70 @@
-//! The body of a function (ECMA-262 section 15.2), and directives, which stand first in it and in a module (section 11.2.1).
+//! Directives, which stand first in a program and in the body of a function (ECMA-262 section 11.2.1), and such a body (section 15.2).
 
-ghost use Rattle.std.specs.Prelude.{◌≡◌, ◌≤◌, IfNone, IfOk, MatchOption, OnOk, false, suc};
-ghost use Rattle.jsx_tree.specs.Kinds.{none, part};
+ghost use Rattle.std.specs.Prelude.{◌≡◌, ◌<◌, ◌≤◌, IfNone, IfOk, IfSome, OnOk, map, suc};
+ghost use Rattle.jsx_base.specs.Token.{StringLiteral};
+ghost use Rattle.jsx_tree.specs.Kinds.{leaf, none, part};
+ghost use Rattle.jsx_tree.specs.Grammar.{Lines, TopLines};
 ghost use Rattle.jsx_tree.specs.Spans.{no_tales, tale};
-ghost use Rattle.jsx_tree.specs.StaticRules.{is_string_stmt};
-ghost use Rattle.jsx_tree.specs.View.{view_stmt};
+ghost use Rattle.jsx_tree.specs.Told.{tales, told_directive, told_text};
+ghost use Rattle.jsx_tree.specs.View.{directive, forest, text_of};
 ghost use Rattle.jsx_tree.specs.Answers.{OnlyRow, NoRow};
 ghost use Rattle.jsx_token.specs.Here.{place_of, left};
 ghost use Rattle.jsx_operand.specs.Answers.{Refused};
 ghost use Rattle.jsx_operand.specs.Around.{around_of};
 ghost use Rattle.jsx_operand.specs.Bodies.{ReadsBodies, body_row, body_symbols, told_of, view_body};
 ghost use Rattle.jsx_operand.specs.SoFar.{so_far};
-ghost use Rattle.jsx_operand.specs.Spans.{IsPlacedRow};
-ghost use Rattle.jsx_statement.specs.Directives.{IsString};
+ghost use Rattle.jsx_operand.specs.Spans.{IsPlacedList, IsPlacedRow};
+ghost use Rattle.jsx_statement.specs.Directives.{IsDirective, NoDirective, Prologue, directive_symbols};
 ghost use Rattle.jsx_statement.specs.Within.{ReadsStatements};
 
 use crate::grammar::Statements;
 use crate::statement::Seat;
-use jsx_base::BytePos;
 use jsx_operand::{Body, Context, ParseError};
-use jsx_token::{Fixed, Lexer};
-use jsx_tree::{Expr, LiteralKind, Stmt, Text};
-use std::mem;
+use jsx_token::{Leaf, Lexer};
+use jsx_tree::{Stmt, Text};
+use std::alloc::{AllocError, Global};
 
-/// The text of a string that is a statement alone, without parentheses, taken out of it.
-pub fn take_string<'s>(statement: &mut Stmt<'s>) -> Option<Text<'s>>
-    ensures taken { MatchOption result (is_string_stmt (view_stmt statement.old) ≡ false) (λ t. IsString t statement.old) }
-    ensures stays { IfNone result (statement.new ≡ statement.old) }
+/// Takes a directive if one comes next: a string that is a statement alone, without parentheses. In `"a" + b` and in `"a"` before
+/// `.b`, on whichever line, none does.
+fn take_directive<'s>(lexer: &mut Lexer<'s>) -> Option<Text<'s>>
+    ensures taken { IfSome result (λ t. IsDirective (place_of lexer.old) (directive t) (place_of lexer.new)) }
+    ensures placed { IfSome result (λ t. IsPlacedRow directive_symbols (tale (told_text t) no_tales) (part (leaf StringLiteral (text_of t)) none) lexer.old lexer.new) }
+    ensures shorter { IfSome result (λ _. left lexer.new < left lexer.old) }
+    ensures missing { IfNone result (NoDirective (place_of lexer.old)) }
+    ensures stays { IfNone result (lexer.new ≡ lexer.old) }
 {
-    let Stmt::Expr(_, expr) = statement else {
+    let mut ahead = lexer.fork();
+    let Some(raw) = ahead.leaf(Leaf::Str) else {
         return None;
     };
-    let Expr::Literal(_, LiteralKind::Str, text) = &mut **expr else {
+    let text = Text::Read(raw, ahead.last_place());
+    if !ahead.semicolon() {
         return None;
-    };
-    Some(mem::replace(text, Text::Read("", BytePos(0))))
+    }
+    *lexer = ahead;
+    Some(text)
+}
+
+/// The directives that come first: `"use strict"; 'a'; b`.
+pub fn directives<'s>(alloc: Global, lexer: &mut Lexer<'s>) -> Result<Vec<Text<'s>>, AllocError>
+    ensures read { IfOk result (λ ds. Prologue (place_of lexer.old) (forest (map directive ds.items)) (place_of lexer.new)) }
+    ensures lines { IfOk result (λ ds. IsPlacedList Lines (tales (map told_directive ds.items)) (forest (map directive ds.items)) lexer.old lexer.new) }
+    ensures top_lines { IfOk result (λ ds. IsPlacedList TopLines (tales (map told_directive ds.items)) (forest (map directive ds.items)) lexer.old lexer.new) }
+    ensures within { OnOk result (left lexer.new ≤ left lexer.old) }
+{
+    let mut all = Vec::new(alloc);
+    'directives: while let Some(text) = take_directive(lexer) {
+        all.push(text)?;
+    }
+    Ok(all)
 }
 
 impl<
     F: for<'c, 's> Fn(Context<'c>, &mut Lexer<'s>, Seat) -> Result<Box<Stmt<'s>>, ParseError>,
     B: Copy + for<'c, 's> Fn(Context<'c>, &mut Lexer<'s>) -> Result<Body<'s>, ParseError>,
 > Statements<F, B> {
-    /// The body of a function behind its `{`, with its `}`: directives, and then statements. A string alone is a directive where
-    /// nothing else stands before it: `"use strict"; a; }`.
+    /// The body of a function behind its `{`, with its `}`: directives, and then statements, which are strict code if one of those
+    /// says so: `"use strict"; a; }`.
     pub(crate) fn function_body<'s>(
         &self,
         context: Context,
@@ -55,18 +77,8 @@ impl<
         ensures within { OnOk result (left lexer.new ≤ left lexer.old) }
         ensures refused { Refused result (NoRow so_far (around_of context.entry.around) body_row (place_of lexer.old)) }
     {
-        let mut directives = Vec::new(context.alloc);
-        let mut statements = Vec::new(context.alloc);
-        'lines: while !lexer.take(Fixed::CloseBrace) {
-            let mut next = self.statement(context, lexer)?;
-            if statements.is_empty() {
-                if let Some(text) = take_string(&mut next) {
-                    directives.push(text)?;
-                    continue 'lines;
-                }
-            }
-            statements.push(next)?;
-        }
+        let directives = directives(context.alloc, lexer)?;
+        let statements = self.lines(context.of_code(&directives), lexer)?;
         Ok(Body {
             directives,
             statements,

@@ -1,31 +1,37 @@
 //! What stands in the parentheses of a `for` (ECMA-262 section 14.7.4).
 
-ghost use Rattle.std.specs.Prelude.{◌≡◌, ◌<◌, IfNone, IfOk, IfSome, IsTrue, OnOk, codes, not, ◌&&◌};
+ghost use Rattle.std.specs.Prelude.{◌≡◌, ◌<◌, IfNone, IfOk, IfSome, IsTrue, OnOk, codes, ◌||◌};
 ghost use Rattle.jsx_base.specs.Token.{same};
-ghost use Rattle.jsx_tree.specs.Kinds.{none, part};
-ghost use Rattle.jsx_tree.specs.View.{optional_of, text_of, view_expr};
-ghost use Rattle.jsx_tree.specs.Told.{told_expr, told_optional};
+ghost use Rattle.jsx_tree.specs.Kinds.{Tree, none, part};
+ghost use Rattle.jsx_tree.specs.View.{optional_of, text_of, view_expr, view_target};
+ghost use Rattle.jsx_tree.specs.Told.{told_expr, told_optional, told_pat};
 ghost use Rattle.jsx_tree.specs.Answers.{NoRow, OnlyRow};
 ghost use Rattle.jsx_make.specs.NodeSpans.{expr_at};
 ghost use Rattle.jsx_operand.specs.Around.{around_of};
-ghost use Rattle.jsx_operand.specs.Climbing.{is_target};
+ghost use Rattle.jsx_operand.specs.Covers.{IsTurned};
+ghost use Rattle.jsx_operand.specs.Turning.{retold};
+ghost use Rattle.jsx_token.specs.Growths.{is_blocked};
+ghost use Rattle.jsx_tree.specs.Walk.{is_found};
+ghost use Rattle.jsx_tree.specs.Grammar.{key};
 ghost use Rattle.jsx_operand.specs.SoFar.{so_far};
 ghost use Rattle.jsx_tree.specs.Reading.{forth};
 ghost use Rattle.jsx_token.specs.Here.{place_of, left};
 ghost use Rattle.jsx_operand.specs.Answers.{Refused};
-ghost use Rattle.jsx_statement.specs.Heads.{DeclaresHead, DeclaresNoHead, Heads, IsPlacedHead, IsPlacedHeadBehind, IsStem, AtValue, NoDeclaring, NoHeads, NoStem, clause_row, clause_symbols, declare_sign, is_async, is_closer};
-ghost use Rattle.jsx_operand.specs.Spans.{IsPlaced, IsPlacedFront, Spans};
+ghost use Rattle.jsx_statement.specs.Heads.{DeclaresHead, DeclaresNoHead, Heads, IsPlacedHead, IsPlacedHeadBehind, IsPlacedStem, IsStem, AtValue, NoDeclaring, NoHeads, NoStem, clause_row, clause_symbols, declare_sign, is_async, is_closer};
+ghost use Rattle.jsx_operand.specs.Spans.{IsPlacedFront, Spans};
 ghost use Rattle.jsx_token.specs.Places.{Takes, begin_of, end_of, next_of};
 ghost use Rattle.jsx_operand.specs.Bodies.{ReadsBodies};
 
 use crate::open_in::{any_has_open_in, head_has_open_in};
 use crate::statement::{initialized, more_declarators};
-use jsx_expression::expression::{beginning, grow, more_items, sequence, tagged};
+use jsx_expression::expression::{grow, more_items, operand, sequence, tagged};
 use jsx_expression::pattern::binding;
 use jsx_make::make;
-use jsx_operand::operand::{ASSIGNMENT, fits, is_target, level, target_of};
+use jsx_operand::cover::{refuse_arrow, settle};
+use jsx_operand::operand::{ASSIGNMENT, fits, level};
 use jsx_operand::pattern::start_of_pattern;
-use jsx_operand::{Body, Context, ParseError, expect, give_up, span_to};
+use jsx_operand::turn::turn;
+use jsx_operand::{Body, Context, Cover, ParseError, expect, give_up, span_to};
 use jsx_token::{Fixed, Lexer, Word};
 use jsx_tree::{DeclareWord, Expr, Pat, Text};
 
@@ -97,39 +103,63 @@ where
 }
 
 /// An expression that no comma goes on with, as far as an `in` that is no part of one of its operands: `a.b`, `a = c in d`.
-fn stem<'s, B>(
-    context: Context,
-    lexer: &mut Lexer<'s>,
-    body: B,
-) -> Result<Box<Expr<'s>>, ParseError>
+fn stem<'s, B>(context: Context, lexer: &mut Lexer<'s>, body: B) -> Result<Cover<'s>, ParseError>
 where
     B: Copy + for<'c, 't> Fn(Context<'c>, &mut Lexer<'t>) -> Result<Body<'t>, ParseError>,
     requires bodies { ReadsBodies (left lexer.old) (B.pre body) (B.post body) }
     requires undeclared { NoDeclaring (place_of lexer.old) }
-    ensures read { IfOk result (λ e. IsStem (around_of context.entry.around) (place_of lexer.old) (view_expr e.value) (place_of lexer.new)) }
-    ensures span { IfOk result (λ e. Spans (expr_at e.value) (next_of lexer.old) (end_of lexer.new)) }
-    ensures placed { IfOk result (λ e. IsPlaced (told_expr e.value) (view_expr e.value) lexer.old lexer.new) }
+    ensures read { IfOk result (λ c. IsStem (around_of context.entry.around) (place_of lexer.old) c (place_of lexer.new)) }
+    ensures span { IfOk result (λ c. Spans (expr_at c.expr.value) (next_of lexer.old) (end_of lexer.new)) }
+    ensures placed { IfOk result (λ c. IsPlacedStem c lexer.old lexer.new) }
     ensures shorter { OnOk result (left lexer.new < left lexer.old) }
     ensures refused { Refused result (NoStem (around_of context.entry.around) (place_of lexer.old)) }
 {
-    let mut expr = beginning(context, lexer, body)?;
-    if level(&expr) < ASSIGNMENT {
+    let first = operand(context, lexer, ASSIGNMENT, body)?;
+    if level(&first.expr) < ASSIGNMENT {
         return Err(give_up(lexer));
     }
-    'steps: while !lexer.is_before(Fixed::Word(Word::In)) {
+    if !first.is_expr {
+        return Ok(first);
+    }
+    let mut may_turn = first.may_turn;
+    let mut expr = first.expr;
+    'steps: while !ends_stem(lexer) {
         if lexer.is_before_template() {
             expr = tagged(context, lexer, expr, body)?;
         } else {
             let Some(growth) = lexer.growth(ASSIGNMENT) else {
-                return Ok(expr);
+                refuse_arrow(lexer, ASSIGNMENT)?;
+                return Ok(Cover::of(expr, may_turn));
             };
             if !fits(growth, &expr) {
                 return Err(give_up(lexer));
             }
             expr = grow(context, lexer, growth, expr, body)?;
         }
+        may_turn = true;
     }
-    Ok(expr)
+    Ok(Cover::of(expr, may_turn))
+}
+
+/// Whether an expression that no comma goes on with has come to an `in`, or to its end with the block of an arrow function.
+fn ends_stem(lexer: &mut Lexer) -> bool
+    ensures ahead { result ≡ (is_blocked (place_of lexer.old) || is_found (forth (key "in") (place_of lexer.old))) }
+    ensures stays { lexer.new ≡ lexer.old }
+{
+    lexer.is_behind_block() || lexer.is_before(Fixed::Word(Word::In))
+}
+
+/// What a `for` goes over with, of what was read before its `in` or `of`: a target, or a pattern.
+fn aim<'s>(
+    context: Context,
+    lexer: &Lexer<'s>,
+    first: Cover<'s>,
+) -> Result<Box<Pat<'s>>, ParseError>
+    ensures read { IfOk result (λ p. IsTurned first.entry (view_target p.value)) }
+    ensures told { IfOk result (λ p. told_pat p.value ≡ retold (view_expr first.entry.expr.value) (told_expr first.entry.expr.value)) }
+    ensures refused { Refused result ((p : Tree) → IsTurned first.entry p → Prim.⊥) }
+{
+    turn(context.alloc, lexer.last_place(), first)
 }
 
 /// Whether an expression is the name `async`, which would begin an arrow before `of`.
@@ -152,13 +182,6 @@ fn is_async_text(text: &Text) -> bool
     }
 }
 
-/// Whether a `for`-`of` may assign to an expression.
-fn takes_items(expr: &Expr) -> bool
-    ensures { result ≡ (is_target (view_expr expr.now) && not (is_async (view_expr expr.now))) }
-{
-    is_target(expr) && !is_async(expr)
-}
-
 /// An expression with which a `for` begins: `a.b in`, `a.b of`, or `a = 1;`.
 fn value_head<'s, B>(
     context: Context,
@@ -176,18 +199,16 @@ where
 {
     let first = stem(context, lexer, body)?;
     if lexer.take(Fixed::Word(Word::In)) {
-        if !is_target(&first) {
-            return Err(give_up(lexer));
-        }
-        return Ok(ForHead::Keys(target_of(context.alloc, first)?));
+        return Ok(ForHead::Keys(aim(context, lexer, first)?));
     }
     if lexer.take(Fixed::Word(Word::Of)) {
-        if !takes_items(&first) {
+        if is_async(&first.expr) {
             return Err(give_up(lexer));
         }
-        return Ok(ForHead::Items(target_of(context.alloc, first)?));
+        return Ok(ForHead::Items(aim(context, lexer, first)?));
     }
-    let expr = more_items(context, lexer, first, body)?;
+    let expr = settle(first, lexer)?;
+    let expr = more_items(context, lexer, expr, body)?;
     if head_has_open_in(&expr) {
         return Err(give_up(lexer));
     }

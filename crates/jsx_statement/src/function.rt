@@ -75,7 +75,7 @@ where
     ensures refused { Refused result (NoParts (around_of context.entry.around) (statement ClassDecl) (place_of lexer.old)) }
 {
     let lo = lexer.last_place();
-    let name = bound_name(context, lexer)?;
+    let name = bound_name(context.of_class(), lexer)?;
     let ClassCode { heritage, members } = class_code(context, lexer, body)?;
     let span = span_to(lo, lexer);
     Ok(make::class_declaration(context.alloc, span, name, heritage, members)?)

@@ -1,12 +1,12 @@
 //! Statements, over the function that reads those within (ECMA-262 section 14).
 
-ghost use Rattle.std.specs.Prelude.{◌<◌, ◌≤◌, IfOk, OnOk, map};
+ghost use Rattle.std.specs.Prelude.{◌≡◌, ◌<◌, ◌≤◌, IfOk, OnOk, map, true};
 ghost use Rattle.jsx_tree.specs.Kinds.{Block, statement, list, none, part};
 ghost use Rattle.jsx_tree.specs.Nonterminals as grammar;
 ghost use Rattle.jsx_tree.specs.Grammar.{Part};
 ghost use Rattle.jsx_tree.specs.View.{forest, inside, view_stmt};
 ghost use Rattle.jsx_tree.specs.Spans.{no_tales, tale};
-ghost use Rattle.jsx_tree.specs.Told.{told_list, told_stmt};
+ghost use Rattle.jsx_tree.specs.Told.{tales, told_list, told_stmt};
 ghost use Rattle.jsx_tree.specs.Walk.{one, tail};
 ghost use Rattle.jsx_tree.specs.Answers.{Only, Barred, OnlyRow, NoRow, NoNode, BuiltNode};
 ghost use Rattle.jsx_operand.specs.Around.{around_of};
@@ -16,7 +16,8 @@ ghost use Rattle.std.specs.Str.{chars};
 ghost use Rattle.jsx_statement.specs.Labels.{BuiltLabel, IsPlacedLabelled, NoBody};
 ghost use Rattle.jsx_token.specs.Here.{place_of, left};
 ghost use Rattle.jsx_token.specs.Growths.{opening_sign};
-ghost use Rattle.jsx_statement.specs.Statements.{block_symbols, NoStatement, OnlyStatement, NoneHeaded, OnlyHeaded};
+ghost use Rattle.jsx_statement.specs.Inners.{NoInner, are_inner, is_inner};
+ghost use Rattle.jsx_statement.specs.Statements.{IsPlacedLines, block_symbols, NoStatement, OnlyStatement, NoneHeaded, OnlyHeaded};
 ghost use Rattle.jsx_token.specs.Headings.{heading_sign, NoHeading};
 ghost use Rattle.jsx_operand.specs.Answers.{Refused};
 ghost use Rattle.jsx_make.specs.NodeSpans.{stmt_at};
@@ -34,7 +35,7 @@ use crate::statement::{
 };
 use jsx_make::make;
 use jsx_operand::{Body, Context, Labels, ParseError, give_up, span_to};
-use jsx_token::{Fixed, Heading, Lexer};
+use jsx_token::{Fixed, Heading, Lexer, Word};
 use jsx_tree::Stmt;
 
 /// The grammar of statements, over the functions that read the statements and the bodies within: each production is proved alone.
@@ -208,6 +209,51 @@ impl<
         }
     }
 
+    /// Statements up to the `}`, with it: `a; b; }`.
+    pub(crate) fn lines<'s>(
+        &self,
+        context: Context,
+        lexer: &mut Lexer<'s>,
+    ) -> Result<Vec<Box<Stmt<'s>>>, ParseError>
+        requires nests { ReadsStatements (suc (left lexer.old)) (F.pre self.now.inner) (F.post self.now.inner) }
+        requires bodies { ReadsBodies (left lexer.old) (B.pre self.now.body) (B.post self.now.body) }
+        ensures read { IfOk result (λ v. OnlyRow so_far (around_of context.entry.around) (tail (row_so_far (statement Block))) (place_of lexer.old) (part (list (forest (map (inside view_stmt) v.items))) none) (place_of lexer.new)) }
+        ensures placed { IfOk result (λ v. IsPlacedLines (tales (map (inside told_stmt) v.items)) (forest (map (inside view_stmt) v.items)) lexer.old lexer.new) }
+        ensures within { OnOk result (left lexer.new ≤ left lexer.old) }
+        ensures refused { Refused result (NoRow so_far (around_of context.entry.around) (tail (row_so_far (statement Block))) (place_of lexer.old)) }
+    {
+        let mut all = Vec::new(context.alloc);
+        'statements: while !lexer.take(Fixed::CloseBrace) {
+            let next = self.statement(context, lexer)?;
+            all.push(next)?;
+        }
+        Ok(all)
+    }
+
+    /// A statement of a block or of a case, where a function stands in strict code alone (ECMA-262 sections 14.2 and 14.12; what
+    /// annex B.3.2 says of others is left out).
+    pub(crate) fn inner_statement<'s>(
+        &self,
+        context: Context,
+        lexer: &mut Lexer<'s>,
+    ) -> Result<Box<Stmt<'s>>, ParseError>
+        requires nests { ReadsStatements (suc (left lexer.old)) (F.pre self.now.inner) (F.post self.now.inner) }
+        requires bodies { ReadsBodies (left lexer.old) (B.pre self.now.body) (B.post self.now.body) }
+        ensures read { IfOk result (λ s. Only so_far (around_of context.entry.around) (Part grammar.Stmt) (place_of lexer.old) (one (view_stmt s.value)) (place_of lexer.new)) }
+        ensures inner { IfOk result (λ s. is_inner (around_of context.entry.around) (view_stmt s.value) ≡ true) }
+        ensures placed { IfOk result (λ s. IsPlaced (told_stmt s.value) (view_stmt s.value) lexer.old lexer.new) }
+        ensures shorter { OnOk result (left lexer.new < left lexer.old) }
+        ensures refused { Refused result (NoInner (around_of context.entry.around) (place_of lexer.old)) }
+    {
+        if context.around.is_strict {
+            return Ok(self.statement(context, lexer)?);
+        }
+        if lexer.take(Fixed::Word(Word::Function)) {
+            return Err(give_up(lexer));
+        }
+        Ok(self.statement(context, lexer)?)
+    }
+
     /// The statements of a block, behind its `{` and with its `}`: `a; b; }`.
     pub(crate) fn statements<'s>(
         &self,
@@ -217,13 +263,14 @@ impl<
         requires nests { ReadsStatements (suc (left lexer.old)) (F.pre self.now.inner) (F.post self.now.inner) }
         requires bodies { ReadsBodies (left lexer.old) (B.pre self.now.body) (B.post self.now.body) }
         ensures read { IfOk result (λ v. OnlyRow so_far (around_of context.entry.around) (tail (row_so_far (statement Block))) (place_of lexer.old) (part (list (forest (map (inside view_stmt) v.items))) none) (place_of lexer.new)) }
+        ensures inner { IfOk result (λ v. are_inner (around_of context.entry.around) (forest (map (inside view_stmt) v.items)) ≡ true) }
         ensures placed { IfOk result (λ v. IsPlacedRow block_symbols (tale (told_list (map (inside told_stmt) v.items)) no_tales) (part (list (forest (map (inside view_stmt) v.items))) none) lexer.old lexer.new) }
         ensures within { OnOk result (left lexer.new ≤ left lexer.old) }
-        ensures refused { Refused result (NoRow so_far (around_of context.entry.around) (tail (row_so_far (statement Block))) (place_of lexer.old)) }
+        ensures refused { Refused result (NoNode so_far (around_of context.entry.around) (tail (row_so_far (statement Block))) (statement Block) (place_of lexer.old)) }
     {
         let mut all = Vec::new(context.alloc);
         'statements: while !lexer.take(Fixed::CloseBrace) {
-            let next = self.statement(context, lexer)?;
+            let next = self.inner_statement(context, lexer)?;
             all.push(next)?;
         }
         Ok(all)

@@ -1,7 +1,7 @@
 //! An `in` that no bracket encloses, which the head of a `for` has none of: not `for (a in b;;);` (ECMA-262 section 14.7.4).
 
 ghost use Rattle.std.specs.Prelude.{◌≡◌, ◌||◌, map};
-ghost use Rattle.jsx_tree.specs.Kinds.{Assigns, Binary, expression, none, part};
+ghost use Rattle.jsx_tree.specs.Kinds.{Assigns, Binary, expression, none};
 ghost use Rattle.jsx_tree.specs.StaticRules.{is_in_op};
 ghost use Rattle.jsx_tree.specs.View.{forest, inside, view_access, view_expr, view_operation, view_pat, view_pattern};
 ghost use Rattle.jsx_tree.specs.ViewOperators.{binary_of};
@@ -53,10 +53,10 @@ fn of_operation(operation: &Operation) -> bool
         }
         Operation::Unary(_, _, operand) => has_open_in(operand),
         Operation::Update(_, _, _, target) => of_pattern(target),
+        Operation::Arrow(_, _, value) => has_open_in(value),
+        Operation::BareArrow(_, _, value) => has_open_in(value),
         Operation::Seq(..)
-        | Operation::Arrow(..)
         | Operation::ArrowBlock(..)
-        | Operation::BareArrow(..)
         | Operation::BareArrowBlock(..)
         | Operation::Spread(..)
         | Operation::Hole => false,

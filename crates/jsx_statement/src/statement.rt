@@ -35,7 +35,7 @@ use jsx_expression::pattern::binding;
 use jsx_make::make;
 use jsx_operand::operand::{ASSIGNMENT, start_of};
 use jsx_operand::pattern::{is_compound, start_of_pattern};
-use jsx_operand::{Body, Context, ParseError, give_up, semicolon, span_to};
+use jsx_operand::{Body, Context, Labels, ParseError, give_up, semicolon, span_to};
 use jsx_token::{Ending, Fixed, Lexer, Word};
 use jsx_tree::{Control, DeclareWord, Pat, Stmt};
 
@@ -280,6 +280,14 @@ pub(crate) fn debugger_statement<'s>(
     Ok(make::debugger_statement(context.alloc, span_to(lo, lexer))?)
 }
 
+/// The error at a jump to nowhere: at its word, where none may stand there, and else behind it.
+fn stray_jump(lexer: &Lexer, word: BytePos, may_stand: bool) -> ParseError {
+    if may_stand {
+        return give_up(lexer);
+    }
+    ParseError::Syntax(word)
+}
+
 /// A `break` statement behind its word (ECMA-262 section 14.9).
 pub(crate) fn break_statement<'s>(
     context: Context,
@@ -294,7 +302,8 @@ pub(crate) fn break_statement<'s>(
     let lo = lexer.last_place();
     let label = jump_label(context, lexer)?;
     if !may_break(context, label) {
-        return Err(give_up(lexer));
+        let is_named = !matches!(context.around.labels, Labels::None);
+        return Err(stray_jump(lexer, lo, context.around.breakable || is_named));
     }
     semicolon(context, lexer)?;
     Ok(make::break_statement(context.alloc, span_to(lo, lexer), target(label))?)
@@ -314,7 +323,7 @@ pub(crate) fn continue_statement<'s>(
     let lo = lexer.last_place();
     let label = jump_label(context, lexer)?;
     if !may_continue(context, label) {
-        return Err(give_up(lexer));
+        return Err(stray_jump(lexer, lo, context.around.in_loop));
     }
     semicolon(context, lexer)?;
     Ok(make::continue_statement(context.alloc, span_to(lo, lexer), target(label))?)

@@ -8,12 +8,13 @@ ghost use Rattle.jsx_tree.specs.View.{forest, inside, view_control, view_stmt};
 ghost use Rattle.jsx_tree.specs.Spans.{no_tales, tale};
 ghost use Rattle.jsx_tree.specs.Told.{tales, told_control, told_list, told_stmt};
 ghost use Rattle.jsx_tree.specs.Walk.{tail};
-ghost use Rattle.jsx_tree.specs.Answers.{OnlyRow, NoRow, NoNode, BuiltNode};
+ghost use Rattle.jsx_tree.specs.Answers.{OnlyRow, NoNode, BuiltNode};
 ghost use Rattle.jsx_operand.specs.Around.{around_of};
 ghost use Rattle.jsx_token.specs.Marks.{row_so_far};
 ghost use Rattle.jsx_operand.specs.SoFar.{so_far};
 ghost use Rattle.jsx_token.specs.Here.{place_of, left};
 ghost use Rattle.jsx_token.specs.Growths.{opening_sign};
+ghost use Rattle.jsx_statement.specs.Inners.{NoInners};
 ghost use Rattle.jsx_statement.specs.Cases.{IsBody, IsCase, IsDefault, NoCase, NoCases, body_row, cases_row, cases_symbols, default_row};
 ghost use Rattle.jsx_operand.specs.Answers.{Refused};
 ghost use Rattle.jsx_make.specs.NodeSpans.{stmt_at};
@@ -46,11 +47,11 @@ impl<
         ensures read { IfOk result (λ v. IsBody (around_of context.entry.around) (place_of lexer.old) (list (forest (map (inside view_stmt) v.items))) (place_of lexer.new)) }
         ensures placed { IfOk result (λ v. IsPlacedList Lines (tales (map (inside told_stmt) v.items)) (forest (map (inside view_stmt) v.items)) lexer.old lexer.new) }
         ensures within { OnOk result (left lexer.new ≤ left lexer.old) }
-        ensures refused { Refused result (NoRow so_far (around_of context.entry.around) body_row (place_of lexer.old)) }
+        ensures refused { Refused result (NoInners (around_of context.entry.around) body_row (place_of lexer.old)) }
     {
         let mut all = Vec::new(context.alloc);
         'statements: while !lexer.ends_case() {
-            let next = self.statement(context, lexer)?;
+            let next = self.inner_statement(context, lexer)?;
             all.push(next)?;
         }
         Ok(all)
@@ -67,7 +68,7 @@ impl<
         ensures read { IfOk result (λ s. IsDefault (around_of context.entry.around) (place_of lexer.old) (view_control s.value) (place_of lexer.new)) }
         ensures placed { IfOk result (λ s. IsPlacedBehind (key "default") lexer.old (told_control s.value) (view_control s.value) lexer.new) }
         ensures shorter { OnOk result (left lexer.new < left lexer.old) }
-        ensures refused { Refused result (NoRow so_far (around_of context.entry.around) default_row (place_of lexer.old)) }
+        ensures refused { Refused result (NoInners (around_of context.entry.around) default_row (place_of lexer.old)) }
     {
         let lo = lexer.last_place();
         expect(context, lexer, Fixed::Colon)?;

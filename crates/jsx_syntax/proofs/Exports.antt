@@ -34,7 +34,8 @@ use Rattle.jsx_operand.proofs.Homes.{home_of, no_list, taken_by}
 use Rattle.jsx_operand.proofs.OfSoFar.{of_so_far}
 use Rattle.jsx_operand.proofs.Openings.{parts_barred, parts_only}
 use Rattle.jsx_operand.proofs.Standing.{standing}
-use Rattle.jsx_operand.proofs.Values.{default_heads, led_sign, no_default}
+use Rattle.jsx_operand.proofs.Values.{led_sign}
+use Rattle.jsx_operand.proofs.Headless.{default_heads, no_default}
 use Rattle.jsx_expression.specs.Functions.{NoNamed, named_row}
 use Rattle.jsx_statement.specs.Heads.{NoDeclaring, declare_sign}
 use Rattle.jsx_statement.proofs.Declarations.{undeclared}

@@ -8,7 +8,7 @@ use Rattle.jsx_tree.specs.Nonterminals.{Nonterminal, BindingIdent, Expr, ImportC
 use Rattle.jsx_tree.specs.Grammar.{Context, Fixed, ListShape, Part, TwoOrMore, heads, key, pun}
 use Rattle.jsx_tree.specs.Form.{admits, enough}
 use Rattle.jsx_tree.specs.Reading.{Place, Lost, At, forth, ended_at}
-use Rattle.jsx_tree.specs.StaticRules.{Surroundings}
+use Rattle.jsx_tree.specs.StaticRules.{Surroundings, is_string_stmt}
 use Rattle.jsx_tree.specs.Walk.{Given, Items, Past, Piece, Relation, Walk, around, is_found, is_text, last, many, more, next, nil, one, piece, sign, steady, tail, tree}
 use Rattle.jsx_tree.specs.Language.{Whole}
 use Rattle.jsx_tree.specs.Answers.{Moves, Stuck, Only, Barred, OnlyRow, NoRow, NoNode, BuiltNode}
@@ -20,6 +20,7 @@ use Rattle.jsx_tree.proofs.Rows.Guarded.{guarded, loosen, whole_walk}
 use Rattle.jsx_tree.proofs.Rows.Optionals.{end_shut}
 use Rattle.jsx_tree.proofs.Rows.Placing.{free, free_around, moved}
 use Rattle.jsx_tree.proofs.Rows.Stopping.{is_not, never_stops, or_cases, stays}
+use Rattle.jsx_tree.proofs.Rows.Turns.{item_of}
 use Rattle.jsx_token.specs.Growths.{is_code, lead, opening_sign, same_sign}
 use Rattle.jsx_token.specs.Headings.{Begins, heading_sign}
 use Rattle.jsx_token.specs.Marks.{ends_so_far, row_so_far}
@@ -33,7 +34,9 @@ use Rattle.jsx_operand.proofs.OfSoFar.{of_so_far}
 use Rattle.jsx_operand.proofs.Homes.{AtWhole, IsName, IsString, Taken, at_whole, bindings, home_of, no_list, several, single, strings, taken_by}
 use Rattle.jsx_operand.proofs.Keys.{mark_none}
 use Rattle.jsx_operand.proofs.Standing.{standing}
-use Rattle.jsx_operand.proofs.Values.{First, at_one, begun, led_sign, leaf_forth, literal_opening, move, name, one_opening, opened, opened_sign, opener, opener_of, opener_piece, piece_of, quoted}
+use Rattle.jsx_operand.proofs.Values.{First, at_one, begun, led_sign, leaf_forth, literal_opening, move, name, one_opening, opened, opened_sign, opener, opener_of, opener_piece, piece_of, quoted, bracketed, bracket_none}
+use Rattle.jsx_statement.specs.Directives.{IsDirective}
+use Rattle.jsx_statement.proofs.Directives.{Strings, string_only}
 use Rattle.jsx_statement.proofs.Statements.{coded, end_lost, heading_stands, keyed, lost_if, lost_there, named, none_begins, signed_row, spot_kind, stmts, unlabelled_word, worded_evaluation}
 use Rattle.jsx_syntax.specs.Items.{IsImport, NoImport, elsewhere, called, dotted, NoneBehind, NoneOf, OnlyBehind, OnlyOf, begins_with, behind_word, is_portal}
 
@@ -166,6 +169,7 @@ meta_goes (next (sign e f) (next (sign g h) w)) = dotted (subst (λ p. IsTrue (i
 
 first_goes : {v : Surroundings} {x p : Place} {f : Tree} → IsTrue (is_found (forth (key "import") x)) → First v x f p → NoImport x
 first_goes {x = x} f (name l {t} h w g i) = absurd (literal_opening l t (key "import") x (opener (key "import") refl) h (found_at g i) f)
+first_goes f (bracketed d b r) = absurd (bracket_none (opener (key "import") refl) refl f b r)
 first_goes {x = x} f (quoted d q r) = absurd (opener_piece x (opener (key "import") refl) f (piece_of q r))
 first_goes {v} {x} {p} f (opened d {k} {ts} l g r) =
     or_cases (nat_eq (code k) (code (expression ImportCall))) (nat_eq (code k) (code (expression ImportMeta)))
@@ -231,7 +235,7 @@ export_opens = record { coded = refl; sign' = export_sign }
 
 -- behind its sign
 pub past_sign : {V : List Context → Surroundings} {x y z : Place} {us : Forest} (ps : List Piece) → signed ps ≡ true → Moves (lead ps) x y → Walk (Whole so_far) V ps x us z → Walk (Whole so_far) V (tail ps) y us z
-past_sign {V} {z = z} (piece [] (Fixed s) ∷ ps) g m (next {ts = us} (sign e f) w) = subst (λ p. Walk (Whole so_far) V ps p us z) (sym e ∙ sym m.is) w
+past_sign {V} {z = z} (piece a (Fixed s) ∷ ps) g m (next {ts = us} (sign e f) w) = subst (λ p. Walk (Whole so_far) V ps p us z) (sym e ∙ sym m.is) w
 past_sign _ g m w = cc
 
 whole_portal : {v : Surroundings} {x y : Place} {k : Kind} {ts : Forest} → is_portal k ≡ true → Staged v false Item x (node k ts) y → Walk (Whole so_far) (steady v) (row_so_far k) x ts y
@@ -422,6 +426,18 @@ no_statement_item {v} {x} e n b = record { no = at }
     at g z (tree {t = node k us} q) = item_kind k q.reads
         (λ h. b.no (one (node k us)) z (tree (record { reads = from_item h q.reads; ends_there = of_so_far.ends_there Stmt z (never_stops Stmt z refl) })))
         (λ h. no_portal e n h q.reads)
+
+-- ---- a string is an item as it is a statement
+
+string_far : {x y : Place} {t : Tree} → IsDirective x t y → (w : Text) → forth (Tok Operator IdentifierName w) x ≡ Lost
+string_far {x} d w = lost_if (forth (Tok Operator IdentifierName w) x) (λ f. never_both IdentifierName StringLiteral w d.raw x refl f (found_at (sym d.string.is) d.string.found))
+
+pub string_items : Strings Item
+string_items = record {
+  string = λ {v} {x} {y} {z} {t} {u} d w.
+      let o = item_statement (string_far d (codes "export")) (elsewhere (string_far d (codes "import"))) (string_only {v = v} d.raw d.whole d.string d.semicolon) in
+      ap (λ h. is_string_stmt (item_of h)) (sym (o.alone (one u) z (tree w)).0);
+}
 
 -- ---- nothing stands at the end
 

@@ -2,9 +2,9 @@ pub mod Exports
 pub mod Fitting
 pub mod Imports
 pub mod Items
-pub mod Modules
+pub mod Programs
 pub mod PlacedItems
-pub mod PlacedModules
+pub mod PlacedPrograms
 pub mod Sides
 pub mod Specifiers
 pub mod Staged

@@ -3,7 +3,8 @@ use Rattle.std.proofs.Common.{◌≡◌, List, [], ◌∷◌, Bool, true, false,
 use Rattle.std.proofs.lemmas.Bool.{and_parts, and_from, false≢true}
 use Rattle.std.specs.Prelude.{◌&&◌}
 use Rattle.jsx_base.specs.Token.{Text, TokenKind, JsxName}
-use Rattle.jsx_tree.specs.Kinds.{BinaryOp, Nullish, Kind, program, statement, function, expression, jsx, Module, Directive, Block, Var, VarWord, LetWord, ConstWord, Declarator, Empty, ExprStmt, If, Do, While, Continue, Break, Label, Throw, Debugger, Seq, Assign, OpAssign, Binary, Unary, Cond, ImportCall, Call, Member, Index, Parenthesized, ParenTarget, Element, Tree, leaf, node, list, Forest, none, part, PrefixUpdate, PostfixUpdate, For, ForDeclaration, Switch, Case, Default, Array, Spread, Try, Catch, Object, Property, Shorthand, ComputedKey, ImportMeta, New, NewWithoutArguments, NewTarget, ForIn, ForOf, ForBinding, PlainTemplate, SubstitutedTemplate, TemplateSpan, Tagged, Chain, NameLink, IndexLink, CallLink, Imported, Exported, From, FunctionBody, ImportBare, Import, ImportAll, ImportList, ImportBoth, Specifier, SpecifierAs, ExportNames, ExportFrom, ExportAll, ExportAllAs, ExportDecl, ExportDefaultFn, ExportDefaultClass, ExportDefaultExpr, Return, FunctionDecl, ClassDecl, FunctionExpr, ClassExpr, InObject, InClass, Static, Method, Getter, Setter, Field, SuperCall, SuperMember, SuperIndex, Binds, WithInit, RestPat, ArrayPat, ObjectPat, PropertyPat, ShorthandPat, ShorthandInit, RestProperty}
+use Rattle.jsx_tree.specs.declared.text.Goal.{Goal}
+use Rattle.jsx_tree.specs.Kinds.{BinaryOp, Nullish, Kind, program, statement, function, expression, jsx, Module, Directive, Block, Var, VarWord, LetWord, ConstWord, Declarator, Empty, ExprStmt, If, Do, While, Continue, Break, Label, Throw, Debugger, Seq, Assign, OpAssign, Binary, Unary, Cond, ImportCall, Call, Member, Index, Parenthesized, ParenTarget, Element, Arrow, ArrowBlock, BareArrow, BareArrowBlock, Assigns, Tree, leaf, node, list, Forest, none, part, PrefixUpdate, PostfixUpdate, For, ForDeclaration, Switch, Case, Default, Array, Spread, Try, Catch, Object, Property, Shorthand, ComputedKey, ImportMeta, New, NewWithoutArguments, NewTarget, ForIn, ForOf, ForBinding, PlainTemplate, SubstitutedTemplate, TemplateSpan, Tagged, Chain, NameLink, IndexLink, CallLink, Imported, Exported, From, Script, FunctionBody, ImportBare, Import, ImportAll, ImportList, ImportBoth, Specifier, SpecifierAs, ExportNames, ExportFrom, ExportAll, ExportAllAs, ExportDecl, ExportDefaultFn, ExportDefaultClass, ExportDefaultExpr, Return, FunctionDecl, ClassDecl, FunctionExpr, ClassExpr, InObject, InClass, Static, Method, Getter, Setter, Field, SuperCall, SuperMember, SuperIndex, Binds, WithInit, RestPat, ArrayPat, ObjectPat, PropertyPat, ShorthandPat, ShorthandInit, RestProperty}
 use Rattle.jsx_tree.specs.Nonterminals.{Nonterminal, TagName, Attributes, WholeProgram, assigns, expr, in_homes, homes}
 use Rattle.jsx_tree.specs.Form.{Position, position, positions, shaped, last_only, admits, fits_below, fit_slots, fit_each, is}
 use Rattle.jsx_tree.specs.Sound.{each_node, each_nodes}
@@ -32,6 +33,7 @@ assign_no_tag false = (refl, refl)
 no_tag : (k : Kind) → has_kind k ≡ true → NoTag k
 no_tag (program Module) h = record { name = refl; attribute = refl }
 no_tag (program Directive) h = record { name = refl; attribute = refl }
+no_tag (program Script) h = record { name = refl; attribute = refl }
 no_tag (program FunctionBody) h = record { name = refl; attribute = refl }
 no_tag (program ImportBare) h = record { name = refl; attribute = refl }
 no_tag (program Import) h = record { name = refl; attribute = refl }
@@ -89,6 +91,10 @@ no_tag (expression (Binary o)) h = binary_no_tag o
 no_tag (expression Assign) h = record { name = refl; attribute = refl }
 no_tag (expression (OpAssign o)) h = let p = assign_no_tag (assigns o) in record { name = p.0; attribute = p.1 }
 no_tag (expression Cond) h = record { name = refl; attribute = refl }
+no_tag (expression Arrow) h = record { name = refl; attribute = refl }
+no_tag (expression ArrowBlock) h = record { name = refl; attribute = refl }
+no_tag (expression BareArrow) h = record { name = refl; attribute = refl }
+no_tag (expression BareArrowBlock) h = record { name = refl; attribute = refl }
 no_tag (expression (Unary o)) h = record { name = refl; attribute = refl }
 no_tag (expression (PrefixUpdate o)) h = record { name = refl; attribute = refl }
 no_tag (expression (PostfixUpdate o)) h = record { name = refl; attribute = refl }
@@ -121,13 +127,21 @@ no_tag (expression SuperCall) h = record { name = refl; attribute = refl }
 no_tag (expression SuperMember) h = record { name = refl; attribute = refl }
 no_tag (expression SuperIndex) h = record { name = refl; attribute = refl }
 no_tag (function (WithInit Binds)) h = record { name = refl; attribute = refl }
+no_tag (function (WithInit Assigns)) h = record { name = refl; attribute = refl }
 no_tag (function (RestPat Binds)) h = record { name = refl; attribute = refl }
+no_tag (function (RestPat Assigns)) h = record { name = refl; attribute = refl }
 no_tag (function (ArrayPat Binds)) h = record { name = refl; attribute = refl }
+no_tag (function (ArrayPat Assigns)) h = record { name = refl; attribute = refl }
 no_tag (function (ObjectPat Binds)) h = record { name = refl; attribute = refl }
+no_tag (function (ObjectPat Assigns)) h = record { name = refl; attribute = refl }
 no_tag (function (PropertyPat Binds)) h = record { name = refl; attribute = refl }
+no_tag (function (PropertyPat Assigns)) h = record { name = refl; attribute = refl }
 no_tag (function (ShorthandPat Binds)) h = record { name = refl; attribute = refl }
+no_tag (function (ShorthandPat Assigns)) h = record { name = refl; attribute = refl }
 no_tag (function (ShorthandInit Binds)) h = record { name = refl; attribute = refl }
+no_tag (function (ShorthandInit Assigns)) h = record { name = refl; attribute = refl }
 no_tag (function (RestProperty Binds)) h = record { name = refl; attribute = refl }
+no_tag (function (RestProperty Assigns)) h = record { name = refl; attribute = refl }
 no_tag (expression (PlainTemplate true)) h = record { name = refl; attribute = refl }
 no_tag (expression (PlainTemplate false)) h = record { name = refl; attribute = refl }
 no_tag (expression (SubstitutedTemplate true)) h = record { name = refl; attribute = refl }
@@ -205,8 +219,8 @@ mutual
       let r = and_parts (in_stage c t) (each_in_stage c ts) s in
       and_from _ _ (staged_pass p h c t q.0 r.0) (each_pass p h c ts q.1 r.1)
 
-so_far_pass : (p : Kind → Forest → Bool) → Passes p → (text : Text) (t : Tree) → ReadsSoFar text t → each_node p t ≡ true
-so_far_pass p h text t r = staged_pass p h WholeProgram t (and_parts (admits WholeProgram t) (fits_below WholeProgram t) (and_parts (is WholeProgram t) _ r.reads.read).0).1 r.staged
+so_far_pass : (p : Kind → Forest → Bool) → Passes p → (goal : Goal) (text : Text) (t : Tree) → ReadsSoFar goal text t → each_node p t ≡ true
+so_far_pass p h goal text t r = staged_pass p h WholeProgram t (and_parts (admits WholeProgram t) (fits_below WholeProgram t) (and_parts (is WholeProgram t) _ r.reads.read).0).1 r.staged
 
-pub so_far_simple : (text : Text) (t : Tree) → ReadsSoFar text t → each_node is_simple t ≡ true
-so_far_simple text t r = so_far_pass is_simple (record { on = node_simple }) text t r
+pub so_far_simple : (goal : Goal) (text : Text) (t : Tree) → ReadsSoFar goal text t → each_node is_simple t ≡ true
+so_far_simple goal text t r = so_far_pass is_simple (record { on = node_simple }) goal text t r

@@ -5,6 +5,7 @@ use Rattle.jsx_base.specs.Token.{Text, JsxName}
 use Rattle.jsx_base.specs.declared.place.Span.{Span}
 use Rattle.jsx_tree.specs.declared.program.Program.{Program}
 use Rattle.jsx_tree.specs.declared.program.Program.TheVariants as programs
+use Rattle.jsx_tree.specs.declared.text.Goal.{Goal}
 use Rattle.jsx_tree.specs.declared.tree.Pat.{Pat}
 use Rattle.jsx_tree.specs.declared.tree.Pat.TheVariants as pat
 use Rattle.jsx_tree.specs.Kinds.{Role, Kind, function, expression, jsx, ParenTarget, Parenthesized, Element, Tree, leaf, node, list, Forest, none, part}
@@ -41,8 +42,8 @@ of_tokens (jsx Element) (part (leaf JsxName t) (part (list none) none)) o = refl
 of_tokens (jsx j) cs o = absurd (false≢true o)
 of_tokens k cs o = refl
 
-pub visited_bare : (text : Text) (t : Tree) → ReadsSoFar text t → visited unwrapped_node t ≡ without_parentheses t
-visited_bare text t r = visited_remade unwrapped_node (record { keeps = others_stay }) t (each_weaker is_simple is_bare of_tokens t (so_far_simple text t r))
+pub visited_bare : (goal : Goal) (text : Text) (t : Tree) → ReadsSoFar goal text t → visited unwrapped_node t ≡ without_parentheses t
+visited_bare goal text t r = visited_remade unwrapped_node (record { keeps = others_stay }) t (each_weaker is_simple is_bare of_tokens t (so_far_simple goal text t r))
 
 -- the span of a program, under its two names
 pub same_span : (p : Program) → program_at p ≡ span_of p

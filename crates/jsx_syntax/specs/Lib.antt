@@ -1,4 +1,4 @@
 pub mod Items
-pub mod Modules
+pub mod Programs
 pub mod Parsed
 pub mod Specifiers

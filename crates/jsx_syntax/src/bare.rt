@@ -3,6 +3,7 @@
 
 ghost use Rattle.std.specs.Prelude.{◌≡◌, IfOk, IfNone, IfSome, OnOk, MatchOption};
 ghost use Rattle.jsx_base.specs.Token as token;
+ghost use Rattle.jsx_tree.specs.declared.text.Goal as goals;
 ghost use Rattle.jsx_tree.specs.Kinds.{Binds, Assigns};
 ghost use Rattle.jsx_tree.specs.Normal.{unwrapped_node, without_parentheses};
 ghost use Rattle.jsx_tree.specs.Told.{told, told_expr, told_pat};
@@ -98,7 +99,7 @@ impl Visitor for PairsOff {
 ///
 /// `AllocError` for want of memory. Then the program may be changed in part.
 pub(crate) fn bare(alloc: Global, program: &mut Program<'_>) -> Result<(), AllocError>
-    ensures seen { (text : token.Text) → ReadsSoFar text (view program.old) → OnOk result (view program.new ≡ without_parentheses (view program.old)) }
+    ensures seen { (goal : goals.Goal) (text : token.Text) → ReadsSoFar goal text (view program.old) → OnOk result (view program.new ≡ without_parentheses (view program.old)) }
     ensures places { OnOk result (told program.new ≡ told program.old) }
     ensures whole { OnOk result (span_of program.new ≡ span_of program.old) }
 {

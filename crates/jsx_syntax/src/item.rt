@@ -1,9 +1,8 @@
 //! The items of a module: statements, imports and exports (ECMA-262 section 16.2).
 
-ghost use Rattle.std.specs.Prelude.{◌≡◌, ◌<◌, IfOk, IfNone, OnOk, MatchOption, false};
+ghost use Rattle.std.specs.Prelude.{◌<◌, IfOk, OnOk};
 ghost use Rattle.jsx_tree.specs.Nonterminals as grammar;
 ghost use Rattle.jsx_tree.specs.Grammar.{Part};
-ghost use Rattle.jsx_tree.specs.StaticRules.{is_string_stmt};
 ghost use Rattle.jsx_tree.specs.Told.{told_item};
 ghost use Rattle.jsx_tree.specs.ViewProgram.{view_item};
 ghost use Rattle.jsx_tree.specs.Walk.{one};
@@ -13,15 +12,13 @@ ghost use Rattle.jsx_operand.specs.Around.{around_of};
 ghost use Rattle.jsx_operand.specs.SoFar.{so_far};
 ghost use Rattle.jsx_operand.specs.Answers.{Refused};
 ghost use Rattle.jsx_operand.specs.Spans.{IsPlaced};
-ghost use Rattle.jsx_syntax.specs.Modules.{IsDirective};
 
 use crate::export::export;
 use crate::import::{import, take_import};
 use jsx_operand::{Context, ParseError};
-use jsx_statement::body::take_string;
 use jsx_statement::statement::{Seat, statement};
 use jsx_token::{Fixed, Lexer, Word};
-use jsx_tree::{Item, Text};
+use jsx_tree::Item;
 
 /// An item of a module.
 pub(crate) fn item<'s>(context: Context, lexer: &mut Lexer<'s>) -> Result<Item<'s>, ParseError>
@@ -37,15 +34,4 @@ pub(crate) fn item<'s>(context: Context, lexer: &mut Lexer<'s>) -> Result<Item<'
         return Ok(import(context, lexer)?);
     }
     Ok(Item::Stmt(statement(context, lexer, Seat::Listed)?))
-}
-
-/// The text of a string that is an item alone, without parentheses, taken out of it.
-pub(crate) fn take_directive<'s>(item: &mut Item<'s>) -> Option<Text<'s>>
-    ensures taken { MatchOption result (is_string_stmt (view_item item.old) ≡ false) (λ t. IsDirective t item.old) }
-    ensures stays { IfNone result (item.new ≡ item.old) }
-{
-    match item {
-        Item::Stmt(statement) => take_string(statement),
-        _ => None,
-    }
 }

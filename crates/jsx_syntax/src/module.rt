@@ -1,46 +1,71 @@
-//! A whole text.
+//! A whole text: a module or a script.
 
-ghost use Rattle.std.specs.Prelude.{◌≡◌, ◌<◌, IfOk, IfErr, Some, length};
+ghost use Rattle.std.specs.Prelude.{◌≡◌, ◌<◌, IfOk, IfErr, Some, length, map};
 ghost use Rattle.std.specs.Str.{chars};
 ghost use Rattle.jsx_token.specs.Stage.{ReadsSoFar};
-ghost use Rattle.jsx_tree.specs.ViewProgram.{view};
+ghost use Rattle.jsx_tree.specs.declared.text.Goal.TheVariants as goals;
+ghost use Rattle.jsx_tree.specs.Nonterminals as grammar;
+ghost use Rattle.jsx_tree.specs.View.{directive, forest, inside, view_stmt};
+ghost use Rattle.jsx_tree.specs.ViewProgram.{view, view_item};
 ghost use Rattle.jsx_tree.specs.Spans.{IsTold, placed_in};
-ghost use Rattle.jsx_tree.specs.Told.{told};
+ghost use Rattle.jsx_tree.specs.Grammar.{TopLines};
+ghost use Rattle.jsx_tree.specs.Told.{tales, told, told_item, told_stmt};
+ghost use Rattle.jsx_tree.specs.Answers.{NoneToEnd, OnlyToEnd};
 ghost use Rattle.jsx_token.specs.Here.{place_of};
-ghost use Rattle.jsx_operand.specs.Around.{around_of};
+ghost use Rattle.jsx_operand.specs.Around.{around_of, in_code};
 ghost use Rattle.jsx_operand.specs.Answers.{Refused, NoTree, IsWithin};
-ghost use Rattle.jsx_operand.specs.Spans.{IsPlacedRow, Spans, program_at};
-ghost use Rattle.jsx_syntax.specs.Modules.{NoModule, OnlyModule, module_parts, module_symbols, module_tales};
+ghost use Rattle.jsx_operand.specs.SoFar.{so_far};
+ghost use Rattle.jsx_operand.specs.Spans.{IsPlacedList, IsPlacedRow, Spans, program_at};
+ghost use Rattle.jsx_syntax.specs.Programs.{NoProgram, OnlyProgram, program_parts, program_symbols, program_tales};
 ghost use Rattle.jsx_syntax.specs.Parsed.{IsParsed};
 
 use crate::bare::bare;
-use crate::item::{item, take_directive};
+use crate::item::item;
 use jsx_base::{BytePos, Span};
 use jsx_operand::{Around, Context, Labels, ParseError};
+use jsx_statement::body::directives;
+use jsx_statement::statement::{Seat, statement};
 use jsx_token::Lexer;
-use jsx_tree::{Module, Program};
+use jsx_tree::{Goal, Item, Module, Program, Script, Stmt};
 use std::alloc::Global;
 
-/// The directives and the items of a module, up to the end of the text. A string alone is a directive where nothing else stands
-/// before it (ECMA-262 section 11.2.1): `"use strict"; a`.
-fn module<'s>(context: Context, lexer: &mut Lexer<'s>, span: Span) -> Result<Module<'s>, ParseError>
-    ensures read { IfOk result (λ m. OnlyModule (around_of context.entry.around) (place_of lexer.old) (module_parts m)) }
-    ensures span { IfOk result (λ m. m.span ≡ span) }
-    ensures placed { IfOk result (λ m. IsPlacedRow module_symbols (module_tales m) (module_parts m) lexer.old lexer.new) }
-    ensures refused { Refused result (NoModule (around_of context.entry.around) (place_of lexer.old)) }
+/// The items of a module, up to the end of the text: `import a from "b"; c` (ECMA-262 section 16.2).
+fn items<'s>(context: Context, lexer: &mut Lexer<'s>) -> Result<Vec<Item<'s>>, ParseError>
+    ensures read { IfOk result (λ v. OnlyToEnd so_far (around_of context.entry.around) grammar.Item (place_of lexer.old) (forest (map view_item v.items))) }
+    ensures placed { IfOk result (λ v. IsPlacedList TopLines (tales (map told_item v.items)) (forest (map view_item v.items)) lexer.old lexer.new) }
+    ensures refused { Refused result (NoneToEnd so_far (around_of context.entry.around) grammar.Item (place_of lexer.old)) }
 {
-    let mut directives = Vec::new(context.alloc);
-    let mut body = Vec::new(context.alloc);
+    let mut all = Vec::new(context.alloc);
     'items: while !lexer.is_at_end() {
-        let mut next = item(context, lexer)?;
-        if body.is_empty() {
-            if let Some(text) = take_directive(&mut next) {
-                directives.push(text)?;
-                continue 'items;
-            }
-        }
-        body.push(next)?;
+        let next = item(context, lexer)?;
+        all.push(next)?;
     }
+    Ok(all)
+}
+
+/// The statements of a script, up to the end of the text: `a; b` (ECMA-262 section 16.1).
+fn statements<'s>(context: Context, lexer: &mut Lexer<'s>) -> Result<Vec<Box<Stmt<'s>>>, ParseError>
+    ensures read { IfOk result (λ v. OnlyToEnd so_far (around_of context.entry.around) grammar.Stmt (place_of lexer.old) (forest (map (inside view_stmt) v.items))) }
+    ensures placed { IfOk result (λ v. IsPlacedList TopLines (tales (map (inside told_stmt) v.items)) (forest (map (inside view_stmt) v.items)) lexer.old lexer.new) }
+    ensures refused { Refused result (NoneToEnd so_far (around_of context.entry.around) grammar.Stmt (place_of lexer.old)) }
+{
+    let mut all = Vec::new(context.alloc);
+    'statements: while !lexer.is_at_end() {
+        let next = statement(context, lexer, Seat::Listed)?;
+        all.push(next)?;
+    }
+    Ok(all)
+}
+
+/// The directives and the items of a module, up to the end of the text: `"use client"; import a from "b";`.
+fn module<'s>(context: Context, lexer: &mut Lexer<'s>, span: Span) -> Result<Module<'s>, ParseError>
+    ensures read { IfOk result (λ m. OnlyProgram grammar.Item (λ ds. around_of context.entry.around) (place_of lexer.old) (forest (map directive m.directives.items)) (forest (map view_item m.body.items))) }
+    ensures span { IfOk result (λ m. m.span ≡ span) }
+    ensures placed { IfOk result (λ m. IsPlacedRow (program_symbols grammar.Item) (program_tales m.directives.items (map told_item m.body.items)) (program_parts (forest (map directive m.directives.items)) (forest (map view_item m.body.items))) lexer.old lexer.new) }
+    ensures refused { Refused result (NoProgram grammar.Item (λ ds. around_of context.entry.around) (place_of lexer.old)) }
+{
+    let directives = directives(context.alloc, lexer)?;
+    let body = items(context, lexer)?;
     Ok(Module {
         span,
         directives,
@@ -48,42 +73,105 @@ fn module<'s>(context: Context, lexer: &mut Lexer<'s>, span: Span) -> Result<Mod
     })
 }
 
+/// The directives and the statements of a script, up to the end of the text: `"use strict"; a`. The statements are strict code if a
+/// directive says so (ECMA-262 section 11.2.2).
+fn script<'s>(context: Context, lexer: &mut Lexer<'s>, span: Span) -> Result<Script<'s>, ParseError>
+    ensures read { IfOk result (λ s. OnlyProgram grammar.Stmt (λ ds. in_code ds (around_of context.entry.around)) (place_of lexer.old) (forest (map directive s.directives.items)) (forest (map (inside view_stmt) s.body.items))) }
+    ensures span { IfOk result (λ s. s.span ≡ span) }
+    ensures placed { IfOk result (λ s. IsPlacedRow (program_symbols grammar.Stmt) (program_tales s.directives.items (map (inside told_stmt) s.body.items)) (program_parts (forest (map directive s.directives.items)) (forest (map (inside view_stmt) s.body.items))) lexer.old lexer.new) }
+    ensures refused { Refused result (NoProgram grammar.Stmt (λ ds. in_code ds (around_of context.entry.around)) (place_of lexer.old)) }
+{
+    let directives = directives(context.alloc, lexer)?;
+    let body = statements(context.of_code(&directives), lexer)?;
+    Ok(Script {
+        span,
+        directives,
+        body,
+    })
+}
+
 /// The module that a text is, with the parentheses that are written in it.
-fn written<'s>(alloc: Global, text: &'s str) -> Result<Program<'s>, ParseError>
+fn written_module<'s>(alloc: Global, text: &'s str, span: Span) -> Result<Program<'s>, ParseError>
     requires { length text.now < 0xFFFF_0000 }
-    ensures read { IfOk result (λ program. ReadsSoFar (chars text.now) (view program)) }
-    ensures refused { Refused result (NoTree (chars text.now)) }
+    ensures read { IfOk result (λ program. ReadsSoFar goals.Module (chars text.now) (view program)) }
+    ensures refused { Refused result (NoTree goals.Module (chars text.now)) }
+    ensures span { IfOk result (λ program. program_at program ≡ span) }
+    ensures placed { IfOk result (λ program. IsTold (told program) (placed_in (chars text.now) (view program))) }
+{
+    let labels = Labels::None;
+    let around = Around::of_module(&labels);
+    let mut lexer = Lexer::new(text);
+    let read = module(Context { alloc, around }, &mut lexer, span)?;
+    Ok(Program::Module(read))
+}
+
+/// The script that a text is, with the parentheses that are written in it.
+fn written_script<'s>(alloc: Global, text: &'s str, span: Span) -> Result<Program<'s>, ParseError>
+    requires { length text.now < 0xFFFF_0000 }
+    ensures read { IfOk result (λ program. ReadsSoFar goals.Script (chars text.now) (view program)) }
+    ensures refused { Refused result (NoTree goals.Script (chars text.now)) }
+    ensures span { IfOk result (λ program. program_at program ≡ span) }
+    ensures placed { IfOk result (λ program. IsTold (told program) (placed_in (chars text.now) (view program))) }
+{
+    let labels = Labels::None;
+    let around = Around::of_script(&labels);
+    let mut lexer = Lexer::new(text);
+    let read = script(Context { alloc, around }, &mut lexer, span)?;
+    Ok(Program::Script(read))
+}
+
+/// The program that a text is under the goal, with the parentheses that are written in it.
+fn written_program<'s>(
+    alloc: Global,
+    text: &'s str,
+    goal: Goal,
+    span: Span,
+) -> Result<Program<'s>, ParseError>
+    requires { length text.now < 0xFFFF_0000 }
+    ensures read { IfOk result (λ program. ReadsSoFar goal (chars text.now) (view program)) }
+    ensures refused { Refused result (NoTree goal (chars text.now)) }
+    ensures span { IfOk result (λ program. program_at program ≡ span) }
+    ensures placed { IfOk result (λ program. IsTold (told program) (placed_in (chars text.now) (view program))) }
+{
+    match goal {
+        Goal::Module => written_module(alloc, text, span),
+        Goal::Script => written_script(alloc, text, span),
+    }
+}
+
+/// The same, where an error stands in the text.
+fn written<'s>(alloc: Global, text: &'s str, goal: Goal) -> Result<Program<'s>, ParseError>
+    requires { length text.now < 0xFFFF_0000 }
+    ensures read { IfOk result (λ program. ReadsSoFar goal (chars text.now) (view program)) }
+    ensures refused { Refused result (NoTree goal (chars text.now)) }
     ensures place { IfErr result (IsWithin (length text.now)) }
     ensures span { IfOk result (λ program. Spans (Some (program_at program)) 0 (length text.now)) }
     ensures placed { IfOk result (λ program. IsTold (told program) (placed_in (chars text.now) (view program))) }
 {
     let end = BytePos(text.len() as u32);
-    let labels = Labels::None;
-    let around = Around::of_module(&labels);
-    let mut lexer = Lexer::new(text);
     let span = Span {
         lo: BytePos(0),
         hi: end,
     };
-    match module(Context { alloc, around }, &mut lexer, span) {
-        Ok(module) => Ok(Program::Module(module)),
+    match written_program(alloc, text, goal, span) {
+        Ok(program) => Ok(program),
         Err(ParseError::Syntax(at)) => Err(ParseError::Syntax(at.min(end))),
         Err(ParseError::Memory) => Err(ParseError::Memory),
     }
 }
 
-/// The module that a text is: the tree that is written, without its parentheses.
-pub fn parse<'s>(alloc: Global, text: &'s str) -> Result<Program<'s>, ParseError>
+/// The module or the script that a text is: the tree that is written, without its parentheses.
+pub fn parse<'s>(alloc: Global, text: &'s str, goal: Goal) -> Result<Program<'s>, ParseError>
     requires { length text.now < 0xFFFF_0000 }
-    // What was read is the one tree that the text says, with its parentheses off. Each text is the piece of the source at its
-    // place, and each node below the module runs from its first token to its last.
-    ensures read { IfOk result (λ program. IsParsed (chars text.now) program) }
+    // What was read is the one tree that the text says under the goal, with its parentheses off. Each text is the piece of the
+    // source at its place, and each node below the program runs from its first token to its last.
+    ensures read { IfOk result (λ program. IsParsed goal (chars text.now) program) }
     // A syntax error comes only where no tree reads the text.
-    ensures refused { Refused result (NoTree (chars text.now)) }
+    ensures refused { Refused result (NoTree goal (chars text.now)) }
     ensures place { IfErr result (IsWithin (length text.now)) }
     ensures span { IfOk result (λ program. Spans (Some (program_at program)) 0 (length text.now)) }
 {
-    let mut program = written(alloc, text)?;
+    let mut program = written(alloc, text, goal)?;
     bare(alloc, &mut program)?;
     Ok(program)
 }

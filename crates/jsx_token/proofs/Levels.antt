@@ -1,10 +1,10 @@
 -- Of what goes on with an expression: its row, its mark, and at which levels it does.
-use Rattle.std.proofs.Common.{Bool, true, false, [], ◌∷◌, List, ◌≡◌, nat_le, not, cond, refl, ◌∙◌}
+use Rattle.std.proofs.Common.{Bool, true, false, ◌∷◌, List, ◌≡◌, nat_le, not, cond, refl, ◌∙◌}
 use Rattle.jsx_tree.specs.Grammar.{Fixed, right_of}
 use Rattle.jsx_tree.specs.Walk.{Piece, piece, tail}
 use Rattle.std.specs.Prelude.{Option, Some, None, ◌&&◌, ◌||◌}
 use Rattle.jsx_base.specs.Token.{Lexeme, NumericLiteral, BigIntLiteral, StringLiteral, RegExpLiteral, NoSubstitution, TemplateHead, is_kind}
-use Rattle.jsx_tree.specs.Kinds.{Assigns, Assign, OpAssign, Delete, Unary, Binary, Cond, FunctionExpr, ClassExpr, SuperCall, SuperMember, SuperIndex, Kind, function, expression, PrefixUpdate, Call, Member, Index, NewWithoutArguments, NewTarget, ImportMeta, Object, PostfixUpdate, Increment, Decrement, PlainTemplate, SubstitutedTemplate, Tagged, Chain}
+use Rattle.jsx_tree.specs.Kinds.{Assigns, Arrow, ArrowBlock, BareArrow, BareArrowBlock, Assign, OpAssign, Delete, Unary, Binary, Cond, FunctionExpr, ClassExpr, SuperCall, SuperMember, SuperIndex, Kind, function, expression, PrefixUpdate, Call, Member, Index, NewWithoutArguments, NewTarget, ImportMeta, Object, PostfixUpdate, Increment, Decrement, PlainTemplate, SubstitutedTemplate, Tagged, Chain}
 use Rattle.jsx_tree.specs.Signs.{Sign, Tok}
 use Rattle.jsx_tree.specs.Nonterminals.{Nonterminal, Expr, NullishLeft, MemberObject, DotObject, SimpleTarget, Pat, TagName, NewCallee, homes, in_homes, literal_homes}
 use Rattle.jsx_token.specs.Stage.{has_kind}
@@ -34,7 +34,7 @@ use Rattle.jsx_tree.specs.declared.operator.ProductOp.TheVariants as product
 use Rattle.jsx_tree.specs.ViewOperators.{assign_of, binary_of}
 
 abbrev pub signed : List Piece → Bool
-signed (piece [] (Fixed s) ∷ ps) = true
+signed (piece a (Fixed s) ∷ ps) = true
 signed ps = false
 
 -- ---- of each kind
@@ -49,6 +49,7 @@ is_ruled (expression (PlainTemplate b)) = true
 is_ruled (expression (SubstitutedTemplate b)) = true
 is_ruled (expression Chain) = true
 is_ruled (function FunctionExpr) = true
+is_ruled (expression ArrowBlock) = true
 is_ruled (function ClassExpr) = true
 is_ruled (expression SuperCall) = true
 is_ruled (expression SuperMember) = true
@@ -64,9 +65,15 @@ is_template (expression (PlainTemplate b)) = true
 is_template (expression (SubstitutedTemplate b)) = true
 is_template k = false
 
+-- an arrow function without parentheses, whose row begins with its name: it is read with that, and is no step
+abbrev pub is_named : Kind → Bool
+is_named (expression BareArrow) = true
+is_named (expression BareArrowBlock) = true
+is_named k = false
+
 -- the others of them go on with an expression
 abbrev pub steps_on : Kind → Bool
-steps_on k = grows_on k && not (is_template k)
+steps_on k = grows_on k && (not (is_template k) && not (is_named k))
 
 -- a tag with its template, which goes on by a piece
 abbrev pub is_tagged : Kind → Bool
@@ -105,6 +112,8 @@ abbrev pub edge : Kind → Nonterminal
 edge (expression (Binary o)) = Expr (right_of o)
 edge (expression Cond) = Expr 1
 edge (expression Assign) = Expr 1
+edge (expression Arrow) = Expr 1
+edge (expression BareArrow) = Expr 1
 edge (expression (OpAssign o)) = Expr 1
 edge (expression (Unary o)) = Expr 15
 edge (expression (PrefixUpdate o)) = Expr 17

@@ -2,7 +2,7 @@
 use Rattle.std.proofs.Common.{◌≡◌, ℕ, zero, suc, nat_eq, Bool, true, false, not, List, [], ◌∷◌, refl, sym, ◌∙◌, ap, subst}
 use Rattle.std.specs.Prelude.{Option, Some, None, ◌&&◌}
 use Rattle.std.proofs.lemmas.Bool.{eqb-true}
-use Rattle.jsx_tree.specs.Kinds.{ConstWord, Imported, Exported, From, Module, Specifier, SpecifierAs, Var, Declarator, ExprStmt, Assign, OpAssign, BinaryOp, Nullish, Or, And, BitOr, BitXor, BitAnd, Equal, Unequal, StrictEqual, StrictUnequal, Less, Greater, AtMost, AtLeast, InOp, InstanceOf, ShiftLeft, ShiftRight, ShiftOut, Add, Subtract, Multiply, Divide, Remainder, Exponentiate, Void, TypeOf, Positive, Negative, Complement, Not, Unary, Binary, Cond, Call, Member, Index, New, NewWithoutArguments, NewTarget, ImportCall, ImportMeta, Parenthesized, Element, Kind, program, statement, expression, jsx, Delete, PrefixUpdate, PostfixUpdate, Increment, Decrement, Seq, Array, Object, Spread, ComputedKey, ParenTarget, Binds, Assigns, FunctionExpr, WithInit, RestPat, ArrayPat, ObjectPat, PropertyPat, ShorthandPat, ShorthandInit, RestProperty, function, PlainTemplate, SubstitutedTemplate, TemplateSpan, Tagged, Chain, NameLink, IndexLink, CallLink, InObject, InClass, Static, ClassExpr, Method, Getter, Setter, Field, SuperCall, SuperMember, SuperIndex}
+use Rattle.jsx_tree.specs.Kinds.{ConstWord, Imported, Exported, From, Module, Specifier, SpecifierAs, Var, Declarator, ExprStmt, Arrow, ArrowBlock, BareArrow, BareArrowBlock, Assign, OpAssign, BinaryOp, Nullish, Or, And, BitOr, BitXor, BitAnd, Equal, Unequal, StrictEqual, StrictUnequal, Less, Greater, AtMost, AtLeast, InOp, InstanceOf, ShiftLeft, ShiftRight, ShiftOut, Add, Subtract, Multiply, Divide, Remainder, Exponentiate, Void, TypeOf, Positive, Negative, Complement, Not, Unary, Binary, Cond, Call, Member, Index, New, NewWithoutArguments, NewTarget, ImportCall, ImportMeta, Parenthesized, Element, Kind, program, statement, expression, jsx, Delete, PrefixUpdate, PostfixUpdate, Increment, Decrement, Seq, Array, Object, Spread, ComputedKey, ParenTarget, Binds, Assigns, FunctionExpr, WithInit, RestPat, ArrayPat, ObjectPat, PropertyPat, ShorthandPat, ShorthandInit, RestProperty, function, PlainTemplate, SubstitutedTemplate, TemplateSpan, Tagged, Chain, NameLink, IndexLink, CallLink, InObject, InClass, Static, ClassExpr, Method, Getter, Setter, Field, SuperCall, SuperMember, SuperIndex}
 use Rattle.jsx_tree.specs.Nonterminals.{homes}
 use Rattle.jsx_token.specs.Stage.{has_kind}
 use Rattle.jsx_tree.proofs.Tokens.{and_left, and_right}
@@ -11,7 +11,7 @@ use Rattle.jsx_tree.proofs.Rows.Closers.{any_operand}
 use Rattle.jsx_token.specs.Growths.{levels, any_number, is_level}
 
 abbrev pub kinds : List Kind
-kinds = expression Assign ∷ expression (OpAssign Nullish) ∷ expression (OpAssign Or) ∷ expression (OpAssign And) ∷ expression (OpAssign BitOr) ∷ expression (OpAssign BitXor) ∷ expression (OpAssign BitAnd) ∷ expression (OpAssign ShiftLeft) ∷ expression (OpAssign ShiftRight) ∷ expression (OpAssign ShiftOut) ∷ expression (OpAssign Add) ∷ expression (OpAssign Subtract) ∷ expression (OpAssign Multiply) ∷ expression (OpAssign Divide) ∷ expression (OpAssign Remainder) ∷ expression (OpAssign Exponentiate) ∷ expression (Binary Nullish) ∷ expression (Binary Or) ∷ expression (Binary And) ∷ expression (Binary BitOr) ∷ expression (Binary BitXor) ∷ expression (Binary BitAnd) ∷ expression (Binary Equal) ∷ expression (Binary Unequal) ∷ expression (Binary StrictEqual) ∷ expression (Binary StrictUnequal) ∷ expression (Binary Less) ∷ expression (Binary Greater) ∷ expression (Binary AtMost) ∷ expression (Binary AtLeast) ∷ expression (Binary InOp) ∷ expression (Binary InstanceOf) ∷ expression (Binary ShiftLeft) ∷ expression (Binary ShiftRight) ∷ expression (Binary ShiftOut) ∷ expression (Binary Add) ∷ expression (Binary Subtract) ∷ expression (Binary Multiply) ∷ expression (Binary Divide) ∷ expression (Binary Remainder) ∷ expression (Binary Exponentiate) ∷ expression Cond ∷ expression Call ∷ expression Member ∷ expression Index ∷ expression (Unary Void) ∷ expression (Unary TypeOf) ∷ expression (Unary Positive) ∷ expression (Unary Negative) ∷ expression (Unary Complement) ∷ expression (Unary Not) ∷ expression ImportCall ∷ expression Parenthesized ∷ expression (PrefixUpdate Increment) ∷ expression (PrefixUpdate Decrement) ∷ expression (PostfixUpdate Increment) ∷ expression (PostfixUpdate Decrement) ∷ expression (Unary Delete) ∷ jsx Element ∷ expression Array ∷ expression Object ∷ expression ImportMeta ∷ expression New ∷ expression NewWithoutArguments ∷ expression NewTarget ∷ expression (PlainTemplate false) ∷ expression (SubstitutedTemplate false) ∷ expression Tagged ∷ expression Chain ∷ function FunctionExpr ∷ function ClassExpr ∷ expression SuperCall ∷ expression SuperMember ∷ expression SuperIndex ∷ []
+kinds = expression Assign ∷ expression (OpAssign Nullish) ∷ expression (OpAssign Or) ∷ expression (OpAssign And) ∷ expression (OpAssign BitOr) ∷ expression (OpAssign BitXor) ∷ expression (OpAssign BitAnd) ∷ expression (OpAssign ShiftLeft) ∷ expression (OpAssign ShiftRight) ∷ expression (OpAssign ShiftOut) ∷ expression (OpAssign Add) ∷ expression (OpAssign Subtract) ∷ expression (OpAssign Multiply) ∷ expression (OpAssign Divide) ∷ expression (OpAssign Remainder) ∷ expression (OpAssign Exponentiate) ∷ expression (Binary Nullish) ∷ expression (Binary Or) ∷ expression (Binary And) ∷ expression (Binary BitOr) ∷ expression (Binary BitXor) ∷ expression (Binary BitAnd) ∷ expression (Binary Equal) ∷ expression (Binary Unequal) ∷ expression (Binary StrictEqual) ∷ expression (Binary StrictUnequal) ∷ expression (Binary Less) ∷ expression (Binary Greater) ∷ expression (Binary AtMost) ∷ expression (Binary AtLeast) ∷ expression (Binary InOp) ∷ expression (Binary InstanceOf) ∷ expression (Binary ShiftLeft) ∷ expression (Binary ShiftRight) ∷ expression (Binary ShiftOut) ∷ expression (Binary Add) ∷ expression (Binary Subtract) ∷ expression (Binary Multiply) ∷ expression (Binary Divide) ∷ expression (Binary Remainder) ∷ expression (Binary Exponentiate) ∷ expression Cond ∷ expression Call ∷ expression Member ∷ expression Index ∷ expression (Unary Void) ∷ expression (Unary TypeOf) ∷ expression (Unary Positive) ∷ expression (Unary Negative) ∷ expression (Unary Complement) ∷ expression (Unary Not) ∷ expression ImportCall ∷ expression Parenthesized ∷ expression (PrefixUpdate Increment) ∷ expression (PrefixUpdate Decrement) ∷ expression (PostfixUpdate Increment) ∷ expression (PostfixUpdate Decrement) ∷ expression (Unary Delete) ∷ jsx Element ∷ expression Array ∷ expression Object ∷ expression ImportMeta ∷ expression New ∷ expression NewWithoutArguments ∷ expression NewTarget ∷ expression (PlainTemplate false) ∷ expression (SubstitutedTemplate false) ∷ expression Tagged ∷ expression Chain ∷ function FunctionExpr ∷ function ClassExpr ∷ expression SuperCall ∷ expression SuperMember ∷ expression SuperIndex ∷ expression Arrow ∷ expression ArrowBlock ∷ expression BareArrow ∷ expression BareArrowBlock ∷ []
 
 -- the place of a kind in the list
 abbrev pub code : Kind → ℕ
@@ -89,6 +89,10 @@ code (function ClassExpr) = 70
 code (expression SuperCall) = 71
 code (expression SuperMember) = 72
 code (expression SuperIndex) = 73
+code (expression Arrow) = 74
+code (expression ArrowBlock) = 75
+code (expression BareArrow) = 76
+code (expression BareArrowBlock) = 77
 code k = 0
 
 abbrev pub nth : ℕ → List Kind → Option Kind
@@ -126,11 +130,13 @@ listed_binary Divide = record { is = refl }
 listed_binary Remainder = record { is = refl }
 listed_binary Exponentiate = record { is = refl }
 
--- all but a sequence, a spread and a target in parentheses, which stand in fewer places
+-- all but a sequence, a spread, a target in parentheses and a pattern in brackets that assigns, which stand in fewer places
 abbrev pub is_apart : Kind → Bool
 is_apart (expression Seq) = true
 is_apart (expression Spread) = true
 is_apart (function ParenTarget) = true
+is_apart (function (ArrayPat Assigns)) = true
+is_apart (function (ObjectPat Assigns)) = true
 is_apart k = false
 
 pub listed : (k : Kind) → has_kind k ≡ true → any_operand (homes k) ≡ true → is_apart k ≡ false → Listed k
@@ -152,6 +158,10 @@ listed (expression (OpAssign Divide)) h a s = record { is = refl }
 listed (expression (OpAssign Remainder)) h a s = record { is = refl }
 listed (expression (OpAssign Exponentiate)) h a s = record { is = refl }
 listed (expression Cond) h a s = record { is = refl }
+listed (expression Arrow) h a s = record { is = refl }
+listed (expression ArrowBlock) h a s = record { is = refl }
+listed (expression BareArrow) h a s = record { is = refl }
+listed (expression BareArrowBlock) h a s = record { is = refl }
 listed (expression Call) h a s = record { is = refl }
 listed (expression Member) h a s = record { is = refl }
 listed (expression Index) h a s = record { is = refl }

@@ -26,7 +26,7 @@ pub by_sign : (p : Text → Bool) (s : Sign) (x : Lexeme) → p (text_of_sign s)
 by_sign p (Tok m k t) x a e = subst (λ u. p u ≡ true) (sym (raw_of k t x e)) a
 by_sign p _ x a e = cc
 
-of_sign : (p : Text → Bool) (ss : List Sign) → every_text p ss ≡ true → (x : Lexeme) → is_mark x ss ≡ true → p x.raw ≡ true
+pub of_sign : (p : Text → Bool) (ss : List Sign) → every_text p ss ≡ true → (x : Lexeme) → is_mark x ss ≡ true → p x.raw ≡ true
 of_sign p [] a x h = cc
 of_sign p (s ∷ ss) a x h = or_cases (is_sign x s) (is_mark x ss) h (by_sign p s x (and_left (p (text_of_sign s)) _ a)) (of_sign p ss (and_right (p (text_of_sign s)) _ a) x)
 

@@ -30,7 +30,7 @@ use Rattle.jsx_lex.specs.declared.lexer.Lexer.{Lexer as Tokens}
 use Rattle.jsx_lex.specs.declared.token.Token.{Token}
 use Rattle.jsx_lex.specs.declared.token.TokenKind.TheVariants as token_kind
 use Rattle.jsx_token.specs.Seen.{IsNext, NoNext, next_token}
-use Rattle.jsx_token.specs.Growths.{settled}
+use Rattle.jsx_token.specs.Growths.{closed}
 use Rattle.jsx_token.specs.Semicolons.{lacks, in_list}
 use Rattle.jsx_token.proofs.Spellings.{same_bytes}
 
@@ -171,10 +171,11 @@ token_lacks {h} e r is last n k lost l =
 
 -- ---- a comma goes on with what stands in a list
 
-pub settled_in_list : (x : Place) → settled x ≡ true → in_list x ≡ true
-settled_in_list (At q AfterExpr text) h = h
-settled_in_list Lost h = cc
-settled_in_list (At q _ text) h = cc
+pub closed_in_list : (x : Place) → closed x ≡ true → in_list x ≡ true
+closed_in_list (At q AfterExpr text) h = h
+closed_in_list (At q AfterBlock text) h = h
+closed_in_list Lost h = cc
+closed_in_list (At q _ text) h = cc
 
 comma_on : (q : Text) (e : Ending) (text : Text) → is_do e ≡ false → continues e q (codes ",") ≡ true → IsTrue (is_found (forth (pun ",") (At q e text))) → forth Semicolon (At q e text) ≡ Lost
 comma_on q e text d k f =
@@ -195,6 +196,7 @@ comma_on q e text d k f =
 
 pub comma_first : (z : Place) → in_list z ≡ true → IsTrue (is_found (forth (pun ",") z)) → forth Semicolon z ≡ Lost
 comma_first (At q AfterExpr text) h f = comma_on q AfterExpr text refl refl f
+comma_first (At q AfterBlock text) h f = comma_on q AfterBlock text refl refl f
 comma_first (At q AfterBinding text) h f = comma_on q AfterBinding text refl refl f
 comma_first Lost h f = cc
 comma_first (At q _ text) h f = cc

@@ -13,6 +13,7 @@ use Rattle.jsx_tree.specs.Walk.{is_found}
 use Rattle.jsx_lex.specs.declared.lexer.Lexer.{Lexer as Tokens}
 use Rattle.jsx_lex.specs.declared.token.Token.{Token}
 use Rattle.jsx_lex.specs.declared.token.TokenKind.{TokenKind}
+use Rattle.jsx_lex.specs.declared.token.TokenKind.TheVariants as token_kind
 use Rattle.jsx_lex.specs.Kinds.{kind_of, is_punctuator, spelling}
 use Rattle.jsx_lex.specs.Stand.{rest_of}
 use Rattle.jsx_lex.proofs.Raws.{whole}
@@ -73,6 +74,20 @@ parted {m} {h} n s e =
     sym (whole m first (skip h.rest) kind)
     ∙ (λ i. (sym (n.raw ∙ ap (λ x. x.raw) (skipped m h s)) i) ++ (sym (n.rest ∙ ap (λ x. x.rest) (skipped m h s)) i))
 
+-- at the end of the text too, where the token is empty
+end_kind : (k : TokenKind) → is_kind (kind_of k) NoToken ≡ true → k ≡ token_kind.End
+end_kind token_kind.End e = refl
+end_kind _ e = cc
+
+end_parted : {m : Mode} {h : Here} {t : Token} {b : Tokens} → IsNext m h t b → skips m ≡ true → is_kind (kind_of t.kind) NoToken ≡ true → skip h.rest ≡ chars t.raw.now ++ rest_of b
+end_parted {m} {h} {t} n s e =
+    let first = same h.last [] || breaks h.rest in
+    let empty : skip h.rest ≡ [] = same_is (skip h.rest) [] ((and_parts (same (skip h.rest) []) _ ((n.end s).0 (end_kind t.kind e))).0) in
+    empty ∙ sym ((λ i. (n.raw ∙ ap (λ x. x.raw) (skipped m h s)) i ++ (n.rest ∙ ap (λ x. x.rest) (skipped m h s)) i) ∙ ap (λ w. (at_front m first w).raw ++ (at_front m first w).rest) empty)
+
+pub parted_too : {m : Mode} {h : Here} {t : Token} {b : Tokens} → IsNext m h t b → skips m ≡ true → skip h.rest ≡ chars t.raw.now ++ rest_of b
+parted_too {h = h} {t = t} {b = b} n s = elim (is_kind (kind_of t.kind) NoToken) as (λ v. is_kind (kind_of t.kind) NoToken ≡ v → skip h.rest ≡ chars t.raw.now ++ rest_of b) [ true ↦ λ e. end_parted n s e | false ↦ λ e. parted n s e ] refl
+
 pub begins_by : {m : Mode} {h : Here} {t : Token} {b : Tokens} → IsNext m h t b → skips m ≡ true → is_kind (kind_of t.kind) NoToken ≡ false → begin_of (here_of t.raw.now ending.Expr b) ≡ next_of h
 begins_by n s e = (λ i. n.whole i - size (sym (parted n s e) i))
 
@@ -108,6 +123,7 @@ fixed_some fixed.Dot = refl
 fixed_some fixed.Dots = refl
 fixed_some fixed.QuestionDot = refl
 fixed_some fixed.Star = refl
+fixed_some fixed.Arrow = refl
 fixed_some fixed.Less = refl
 fixed_some fixed.TagSlash = refl
 fixed_some fixed.TagGreater = refl
@@ -128,6 +144,7 @@ fixed_skips fixed.Dot = refl
 fixed_skips fixed.Dots = refl
 fixed_skips fixed.QuestionDot = refl
 fixed_skips fixed.Star = refl
+fixed_skips fixed.Arrow = refl
 fixed_skips fixed.Less = refl
 fixed_skips fixed.TagSlash = refl
 fixed_skips fixed.TagGreater = refl
@@ -148,6 +165,7 @@ sign_is fixed.Dot = refl
 sign_is fixed.Dots = refl
 sign_is fixed.QuestionDot = refl
 sign_is fixed.Star = refl
+sign_is fixed.Arrow = refl
 sign_is fixed.Less = refl
 sign_is fixed.TagSlash = refl
 sign_is fixed.TagGreater = refl
@@ -208,6 +226,7 @@ fixed_full fixed.Dot = refl
 fixed_full fixed.Dots = refl
 fixed_full fixed.QuestionDot = refl
 fixed_full fixed.Star = refl
+fixed_full fixed.Arrow = refl
 fixed_full fixed.Less = refl
 fixed_full fixed.TagSlash = refl
 fixed_full fixed.TagGreater = refl

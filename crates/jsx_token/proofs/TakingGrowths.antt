@@ -5,7 +5,7 @@ use Rattle.std.specs.Str.{chars}
 use Rattle.jsx_base.specs.Token.{Text, Operator, Lexeme, NoToken, among, breaks, is_kind, token, same}
 use Rattle.jsx_tree.specs.Signs.{Ending, AfterExpr, Sign, Tok}
 use Rattle.jsx_tree.specs.Reading.{Place, At, forth, go_if, is_backquote}
-use Rattle.jsx_token.specs.Marks.{marks, is_sign, is_mark, goes_at, steps, goes_on_so_far, ends_so_far, goers, goes_by_mark, is_quoted}
+use Rattle.jsx_token.specs.Marks.{marks, is_sign, is_mark, goes_at, steps, goes_on_so_far, ends_so_far, goers, goes_by_mark, is_quoted, grows_by_mark, unarrowed}
 use Rattle.jsx_tree.specs.Grammar.{pun}
 use Rattle.jsx_tree.specs.Stops.{going, quotes}
 use Rattle.jsx_tree.proofs.Tokens.{and_left, and_right, same_is}
@@ -37,7 +37,7 @@ abbrev pub every_code : List Sign → Bool
 every_code [] = true
 every_code (s ∷ ss) = is_code s && every_code ss
 
-all_code : every_code goers ≡ true
+all_code : every_code marks ≡ true
 unfolding marks
 all_code = refl
 
@@ -49,8 +49,8 @@ pub no_marks : (x : Lexeme) (ss : List Sign) → every_code ss ≡ true → x.ki
 no_marks x [] c e = refl
 no_marks x (s ∷ ss) c e = (λ i. no_sign x s (and_left (is_code s) _ c) e i || no_marks x ss (and_right (is_code s) _ c) e i)
 
-pub none_goes : {h : Here} (n : ℕ) → NoNext Operator h → goes_by_mark n (breaks h.rest) (next_token Operator h) ≡ false
-none_goes {h} n e = ap (λ b. goes_at n (breaks h.rest) (next_token Operator h).raw && b) (no_marks (next_token Operator h) goers all_code e.none) ∙ and_false (goes_at n (breaks h.rest) (next_token Operator h).raw)
+pub none_goes : {h : Here} (n : ℕ) → NoNext Operator h → grows_by_mark n (breaks h.rest) (next_token Operator h) ≡ false
+none_goes {h} n e = ap (λ b. goes_at n (breaks h.rest) (next_token Operator h).raw && b) (no_marks (next_token Operator h) marks all_code e.none) ∙ and_false (goes_at n (breaks h.rest) (next_token Operator h).raw)
 
 -- ---- where one comes
 
@@ -71,24 +71,40 @@ comma_goes_on r b x l e =
     let step : among x.raw steps ≡ false = is_not _ (by_sign (λ t. not (among t steps)) (pun ",") x refl e) in
     (λ i. comma_level r x l e i || (nat_le n 16 && (not b && step i))) ∙ ((λ i. nat_le n 16 && and_false (not b) i) ∙ and_false (nat_le n 16))
 
-off_list : (r : Rung) (b : Bool) (x : Lexeme) (c : Bool) → is_rung r ≡ true → is_sign x (pun ",") ≡ c → is_mark x marks ≡ false → (goes_at (asked r) b x.raw && is_mark x goers) ≡ false
-off_list r b x true l e m = ap (λ c. c && is_mark x goers) (comma_goes_on r b x l e)
-off_list r b x false l e m = (λ i. goes_at (asked r) b x.raw && (e i || m i)) ∙ and_false (goes_at (asked r) b x.raw)
+-- and where no `=>` goes on, it doesn't
+arrow_off : (r : Rung) → is_rung r ≡ true → (nat_le (asked r) 1 || not (among (codes "=>") (going (asked r)))) ≡ true
+arrow_off (rung n) l = of_level (λ m. nat_le m 1 || not (among (codes "=>") (going m))) refl {n = n} l
+arrow_off callee l = refl
 
-pub other_goes : {h : Here} {t : Token} {b : Tokens} (r : Rung) → is_rung r ≡ true → IsNext Operator h t b → growth_by t.kind (chars t.raw.now) ≡ None → goes_by_mark (asked r) (breaks h.rest) (next_token Operator h) ≡ false
-other_goes {h} {t} {b} r l e g = off_list r (breaks h.rest) (next_token Operator h) _ l refl (subst (λ x. is_mark x marks ≡ false) (lexeme_is e) (growth_none t.kind (chars t.raw.now) (next_token Operator h).rest e.spelled g))
+arrow_level : (r : Rung) (x : Lexeme) (c : Bool) → nat_le (asked r) 1 ≡ c → is_rung r ≡ true → is_sign x (pun "=>") ≡ true → unarrowed (asked r) x ≡ true → among x.raw (going (asked r)) ≡ false
+arrow_level r x true q l e u = absurd (clash (is_sign x (pun "=>")) e (is_not _ (ap (λ c. not c || not (is_sign x (pun "=>"))) (sym q) ∙ u)))
+arrow_level r x false q l e u = is_not _ (by_sign (λ t. not (among t (going (asked r)))) (pun "=>") x (ap (λ c. c || not (among (codes "=>") (going (asked r)))) (sym q) ∙ arrow_off r l) e)
+
+arrow_goes_on : (r : Rung) (b : Bool) (x : Lexeme) → is_rung r ≡ true → is_sign x (pun "=>") ≡ true → unarrowed (asked r) x ≡ true → goes_at (asked r) b x.raw ≡ false
+arrow_goes_on r b x l e u =
+    let n = asked r in
+    let step : among x.raw steps ≡ false = is_not _ (by_sign (λ t. not (among t steps)) (pun "=>") x refl e) in
+    (λ i. arrow_level r x (nat_le (asked r) 1) refl l e u i || (nat_le n 16 && (not b && step i))) ∙ ((λ i. nat_le n 16 && and_false (not b) i) ∙ and_false (nat_le n 16))
+
+off_list : (r : Rung) (b : Bool) (x : Lexeme) (c d : Bool) → is_rung r ≡ true → unarrowed (asked r) x ≡ true → is_sign x (pun ",") ≡ c → is_sign x (pun "=>") ≡ d → grows_by_mark (asked r) b x ≡ false → goes_by_mark (asked r) b x ≡ false
+off_list r b x true d l u e f m = ap (λ c. c && is_mark x goers) (comma_goes_on r b x l e)
+off_list r b x false true l u e f m = ap (λ c. c && is_mark x goers) (arrow_goes_on r b x l f u)
+off_list r b x false false l u e f m = (λ i. goes_at (asked r) b x.raw && (e i || (f i || is_mark x marks))) ∙ m
+
+pub other_goes : {h : Here} {t : Token} {b : Tokens} (r : Rung) → is_rung r ≡ true → IsNext Operator h t b → growth_by t.kind (chars t.raw.now) ≡ None → grows_by_mark (asked r) (breaks h.rest) (next_token Operator h) ≡ false
+other_goes {h} {t} {b} r l e g = ap (λ c. goes_at (asked r) (breaks h.rest) (next_token Operator h).raw && c) (subst (λ x. is_mark x marks ≡ false) (lexeme_is e) (growth_none t.kind (chars t.raw.now) (next_token Operator h).rest e.spelled g)) ∙ and_false (goes_at (asked r) (breaks h.rest) (next_token Operator h).raw)
 
 sign_there : {h : Here} {t : Token} {b : Tokens} (g : Growth) → IsNext Operator h t b → growth_by t.kind (chars t.raw.now) ≡ Some g → is_sign (next_token Operator h) (mark (growth_kind g)) ≡ true
 sign_there {h} {t} g e is = subst (λ x. is_sign x (mark (growth_kind g)) ≡ true) (lexeme_is e) (growth_mark t.kind (chars t.raw.now) (next_token Operator h).rest g e.spelled is)
 
-pub below_goes : {h : Here} {t : Token} {b : Tokens} (r : Rung) (g : Growth) → is_rung r ≡ true → IsNext Operator h t b → growth_by t.kind (chars t.raw.now) ≡ Some g → reaches r (growth_kind g) ≡ false → goes_by_mark (asked r) (breaks h.rest) (next_token Operator h) ≡ false
+pub below_goes : {h : Here} {t : Token} {b : Tokens} (r : Rung) (g : Growth) → is_rung r ≡ true → IsNext Operator h t b → growth_by t.kind (chars t.raw.now) ≡ Some g → reaches r (growth_kind g) ≡ false → grows_by_mark (asked r) (breaks h.rest) (next_token Operator h) ≡ false
 below_goes {h} r g l e is below =
-    ap (λ c. c && is_mark (next_token Operator h) goers) (mark_among r (growth_kind g) l (growth_listed g) (growth_marks g) (breaks h.rest) (next_token Operator h) (sign_there g e is) ∙ ap (λ c. c && not (on_line (growth_kind g) && breaks h.rest)) below)
+    ap (λ c. c && is_mark (next_token Operator h) marks) (mark_among r (growth_kind g) l (growth_listed g) (growth_marks g) (breaks h.rest) (next_token Operator h) (sign_there g e is) ∙ ap (λ c. c && not (on_line (growth_kind g) && breaks h.rest)) below)
 
 -- on a new line
-pub line_goes : {h : Here} {t : Token} {b : Tokens} (r : Rung) (g : Growth) → is_rung r ≡ true → IsNext Operator h t b → growth_by t.kind (chars t.raw.now) ≡ Some g → (on_line (growth_kind g) && t.new_line) ≡ true → goes_by_mark (asked r) (breaks h.rest) (next_token Operator h) ≡ false
+pub line_goes : {h : Here} {t : Token} {b : Tokens} (r : Rung) (g : Growth) → is_rung r ≡ true → IsNext Operator h t b → growth_by t.kind (chars t.raw.now) ≡ Some g → (on_line (growth_kind g) && t.new_line) ≡ true → grows_by_mark (asked r) (breaks h.rest) (next_token Operator h) ≡ false
 line_goes {h} {t} r g l e is late =
-    ap (λ c. c && is_mark (next_token Operator h) goers) (mark_among r (growth_kind g) l (growth_listed g) (growth_marks g) (breaks h.rest) (next_token Operator h) (sign_there g e is)
+    ap (λ c. c && is_mark (next_token Operator h) marks) (mark_among r (growth_kind g) l (growth_listed g) (growth_marks g) (breaks h.rest) (next_token Operator h) (sign_there g e is)
     ∙ ((λ i. reaches r (growth_kind g) && not (on_line (growth_kind g) && sym (e.line refl) i)) ∙ (λ i. reaches r (growth_kind g) && not (late i)) ∙ and_false (reaches r (growth_kind g))))
 
 -- on the line
@@ -121,8 +137,8 @@ growth_took {h} {t} g e is = took (next_token Operator h).rest (mark (growth_kin
 
 -- ---- where none goes on, an expression has come to its end
 
-pub ended : (r : Rung) (h : Here) → settled (place_of h) ≡ true → goes_by_mark (asked r) (breaks h.rest) (next_token Operator h) ≡ false → is_quoted (next_token Operator h) ≡ false → ends_so_far (seat r) (place_of h) ≡ true
-ended r h s g u = at h.last h.ending h.rest s g u
+pub ended : (r : Rung) (h : Here) → is_rung r ≡ true → settled (place_of h) ≡ true → grows_by_mark (asked r) (breaks h.rest) (next_token Operator h) ≡ false → unarrowed (asked r) (next_token Operator h) ≡ true → is_quoted (next_token Operator h) ≡ false → ends_so_far (seat r) (place_of h) ≡ true
+ended r h l s m n u = at h.last h.ending h.rest s (off_list r (breaks h.rest) (next_token Operator h) _ _ l n refl refl m) u
   where
     at : (q : Text) (e : Ending) (text : Text) → settled (At q e text) ≡ true → goes_by_mark (asked r) (breaks text) (token Operator (same q []) text) ≡ false → is_quoted (token Operator (same q []) text) ≡ false → ends_so_far (seat r) (At q e text) ≡ true
     at q AfterExpr text s g u =

@@ -1,7 +1,7 @@
 -- What goes on with an expression to the right, what one begins with, and how tightly each binds.
 use Rattle.std.specs.Prelude.{◌≡◌, ℕ, List, [], ◌∷◌, Bool, true, false, not, nat_le, nat_eq, IsTrue, ◌&&◌, ◌||◌}
 use Rattle.jsx_base.specs.Token.{Operator, NoToken, is_kind, same, kind_number}
-use Rattle.jsx_tree.specs.Signs.{AfterExpr, Sign, Semicolon, Tok, SameLine}
+use Rattle.jsx_tree.specs.Signs.{AfterBlock, AfterExpr, Sign, Semicolon, Tok, SameLine}
 use Rattle.jsx_tree.specs.Kinds.{BinaryOp, Nullish, Exponentiate, ExpressionKind, Seq, Assign, OpAssign, Arrow, ArrowBlock, BareArrow, BareArrowBlock, Cond, Binary, Unary, PrefixUpdate, PostfixUpdate, Call, Member, Index, Chain, New, NewWithoutArguments, ImportCall, Array, Object, Parenthesized, SuperCall, FunctionExpr, ClassExpr, Kind, function, expression}
 use Rattle.jsx_tree.specs.Nonterminals.{Nonterminal, Expr, NewCallee, ChainLink, level_of}
 use Rattle.jsx_tree.specs.Form.{calls}
@@ -109,6 +109,8 @@ left_level o = level_of o
 abbrev pub fits_by : Kind → ℕ → Bool
 fits_by (expression (Binary o)) n = nat_le (left_level o) n || (nat_eq n 3 && nat_eq (level_of o) 3)
 fits_by (expression Cond) n = nat_le 3 n
+fits_by (expression BareArrow) n = false
+fits_by (expression BareArrowBlock) n = false
 fits_by k n = nat_le 18 n
 
 -- what goes on by links, the first of which begins with its mark
@@ -150,6 +152,16 @@ reaches callee k = nat_le 17 (level_of_kind k) && not (calls k)
 abbrev pub settled : Place → Bool
 settled (At q AfterExpr text) = not (same q [])
 settled x = false
+
+-- behind the block of an arrow function, with which nothing but a comma goes on
+abbrev pub is_blocked : Place → Bool
+is_blocked (At q AfterBlock text) = true
+is_blocked x = false
+
+-- behind an expression of the level of assignments
+abbrev pub closed : Place → Bool
+closed (At q AfterBlock text) = not (same q [])
+closed x = settled x
 
 -- ---- what an expression begins with that is neither a literal nor an element
 

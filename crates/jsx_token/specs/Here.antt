@@ -1,7 +1,7 @@
 -- Where the lexer stands, and the tokens that the parser asks it for.
 use Rattle.std.specs.Prelude.{ℕ, codes, length}
 use Rattle.jsx_base.specs.Token.{Text, Operand, Operator, Piece as PieceMode, Tag, TokenKind, IdentifierName, Punctuator, NumericLiteral, BigIntLiteral, StringLiteral, RegExpLiteral, NoSubstitution, TemplateHead, TemplateMiddle, TemplateTail, JsxName}
-use Rattle.jsx_tree.specs.Signs.{Sign, Tok, Ending, AfterExpr, AfterWord, AfterList, AfterBinding, AfterKey, AfterDo}
+use Rattle.jsx_tree.specs.Signs.{Sign, Tok, Ending, AfterExpr, AfterBlock, AfterWord, AfterList, AfterBinding, AfterKey, AfterDo}
 use Rattle.jsx_tree.specs.Spelling.{mode_of}
 use Rattle.jsx_tree.specs.Reading.{Place, At}
 use Rattle.jsx_token.specs.WordTexts.{word_text}
@@ -31,6 +31,7 @@ ending_of ending.Word = AfterWord
 ending_of ending.List = AfterList
 ending_of ending.Key = AfterKey
 ending_of ending.Do = AfterDo
+ending_of ending.Block = AfterBlock
 
 -- how many characters are left
 abbrev pub left : Here → ℕ
@@ -52,6 +53,7 @@ sign_of fixed.Dot = Tok Operator Punctuator (codes ".")
 sign_of fixed.Dots = Tok Operator Punctuator (codes "...")
 sign_of fixed.QuestionDot = Tok Operator Punctuator (codes "?.")
 sign_of fixed.Star = Tok Operator Punctuator (codes "*")
+sign_of fixed.Arrow = Tok Operator Punctuator (codes "=>")
 sign_of fixed.Less = Tok Operand Punctuator (codes "<")
 sign_of fixed.TagSlash = Tok Tag Punctuator (codes "/")
 sign_of fixed.TagGreater = Tok Tag Punctuator (codes ">")

@@ -20,3 +20,8 @@ next_of h = h.end - size (skip h.rest)
 pub record Takes (s : Sign) (x y : Here) : Type 0 where
   pub leads : forth s (place_of x) ≡ place_of y
   pub same : y.end ≡ x.end
+
+-- a text that no tree reads is given up at the token that comes next, or at the one that was taken last
+pub data FailsNear (h : Here) (n : ℕ) : Type 0 where
+  at_next : n ≡ next_of h → FailsNear h n
+  at_last : n ≡ begin_of h → FailsNear h n

@@ -26,6 +26,7 @@ fixed_mode fixed.Dot = Operator
 fixed_mode fixed.Dots = Operator
 fixed_mode fixed.QuestionDot = Operator
 fixed_mode fixed.Star = Operator
+fixed_mode fixed.Arrow = Operator
 fixed_mode fixed.Less = Operand
 fixed_mode fixed.TagSlash = Tag
 fixed_mode fixed.TagGreater = Tag
@@ -50,6 +51,7 @@ fixed_text fixed.Dot = codes "."
 fixed_text fixed.Dots = codes "..."
 fixed_text fixed.QuestionDot = codes "?."
 fixed_text fixed.Star = codes "*"
+fixed_text fixed.Arrow = codes "=>"
 fixed_text fixed.Less = codes "<"
 fixed_text fixed.TagSlash = codes "/"
 fixed_text fixed.TagGreater = codes ">"

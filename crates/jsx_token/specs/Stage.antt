@@ -2,14 +2,15 @@
 use Rattle.std.specs.Prelude.{List, [], ◌∷◌, codes, Bool, true, false, IsTrue, not, ◌&&◌}
 use Rattle.std.specs.Char.{is_ascii_alphabetic}
 use Rattle.jsx_base.specs.Token.{Text, TokenKind, IdentifierName, NumericLiteral, BigIntLiteral, StringLiteral, RegExpLiteral, NoSubstitution, TemplateHead, TemplateMiddle, TemplateTail, JsxName, Elision, same, first_is}
-use Rattle.jsx_tree.specs.declared.text.Goal.TheVariants as goals
-use Rattle.jsx_tree.specs.Kinds.{Module, Directive, FunctionBody, ImportBare, Import, ImportAll, ImportList, ImportBoth, Specifier, SpecifierAs, ExportNames, ExportFrom, ExportAll, ExportAllAs, ExportDecl, ExportDefaultFn, ExportDefaultExpr, FunctionDecl, Return, Binds, FunctionExpr, WithInit, RestPat, ArrayPat, ObjectPat, PropertyPat, ShorthandPat, ShorthandInit, RestProperty, Block, Var, Declarator, Empty, ExprStmt, If, Do, While, Continue, Break, Throw, Debugger, Assign, OpAssign, Void, TypeOf, Positive, Negative, Complement, Not, Unary, Binary, Cond, Call, Member, Index, Chain, NameLink, IndexLink, CallLink, ImportCall, Parenthesized, Element, Kind, program, statement, expression, jsx, Tree, leaf, node, list, Forest, none, part, Delete, PrefixUpdate, PostfixUpdate, Seq, For, ForDeclaration, Switch, Case, Default, Array, Spread, Try, Catch, Object, Property, Shorthand, ComputedKey, ParenTarget, function, Label, New, NewWithoutArguments, NewTarget, ImportMeta, ForIn, ForOf, ForBinding, PlainTemplate, SubstitutedTemplate, TemplateSpan, Tagged, ExportDefaultClass, ClassDecl, InClass, Static, ClassExpr, Method, Getter, Setter, Field, SuperCall, SuperMember, SuperIndex}
+use Rattle.jsx_tree.specs.Kinds.{Module, Directive, FunctionBody, ImportBare, Import, ImportAll, ImportList, ImportBoth, Specifier, SpecifierAs, ExportNames, ExportFrom, ExportAll, ExportAllAs, ExportDecl, ExportDefaultFn, ExportDefaultExpr, FunctionDecl, Return, Arrow, ArrowBlock, BareArrow, BareArrowBlock, FunctionExpr, WithInit, RestPat, ArrayPat, ObjectPat, PropertyPat, ShorthandPat, ShorthandInit, RestProperty, Block, Var, Declarator, Empty, ExprStmt, If, Do, While, Continue, Break, Throw, Debugger, Assign, OpAssign, Void, TypeOf, Positive, Negative, Complement, Not, Unary, Binary, Cond, Call, Member, Index, Chain, NameLink, IndexLink, CallLink, ImportCall, Parenthesized, Element, Kind, program, statement, expression, jsx, Tree, leaf, node, list, Forest, none, part, Delete, PrefixUpdate, PostfixUpdate, Seq, For, ForDeclaration, Switch, Case, Default, Array, Spread, Try, Catch, Object, Property, Shorthand, ComputedKey, ParenTarget, function, Label, New, NewWithoutArguments, NewTarget, ImportMeta, ForIn, ForOf, ForBinding, PlainTemplate, SubstitutedTemplate, TemplateSpan, Tagged, ExportDefaultClass, ClassDecl, InClass, Static, ClassExpr, Method, Getter, Setter, Field, SuperCall, SuperMember, SuperIndex, Script}
+use Rattle.jsx_tree.specs.declared.text.Goal.{Goal}
 use Rattle.jsx_tree.specs.Nonterminals.{Nonterminal, Expr, MemberObject, NullishLeft, Name, StringOnly, Pat, Slot, PatElement, SimpleTarget, Argument, TagName, WholeProgram, DotObject, assigns, is_value_word, has_dash, ForInit, ArrayItem, Ident, BindingIdent, Param, ImportClause, Key, NewCallee, ForHead, ForOfHead, TemplatePart, SetterParam}
 use Rattle.jsx_tree.specs.Form.{Position, position, positions}
 use Rattle.jsx_tree.specs.Program.{Reads}
 
 abbrev pub has_kind : Kind → Bool
 has_kind (program Module) = true
+has_kind (program Script) = true
 has_kind (program Directive) = true
 has_kind (program FunctionBody) = true
 has_kind (program ImportBare) = true
@@ -58,6 +59,10 @@ has_kind (expression (Binary o)) = true
 has_kind (expression Assign) = true
 has_kind (expression (OpAssign o)) = assigns o
 has_kind (expression Cond) = true
+has_kind (expression Arrow) = true
+has_kind (expression ArrowBlock) = true
+has_kind (expression BareArrow) = true
+has_kind (expression BareArrowBlock) = true
 has_kind (expression (Unary Delete)) = true
 has_kind (expression (Unary Void)) = true
 has_kind (expression (Unary TypeOf)) = true
@@ -82,14 +87,14 @@ has_kind (function (Getter h)) = true
 has_kind (function (Setter h)) = true
 has_kind (function (Field InClass)) = true
 has_kind (function (Field Static)) = true
-has_kind (function (WithInit Binds)) = true
-has_kind (function (RestPat Binds)) = true
-has_kind (function (ArrayPat Binds)) = true
-has_kind (function (ObjectPat Binds)) = true
-has_kind (function (PropertyPat Binds)) = true
-has_kind (function (ShorthandPat Binds)) = true
-has_kind (function (ShorthandInit Binds)) = true
-has_kind (function (RestProperty Binds)) = true
+has_kind (function (WithInit r)) = true
+has_kind (function (RestPat r)) = true
+has_kind (function (ArrayPat r)) = true
+has_kind (function (ObjectPat r)) = true
+has_kind (function (PropertyPat r)) = true
+has_kind (function (ShorthandPat r)) = true
+has_kind (function (ShorthandInit r)) = true
+has_kind (function (RestProperty r)) = true
 has_kind (function ComputedKey) = true
 has_kind (function ParenTarget) = true
 has_kind (expression Array) = true
@@ -140,9 +145,9 @@ leaf_at SimpleTarget IdentifierName t = true
 leaf_at Ident IdentifierName t = true
 leaf_at BindingIdent IdentifierName t = true
 leaf_at Param IdentifierName t = true
-leaf_at (PatElement Binds) IdentifierName t = true
-leaf_at (Slot Binds) IdentifierName t = true
-leaf_at (Slot Binds) Elision t = true
+leaf_at (PatElement r) IdentifierName t = true
+leaf_at (Slot r) IdentifierName t = true
+leaf_at (Slot r) Elision t = true
 leaf_at SetterParam IdentifierName t = true
 leaf_at ImportClause IdentifierName t = true
 leaf_at Name IdentifierName t = true
@@ -181,7 +186,7 @@ abbrev mutual
   each_in_stage c none = true
   each_in_stage c (part t ts) = in_stage c t && each_in_stage c ts
 
--- the text reads as this module, which the compiler takes so far
-pub record ReadsSoFar (text : Text) (t : Tree) : Type 0 where
-  pub reads : Reads goals.Module text t
+-- the text reads as this module or script, which the compiler takes so far
+pub record ReadsSoFar (goal : Goal) (text : Text) (t : Tree) : Type 0 where
+  pub reads : Reads goal text t
   pub staged : IsTrue (in_stage WholeProgram t)

@@ -6,17 +6,17 @@ ghost use Rattle.jsx_base.specs.Token.{Text, IdentifierName, NoSubstitution, Tem
 ghost use Rattle.jsx_tree.specs.Signs.{AfterExpr, Semicolon};
 ghost use Rattle.jsx_tree.specs.Reading.{Lost, forth, go_if, ended_at};
 ghost use Rattle.jsx_tree.specs.Form.{is_leaf};
-ghost use Rattle.jsx_token.specs.Marks.{goes_by_mark, is_quoted};
+ghost use Rattle.jsx_token.specs.Marks.{grows_by_mark, is_quoted};
 ghost use Rattle.jsx_token.specs.Stage.{has_kind};
 ghost use Rattle.jsx_lex.specs.Kinds.{is_punctuator, mode_of as mode_read, kind_of, spelling};
 ghost use Rattle.jsx_token.specs.declared.lexer.Fixed.TheVariants as fixed;
 ghost use Rattle.jsx_token.specs.Here.{Here, place_of, ending_of, left, sign_of, leaf_kind, leaf_sign, piece_kind, piece_sign};
-ghost use Rattle.jsx_token.specs.Growths.{NoOpening, callee, growth_kind, is_level, level_of_kind, mark, opening_kind, opening_sign, reaches, OnLine, settled};
+ghost use Rattle.jsx_token.specs.Growths.{NoOpening, callee, growth_kind, is_level, is_blocked, level_of_kind, mark, opening_kind, opening_sign, reaches, OnLine, settled};
 ghost use Rattle.jsx_tree.specs.Walk.{is_found};
 ghost use Rattle.jsx_token.specs.CaseEnds.{ends_case};
 ghost use Rattle.jsx_token.specs.Headings.{NoHeading, heading_sign};
 ghost use Rattle.jsx_token.specs.Seen.{IsNext, IsSeen, NoNext, here_of, is_it, next_token};
-ghost use Rattle.jsx_token.specs.Places.{Takes, begin_of, end_of, next_of};
+ghost use Rattle.jsx_token.specs.Places.{FailsNear, Takes, begin_of, end_of, next_of};
 ghost use Rattle.jsx_token.specs.Spelled.{IsMarkOf, fixed_mode, fixed_kind, fixed_text, leaf_mode};
 
 use crate::characters::{bytes, is_arrow};
@@ -45,6 +45,8 @@ pub enum Ending {
     Key,
     /// The `)` of a `do`.
     Do,
+    /// The block of an arrow function.
+    Block,
 }
 
 /// A token with one spelling.
@@ -72,6 +74,8 @@ pub enum Fixed {
     QuestionDot,
     /// `*`
     Star,
+    /// `=>`
+    Arrow,
     /// `<` where an expression may begin.
     Less,
     /// `/` in a tag.
@@ -139,6 +143,7 @@ impl Fixed {
             Fixed::Dots => TokenKind::Ellipsis,
             Fixed::QuestionDot => TokenKind::QuestionDot,
             Fixed::Star => TokenKind::Star,
+            Fixed::Arrow => TokenKind::Arrow,
             Fixed::Less => TokenKind::Less,
             Fixed::TagSlash => TokenKind::Slash,
             Fixed::TagGreater => TokenKind::Greater,
@@ -357,6 +362,14 @@ impl<'s> Lexer<'s> {
         is_arrow(seen.token.raw)
     }
 
+    /// Whether the block of an arrow function stands before this place: nothing goes on with it but a comma.
+    #[inline]
+    pub fn is_behind_block(&self) -> bool
+        ensures { result ≡ is_blocked (place_of self.now) }
+    {
+        matches!(self.ending, Ending::Block)
+    }
+
     /// Whether a template comes next.
     pub fn is_before_template(&mut self) -> bool
         ensures ahead { result ≡ is_quoted (next_token Operator self.old) }
@@ -495,7 +508,7 @@ impl<'s> Lexer<'s> {
         ensures ended { IfSome result (λ _. IsTrue (settled (place_of self.new))) }
         ensures reaches { IfSome result (λ g. IsTrue (nat_le level (level_of_kind (growth_kind g)))) }
         ensures shorter { IfSome result (λ g. left self.new < left self.old) }
-        ensures missing { IfNone result (goes_by_mark level (breaks self.old.rest) (next_token Operator self.old) ≡ false) }
+        ensures missing { IfNone result (grows_by_mark level (breaks self.old.rest) (next_token Operator self.old) ≡ false) }
         ensures stays { IfNone result (self.new ≡ self.old) }
     {
         let Some(seen) = self.look(Mode::Operator) else {
@@ -522,7 +535,7 @@ impl<'s> Lexer<'s> {
         ensures ended { IfSome result (λ _. IsTrue (settled (place_of self.new))) }
         ensures reaches { IfSome result (λ g. IsTrue (reaches callee (growth_kind g))) }
         ensures shorter { IfSome result (λ g. left self.new < left self.old) }
-        ensures missing { IfNone result (goes_by_mark 100 (breaks self.old.rest) (next_token Operator self.old) ≡ false) }
+        ensures missing { IfNone result (grows_by_mark 100 (breaks self.old.rest) (next_token Operator self.old) ≡ false) }
         ensures stays { IfNone result (self.new ≡ self.old) }
     {
         let Some(seen) = self.look(Mode::Operator) else {
@@ -595,197 +608,25 @@ impl<'s> Lexer<'s> {
             .saturating_sub(bytes(self.last));
         BytePos(place as u32)
     }
+
+    /// The place at which a text is given up that no tree reads: where the token begins that comes next, if it was looked at, or else the one that
+    /// was taken last.
+    pub fn failing_place(&self) -> BytePos
+        ensures { FailsNear self.now result.0 }
+    {
+        let Some(seen) = self.seen else {
+            return self.last_place();
+        };
+        if !seen.is_behind_gap() {
+            return self.last_place();
+        }
+        let place = self
+            .end
+            .saturating_sub(bytes(seen.behind.rest()))
+            .saturating_sub(bytes(seen.token.raw));
+        BytePos(place as u32)
+    }
 }
 
 #[cfg(test)]
-mod tests {
-    use super::{Ending, Fixed, Leaf, Lexer};
-    use crate::word::Word;
-
-    fn takes(text: &str, fixed: Fixed) -> bool {
-        text.len() < 100 && Lexer::new(text).take(fixed)
-    }
-
-    fn leaf(text: &str, leaf: Leaf) -> &str {
-        if text.len() >= 100 {
-            return "";
-        }
-        Lexer::new(text).leaf(leaf).unwrap_or("")
-    }
-
-    fn is_at_end(text: &str) -> bool {
-        text.len() < 100 && Lexer::new(text).is_at_end()
-    }
-
-    #[test]
-    fn takes_marks(rt: HostRuntime) {
-        for (text, fixed, want) in &[
-            ("const a", Fixed::Word(Word::Const), true),
-            ("constant", Fixed::Word(Word::Const), false),
-            ("= 1", Fixed::Equals, true),
-            ("== 1", Fixed::Equals, false),
-            ("=> 1", Fixed::Equals, false),
-            ("/* \u{2028} * */ ;", Fixed::Semicolon, true),
-            ("// a;", Fixed::Semicolon, false),
-            ("// a\u{2028};", Fixed::Semicolon, true),
-            ("..a", Fixed::Dot, true),
-            ("...a", Fixed::Dot, false),
-            (".5", Fixed::Dot, false),
-            ("...a", Fixed::Dots, true),
-            ("..a", Fixed::Dots, false),
-            ("* as a", Fixed::Star, true),
-            ("** 1", Fixed::Star, false),
-            ("*= 1", Fixed::Star, false),
-            ("from 'm'", Fixed::Word(Word::From), true),
-            ("functional", Fixed::Word(Word::Function), false),
-            ("<a", Fixed::Less, true),
-            ("<!-- a", Fixed::Less, false),
-            (" />", Fixed::TagSlash, true),
-        ] {
-            assert!(rt; takes(text, *fixed) == *want, "at {text}");
-        }
-    }
-
-    /// Whether a statement begins so, and one that stands in lists alone.
-    fn heading(text: &str) -> (bool, bool) {
-        if text.len() >= 100 {
-            return (false, false);
-        }
-        match Lexer::new(text).heading() {
-            Some(heading) => (true, heading.is_lexical()),
-            None => (false, false),
-        }
-    }
-
-    #[test]
-    fn takes_headings(rt: HostRuntime) {
-        for (text, want) in &[
-            ("function a() {}", (true, true)),
-            ("functional()", (false, false)),
-            ("return a", (true, false)),
-            ("let a", (true, true)),
-            ("var a", (true, false)),
-            ("class A {}", (true, true)),
-            ("classes()", (false, false)),
-            ("export {}", (false, false)),
-        ] {
-            assert!(rt; heading(text) == *want, "at {text}");
-        }
-    }
-
-    fn is_ended(text: &str, ending: Ending) -> bool {
-        if text.len() >= 100 {
-            return false;
-        }
-        let mut lexer = Lexer::new(text);
-        lexer.ends(ending);
-        lexer.semicolon()
-    }
-
-    #[test]
-    fn ends_statements(rt: HostRuntime) {
-        for (text, ending, want) in &[
-            (";", Ending::Expr, true),
-            (" a", Ending::Expr, false),
-            ("\na", Ending::Expr, true),
-            ("\n+ a", Ending::Expr, false),
-            ("\n+ a", Ending::Word, true),
-            ("\n= 1", Ending::Binding, false),
-            ("\na", Ending::Key, true),
-            ("\n= 1", Ending::Key, false),
-            ("\n(a) {}", Ending::Key, false),
-            ("\nfrom 'm'", Ending::List, false),
-            ("\nfromage", Ending::List, true),
-            ("\n, a", Ending::List, true),
-            (" a", Ending::Do, true),
-        ] {
-            assert!(rt; is_ended(text, *ending) == *want, "at {text}");
-        }
-    }
-
-    #[test]
-    fn takes_leaves(rt: HostRuntime) {
-        for (text, kind, want) in &[
-            (
-                "\u{FEFF}/* a\n* */ caf\u{E9}1 = 2",
-                Leaf::Name,
-                "caf\u{E9}1",
-            ),
-            ("1a", Leaf::Name, ""),
-            ("/* a", Leaf::Name, ""),
-            ("data-x=", Leaf::JsxName, "data-x"),
-            ("1_000.5e-1_0;", Leaf::Num, "1_000.5e-1_0"),
-            (".5.", Leaf::Num, ".5"),
-            ("0xfF)", Leaf::Num, "0xfF"),
-            ("3in []", Leaf::Num, ""),
-            ("10n", Leaf::Num, ""),
-            ("10n", Leaf::BigInt, "10n"),
-            (
-                "'\\u{10FFFF}\\x41\\\r\n'b",
-                Leaf::Str,
-                "'\\u{10FFFF}\\x41\\\r\n'",
-            ),
-            ("'\\u{110000}'", Leaf::Str, ""),
-            ("'a\nb'", Leaf::Str, ""),
-            ("/[/]\\/b/g;", Leaf::RegExp, "/[/]\\/b/g"),
-            ("/a\n/", Leaf::RegExp, ""),
-            ("//a/", Leaf::RegExp, ""),
-        ] {
-            assert!(rt; leaf(text, *kind) == *want, "at {text}");
-        }
-    }
-
-    /// Whether `<` is taken, after a name was looked for in its place.
-    fn takes_less(text: &str) -> bool {
-        if text.len() >= 100 {
-            return false;
-        }
-        let mut lexer = Lexer::new(text);
-        lexer.leaf(Leaf::Name).is_none() && lexer.take(Fixed::Less)
-    }
-
-    #[test]
-    fn takes_less_where_no_name_is(rt: HostRuntime) {
-        for (text, want) in &[
-            (" <a", true),
-            ("<=a", true),
-            ("<<a", true),
-            ("<!-- a", false),
-            ("/a/", false),
-            ("'a'", false),
-        ] {
-            assert!(rt; takes_less(text) == *want, "at {text}");
-        }
-    }
-
-    fn places(text: &str) -> (u32, u32, u32) {
-        if text.len() >= 100 {
-            return (0, 0, 0);
-        }
-        let mut lexer = Lexer::new(text);
-        let start = lexer.last_place().0;
-        lexer.leaf(Leaf::Name);
-        let name = lexer.last_place().0;
-        lexer.take(Fixed::Equals);
-        (start, name, lexer.last_place().0)
-    }
-
-    #[test]
-    fn places_in_bytes(rt: HostRuntime) {
-        assert_eq!(rt; places(" /* \u{E9} */\u{A0}\u{E9}a = 1"), (0, 11, 15));
-    }
-
-    #[test]
-    fn ends(rt: HostRuntime) {
-        for (text, want) in &[
-            ("", true),
-            (" // a", true),
-            ("/* a", false),
-            ("/**/", true),
-            ("/*/", false),
-            ("a", false),
-        ] {
-            assert!(rt; is_at_end(text) == *want, "at {text}");
-        }
-    }
-}
+mod tests;

@@ -1,6 +1,7 @@
 //! A token that was looked at.
 
-ghost use Rattle.std.specs.Prelude.{IsTrue};
+ghost use Rattle.std.specs.Prelude.{◌≡◌, IsTrue};
+ghost use Rattle.jsx_base.specs.Token.{skips};
 ghost use Rattle.jsx_lex.specs.Kinds.{mode_of as mode_read};
 ghost use Rattle.jsx_token.specs.Seen.{Serves};
 
@@ -13,6 +14,15 @@ pub struct Seen<'s> {
     pub mode: Mode,
     pub token: Token<'s>,
     pub behind: Lexer<'s>,
+}
+
+impl Seen<'_> {
+    /// Whether its mode skips the gap before it.
+    pub fn is_behind_gap(&self) -> bool
+        ensures { result ≡ skips (mode_read self.now.mode) }
+    {
+        !matches!(self.mode, Mode::Piece | Mode::Children)
+    }
 }
 
 /// Whether the token is also the one that comes next in this mode. Where an expression may begin, a token that begins

@@ -82,6 +82,7 @@ fn continues(ending: Ending, last: &str, raw: &str) -> bool
         Ending::Binding => is_equals(raw) || is_comma(raw),
         Ending::Word => false,
         Ending::List => Word::From.is(raw),
+        Ending::Block => is_comma(raw),
         Ending::Key => begins_value(raw) || is_prefix(last),
         Ending::Do => false,
     }

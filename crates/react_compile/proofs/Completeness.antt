@@ -3,6 +3,7 @@ use Rattle.std.proofs.Common.{◌≡◌, ◌⊎◌, ℕ, ◌≤◌, List, ◌++�
 use Rattle.jsx_base.specs.Faults.{Rose}
 use Rattle.jsx_base.specs.Source.{Gives}
 use Rattle.jsx_tree.specs.Kinds.{Tree}
+use Rattle.jsx_tree.specs.declared.text.Goal.TheVariants as goals
 use Rattle.react_compile.specs.Compiles.{IsSource}
 use Rattle.react_compile.specs.Run.{IsAtEnd, TakesAll, TakesTooMany, IsValid}
 use Rattle.react_compile.specs.declared.program.Status.{Status}
@@ -17,10 +18,10 @@ some_taken : (bytes taken : List ℕ) (rest : Option (List ℕ)) → Gives (Some
 some_taken bytes taken None e = absurd (cc)
 some_taken bytes taken (Some more) e = let f : bytes ≡ taken ++ more = cc in omega (arith, ap length f, length-append taken more)
 
-pub not_refused : (left rest : Option (List ℕ)) (source : List ℕ) (a b c d e f : ℕ) → IsValid left a b c d e f → TakesAll left rest source → ((tree : Tree) → IsSource source tree → ⊥) → ⊥
+pub not_refused : (left rest : Option (List ℕ)) (source : List ℕ) (a b c d e f : ℕ) → IsValid left a b c d e f → TakesAll left rest source → ((tree : Tree) → IsSource goals.Module source tree → ⊥) → ⊥
 not_refused left rest source a b c d e f v t none_reads =
     let g : Gives (Some v.bytes) rest source = subst (λ l. Gives l rest source) v.told t.gives in
-    none_reads v.tree (subst (λ xs. IsSource xs v.tree) (taken_all v.bytes source rest g t.to_end) v.is_source)
+    none_reads v.tree (subst (λ xs. IsSource goals.Module xs v.tree) (taken_all v.bytes source rest g t.to_end) v.is_source)
 
 pub not_too_big : (left rest : Option (List ℕ)) (a b c d e f : ℕ) → IsValid left a b c d e f → TakesTooMany left rest → ⊥
 not_too_big left rest a b c d e f v t =

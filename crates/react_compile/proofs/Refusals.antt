@@ -6,6 +6,7 @@ use Rattle.std.specs.Str.{IsUtf8, IsValidUpTo, chars}
 use Rattle.std.proofs.Math.Seq.{take-length}
 use Rattle.std.proofs.lemmas.Str.{utf8_valid_len-IsValidUpTo}
 use Rattle.std.proofs.lemmas.Result.{err_from_is_err_and}
+use Rattle.jsx_tree.specs.declared.text.Goal.{Goal}
 use Rattle.jsx_tree.specs.Kinds.{Tree}
 use Rattle.jsx_operand.specs.Answers.{Refused, NoTree}
 use Rattle.jsx_operand.specs.declared.error.ParseError.{ParseError}
@@ -15,25 +16,25 @@ use Rattle.react_compile.specs.declared.compiler.CompileError.TheVariants.{NotUt
 use Rattle.react_compile.specs.Compiles.{IsSource}
 use Rattle.react_compile.specs.ParseErrors.{compile_error, IsNotUtf8}
 
-none_reads : {T : Type 0} (e : ParseError) (bytes : List ℕ) → Refused {T = T} (Err e) (NoTree (chars bytes)) → (at : ℕ) → compile_error e ≡ Syntax at → (tree : Tree) → IsSource bytes tree → ⊥
+none_reads : {goal : Goal} {T : Type 0} (e : ParseError) (bytes : List ℕ) → Refused {T = T} (Err e) (NoTree goal (chars bytes)) → (at : ℕ) → compile_error e ≡ Syntax at → (tree : Tree) → IsSource goal bytes tree → ⊥
 none_reads (parse.Syntax p) bytes nope at is tree source = (nope.bars p refl).no tree source.reads
 none_reads parse.Memory bytes nope at is tree source = cc
 
-pub refused_by : {T U : Type 0} (r : Result U CompileError) (e : ParseError) (text bytes : List ℕ) → text ≡ bytes → Refused {T = T} (Err e) (NoTree (chars text)) → IsErrAnd r (λ y. y ≡ compile_error e)
-    → (at : ℕ) → r ≡ Err (Syntax at) → (tree : Tree) → IsSource bytes tree → ⊥
-refused_by r e text bytes whole nope is at same tree source =
+pub refused_by : {goal : Goal} {T U : Type 0} (r : Result U CompileError) (e : ParseError) (text bytes : List ℕ) → text ≡ bytes → Refused {T = T} (Err e) (NoTree goal (chars text)) → IsErrAnd r (λ y. y ≡ compile_error e)
+    → (at : ℕ) → r ≡ Err (Syntax at) → (tree : Tree) → IsSource goal bytes tree → ⊥
+refused_by {goal} r e text bytes whole nope is at same tree source =
     let p = err_from_is_err_and r is in
-    none_reads e text nope at (let k : p.0 ≡ Syntax at = cc in sym p.2 ∙ k) tree (subst (λ xs. IsSource xs tree) (sym whole) source)
+    none_reads e text nope at (let k : p.0 ≡ Syntax at = cc in sym p.2 ∙ k) tree (subst (λ xs. IsSource goal xs tree) (sym whole) source)
 
-unless : {T : Type 0} (e : ParseError) (bytes : List ℕ) → Refused {T = T} (Err e) (NoTree (chars bytes)) → (tree : Tree) → IsSource bytes tree → compile_error e ≡ Memory
+unless : {goal : Goal} {T : Type 0} (e : ParseError) (bytes : List ℕ) → Refused {T = T} (Err e) (NoTree goal (chars bytes)) → (tree : Tree) → IsSource goal bytes tree → compile_error e ≡ Memory
 unless (parse.Syntax p) bytes nope tree source = absurd ((nope.bars p refl).no tree source.reads)
 unless parse.Memory bytes nope tree source = refl
 
-pub complete_by : {T U : Type 0} (r : Result U CompileError) (e : ParseError) (text bytes : List ℕ) → text ≡ bytes → Refused {T = T} (Err e) (NoTree (chars text)) → IsErrAnd r (λ y. y ≡ compile_error e)
-    → (tree : Tree) → IsSource bytes tree → IsOkUnless r Memory
-complete_by r e text bytes whole nope is tree source =
+pub complete_by : {goal : Goal} {T U : Type 0} (r : Result U CompileError) (e : ParseError) (text bytes : List ℕ) → text ≡ bytes → Refused {T = T} (Err e) (NoTree goal (chars text)) → IsErrAnd r (λ y. y ≡ compile_error e)
+    → (tree : Tree) → IsSource goal bytes tree → IsOkUnless r Memory
+complete_by {goal} r e text bytes whole nope is tree source =
     let p = err_from_is_err_and r is in
-    subst (λ x. IsOkUnless x Memory) (sym p.1) (p.2 ∙ unless e text nope tree (subst (λ xs. IsSource xs tree) (sym whole) source))
+    subst (λ x. IsOkUnless x Memory) (sym p.1) (p.2 ∙ unless e text nope tree (subst (λ xs. IsSource goal xs tree) (sym whole) source))
 
 parsed : (e : ParseError) (n : ℕ) → compile_error e ≡ NotUtf8 n → ⊥
 parsed (parse.Syntax p) n is = cc
@@ -92,7 +93,7 @@ told_no_syntax r e bytes v is at same =
     let k : r ≡ Err (NotUtf8 t.at) = t.is in
     absurd (cc)
 
-pub told_no_source : {U : Type 0} (r : Result U CompileError) (e : CompileError) (bytes : List ℕ) → IsNotUtf8 bytes e → IsErrAnd r (λ y. y ≡ e) → (tree : Tree) → IsSource bytes tree → IsOkUnless r Memory
+pub told_no_source : {goal : Goal} {U : Type 0} (r : Result U CompileError) (e : CompileError) (bytes : List ℕ) → IsNotUtf8 bytes e → IsErrAnd r (λ y. y ≡ e) → (tree : Tree) → IsSource goal bytes tree → IsOkUnless r Memory
 told_no_source r e bytes v is tree source = let t = told r e bytes v is in absurd (no_front bytes t.at source.utf8 t.valid)
 
 -- the question whether bytes are UTF-8 is answered well where they are

@@ -5,6 +5,7 @@ use Rattle.jsx_base.specs.Faults.{Rose}
 use Rattle.jsx_base.specs.Sink.{Gains, GainsPrefix}
 use Rattle.std.specs.Str.{IsUtf8, IsValidUpTo}
 use Rattle.jsx_tree.specs.Kinds.{Tree}
+use Rattle.jsx_tree.specs.declared.text.Goal.TheVariants as goals
 use Rattle.react_compile.specs.Compiles.{IsSource}
 use Rattle.react_compile.specs.Lines.{bad_words, read_fault, out_of_memory, input_too_big, not_utf8, syntax_error}
 use Rattle.react_compile.specs.Run.{TakesAll, TakesTooMany, KeepsTold, TellsWhy, TellsTooBig, TellsPrefix, GainsWhy, GainsWhyPrefix, max_source}
@@ -56,11 +57,11 @@ gains_not_utf8_prefix source held holds n v (inr g) = inl g
 
 -- the line of a syntax error, whole or as far as it went out
 
-pub gains_syntax : (source : List ℕ) (held holds : Option (List ℕ)) (at : ℕ) → IsUtf8 source → ((tree : Tree) → IsSource source tree → ⊥) → at ≤ length source → Gains held holds (syntax_error source at) → GainsWhy source held holds
+pub gains_syntax : (source : List ℕ) (held holds : Option (List ℕ)) (at : ℕ) → IsUtf8 source → ((tree : Tree) → IsSource goals.Module source tree → ⊥) → at ≤ length source → Gains held holds (syntax_error source at) → GainsWhy source held holds
 gains_syntax source held holds at u none_reads within g =
     record { line = syntax_error source at; why = inr (record { at = at; utf8 = u; no_tree = none_reads; within = within; line_is = refl }); gains = g }
 
-pub gains_syntax_prefix : (source : List ℕ) (held holds : Option (List ℕ)) (at : ℕ) → IsUtf8 source → ((tree : Tree) → IsSource source tree → ⊥) → at ≤ length source → Either held holds (syntax_error source at)
+pub gains_syntax_prefix : (source : List ℕ) (held holds : Option (List ℕ)) (at : ℕ) → IsUtf8 source → ((tree : Tree) → IsSource goals.Module source tree → ⊥) → at ≤ length source → Either held holds (syntax_error source at)
     → GainsPrefix held holds out_of_memory ⊎ GainsWhyPrefix source held holds
 gains_syntax_prefix source held holds at u none_reads within (inl g) =
     inr (record { line = syntax_error source at; why = inr (record { at = at; utf8 = u; no_tree = none_reads; within = within; line_is = refl }); gains = g })

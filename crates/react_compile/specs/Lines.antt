@@ -3,6 +3,7 @@ use Rattle.std.specs.Prelude.{◌≡◌, ◌⊎◌, ℕ, ◌+◌, ◌≤◌, Lis
 use Rattle.std.specs.Str.{IsUtf8, IsValidUpTo, chars}
 use Rattle.jsx_base.specs.Lines.{front, line_of, col_of}
 use Rattle.jsx_tree.specs.Kinds.{Tree}
+use Rattle.jsx_tree.specs.declared.text.Goal.TheVariants as goals
 use Rattle.react_compile.specs.Compiles.{IsSource}
 
 abbrev pub bad_words : List ℕ
@@ -39,7 +40,7 @@ pub record SaysNotUtf8 (source line : List ℕ) : Type 0 where
 pub record SaysSyntaxError (source line : List ℕ) : Type 0 where
   pub at : ℕ
   pub utf8 : IsUtf8 source
-  pub no_tree : (tree : Tree) → IsSource source tree → ⊥
+  pub no_tree : (tree : Tree) → IsSource goals.Module source tree → ⊥
   pub within : at ≤ length source
   pub line_is : line ≡ syntax_error source at
 

@@ -4,6 +4,7 @@ use Rattle.jsx_base.specs.Faults.{Rose}
 use Rattle.jsx_base.specs.Source.{Gives}
 use Rattle.jsx_base.specs.Sink.{Gains, GainsPrefix}
 use Rattle.jsx_tree.specs.Kinds.{Tree}
+use Rattle.jsx_tree.specs.declared.text.Goal.TheVariants as goals
 use Rattle.react_compile.specs.Compiles.{IsSource, Compiles}
 use Rattle.react_compile.specs.Lines.{SaysWhy, bad_words, read_fault, out_of_memory, input_too_big}
 
@@ -52,13 +53,13 @@ pub record KeepsTold (held holds : Option (List ℕ)) : Type 0 where
 -- the sink gained the code of these bytes and nothing else
 pub record GainsCode (source : List ℕ) (held holds : Option (List ℕ)) : Type 0 where
   pub code : List ℕ
-  pub compiles : Compiles source code
+  pub compiles : Compiles goals.Module source code
   pub gains : Gains held holds code
 
 -- the same of a prefix of the code
 pub record GainsCodePrefix (source : List ℕ) (held holds : Option (List ℕ)) : Type 0 where
   pub code : List ℕ
-  pub compiles : Compiles source code
+  pub compiles : Compiles goals.Module source code
   pub gains : GainsPrefix held holds code
 
 -- the whole source was taken, and the sink gained its code and nothing else
@@ -116,7 +117,7 @@ pub record IsValid (left : Option (List ℕ)) (reads_old reads_new out_old out_n
   pub told : left ≡ Some bytes
   pub few : length bytes ≤ max_source
   pub tree : Tree
-  pub is_source : IsSource bytes tree
+  pub is_source : IsSource goals.Module bytes tree
   pub read : Rose reads_old reads_new → ⊥
   pub out : Rose out_old out_new → ⊥
   pub err : Rose err_old err_new → ⊥

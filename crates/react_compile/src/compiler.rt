@@ -5,6 +5,7 @@ ghost use Rattle.std.specs.Str.{IsUtf8, IsValidUpTo};
 ghost use Rattle.react_compile.specs.ParseErrors.{IsNotUtf8};
 ghost use Rattle.jsx_tree.specs.Kinds.{Tree};
 ghost use Rattle.jsx_base.specs.Token as token;
+ghost use Rattle.jsx_tree.specs.declared.text.Goal as goals;
 ghost use Rattle.jsx_token.specs.Stage.{ReadsSoFar};
 ghost use Rattle.jsx_tree.specs.ViewProgram.{view};
 ghost use Rattle.jsx_tree.specs.Normal.{without_parentheses};
@@ -14,7 +15,7 @@ use crate::lower::lower;
 use jsx_print::print;
 use jsx_scope::parenthesise;
 use jsx_syntax::{ParseError, parse};
-use jsx_tree::Program;
+use jsx_tree::{Goal, Program};
 use std::alloc::{AllocError, Global};
 use std::str;
 
@@ -75,7 +76,7 @@ fn text_of(source: &[u8]) -> Result<&str, CompileError>
 /// The code of a program that was read: its elements are lowered, pairs of parentheses put where they are needed, and the whole
 /// printed.
 fn code_of(alloc: Global, program: &mut Program<'_>) -> Result<String, AllocError>
-    ensures { IfOk result (λ code. (source : token.Text) (written : Tree) → ReadsSoFar source written → view program.old ≡ without_parentheses written → IsCodeFor written (string_bytes code)) }
+    ensures { IfOk result (λ code. (goal : goals.Goal) (source : token.Text) (written : Tree) → ReadsSoFar goal source written → view program.old ≡ without_parentheses written → IsCodeFor goal written (string_bytes code)) }
 {
     let comments = lower(alloc, program)?;
     parenthesise(alloc, program)?;
@@ -83,24 +84,24 @@ fn code_of(alloc: Global, program: &mut Program<'_>) -> Result<String, AllocErro
     Ok(printed.text)
 }
 
-/// Compiles a module.
+/// Compiles a module or a script.
 ///
 /// # Errors
 ///
 /// `NotUtf8` exactly where the bytes aren't UTF-8, before the text is looked at; `Syntax` where no tree reads the text, and
 /// `Memory` for want of memory.
-pub fn compile(alloc: Global, source: &[u8]) -> Result<Output, CompileError>
+pub fn compile(alloc: Global, source: &[u8], goal: Goal) -> Result<Output, CompileError>
     requires { length source.now < 4294901760 }
-    ensures compiled { IfOk result (λ output. Compiles source.now (string_bytes output.code)) }
+    ensures compiled { IfOk result (λ output. Compiles goal source.now (string_bytes output.code)) }
     ensures not_utf8 { (n : ℕ) → result ≡ Err (CompileError.NotUtf8 n) → IsValidUpTo source.now n }
     ensures up_to { (n : ℕ) → IsValidUpTo source.now n → result ≡ Err (CompileError.NotUtf8 n) }
     ensures text { (at : ℕ) → result ≡ Err (CompileError.Syntax at) → IsUtf8 source.now }
-    ensures refused { (at : ℕ) → result ≡ Err (CompileError.Syntax at) → (tree : Tree) → IsSource source.now tree → ⊥ }
+    ensures refused { (at : ℕ) → result ≡ Err (CompileError.Syntax at) → (tree : Tree) → IsSource goal source.now tree → ⊥ }
     ensures place { (at : ℕ) → result ≡ Err (CompileError.Syntax at) → at ≤ length source.now }
-    ensures complete { (tree : Tree) → IsSource source.now tree → IsOkUnless result CompileError.Memory }
+    ensures complete { (tree : Tree) → IsSource goal source.now tree → IsOkUnless result CompileError.Memory }
 {
     let text = text_of(source)?;
-    let mut program = parse(alloc, text)?;
+    let mut program = parse(alloc, text, goal)?;
     let code = code_of(alloc, &mut program)?;
     Ok(Output { code })
 }

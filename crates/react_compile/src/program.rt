@@ -4,6 +4,7 @@ ghost use Rattle.std.specs.Prelude.{◌≡◌, ◌⊎◌, ◌≢◌, ◌≤◌, 
 ghost use Rattle.std.specs.Str.{IsUtf8};
 ghost use Rattle.jsx_base.specs.Faults.{Rose};
 ghost use Rattle.jsx_base.specs.Sink.{Gains, GainsPrefix};
+ghost use Rattle.jsx_tree.specs.declared.text.Goal.TheVariants as goals;
 ghost use Rattle.jsx_tree.specs.Kinds.{Tree};
 ghost use Rattle.react_compile.specs.Status.{exit_code, IsTold};
 ghost use Rattle.react_compile.specs.Compiles.{IsSource};
@@ -16,6 +17,7 @@ use crate::error_line::{not_utf8_line, syntax_line};
 use crate::input::MAX_SOURCE;
 use crate::input::{InputError, read_all};
 use jsx_base::{Sink, Source};
+use jsx_tree::Goal;
 use std::alloc::Global;
 
 /// How a run ended.
@@ -161,7 +163,7 @@ fn compile_to<O: Sink, E: Sink>(alloc: Global, source: &[u8], out: &mut O, err: 
     ensures done_says { result ≡ Status.Done → err.new ≡ err.old }
     ensures done_out { result ≡ Status.Done → KeepsTold (O.holds out.old) (O.holds out.new) → out.new ≡ out.old }
 
-    ensures fault { result ≡ Status.Fault → (tree : Tree) → IsSource source.now tree → ⊥ }
+    ensures fault { result ≡ Status.Fault → (tree : Tree) → IsSource goals.Module source.now tree → ⊥ }
     ensures fault_out { result ≡ Status.Fault → out.new ≡ out.old }
     ensures fault_says { result ≡ Status.Fault → GainsWhy source.now (E.holds err.old) (E.holds err.new) }
 
@@ -173,7 +175,7 @@ fn compile_to<O: Sink, E: Sink>(alloc: Global, source: &[u8], out: &mut O, err: 
     ensures prefix_says { result ≡ Status.Write → GainsPrefix (E.holds err.old) (E.holds err.new) out_of_memory ⊎ GainsWhyPrefix source.now (E.holds err.old) (E.holds err.new) }
     ensures one_sink { result ≡ Status.Write → (O.holds out.new ≡ O.holds out.old) ⊎ (err.new ≡ err.old) }
 {
-    match compile(alloc, source) {
+    match compile(alloc, source, Goal::Module) {
         Ok(output) => emit(output.code.as_bytes(), out, err),
         Err(CompileError::NotUtf8(at)) => tell_not_utf8(alloc, at, err),
         Err(CompileError::Syntax(at)) => tell_syntax(alloc, source, at, err),

@@ -1,11 +1,14 @@
 //! Whole texts: what of them is read, and how tightly it binds.
 
+mod covers;
+mod goals;
+mod inexact;
 mod refusals;
 
 use super::parse;
 use crate::ParseError;
 use jsx_operand::operand::level;
-use jsx_tree::{Access, Control, Expr, Item, Operation, Pat, Program, Stmt};
+use jsx_tree::{Access, Control, Expr, Goal, Item, Operation, Pat, Program, Stmt};
 use std::alloc::Global;
 
 /// The number of statements, or the place of the error.
@@ -13,7 +16,7 @@ fn read(alloc: Global, text: &str) -> Result<usize, ParseError> {
     if text.len() >= 1000 {
         return Err(ParseError::Memory);
     }
-    match parse(alloc, text)? {
+    match parse(alloc, text, Goal::Module)? {
         Program::Module(module) => Ok(module.body.len()),
         Program::Script(script) => Ok(script.body.len()),
     }
@@ -24,7 +27,7 @@ fn parts(alloc: Global, text: &str) -> Result<(usize, usize), ParseError> {
     if text.len() >= 1000 {
         return Err(ParseError::Memory);
     }
-    match parse(alloc, text)? {
+    match parse(alloc, text, Goal::Module)? {
         Program::Module(module) => Ok((module.directives.len(), module.body.len())),
         Program::Script(_) => Err(ParseError::Memory),
     }
@@ -404,7 +407,7 @@ fn sides(alloc: Global, text: &str) -> (u8, u8) {
     if text.len() >= 1000 {
         return (0, 0);
     }
-    match parse(alloc, text) {
+    match parse(alloc, text, Goal::Module) {
         Ok(Program::Module(module)) => sides_of_first(&module.body),
         _ => (0, 0),
     }

@@ -5,7 +5,6 @@ use Rattle.std.specs.Prelude.{IsTrue}
 use Rattle.std.specs.Str.{IsUtf8, chars}
 use Rattle.jsx_base.specs.Token.{Text}
 use Rattle.jsx_tree.specs.declared.text.Goal.{Goal}
-use Rattle.jsx_tree.specs.declared.text.Goal.TheVariants as goals
 use Rattle.jsx_tree.specs.Kinds.{Tree}
 use Rattle.jsx_tree.specs.Nonterminals.{WholeProgram}
 use Rattle.jsx_tree.specs.Spelling.{spelled}
@@ -42,25 +41,25 @@ is_prepared goal text t o h =
       stands_for = subst (λ x. StandsFor default_settings (nf t) x []) (sym (dressed_same u (and_parts (formed u) (lawful outside (laid_tree u)) s).0)) (lowered_stands t (and_parts (is WholeProgram t) _ h.read).0 o);
     }
 
--- so bytes that are its layout, with pure marks before tokens of code, are code for the module
-pub is_code_for : (source : Text) (t : Tree) (bytes : List ℕ) (at : ℕ → Bool) → ReadsSoFar source t → IsUtf8 bytes → IsTrue (at_code at 0 (spelled (laid_tree (prepared t)))) → chars bytes ≡ noted_layout (marks at) (prepared t) → IsCodeFor t bytes
-is_code_for source t bytes at h u w e =
-    let p : IsPrepared goals.Module t = is_prepared goals.Module source t (so_far_lowers source t h) h.reads in
+-- so bytes that are its layout, with pure marks before tokens of code, are code for the program
+pub is_code_for : (goal : Goal) (source : Text) (t : Tree) (bytes : List ℕ) (at : ℕ → Bool) → ReadsSoFar goal source t → IsUtf8 bytes → IsTrue (at_code at 0 (spelled (laid_tree (prepared t)))) → chars bytes ≡ noted_layout (marks at) (prepared t) → IsCodeFor goal t bytes
+is_code_for goal source t bytes at h u w e =
+    let p : IsPrepared goal t = is_prepared goal source t (so_far_lowers goal source t h) h.reads in
     record {
       utf8 = u;
       printed = laid_tree (prepared t);
-      reads = subst (λ x. Reads goals.Module x (laid_tree (prepared t))) (sym e) (marked_is goals.Module at (prepared t) w p.of_goal p.can_print);
+      reads = subst (λ x. Reads goal x (laid_tree (prepared t))) (sym e) (marked_is goal at (prepared t) w p.of_goal p.can_print);
       jsx_free = p.jsx_free;
       stands_for = p.stands_for;
     }
 
 -- the passes, one after the other: what was read without its parentheses, and then lowered, parenthesised and printed
-pub passes_code : (source : Text) (t bare lowered paired : Tree) (bytes : List ℕ) → ReadsSoFar source t → bare ≡ without_parentheses t → (IsTrue (can_lower bare) → lowered ≡ lower bare) → (IsTrue (formed lowered) → paired ≡ parenthesise lowered)
-    → (IsTrue (fits paired) → IsPrinted paired (chars bytes)) → IsUtf8 bytes → IsCodeFor t bytes
-passes_code source t bare lowered paired bytes h off lowers pairs prints u =
-    let o : can_lower t ≡ true = so_far_lowers source t h in
+pub passes_code : (goal : Goal) (source : Text) (t bare lowered paired : Tree) (bytes : List ℕ) → ReadsSoFar goal source t → bare ≡ without_parentheses t → (IsTrue (can_lower bare) → lowered ≡ lower bare) → (IsTrue (formed lowered) → paired ≡ parenthesise lowered)
+    → (IsTrue (fits paired) → IsPrinted paired (chars bytes)) → IsUtf8 bytes → IsCodeFor goal t bytes
+passes_code goal source t bare lowered paired bytes h off lowers pairs prints u =
+    let o : can_lower t ≡ true = so_far_lowers goal source t h in
     let low : lowered ≡ lower (without_parentheses t) = lowers (ap can_lower off ∙ bare_lowers t o) ∙ ap lower off in
-    let s : is_sound lowered ≡ true = ap is_sound low ∙ lowered_sound goals.Module source t o h.reads in
+    let s : is_sound lowered ≡ true = ap is_sound low ∙ lowered_sound goal source t o h.reads in
     let p : paired ≡ prepared t = pairs (and_parts (formed lowered) (lawful outside (laid_tree lowered)) s).0 ∙ ap parenthesise low in
-    let k : IsPrinted (prepared t) (chars bytes) = subst (λ x. IsPrinted x (chars bytes)) p (prints (ap fits p ∙ (is_prepared goals.Module source t o h.reads).can_print)) in
-    is_code_for source t bytes k.marked h u k.in_code k.is_layout
+    let k : IsPrinted (prepared t) (chars bytes) = subst (λ x. IsPrinted x (chars bytes)) p (prints (ap fits p ∙ (is_prepared goal source t o h.reads).can_print)) in
+    is_code_for goal source t bytes k.marked h u k.in_code k.is_layout

@@ -2,6 +2,7 @@
 use Rattle.std.proofs.Common.{◌≡◌, true, false, refl}
 use Rattle.std.proofs.lemmas.Bool.{and_parts, and_from, true≢false, false≢true}
 use Rattle.jsx_base.specs.Token.{Text, JsxName}
+use Rattle.jsx_tree.specs.declared.text.Goal.{Goal}
 use Rattle.jsx_tree.specs.Kinds.{Kind, function, expression, jsx, ParenTarget, Parenthesized, Element, Tree, leaf, node, list, Forest, none, part}
 use Rattle.jsx_tree.specs.Normal.{remades, unwrapped_node, without_parentheses}
 use Rattle.jsx_tree.specs.Sound.{each_nodes}
@@ -37,8 +38,8 @@ of_simple (jsx Element) (part (leaf JsxName t) (part (list none) none)) o = refl
 of_simple (jsx j) cs o = absurd (false≢true o)
 of_simple k cs o = refl
 
-pub so_far_lowers : (text : Text) (t : Tree) → ReadsSoFar text t → can_lower t ≡ true
-so_far_lowers text t r = each_weaker is_simple is_lowerable of_simple t (so_far_simple text t r)
+pub so_far_lowers : (goal : Goal) (text : Text) (t : Tree) → ReadsSoFar goal text t → can_lower t ≡ true
+so_far_lowers goal text t r = each_weaker is_simple is_lowerable of_simple t (so_far_simple goal text t r)
 
 -- a node whose parts can be lowered, with its own pair off
 node_lowers : (k : Kind) (cs : Forest) → is_lowerable k cs ≡ true → each_nodes is_lowerable (remades unwrapped_node cs) ≡ true → can_lower (unwrapped_node k (remades unwrapped_node cs)) ≡ true

@@ -262,6 +262,18 @@ fn code_of_sources(rt: HostRuntime) -> Result<(), Fail> {
             "x = { a() {\n    super.b;\n}, set c([d]) {}, get [e]() {} };\ny = class F {\n    'g';\n    set;\n    h() {}\n};\n",
         ),
         (
+            "x=a=>b;y=(c,{d=1},...[e])=>{f(<g/>)}",
+            "x = (a) => b;\ny = (c, { d = 1 }, ...[e]) => {\n    f(/*#__PURE__*/ React.createElement(\"g\", null));\n};\n",
+        ),
+        (
+            "(a=>b)(c);x=a=>({b}),c=>{}",
+            "((a) => b)(c);\nx = (a) => ({ b }), (c) => {};\n",
+        ),
+        (
+            "[a,b.c=<d/>,...[e]]=f;({g,h:[(i)]}=j);for([k]of l)m",
+            "[a, b.c = /*#__PURE__*/ React.createElement(\"d\", null), ...[e]] = f;\n({ g, h: [i] } = j);\nfor ([k] of l) m;\n",
+        ),
+        (
             "export default<a/>",
             "export default /*#__PURE__*/ React.createElement(\"a\", null);\n",
         ),
@@ -375,12 +387,13 @@ fn sources_that_do_not_read(rt: HostRuntime) -> Result<(), Fail> {
         b"function f([a]) {'use strict'}",
         b"try {} catch ([a] = b) {}",
         b"for (let [a] = b of c);",
-        b"for ([a] of b);",
-        b"[a] = b;",
+        b"for ([a()] of b);",
+        b"[a()] = b;",
         b"({a = 1});",
         b"(a",
         b"()",
-        b"(a) => b;",
+        b"(a.b) => c;",
+        b"a => {}.b;",
         b"(a, b) = c;",
         b"(a?.b) = c;",
         b"((eval))++;",
@@ -400,16 +413,17 @@ fn sources_that_do_not_read(rt: HostRuntime) -> Result<(), Fail> {
 
 #[test]
 fn places_of_syntax_errors(rt: HostRuntime) -> Result<(), Fail> {
-    // The place is the begin of the last token that was taken, and its column is counted in characters.
+    // The place is the begin of the first token with which no tree begins, and its column is counted in characters.
     for (source, line) in &[
-        ("a b", "input.js:1:1: syntax error\n"),
-        ("x;\n\na b;", "input.js:3:1: syntax error\n"),
+        ("a b", "input.js:1:3: syntax error\n"),
+        ("x;\n\na b;", "input.js:3:3: syntax error\n"),
         (
             "'\u{e9}\u{20ac}\u{1f600}';a b",
-            "input.js:1:7: syntax error\n",
+            "input.js:1:9: syntax error\n",
         ),
-        ("'\u{e9}'\r\n;a b", "input.js:2:2: syntax error\n"),
-        ("/*\u{2028}*/a b", "input.js:1:6: syntax error\n"),
+        ("'\u{e9}'\r\n;a b", "input.js:2:4: syntax error\n"),
+        ("/*\u{2028}*/a b", "input.js:1:8: syntax error\n"),
+        ("a = [\n", "input.js:2:1: syntax error\n"),
     ] {
         assert_refused(&rt, source.as_bytes(), line)?;
     }
@@ -509,7 +523,7 @@ fn a_line_goes_out_in_one_write(rt: HostRuntime) -> Result<(), Fail> {
     assert_runs(
         &rt,
         &later_write,
-        (Status::Fault, "", "input.js:1:1: syntax error\n"),
+        (Status::Fault, "", "input.js:1:3: syntax error\n"),
     )
 }
 
@@ -527,4 +541,39 @@ fn a_source_as_great_as_may_be(rt: HostRuntime) -> Result<(), Fail> {
         bad_lines: &[],
     };
     assert_runs(&rt, &too_big, (Status::Fault, "", TOO_BIG))
+}
+
+/// Whether a script is compiled to this code.
+fn compiles_to(alloc: Global, text: &str, want: &str) -> bool {
+    if text.len() >= 1000 {
+        return false;
+    }
+    match compile(alloc, text.as_bytes(), Goal::Script) {
+        Ok(output) => output.code.as_bytes() == want.as_bytes(),
+        Err(_) => false,
+    }
+}
+
+#[test]
+fn compiles_scripts(rt: HostRuntime) {
+    for (text, want) in &[
+        (
+            "'use strict'\n{function f() {}}",
+            "'use strict';\n{\n    function f() {}\n}\n",
+        ),
+        (
+            "('use strict');import('a')",
+            "('use strict');\nimport('a');\n",
+        ),
+        (
+            "a = class {b() {{function c() {}}}}",
+            "a = class {\n    b() {\n        {\n            function c() {}\n        }\n    }\n};\n",
+        ),
+        (
+            "function f() {return <A/>}",
+            "function f() {\n    return /*#__PURE__*/ React.createElement(A, null);\n}\n",
+        ),
+    ] {
+        assert!(rt; compiles_to(rt.alloc(), text, want), "at {text}");
+    }
 }

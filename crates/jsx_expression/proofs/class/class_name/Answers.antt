@@ -1,10 +1,10 @@
-use Rattle.std.proofs.Common.{true, false, refl, sym, ◌∙◌, ap}
+use Rattle.std.proofs.Common.{true, false, sym, ◌∙◌, ap}
 use Rattle.jsx_tree.specs.Grammar.{key}
 use Rattle.jsx_tree.specs.Reading.{forth}
 use Rattle.jsx_tree.specs.Walk.{is_found}
 use Rattle.jsx_token.specs.Here.{place_of}
 use Rattle.jsx_operand.proofs.Steps.{passed}
-use Rattle.jsx_expression.proofs.Classes.{extending, name_absent_placed, name_placed, named, not_named, unnamed}
+use Rattle.jsx_expression.proofs.Classes.{barred_in, extending, name_absent_placed, name_placed, named, not_named, only_in, unnamed}
 use Rattle.jsx_expression.proofs.class.class_name.Goals as goal
 
 pub returns-then-is_before-clause-read : goal.returns-then-is_before-clause-read
@@ -23,13 +23,13 @@ returns-then-is_before-2-clause-placed c = name_absent_placed (c.is_before-2.ens
 pub returns-in_err-name-clause-refused : goal.returns-in_err-name-clause-refused
 returns-in_err-name-clause-refused c = passed _ c.in_err-name.ensures.refused c.from_residual.ensures.1
     (λ b.
-    not_named refl (ap place_of (c.is_before-2.ensures.stays ∙ c.is_before.ensures.stays)) (sym c.is_before.ensures.ahead ∙ c.if-is_before.false)
-    (ap (λ h. is_found (forth (key "extends") (place_of h))) (sym c.is_before.ensures.stays) ∙ (sym c.is_before-2.ensures.ahead ∙ c.if-is_before-2.false)) b)
+    not_named (ap place_of (c.is_before-2.ensures.stays ∙ c.is_before.ensures.stays)) (sym c.is_before.ensures.ahead ∙ c.if-is_before.false)
+    (ap (λ h. is_found (forth (key "extends") (place_of h))) (sym c.is_before.ensures.stays) ∙ (sym c.is_before-2.ensures.ahead ∙ c.if-is_before-2.false)) (barred_in c.of_class.ensures b))
 
 pub returns-clause-read : goal.returns-clause-read
 returns-clause-read c =
-    named refl (ap place_of (c.is_before-2.ensures.stays ∙ c.is_before.ensures.stays)) (sym c.is_before.ensures.ahead ∙ c.if-is_before.false)
-    (ap (λ h. is_found (forth (key "extends") (place_of h))) (sym c.is_before.ensures.stays) ∙ (sym c.is_before-2.ensures.ahead ∙ c.if-is_before-2.false)) c.in_ok-name.ensures.read
+    named (ap place_of (c.is_before-2.ensures.stays ∙ c.is_before.ensures.stays)) (sym c.is_before.ensures.ahead ∙ c.if-is_before.false)
+    (ap (λ h. is_found (forth (key "extends") (place_of h))) (sym c.is_before.ensures.stays) ∙ (sym c.is_before-2.ensures.ahead ∙ c.if-is_before-2.false)) (only_in c.of_class.ensures c.in_ok-name.ensures.read)
 
 pub returns-clause-placed : goal.returns-clause-placed
 returns-clause-placed c = name_placed (c.is_before-2.ensures.stays ∙ c.is_before.ensures.stays) c.in_ok-name.ensures.placed

@@ -11,7 +11,7 @@ use Rattle.jsx_token.specs.Here.{place_of}
 use Rattle.jsx_token.specs.Places.{end_of}
 use Rattle.jsx_statement.proofs.Items.{initialized, uninitialized, no_initializer}
 use Rattle.jsx_token.specs.Semicolons.{in_list}
-use Rattle.jsx_token.proofs.Semicolons.{settled_in_list}
+use Rattle.jsx_token.proofs.Semicolons.{closed_in_list}
 use Rattle.jsx_operand.proofs.Steps.{passed}
 use Rattle.jsx_operand.proofs.Places.{spans_from}
 use Rattle.jsx_operand.proofs.Placing.{placed_as, placed_to, takes_ends}
@@ -48,4 +48,4 @@ pub returns-then-not-take-clause-behind : goal.returns-then-not-take-clause-behi
 returns-then-not-take-clause-behind g c = ap (λ h. in_list (place_of h)) (c.take.ensures.stays c.if-not-take.true ∙ c.ends.ensures)
 
 pub returns-clause-behind : goal.returns-clause-behind
-returns-clause-behind g c = settled_in_list (place_of c.expression.new.lexer) c.in_ok-value.ensures.ended
+returns-clause-behind g c = closed_in_list (place_of c.expression.new.lexer) c.in_ok-value.ensures.ended

@@ -1,7 +1,6 @@
 use Rattle.std.proofs.Common.{sym, ◌∙◌, ap, length, subst}
 use Rattle.std.specs.Prelude.{Some}
 use Rattle.std.specs.Str.{chars}
-use Rattle.jsx_tree.specs.declared.text.Goal.TheVariants as goals
 use Rattle.jsx_tree.specs.Spans.{IsTold, placed_in}
 use Rattle.jsx_tree.specs.ViewProgram.{view}
 use Rattle.jsx_operand.specs.Spans.{Spans, program_at}
@@ -19,8 +18,8 @@ returns-clause-read c =
     record {
       written = view c.in_ok-program.program;
       reads = r;
-      alone = λ t s. one_tree goals.Module (chars c.args.text.now) t (view c.in_ok-program.program) s.reads r.reads;
-      bare = c.in_ok-bare.ensures.seen (chars c.args.text.now) r;
+      alone = λ t s. one_tree c.args.goal (chars c.args.text.now) t (view c.in_ok-program.program) s.reads r.reads;
+      bare = c.in_ok-bare.ensures.seen c.args.goal (chars c.args.text.now) r;
       placed = subst (λ d. IsTold d (placed_in (chars c.args.text.now) (view c.in_ok-program.program))) (sym c.in_ok-bare.ensures.places) c.in_ok-program.ensures.placed;
     }
 

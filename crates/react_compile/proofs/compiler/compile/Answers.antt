@@ -9,8 +9,8 @@ returns-clause-compiled c =
     let p = c.in_ok-program.ensures.read in
     record {
       tree = p.written;
-      is_source = record { utf8 = c.in_ok-text.ensures.utf8; reads = subst (λ xs. ReadsSoFar (chars xs) p.written) c.in_ok-text.ensures.same p.reads };
-      is_code = c.in_ok-code.ensures _ p.written p.reads p.bare;
+      is_source = record { utf8 = c.in_ok-text.ensures.utf8; reads = subst (λ xs. ReadsSoFar c.args.goal (chars xs) p.written) c.in_ok-text.ensures.same p.reads };
+      is_code = c.in_ok-code.ensures c.args.goal _ p.written p.reads p.bare;
     }
 
 pub returns-in_err-program-clause-refused : goal.returns-in_err-program-clause-refused

@@ -1,14 +1,14 @@
 use Rattle.std.proofs.Common.{refl, ◌∙◌}
-use Rattle.jsx_tree.proofs.Rows.Steps.{on}
 use Rattle.jsx_operand.proofs.Places.{spans_from}
-use Rattle.jsx_operand.proofs.Placing.{placed_as}
-use Rattle.jsx_operand.proofs.PlacedExpressions.{array_row}
+use Rattle.jsx_operand.proofs.Steps.{passed}
+use Rattle.jsx_expression.proofs.LiteralCovers.{array_cover, array_placed, no_array_cover}
 use Rattle.jsx_expression.proofs.grammar.Expressions.array.Goals as goal
 
+pub returns-in_err-all-clause-refused : goal.returns-in_err-all-clause-refused
+returns-in_err-all-clause-refused g c = passed _ c.in_err-all.ensures.refused c.from_residual.ensures.1 (λ n. no_array_cover n)
+
 pub returns-clause-read : goal.returns-clause-read
-returns-clause-read g c = record { parts = _; is = c.in_ok-array.ensures.view; row = c.in_ok-all.ensures.read }
+returns-clause-read g c = array_cover c.in_ok-all.ensures.read c.in_ok-expr.ensures.view refl refl
 
 pub returns-clause-placed : goal.returns-clause-placed
-returns-clause-placed g c = record {
-  on = λ w sign begins. placed_as c.in_ok-array.ensures.told c.in_ok-array.ensures.view (array_row sign c.in_ok-all.ensures.placed (spans_from c.span_to.ensures refl (c.last_place-lo.ensures ∙ begins) refl));
-}
+returns-clause-placed g c = array_placed c.in_ok-all.ensures.placed c.in_ok-expr.ensures.view c.in_ok-expr.ensures.told refl refl (λ w begins. spans_from c.span_to.ensures refl (c.last_place-lo.ensures ∙ begins) refl)

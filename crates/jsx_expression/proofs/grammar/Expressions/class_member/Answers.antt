@@ -13,6 +13,7 @@ class_element-requires-clause-nests g c = record {
   placed = c.requires.nests.placed;
   shorter = c.requires.nests.shorter;
   ended = c.requires.nests.ended;
+  settles = c.requires.nests.settles;
   refused = c.requires.nests.refused;
 }
 

@@ -1,21 +1,21 @@
-use Rattle.std.proofs.Common.{◌<◌}
-use Rattle.jsx_tree.specs.Told.{told_expr}
-use Rattle.jsx_tree.specs.View.{view_expr}
-use Rattle.jsx_operand.specs.SoFar.{so_far}
+use Rattle.std.proofs.Common.{◌≡◌, ◌<◌, true}
 use Rattle.jsx_operand.specs.Around.{around_of}
 use Rattle.jsx_token.specs.Here.{place_of, left}
-use Rattle.jsx_token.specs.Growths.{rung}
-use Rattle.jsx_operand.specs.Climbing.{Climbs}
+use Rattle.jsx_token.specs.Growths.{closed}
 use Rattle.jsx_make.specs.NodeSpans.{expr_at}
-use Rattle.jsx_operand.specs.Spans.{IsPlaced, Spans}
+use Rattle.jsx_operand.specs.Spans.{Spans}
 use Rattle.jsx_token.specs.Places.{end_of, next_of}
+use Rattle.jsx_expression.specs.Covers.{IsPlacedCover, Settles}
+use Rattle.jsx_expression.proofs.CoverSteps.{IsOngoing, cover_of}
 use Rattle.jsx_expression.proofs.grammar.Expressions.expression.Given as goal
 
 abbrev pub invariant-steps : goal.invariant-steps
 invariant-steps g l = record {
-  so_far : Climbs (around_of l.context.around) (rung l.level) (place_of l.fn.lexer) (view_expr l.expr.value) (place_of l.lexer);
+  so_far : IsOngoing (around_of l.context.around) l.level (place_of l.fn.lexer) (cover_of l.expr l.may_turn) (place_of l.lexer);
   span : Spans (expr_at l.expr.value) (next_of l.fn.lexer) (end_of l.lexer);
-  placed : IsPlaced (told_expr l.expr.value) (view_expr l.expr.value) l.fn.lexer l.lexer;
+  placed : IsPlacedCover (cover_of l.expr l.may_turn) l.fn.lexer l.lexer;
+  ended : closed (place_of l.lexer) ≡ true;
+  settles : Settles l.level (place_of l.lexer);
   within : left l.lexer < left l.fn.lexer;
 }
 

@@ -10,7 +10,6 @@ use Rattle.jsx_operand.proofs.Values.{sign_ended}
 use Rattle.jsx_expression.proofs.Shared.{import_called, import_uncalled, meta_opened, meta_outside, meta_unread}
 use Rattle.jsx_operand.proofs.Places.{spans_from}
 use Rattle.jsx_operand.proofs.Steps.{passed}
-use Rattle.jsx_expression.proofs.Holes.{before}
 use Rattle.jsx_operand.proofs.Placing.{placed_as}
 use Rattle.jsx_operand.proofs.PlacedExpressions.{meta_row}
 use Rattle.jsx_expression.proofs.grammar.Expressions.import.Goals as goal

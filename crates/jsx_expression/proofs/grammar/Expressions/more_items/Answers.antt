@@ -2,7 +2,7 @@ use Rattle.std.proofs.Common.{◌≡◌, ◌++◌, true, false, arith, refl, sym
 use Rattle.jsx_operand.specs.SoFar.{so_far}
 use Rattle.jsx_token.specs.Here.{place_of}
 use Rattle.jsx_make.specs.NodeSpans.{expr_at}
-use Rattle.jsx_token.specs.Growths.{settled}
+use Rattle.jsx_token.specs.Growths.{closed}
 use Rattle.jsx_operand.specs.Spans.{Spans}
 use Rattle.jsx_token.specs.Places.{end_of}
 use Rattle.jsx_tree.proofs.Rows.Steps.{on}
@@ -16,7 +16,7 @@ pub returns-then-not-take-clause-read : goal.returns-then-not-take-clause-read
 returns-then-not-take-clause-read g c = gathered_alone (c.take.ensures.stays c.if-not-take.true) c.requires.settled (c.take.ensures.missing c.if-not-take.true)
 
 pub returns-then-not-take-clause-ended : goal.returns-then-not-take-clause-ended
-returns-then-not-take-clause-ended g c = subst (λ h. settled (place_of h) ≡ true) (sym (c.take.ensures.stays c.if-not-take.true)) c.requires.settled
+returns-then-not-take-clause-ended g c = subst (λ h. closed (place_of h) ≡ true) (sym (c.take.ensures.stays c.if-not-take.true)) c.requires.settled
 
 pub items-init : goal.items-init
 items-init g c = record {
@@ -40,6 +40,6 @@ returns-then-not-take-2-clause-read g c =
     c.in_ok-sequence.ensures.view c.in_ok-sequence.ensures.told c.in_ok-sequence.ensures.span c.span_to.ensures
 
 pub returns-then-not-take-2-clause-ended : goal.returns-then-not-take-2-clause-ended
-returns-then-not-take-2-clause-ended g c = subst (λ h. settled (place_of h) ≡ true) (sym (c.take-in-items.ensures.stays c.if-not-take-2.true)) c.in_ok-next.ensures.ended
+returns-then-not-take-2-clause-ended g c = subst (λ h. closed (place_of h) ≡ true) (sym (c.take-in-items.ensures.stays c.if-not-take-2.true)) c.in_ok-next.ensures.ended
 
 -- ---- templates

@@ -24,7 +24,7 @@ pub returns-clause-read : goal.returns-clause-read
 returns-clause-read g c = built_1 refl (only_target (ap (λ e. is_target (view_expr e)) (sym c.deref.ensures) ∙ (sym c.is_target.ensures ∙ c.if-not-is_target.false)) c.in_ok-operand.ensures.read) (c.in_ok-prefix_update.ensures.view ∙ ap (λ u. node (expression (PrefixUpdate (step_of c.args.operator))) (part u none)) (c.in_ok-target.ensures.view Assigns))
 
 pub returns-clause-ended : goal.returns-clause-ended
-returns-clause-ended g c = c.in_ok-operand.ensures.ended
+returns-clause-ended g c = c.in_ok-operand.ensures.settles.on refl
 
 pub returns-clause-placed : goal.returns-clause-placed
 returns-clause-placed g c = record {

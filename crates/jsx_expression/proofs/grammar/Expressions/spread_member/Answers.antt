@@ -1,9 +1,10 @@
 use Rattle.std.proofs.Common.{refl, ◌∙◌}
-use Rattle.jsx_tree.proofs.Rows.Steps.{bar, on, built_1}
+use Rattle.jsx_tree.proofs.Rows.Steps.{bar, built_1}
 use Rattle.jsx_operand.proofs.Places.{spans_from}
 use Rattle.jsx_operand.proofs.Steps.{passed}
 use Rattle.jsx_operand.proofs.Placing.{placed_as}
 use Rattle.jsx_operand.proofs.PlacedExpressions.{spread_row}
+use Rattle.jsx_expression.proofs.MemberPlaces.{rest_placed}
 use Rattle.jsx_expression.proofs.grammar.Expressions.spread_member.Goals as goal
 
 pub returns-in_err-inner-clause-refused : goal.returns-in_err-inner-clause-refused
@@ -16,3 +17,6 @@ pub returns-clause-placed : goal.returns-clause-placed
 returns-clause-placed g c = record {
   on = λ w sign begins. placed_as c.in_ok-spread_member.ensures.told c.in_ok-spread_member.ensures.view (spread_row sign c.in_ok-inner.ensures.placed (spans_from c.span_to.ensures refl (c.last_place-lo.ensures ∙ begins) refl));
 }
+
+pub returns-clause-rest : goal.returns-clause-rest
+returns-clause-rest g c = rest_placed c.in_ok-inner.ensures.placed c.in_ok-spread_member.ensures.view c.in_ok-spread_member.ensures.told (λ w begins. spans_from c.span_to.ensures refl (c.last_place-lo.ensures ∙ begins) refl)

@@ -23,7 +23,7 @@ pub returns-then-deletes_name-clause-refused : goal.returns-then-deletes_name-cl
 returns-then-deletes_name-clause-refused g c = record { bars = λ _ _. no_deleted (unary_of c.args.operator) (ap (λ e. deletes_name (unary_of c.args.operator) (view_expr e)) (sym c.deref.ensures) ∙ (sym c.deletes_name.ensures ∙ c.if-deletes_name.true)) c.in_ok-operand.ensures.read }
 
 pub returns-clause-ended : goal.returns-clause-ended
-returns-clause-ended g c = c.in_ok-operand.ensures.ended
+returns-clause-ended g c = c.in_ok-operand.ensures.settles.on refl
 
 pub returns-clause-placed : goal.returns-clause-placed
 returns-clause-placed g c = record {

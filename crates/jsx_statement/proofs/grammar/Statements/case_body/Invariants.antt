@@ -1,4 +1,4 @@
-use Rattle.std.proofs.Common.{false, ◌≤◌, map}
+use Rattle.std.proofs.Common.{◌≡◌, true, false, ◌≤◌, map}
 use Rattle.jsx_tree.specs.Grammar.{Lines}
 use Rattle.jsx_tree.specs.Told.{tales, told_stmt}
 use Rattle.jsx_tree.specs.View.{forest, inside, view_stmt}
@@ -8,6 +8,7 @@ use Rattle.jsx_token.specs.Here.{place_of, left}
 use Rattle.jsx_operand.specs.SoFar.{so_far}
 use Rattle.jsx_operand.specs.Spans.{IsPlacedList}
 use Rattle.jsx_statement.specs.Cases.{body_row}
+use Rattle.jsx_statement.specs.Inners.{are_inner}
 use Rattle.jsx_statement.proofs.Cases.{Ahead}
 use Rattle.jsx_operand.proofs.Placing.{PlacedFront}
 use Rattle.jsx_statement.proofs.grammar.Statements.case_body.Given as goal
@@ -16,6 +17,7 @@ abbrev pub invariant-statements : goal.invariant-statements
 invariant-statements g l = record {
   ahead : Ahead (around_of l.context.around) (place_of l.fn.lexer) (forest (map (inside view_stmt) l.all.items)) (place_of l.lexer);
   so_far : Turn so_far (around_of l.context.around) body_row body_row (place_of l.fn.lexer) (place_of l.lexer) (prepend (forest (map (inside view_stmt) l.all.items)));
+  inner : are_inner (around_of l.context.around) (forest (map (inside view_stmt) l.all.items)) ≡ true;
   placed : PlacedFront false Lines (map (inside told_stmt) l.all.items) (map (inside view_stmt) l.all.items) l.fn.lexer l.lexer;
   closed : IsPlacedList Lines (tales (map (inside told_stmt) l.all.items)) (forest (map (inside view_stmt) l.all.items)) l.fn.lexer l.lexer;
   within : left l.lexer ≤ left l.fn.lexer;

@@ -1,5 +1,6 @@
 use Rattle.std.proofs.Common.{refl, sym, ◌∙◌}
-use Rattle.jsx_tree.proofs.Rows.Steps.{bar, on}
+use Rattle.jsx_tree.proofs.Rows.Steps.{bar}
+use Rattle.jsx_statement.proofs.Inners.{none_inners, signed_inners}
 use Rattle.jsx_operand.proofs.Steps.{passed}
 use Rattle.jsx_operand.proofs.Placing.{placed_as}
 use Rattle.jsx_operand.proofs.Places.{spans_from}
@@ -7,10 +8,10 @@ use Rattle.jsx_statement.proofs.PlacedNodes.{default_placed}
 use Rattle.jsx_statement.proofs.grammar.Statements.default_clause.Goals as goal
 
 pub returns-in_err-expect-clause-refused : goal.returns-in_err-expect-clause-refused
-returns-in_err-expect-clause-refused g c = passed _ c.in_err-expect.ensures.refused c.from_residual.ensures.1 (λ b. bar b)
+returns-in_err-expect-clause-refused g c = passed _ c.in_err-expect.ensures.refused c.from_residual.ensures.1 (λ b. none_inners (bar b))
 
 pub returns-in_err-body-clause-refused : goal.returns-in_err-body-clause-refused
-returns-in_err-body-clause-refused g c = passed _ c.in_err-body.ensures.refused c.from_residual-in_err-body.ensures.1 (λ n. on c.in_ok-expect.ensures.read n)
+returns-in_err-body-clause-refused g c = passed _ c.in_err-body.ensures.refused c.from_residual-in_err-body.ensures.1 (λ n. signed_inners c.in_ok-expect.ensures.read n)
 
 pub returns-clause-read : goal.returns-clause-read
 returns-clause-read g c = record { body = _; begin = _; is = c.in_ok-case_clause.ensures.view; colon = sym (c.in_ok-expect.ensures.takes.leads); reads = c.in_ok-body.ensures.read }

@@ -1,0 +1,332 @@
+-- What is read before it is known whether it is an expression or a pattern: of both at once, in the words of the grammar (ECMA-262 sections 13.2.5 and 13.15.5).
+--
+-- A cover is read as an expression where it is one, and as the pattern that it turns into; and nothing else is read there, of either. So a text that is no cover is neither.
+use Rattle.std.specs.Prelude.{◌≡◌, ℕ, nat_le, List, [], ◌∷◌, Bool, true, false, IsTrue, map, ◌||◌}
+use Rattle.jsx_base.specs.Token.{Text, Operator, IdentifierName, among}
+use Rattle.jsx_tree.specs.Signs.{Pad, SameLine, Sign, Tok}
+use Rattle.jsx_tree.specs.Kinds.{Assign, Assigns, Array, ArrayPat, Object, ObjectPat, PropertyPat, RestProperty, Spread, expression, function, Tree, leaf, node, list, Forest, none, part}
+use Rattle.jsx_tree.specs.Nonterminals.{Expr, ArrayItem, Ident, Key, ObjectMember, PatElement, PatProp, Pat, Slot, reserved}
+use Rattle.jsx_tree.specs.Grammar.{Commas, Elisions, Fixed, Many, Part, p, pun}
+use Rattle.jsx_tree.specs.Reading.{Place, Lost, forth}
+use Rattle.jsx_tree.specs.StaticRules.{Surroundings}
+use Rattle.jsx_tree.specs.Spans.{Told, Tales, no_tales, tale}
+use Rattle.jsx_tree.specs.Told.{told_expr, told_list, told_prop}
+use Rattle.jsx_tree.specs.View.{forest, inside, view_expr}
+use Rattle.jsx_tree.specs.declared.tree.Expr.{Expr as Code}
+use Rattle.jsx_tree.specs.Walk.{Piece, Walk, is_found, one, steady, tail}
+use Rattle.jsx_tree.specs.Language.{Whole}
+use Rattle.jsx_tree.specs.Grows.{Onward}
+use Rattle.jsx_tree.specs.Answers.{Barred, Moves, NoRow, Only, OnlyRow, Stuck}
+use Rattle.jsx_token.specs.Here.{Here}
+use Rattle.jsx_token.specs.Marks.{row_so_far}
+use Rattle.jsx_token.specs.Growths.{Rung, rung, asked, is_rung, same_sign, seat, is_blocked, settled}
+use Rattle.jsx_token.specs.Places.{Takes, begin_of, end_of, next_of}
+use Rattle.jsx_make.specs.Members.{view_prop}
+use Rattle.jsx_make.specs.NodeSpans.{expr_at}
+use Rattle.jsx_operand.specs.SoFar.{Staged, so_far}
+use Rattle.jsx_operand.specs.Climbing.{Climbs, NoneBegins, rises}
+use Rattle.jsx_operand.specs.Members.{Closed, behind_brace}
+use Rattle.jsx_operand.specs.Openings.{NoneOpened, OnlyOpened}
+use Rattle.jsx_operand.specs.Spans.{IsPlaced, IsPlacedRow, Spans}
+use Rattle.jsx_operand.specs.Covers.{IsTurned, IsTurnedElement, view_cover}
+use Rattle.jsx_operand.specs.Turning.{Turns, TurnsElement, TurnsParts, TurnsSlots, is_bound_name, is_bracketed, is_literal, retold, retold_list, retold_part, retold_parts_list}
+use Rattle.jsx_operand.specs.declared.cover.Cover.{Cover}
+use Rattle.jsx_expression.specs.Elements.{NoItem, OnlyItem, is_hole}
+use Rattle.jsx_expression.specs.Methods.{IsBare}
+use Rattle.jsx_expression.specs.declared.literals.Items.{Items}
+use Rattle.jsx_expression.specs.declared.literals.Member.{Member}
+use Rattle.jsx_expression.specs.declared.literals.Members.{Members}
+
+-- what binds more tightly than a conditional expression doesn't end with the block of an arrow function
+pub record Settles (n : ℕ) (y : Place) : Type 0 where
+  pub on : nat_le 3 n ≡ true → settled y ≡ true
+
+-- ---- at a level of expressions: at that of assignments also where an element of a pattern stands, of all that has come to its end there
+
+pub record IsElementCover (v : Surroundings) (x : Place) (c : Cover) (y : Place) : Type 0 where
+  pub reads : (p : Tree) → IsTurnedElement c p → Staged v false (PatElement Assigns) x p y
+  pub alone : (p : Tree) (z : Place) → Whole so_far v false (PatElement Assigns) x p z → IsTurnedElement c p × (y ≡ z)
+
+pub record IsCover (v : Surroundings) (level : ℕ) (x : Place) (c : Cover) (y : Place) : Type 0 where
+  pub expr : c.is_expr ≡ true → Only so_far v (Part (Expr level)) x (one (view_cover c)) y
+  pub none : c.is_expr ≡ false → Barred so_far v (Part (Expr level)) x
+  pub element : level ≡ 1 → IsElementCover v x c y
+  pub unsettled : c.is_expr ≡ false → is_literal (view_cover c) ≡ true
+
+pub record NoCover (v : Surroundings) (level : ℕ) (x : Place) : Type 0 where
+  pub none : Barred so_far v (Part (Expr level)) x
+  pub element : level ≡ 1 → (p : Tree) (z : Place) → Whole so_far v false (PatElement Assigns) x p z → ⊥
+
+-- ---- what they begin with: a pattern in brackets ends with its own, whatever stands behind it
+
+pub record IsPatternCover (v : Surroundings) (x : Place) (c : Cover) (y : Place) : Type 0 where
+  pub reads : (p : Tree) → IsTurned c p → is_bracketed p ≡ true → Staged v false (Pat Assigns) x p y
+  pub alone : (p : Tree) (z : Place) → is_bracketed p ≡ true → Staged v false (Pat Assigns) x p z → IsTurned c p × (y ≡ z)
+
+pub record NoPatternCover (v : Surroundings) (x : Place) : Type 0 where
+  pub no : (p : Tree) (z : Place) → is_bracketed p ≡ true → Staged v false (Pat Assigns) x p z → ⊥
+
+-- where no pattern in brackets is what is read there begins with: above the level of assignments, where the tree is no literal, or where no `=` comes behind it
+pub data Apart (r : Rung) (t : Tree) (y : Place) : Type 0 where
+  above : nat_le 2 (asked r) ≡ true → Apart r t y
+  unlike : is_literal t ≡ false → Apart r t y
+  unassigned : Stuck (pun "=") y → Apart r t y
+
+-- what is read there begins with the tree and goes on with it; behind the block of an arrow function it has ended
+pub record BeginsAt (v : Surroundings) (r : Rung) (x : Place) (t : Tree) (y : Place) : Type 0 where
+  pub climbs : is_blocked y ≡ false → rises r t ≡ true → Climbs v r x t y
+  pub blocked : is_blocked y ≡ true → rises r t ≡ true → Only so_far v (Part (seat r)) x (one t) y
+  pub low : rises r t ≡ false → Barred so_far v (Part (seat r)) x
+
+-- what is read there begins with the pattern that it turns into
+pub record PatternFirst (v : Surroundings) (x : Place) (c : Cover) (y : Place) (u : Tree) (z : Place) : Type 0 where
+  pub pattern : Tree
+  pub turned : IsTurned c pattern
+  pub bracketed : is_bracketed pattern ≡ true
+  pub reads : Staged v false (Pat Assigns) x pattern y
+  pub onward : Onward so_far v x pattern y u z
+
+pub record BeginsCover (v : Surroundings) (x : Place) (c : Cover) (y : Place) : Type 0 where
+  pub expr : c.is_expr ≡ true → (r : Rung) → is_rung r ≡ true → Apart r (view_cover c) y → BeginsAt v r x (view_cover c) y
+  pub none : c.is_expr ≡ false → (r : Rung) → is_rung r ≡ true → Apart r (view_cover c) y → Barred so_far v (Part (seat r)) x
+  pub assigned : is_literal (view_cover c) ≡ true → IsTrue (is_found (forth (pun "=") y)) → (u : Tree) (z : Place) → Whole so_far v false (Expr 1) x u z → PatternFirst v x c y u z
+  pub pattern : IsPatternCover v x c y
+  pub may : is_literal (view_cover c) ≡ false → c.may_turn ≡ true
+  pub unsettled : c.is_expr ≡ false → is_literal (view_cover c) ≡ true
+
+pub record NoCoverBegins (v : Surroundings) (x : Place) : Type 0 where
+  pub none : NoneBegins v x
+  pub pattern : NoPatternCover v x
+
+-- the signs with which an array, an object and a pattern in brackets begin
+abbrev pub is_bracket_sign : Sign → Bool
+is_bracket_sign s = same_sign (pun "[") s || same_sign (pun "{") s
+
+-- the same behind the sign with which it begins
+pub record OpensCover (v : Surroundings) (s : Sign) (c : Cover) (x y : Place) : Type 0 where
+  pub expr : c.is_expr ≡ true → OnlyOpened v s (view_cover c) x y
+  pub none : c.is_expr ≡ false → NoneOpened v s x
+  pub pattern : (w : Place) → Moves s w x → IsPatternCover v w c y
+  pub literal : is_bracket_sign s ≡ true → is_literal (view_cover c) ≡ true
+  pub other : is_bracket_sign s ≡ false → is_literal (view_cover c) ≡ false
+  pub may : is_literal (view_cover c) ≡ false → c.may_turn ≡ true
+  pub unsettled : c.is_expr ≡ false → is_literal (view_cover c) ≡ true
+
+pub record NoCoverOpened (v : Surroundings) (s : Sign) (x : Place) : Type 0 where
+  pub none : NoneOpened v s x
+  pub pattern : (w : Place) → Moves s w x → NoPatternCover v w
+
+-- an assignment to a pattern, or an arrow function of one name: above the level of assignments what is read there ends before its `=` or `=>`
+pub data BeforeSign (a : Place) : Type 0 where
+  before_equals : IsTrue (is_found (forth (pun "=") a)) → BeforeSign a
+  before_arrow : IsTrue (is_found (forth (pun "=>") a)) → BeforeSign a
+
+pub data LeadsTo (v : Surroundings) (r : Rung) (x a : Place) : Type 0 where
+  leads : (t : Tree) → Climbs v r x t a → LeadsTo v r x a
+  leads_none : Barred so_far v (Part (seat r)) x → LeadsTo v r x a
+
+pub record IsMade (v : Surroundings) (x : Place) : Type 0 where
+  pub place : Place
+  pub sign : BeforeSign place
+  pub higher : (r : Rung) → is_rung r ≡ true → nat_le 2 (asked r) ≡ true → LeadsTo v r x place
+  pub pattern : (p : Tree) (z : Place) → is_bracketed p ≡ true → Staged v false (Pat Assigns) x p z → place ≡ z
+
+-- what is read above the level of assignments
+pub data Higher (v : Surroundings) (x : Place) (c : Cover) (y : Place) : Type 0 where
+  as_begun : BeginsCover v x c y → Higher v x c y
+  as_made : IsMade v x → Higher v x c y
+
+-- where no operand is read
+pub data NoHigher (v : Surroundings) (x : Place) : Type 0 where
+  none_begun : NoCoverBegins v x → NoHigher v x
+  none_made : IsMade v x → NoHigher v x
+
+pub record NoOperand (v : Surroundings) (level : ℕ) (x : Place) : Type 0 where
+  pub whole : NoCover v level x
+  pub higher : level ≡ 1 → NoHigher v x
+
+-- An operand of a level: all that is read whole there begins with it. No `=>` comes on the line of a name. At the level of assignments it is also an assignment to a pattern, or an arrow function without parentheses, with its block or its value; and where a pattern in brackets is left as it is, no `=` comes behind it.
+pub record IsOperand (v : Surroundings) (level : ℕ) (x : Place) (c : Cover) (y : Place) : Type 0 where
+  pub expr : c.is_expr ≡ true → BeginsAt v (rung level) x (view_cover c) y
+  pub none : c.is_expr ≡ false → Barred so_far v (Part (Expr level)) x
+  pub higher : level ≡ 1 → Higher v x c y
+  pub pattern : level ≡ 1 → (p : Tree) (z : Place) → is_bracketed p ≡ true → Staged v false (Pat Assigns) x p z → Stuck (pun "=") z → IsTurned c p × (y ≡ z)
+  pub reads : level ≡ 1 → (p : Tree) → IsTurned c p → Staged v false (Pat Assigns) x p y
+  pub unnamed : level ≡ 1 → is_bound_name (view_cover c) ≡ true → forth (pun "=>") (forth SameLine y) ≡ Lost
+  pub may : is_literal (view_cover c) ≡ false → c.may_turn ≡ true
+  pub unsettled : c.is_expr ≡ false → is_literal (view_cover c) ≡ true
+
+-- ---- an assignment to a pattern, behind its `=`
+
+pub record IsAssigned (v : Surroundings) (c : Cover) (t : Tree) (x y : Place) : Type 0 where
+  pub pattern : Tree
+  pub turned : IsTurned c pattern
+  pub value : Tree
+  pub is : t ≡ node (expression Assign) (part pattern (part value none))
+  pub only : Only so_far v (Part (Expr 1)) x (one value) y
+
+pub record NotAssigned (v : Surroundings) (c : Cover) (x : Place) : Type 0 where
+  pub no : (p t : Tree) (y : Place) → IsTurned c p → Whole so_far v false (Expr 1) x t y → ⊥
+
+-- ---- what stands in an array, and is no hole
+
+pub record IsTurnedSlot (c : Cover) (p : Tree) : Type 0 where
+  pub may : c.may_turn ≡ true
+  pub turns : TurnsSlots (part (view_cover c) none) (part p none)
+
+pub record IsItemCover (v : Surroundings) (x : Place) (c : Cover) (y : Place) : Type 0 where
+  pub expr : c.is_expr ≡ true → OnlyItem v ArrayItem x (view_cover c) y
+  pub none : c.is_expr ≡ false → NoItem v ArrayItem x
+  pub filled : is_hole (view_cover c) ≡ false
+  pub reads : (p : Tree) → IsTurnedSlot c p → Staged v false (Slot Assigns) x p y
+  pub alone : (p : Tree) (z : Place) → is_hole p ≡ false → Whole so_far v false (Slot Assigns) x p z → IsTurnedSlot c p × (y ≡ z)
+
+pub record NoItemCover (v : Surroundings) (x : Place) : Type 0 where
+  pub item : NoItem v ArrayItem x
+  pub slot : NoItem v (Slot Assigns) x
+
+-- up to the `]`, with it: the rest of the literal's row, and of the pattern's
+abbrev pub items_row : List Piece
+items_row = tail (row_so_far (expression Array))
+
+abbrev pub slots_row : List Piece
+slots_row = tail (row_so_far (function (ArrayPat Assigns)))
+
+abbrev pub view_items : Items → Forest
+view_items q = forest (map (inside view_expr) q.all.items)
+
+pub record AreSlots (q : Items) (ts : Forest) : Type 0 where
+  pub may : q.may_turn ≡ true
+  pub slots : Forest
+  pub is : ts ≡ part (list slots) none
+  pub turns : TurnsSlots (view_items q) slots
+
+pub record CoversItems (v : Surroundings) (x : Place) (q : Items) (y : Place) : Type 0 where
+  pub expr : q.are_exprs ≡ true → OnlyRow so_far v items_row x (part (list (view_items q)) none) y
+  pub none : q.are_exprs ≡ false → NoRow so_far v items_row x
+  pub reads : (ts : Forest) → AreSlots q ts → Walk (Whole so_far) (steady v) slots_row x ts y
+  pub alone : (ts : Forest) (z : Place) → Walk (Whole so_far) (steady v) slots_row x ts z → AreSlots q ts × (y ≡ z)
+
+pub record NoItems (v : Surroundings) (x : Place) : Type 0 where
+  pub items : NoRow so_far v items_row x
+  pub slots : NoRow so_far v slots_row x
+
+-- ---- what stands in an object: of what ends before a comma or the brace
+
+pub record IsTurnedPart (m : Member) (p : Tree) : Type 0 where
+  pub may : m.may_turn ≡ true
+  pub turns : TurnsParts (part (view_prop m.prop.value) none) (part p none)
+
+pub record IsMemberCover (v : Surroundings) (x : Place) (m : Member) (y : Place) : Type 0 where
+  pub reads_member : m.is_expr ≡ true → Staged v false ObjectMember x (view_prop m.prop.value) y
+  pub member : (u : Tree) (z : Place) → Closed z → Whole so_far v false ObjectMember x u z → (m.is_expr ≡ true) × ((view_prop m.prop.value ≡ u) × (y ≡ z))
+  pub reads : (p : Tree) → IsTurnedPart m p → Staged v false (PatProp Assigns) x p y
+  pub alone : (p : Tree) (z : Place) → Closed z → Whole so_far v false (PatProp Assigns) x p z → IsTurnedPart m p × (y ≡ z)
+
+pub record NoMemberCover (v : Surroundings) (x : Place) : Type 0 where
+  pub member : (u : Tree) (z : Place) → Closed z → Whole so_far v false ObjectMember x u z → ⊥
+  pub part' : (p : Tree) (z : Place) → Closed z → Whole so_far v false (PatProp Assigns) x p z → ⊥
+
+-- a key that is no name, or one behind which a name alone can't have ended
+pub record IsKeyed (k : Tree) (x : Place) : Type 0 where
+  pub named : (t : Text) → k ≡ leaf IdentifierName t → (among t reserved || (is_found (forth (pun ":") x) || is_found (forth (pun "(") x))) ≡ true
+
+-- behind a key, wherever that was read from: a property, or a method
+pub record CoversKeyed (v : Surroundings) (k : Tree) (m : Member) (x y : Place) : Type 0 where
+  pub on : (w : Place) → IsBare w → Only so_far v (Part Key) w (one k) x → IsMemberCover v w m y
+
+pub record NoCoverKeyed (v : Surroundings) (k : Tree) (x : Place) : Type 0 where
+  pub no : (w : Place) → IsBare w → IsKeyed k x → Only so_far v (Part Key) w (one k) x → NoMemberCover v w
+
+-- a property, where no method stands
+pub record CoversPair (v : Surroundings) (k : Tree) (m : Member) (x y : Place) : Type 0 where
+  pub on : (w : Place) → IsBare w → Only so_far v (Part Key) w (one k) x → IsMemberCover v w m y
+
+pub record NoPair (v : Surroundings) (k : Tree) (x : Place) : Type 0 where
+  pub no : (w : Place) → IsBare w → IsKeyed k x → Only so_far v (Part Key) w (one k) x → Stuck (pun "(") x → NoMemberCover v w
+
+-- behind a name that stands for a property: with its default, or alone
+pub record CoversShort (v : Surroundings) (n : Text) (x : Place) (m : Member) (y : Place) : Type 0 where
+  pub on : (w : Place) → IsBare w → Only so_far v (Part Ident) w (one (leaf IdentifierName n)) x → Stuck (pun ":") x → Stuck (pun "(") x → IsMemberCover v w m y
+
+pub record NoShortCover (v : Surroundings) (n : Text) (x : Place) : Type 0 where
+  pub no : (w : Place) → IsBare w → Only so_far v (Part Ident) w (one (leaf IdentifierName n)) x → Stuck (pun ":") x → Stuck (pun "(") x → NoMemberCover v w
+
+-- up to the `}`, with it
+abbrev pub members_row : List Piece
+members_row = tail (row_so_far (expression Object))
+
+abbrev pub parts_row : List Piece
+parts_row = tail (row_so_far (function (ObjectPat Assigns)))
+
+abbrev pub view_members : Members → Forest
+view_members q = forest (map (inside view_prop) q.all.items)
+
+pub record AreParts (q : Members) (ts : Forest) : Type 0 where
+  pub may : q.may_turn ≡ true
+  pub parts : Forest
+  pub is : ts ≡ part (list parts) none
+  pub turns : TurnsParts (view_members q) parts
+
+pub record CoversMembers (v : Surroundings) (x : Place) (q : Members) (y : Place) : Type 0 where
+  pub expr : q.are_exprs ≡ true → OnlyRow so_far v members_row x (part (list (view_members q)) none) y
+  pub none : q.are_exprs ≡ false → NoRow so_far v members_row x
+  pub reads : (ts : Forest) → AreParts q ts → Walk (Whole so_far) (steady v) parts_row x ts y
+  pub alone : (ts : Forest) (z : Place) → Walk (Whole so_far) (steady v) parts_row x ts z → AreParts q ts × (y ≡ z)
+
+pub record NoMembers (v : Surroundings) (x : Place) : Type 0 where
+  pub members : NoRow so_far v members_row x
+  pub parts : NoRow so_far v parts_row x
+
+-- ---- the places of what they tell, as an expression and as the pattern
+
+abbrev pub told_cover : Cover → Told
+told_cover c = told_expr c.expr.value
+
+pub record IsPlacedCover (c : Cover) (x y : Here) : Type 0 where
+  pub expr : c.is_expr ≡ true → IsPlaced (told_cover c) (view_cover c) x y
+  pub element : (p : Tree) → IsTurnedElement c p → IsPlaced (retold (view_cover c) (told_cover c)) p x y
+
+pub record IsPlacedCoverBehind (s : Sign) (x : Here) (c : Cover) (y : Here) : Type 0 where
+  pub on : (w : Here) → Takes s w x → begin_of x ≡ next_of w → IsPlacedCover c w y
+
+-- an assignment to it, behind the `=` that it ended before
+pub record IsPlacedAssigned (c : Cover) (x : Here) (e : Code) (y : Here) : Type 0 where
+  pub on : (w z : Here) → Spans (expr_at c.expr.value) (next_of w) (end_of z) → IsPlacedCover c w z → Takes (pun "=") z x → IsPlaced (told_expr e) (view_expr e) w y
+
+pub record IsPlacedItem (c : Cover) (x y : Here) : Type 0 where
+  pub expr : c.is_expr ≡ true → IsPlaced (told_cover c) (view_cover c) x y
+  pub slot : (p : Tree) → IsTurnedSlot c p → IsPlaced (retold (view_cover c) (told_cover c)) p x y
+
+abbrev pub told_items : Items → List Told
+told_items q = map (inside told_expr) q.all.items
+
+abbrev pub told_members : Members → List Told
+told_members q = map (inside told_prop) q.all.items
+
+pub record IsPlacedItems (q : Items) (x y : Here) : Type 0 where
+  pub expr : q.are_exprs ≡ true → IsPlacedRow (Many Elisions ArrayItem ∷ p "]" ∷ []) (tale (told_list (told_items q)) no_tales) (part (list (view_items q)) none) x y
+  pub slots : (ts : Forest) → AreSlots q ts → IsPlacedRow (Many Elisions (Slot Assigns) ∷ p "]" ∷ []) (tale (retold_list (view_items q) (told_list (told_items q))) no_tales) ts x y
+
+pub record IsPlacedMembers (q : Members) (x y : Here) : Type 0 where
+  pub expr : q.are_exprs ≡ true → IsPlacedRow behind_brace (tale (told_list (told_members q)) no_tales) (part (list (view_members q)) none) x y
+  pub parts : (ts : Forest) → AreParts q ts → IsPlacedRow (Many Commas (PatProp Assigns) ∷ Fixed Pad ∷ p "}" ∷ []) (tale (retold_parts_list (view_members q) (told_list (told_members q))) no_tales) ts x y
+
+abbrev pub told_member : Member → Told
+told_member m = told_prop m.prop.value
+
+pub record IsPlacedMember (m : Member) (x y : Here) : Type 0 where
+  pub expr : m.is_expr ≡ true → IsPlaced (told_member m) (view_prop m.prop.value) x y
+  pub part' : (p : Tree) → IsTurnedPart m p → IsPlaced (retold_part (view_prop m.prop.value) (told_member m)) p x y
+
+-- a member that begins with a key from a place, behind which the rest of it stands
+pub record IsPlacedPair (lo : ℕ) (d : Told) (k : Tree) (x : Here) (m : Member) (y : Here) : Type 0 where
+  pub on : (w : Here) → lo ≡ next_of w → IsPlaced d k w x → IsPlacedMember m w y
+
+-- a name that stands for a property, which begins at a place, behind its token
+pub record IsPlacedShort (lo : ℕ) (n : Text) (x : Here) (m : Member) (y : Here) : Type 0 where
+  pub on : (w : Here) → lo ≡ next_of w → Takes (Tok Operator IdentifierName n) w x → IsPlacedMember m w y
+
+-- a spread in an object as the rest that it turns into, where it is of a name: behind the dots
+pub record IsPlacedRest (x : Here) (d : Told) (t : Tree) (y : Here) : Type 0 where
+  pub on : (w : Here) → Takes (pun "...") w x → begin_of x ≡ next_of w → (n : Text) → t ≡ node (expression Spread) (part (leaf IdentifierName n) none) → IsPlaced (retold_part t d) (node (function (RestProperty Assigns)) (part (leaf IdentifierName n) none)) w y
