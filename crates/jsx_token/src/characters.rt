@@ -1,7 +1,8 @@
 //! A text, character by character.
 
 ghost use Rattle.std.specs.Prelude.{◌≡◌, [], codes, nat_eq, true, MatchOption};
-ghost use Rattle.std.specs.Str.{chars};
+ghost use Rattle.std.specs.Str.{chars, bytes_eq};
+ghost use Rattle.std.specs.List.{list_any};
 ghost use Rattle.jsx_base.specs.Token.{same, first_is, is_blank, is_line_end};
 ghost use Rattle.jsx_lex.specs.Characters.{Follows};
 ghost use Rattle.jsx_base.specs.Lines.{size};
@@ -12,6 +13,25 @@ pub fn bytes(text: &str) -> usize
     ensures { result ≡ size (chars text.now) }
 {
     text.len()
+}
+
+/// Whether the texts are the same. Most differ in length, which costs less to ask.
+#[inline(always)]
+pub fn is_same(text: &str, other: &str) -> bool
+    ensures { result ≡ bytes_eq text.now other.now }
+{
+    if text.len() != other.len() {
+        return false;
+    }
+    text == other
+}
+
+/// Whether the text is one of these.
+#[inline(always)]
+pub fn is_among(text: &str, words: &[&str]) -> bool
+    ensures { result ≡ list_any (λ w. bytes_eq w.now text.now) words.now }
+{
+    words.iter().any(|word| is_same(word, text))
 }
 
 /// The first character.
@@ -74,89 +94,89 @@ pub fn is_blank(c: char) -> bool
 }
 
 /// Whether the token is `,`.
-#[inline]
+#[inline(always)]
 pub fn is_comma(raw: &str) -> bool
     ensures { result ≡ same (chars raw.now) (codes ",") }
 {
-    raw == ","
+    is_same(raw, ",")
 }
 
 /// Whether the token is `=`.
-#[inline]
+#[inline(always)]
 pub fn is_equals(raw: &str) -> bool
     ensures { result ≡ same (chars raw.now) (codes "=") }
 {
-    raw == "="
+    is_same(raw, "=")
 }
 
 /// Whether the token is `(`.
-#[inline]
+#[inline(always)]
 pub fn is_open(raw: &str) -> bool
     ensures { result ≡ same (chars raw.now) (codes "(") }
 {
-    raw == "("
+    is_same(raw, "(")
 }
 
 /// Whether the token is `}`.
-#[inline]
+#[inline(always)]
 pub fn is_right_brace(raw: &str) -> bool
     ensures { result ≡ same (chars raw.now) (codes "}") }
 {
-    raw == "}"
+    is_same(raw, "}")
 }
 
 /// Whether the word is `in`.
-#[inline]
+#[inline(always)]
 pub fn is_in(word: &str) -> bool
     ensures { result ≡ same (chars word.now) (codes "in") }
 {
-    word == "in"
+    is_same(word, "in")
 }
 
 /// Whether the word is `instanceof`.
-#[inline]
+#[inline(always)]
 pub fn is_instanceof(word: &str) -> bool
     ensures { result ≡ same (chars word.now) (codes "instanceof") }
 {
-    word == "instanceof"
+    is_same(word, "instanceof")
 }
 
 /// Whether the word is `void`.
-#[inline]
+#[inline(always)]
 pub fn is_void(word: &str) -> bool
     ensures { result ≡ same (chars word.now) (codes "void") }
 {
-    word == "void"
+    is_same(word, "void")
 }
 
 /// Whether the word is `typeof`.
-#[inline]
+#[inline(always)]
 pub fn is_typeof(word: &str) -> bool
     ensures { result ≡ same (chars word.now) (codes "typeof") }
 {
-    word == "typeof"
+    is_same(word, "typeof")
 }
 
 /// Whether the word is `delete`.
-#[inline]
+#[inline(always)]
 pub fn is_delete(word: &str) -> bool
     ensures { result ≡ same (chars word.now) (codes "delete") }
 {
-    word == "delete"
+    is_same(word, "delete")
 }
 
 /// Whether the word is `new`.
-#[inline]
+#[inline(always)]
 pub fn is_new(word: &str) -> bool
     ensures { result ≡ same (chars word.now) (codes "new") }
 {
-    word == "new"
+    is_same(word, "new")
 }
 
 /// Whether the token is `=>`.
-#[inline]
+#[inline(always)]
 pub fn is_arrow(token: &str) -> bool
     ensures { result ≡ same (chars token.now) (codes "=>") }
 {
-    token == "=>"
+    is_same(token, "=>")
 }

@@ -140,6 +140,7 @@ pub fn right_level(operator: BinaryOp) -> u8
 }
 
 /// The operator that a punctuator is.
+#[inline(always)]
 fn mark(kind: TokenKind) -> Option<BinaryOp>
     ensures { result ≡ binary_by kind }
 {
@@ -172,6 +173,7 @@ fn mark(kind: TokenKind) -> Option<BinaryOp>
 }
 
 /// The operator of an assignment that a punctuator is.
+#[inline(always)]
 fn assignment(kind: TokenKind) -> Option<AssignOp>
     ensures { result ≡ assign_by kind }
 {
@@ -195,6 +197,7 @@ fn assignment(kind: TokenKind) -> Option<AssignOp>
     }
 }
 
+#[inline(always)]
 fn operator(kind: TokenKind) -> Option<Growth>
     ensures { result ≡ with_operator (binary_by kind) (assign_by kind) }
 {
@@ -208,6 +211,7 @@ fn operator(kind: TokenKind) -> Option<Growth>
 }
 
 /// The operator that a word is.
+#[inline(always)]
 fn word(raw: &str) -> Option<Growth>
     ensures { result ≡ word_by (chars raw.now) }
 {
@@ -221,6 +225,7 @@ fn word(raw: &str) -> Option<Growth>
 }
 
 /// What a token, where it comes next, goes on with an expression by.
+#[inline(always)]
 pub fn growth_of(token: &Token) -> Option<Growth>
     ensures { result ≡ growth_by token.now.kind (chars token.now.raw.now) }
 {

@@ -107,6 +107,7 @@ fn reserved(raw: &str) -> Option<Heading>
 }
 
 /// What a token, where it comes next, begins.
+#[inline(always)]
 pub fn heading_of(token: &Token) -> Option<Heading>
     requires { IsTrue (is_punctuator token.now.kind) → chars token.now.raw.now ≡ spelling token.now.kind }
     ensures { MatchOption result (NoneIsIt token.now) (λ h. IsTrue (is_heading token.now h)) }

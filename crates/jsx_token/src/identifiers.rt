@@ -10,6 +10,7 @@ ghost use Rattle.jsx_tree.specs.StaticRules.{is_key};
 ghost use Rattle.jsx_tree.specs.View.{view_word};
 ghost use Rattle.jsx_token.specs.Stage as stage;
 
+use crate::characters::{is_among, is_same};
 use jsx_tree::Word;
 
 /// The names that strict mode doesn't bind.
@@ -52,7 +53,7 @@ pub fn is_reserved(name: &str) -> bool
     ensures { result ≡ among (chars name.now) grammar.reserved }
 {
     match name.as_bytes().first() {
-        Some(&first) => reserved_from(first).contains(&name),
+        Some(&first) => is_among(name, reserved_from(first)),
         None => false,
     }
 }
@@ -85,10 +86,11 @@ fn begins_with_letter(name: &str) -> bool
     }
 }
 
+#[inline(always)]
 fn is_this(name: &str) -> bool
     ensures { result ≡ same (chars name.now) (codes "this") }
 {
-    name == "this"
+    is_same(name, "this")
 }
 
 /// Whether the stage takes the name of a tag.
@@ -98,25 +100,29 @@ pub fn is_plain_tag(name: &str) -> bool
     begins_with_letter(name) && !has_dash(name) && !is_this(name)
 }
 
+#[inline(always)]
 fn is_null(name: &str) -> bool
     ensures { result ≡ same (chars name.now) (codes "null") }
 {
-    name == "null"
+    is_same(name, "null")
 }
 
+#[inline(always)]
 fn is_true(name: &str) -> bool
     ensures { result ≡ same (chars name.now) (codes "true") }
 {
-    name == "true"
+    is_same(name, "true")
 }
 
+#[inline(always)]
 fn is_false(name: &str) -> bool
     ensures { result ≡ same (chars name.now) (codes "false") }
 {
-    name == "false"
+    is_same(name, "false")
 }
 
 /// The word that is an expression by itself (ECMA-262 sections 13.2.1 and 13.2.3).
+#[inline]
 pub fn value_word(name: &str) -> Option<Word>
     ensures view { IfSome result (λ w. view_word w ≡ leaf IdentifierName (chars name.now)) }
     ensures value { IfSome result (λ w. IsTrue (grammar.is_value_word (chars name.now))) }
@@ -141,7 +147,7 @@ pub fn value_word(name: &str) -> Option<Word>
 pub fn is_proto(name: &str) -> bool
     ensures { result ≡ is_key (codes "__proto__") (leaf IdentifierName (chars name.now)) }
 {
-    name == "__proto__"
+    is_same(name, "__proto__")
 }
 
 /// Whether a key that is a string, with its quotes, does.
@@ -155,7 +161,7 @@ pub fn is_proto_string(raw: &str) -> bool
 pub fn is_constructor(name: &str) -> bool
     ensures { result ≡ is_key (codes "constructor") (leaf IdentifierName (chars name.now)) }
 {
-    name == "constructor"
+    is_same(name, "constructor")
 }
 
 /// Whether a key that is a string, with its quotes, is.
@@ -169,7 +175,7 @@ pub fn is_constructor_string(raw: &str) -> bool
 pub fn is_prototype(name: &str) -> bool
     ensures { result ≡ is_key (codes "prototype") (leaf IdentifierName (chars name.now)) }
 {
-    name == "prototype"
+    is_same(name, "prototype")
 }
 
 /// Whether a key that is a string, with its quotes, is.

@@ -36,6 +36,7 @@ pub enum Opening {
 }
 
 /// What a word begins.
+#[inline(always)]
 fn begun_by(raw: &str) -> Option<Opening>
     ensures { result ≡ opening_word (chars raw.now) }
 {
@@ -67,6 +68,7 @@ fn begun_by(raw: &str) -> Option<Opening>
 }
 
 /// What a token, where it comes next, begins.
+#[inline(always)]
 pub fn opening_of(token: &Token) -> Option<Opening>
     ensures { result ≡ opening_by token.now.kind (chars token.now.raw.now) }
 {

@@ -5,6 +5,8 @@ ghost use Rattle.std.specs.Str.{chars};
 ghost use Rattle.jsx_base.specs.Token.{same};
 ghost use Rattle.jsx_token.specs.WordTexts.{word_text};
 
+use crate::characters::is_same;
+
 /// A word that begins an item or a statement, or stands in one or in an expression.
 #[derive(Clone, Copy, Debug, PartialEq, Eq)]
 pub enum Word {
@@ -53,7 +55,7 @@ pub enum Word {
 
 impl Word {
     /// Its letters.
-    #[inline]
+    #[inline(always)]
     fn text(self) -> &'static str
         ensures { result.now ≡ word_text self }
     {
@@ -97,10 +99,10 @@ impl Word {
     }
 
     /// Whether a name is this word.
-    #[inline]
+    #[inline(always)]
     pub fn is(self, name: &str) -> bool
         ensures { result ≡ same (chars name.now) (word_text self) }
     {
-        name == self.text()
+        is_same(name, self.text())
     }
 }

@@ -3,4 +3,4 @@ use Rattle.jsx_token.proofs.Words.{is_constructor}
 use Rattle.jsx_token.proofs.identifiers.is_constructor.Goals as goal
 
 pub returns : goal.returns
-returns c = c.eq.ensures ∙ is_constructor c.args.name.now c.utf8.name
+returns c = c.is_same.ensures ∙ is_constructor c.args.name.now c.utf8.name

@@ -11,7 +11,7 @@ pub returns-in-Some : goal.returns-in-Some
 returns-in-Some c =
     let bs = c.args.name.now in
     let test = λ (w : Text). bytes_eq w bs in
-    c.contains.ensures.value ∙ (any_map test (λ (w : Bor Text). w.now) c.reserved_from.result.now ∙ (ap (list_any test) c.reserved_from.ensures
+    c.is_among.ensures ∙ (any_map test (λ (w : Bor Text). w.now) c.reserved_from.result.now ∙ (ap (list_any test) c.reserved_from.ensures
     ∙ (any_from c.in-Some.field-0.now bs grammar.reserved (c.in-Some.ensures.value ∙ ap (λ s. slice_get s 0) c.as_bytes.ensures.value) ∙ any_reserved bs c.utf8.name)))
 
 pub returns-in-None : goal.returns-in-None

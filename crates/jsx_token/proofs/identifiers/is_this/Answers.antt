@@ -3,4 +3,4 @@ use Rattle.jsx_token.proofs.Spellings.{same_this}
 use Rattle.jsx_token.proofs.identifiers.is_this.Goals as goal
 
 pub returns : goal.returns
-returns c = c.eq.ensures ∙ same_this c.args.name.now c.utf8.name
+returns c = c.is_same.ensures ∙ same_this c.args.name.now c.utf8.name
