@@ -23,10 +23,10 @@ use Rattle.jsx_operand.proofs.Homes.{IsName, literal, made, Value, bound_word, t
 use Rattle.jsx_operand.proofs.Standing.{standing}
 use Rattle.jsx_operand.proofs.Turned.{element_pat, slot_element}
 use Rattle.jsx_operand.proofs.Values.{Bracketed, in_array, in_object, at_one, bracket_none, is_opening, led_sign, move, opener, unbracketed}
-use Rattle.jsx_expression.specs.Elements.{is_hole}
+use Rattle.jsx_function.specs.Elements.{is_hole}
 use Rattle.jsx_expression.proofs.CoverItems.{Holed}
 use Rattle.jsx_expression.proofs.Elements.{begins_none, close_no_item, comma_no_item, no_value_at}
-use Rattle.jsx_expression.proofs.Params.{comma_unless}
+use Rattle.jsx_function.proofs.Params.{comma_unless}
 
 abbrev pub value_row : List Piece
 value_row = row_so_far (function (WithInit Assigns))

@@ -26,8 +26,9 @@ use Rattle.jsx_operand.specs.declared.cover.Cover.{Cover}
 use Rattle.jsx_operand.proofs.Placing.{IsItem as Lies, hole_item, map_pushed, placed_as, plain_elisions, row_end, row_list, row_sign}
 use Rattle.jsx_operand.proofs.PlacedExpressions.{no_trailing, rest_pattern_row, spread_row, takes_trailing}
 use Rattle.jsx_operand.proofs.Trees.{pushed, pushed_as}
-use Rattle.jsx_expression.specs.Covers.{CoversItems, IsCover, IsItemCover, IsPlacedCover, IsPlacedItem, IsPlacedItems, IsTurnedSlot, NoItemCover, NoItems, told_cover}
-use Rattle.jsx_expression.specs.Elements.{is_hole}
+use Rattle.jsx_expression.specs.Covers.{CoversItems, IsItemCover, IsPlacedItem, IsPlacedItems, IsTurnedSlot, NoItemCover, NoItems}
+use Rattle.jsx_function.specs.Covers.{IsCover, IsPlacedCover, told_cover}
+use Rattle.jsx_function.specs.Elements.{is_hole}
 use Rattle.jsx_expression.specs.declared.literals.Items.{Items}
 use Rattle.jsx_expression.proofs.Aimed.{literal_items, pattern_slots}
 use Rattle.jsx_expression.proofs.CoverItems.{Before, Kept, filled_more, hole, hole_more, inside as within, kept_none, none_here, shut, shut_behind, trails, unshut}

@@ -37,11 +37,11 @@ use Rattle.jsx_operand.proofs.Openings.{Other, barred, free_none, itself, kept_b
 use Rattle.jsx_operand.proofs.Turned.{arrow_staged, arrow_unstaged}
 use Rattle.jsx_expression.specs.Arrows.{ArrowEnds, Contents, IsInside, NoArrowEnd, NoGroup, OnlyEnd, OnlyGroup, TurnCovers, covers_none, covers_more, are_exprs, arrow_kind, end_row, has_rest, is_sequence, unless_arrow}
 use Rattle.jsx_expression.specs.declared.arrow.Group.{Group}
-use Rattle.jsx_expression.specs.Covers.{IsCover, NoCover, Settles}
-use Rattle.jsx_expression.specs.Functions.{params_row}
+use Rattle.jsx_function.specs.Covers.{IsCover, NoCover, Settles}
+use Rattle.jsx_function.specs.Functions.{params_row}
 use Rattle.jsx_expression.proofs.CoverParams.{covers_once, no_param, param_word, stuck_not}
-use Rattle.jsx_expression.proofs.Defaults.{rest_row}
-use Rattle.jsx_expression.proofs.Params.{no_rest_param}
+use Rattle.jsx_function.proofs.Defaults.{rest_row}
+use Rattle.jsx_function.proofs.Params.{no_rest_param}
 use Rattle.jsx_expression.proofs.Parentheses.{Passes, PassesFrom, dotted_value, last_contents, passes_barred, rest_contents, trailing_contents}
 use Rattle.jsx_expression.proofs.Sequences.{closed_of, whole_barred}
 

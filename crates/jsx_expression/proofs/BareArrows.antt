@@ -38,7 +38,8 @@ use Rattle.jsx_operand.proofs.Tags.{sign_piece}
 use Rattle.jsx_operand.proofs.Turned.{bracketed_literal, turned_aims}
 use Rattle.jsx_operand.proofs.Values.{leaf_to}
 use Rattle.jsx_expression.specs.Arrows.{BareEnds, NoBareEnd, OnlyEnd, bare_kind, end_row}
-use Rattle.jsx_expression.specs.Covers.{Apart, above, unlike, BeginsAt, BeginsCover, IsMade, IsOperand, LeadsTo, leads, leads_none, NoOperand, Settles, before_arrow, as_made, none_made}
+use Rattle.jsx_expression.specs.Covers.{Apart, above, unlike, BeginsAt, BeginsCover, IsMade, IsOperand, LeadsTo, leads, leads_none, NoOperand, before_arrow, as_made, none_made}
+use Rattle.jsx_function.specs.Covers.{Settles}
 use Rattle.jsx_expression.proofs.Covers.{settled_open}
 use Rattle.jsx_expression.proofs.CoverElements.{no_element}
 use Rattle.jsx_expression.proofs.Operands.{low_last, no_operand_at, only_begins, operand_at}

@@ -30,7 +30,7 @@ use Rattle.jsx_operand.proofs.Climbing.{mark_goes}
 use Rattle.jsx_operand.proofs.Homes.{bound_word, home_of, in_brackets, no_list, value}
 use Rattle.jsx_operand.proofs.Turned.{ends_alike, element_pat, has_default, pat_element, plain_element, target_unlike, turned_aims, turned_target}
 use Rattle.jsx_operand.proofs.Values.{at_one, move, settled_token}
-use Rattle.jsx_expression.specs.Covers.{IsElementCover}
+use Rattle.jsx_function.specs.Covers.{IsElementCover}
 use Rattle.jsx_expression.proofs.Covers.{IsBracket, bracket_is, bracket_of}
 use Rattle.jsx_operand.proofs.Values.{in_array, in_object}
 

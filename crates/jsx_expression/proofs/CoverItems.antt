@@ -25,7 +25,7 @@ use Rattle.jsx_token.specs.Stage.{in_stage}
 use Rattle.jsx_token.specs.Marks.{ends_so_far}
 use Rattle.jsx_operand.proofs.OfSoFar.{of_so_far}
 use Rattle.jsx_operand.proofs.Homes.{no_list}
-use Rattle.jsx_expression.specs.Elements.{NoItem, is_hole}
+use Rattle.jsx_function.specs.Elements.{NoItem, is_hole}
 
 abbrev pub hole : Tree
 hole = leaf Elision []

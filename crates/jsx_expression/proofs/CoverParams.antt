@@ -28,10 +28,10 @@ use Rattle.jsx_operand.proofs.OfSoFar.{of_so_far}
 use Rattle.jsx_operand.proofs.Turned.{element_assigns, element_param, ends_alike, param_element, suits_staged, suits_unstaged}
 use Rattle.jsx_operand.proofs.Turning.{element_once, suits_binds, suits_once}
 use Rattle.jsx_expression.specs.Arrows.{AreParams, IsInside, TurnCovers, covers_none, covers_more}
-use Rattle.jsx_expression.specs.Covers.{NoCover}
-use Rattle.jsx_expression.specs.Functions.{OnlyParam, params_row}
-use Rattle.jsx_expression.proofs.Defaults.{rest_led}
-use Rattle.jsx_expression.proofs.Params.{close_ends, comma_ends, not_last, rest_guard, unmarked}
+use Rattle.jsx_function.specs.Covers.{NoCover}
+use Rattle.jsx_function.specs.Functions.{OnlyParam, params_row}
+use Rattle.jsx_function.proofs.Defaults.{rest_led}
+use Rattle.jsx_function.proofs.Params.{close_ends, comma_ends, not_last, rest_guard, unmarked}
 
 pub stuck_not : {s : Sign} {x : Place} → Stuck s x → IsTrue (is_found (forth s x)) → ⊥
 stuck_not k f = let bad : IsTrue (is_found Lost) = subst (λ p. IsTrue (is_found p)) k.is f in cc

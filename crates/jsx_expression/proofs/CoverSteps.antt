@@ -4,42 +4,39 @@ use Rattle.std.specs.Prelude.{IsTrue, codes, cond, ◌||◌}
 use Rattle.std.proofs.lemmas.Bool.{le-leb, leb-true}
 use Rattle.jsx_base.specs.Token.{IdentifierName, Lexeme, Operator}
 use Rattle.jsx_tree.specs.Signs.{AfterExpr, SameLine}
-use Rattle.jsx_tree.specs.Kinds.{Array, BareArrow, BareArrowBlock, Object, Tagged, Assigns, Kind, expression, Tree, leaf, node, list, Forest, part}
-use Rattle.jsx_tree.specs.Nonterminals.{BindingIdent, Expr, Pat, leaf_in}
+use Rattle.jsx_tree.specs.Kinds.{Array, BareArrow, BareArrowBlock, Object, Tagged, Kind, expression, Tree, leaf, node, list, Forest, part}
+use Rattle.jsx_tree.specs.Nonterminals.{BindingIdent, Expr, leaf_in}
 use Rattle.jsx_tree.specs.Grammar.{Part, pun}
 use Rattle.jsx_tree.specs.Form.{is_leaf}
 use Rattle.jsx_tree.specs.Reading.{Place, Lost, At, forth}
 use Rattle.jsx_tree.specs.StaticRules.{Surroundings}
 use Rattle.jsx_tree.specs.Walk.{Given, Past, is_found, one, tail, tree}
 use Rattle.jsx_tree.specs.Language.{Whole}
-use Rattle.jsx_tree.specs.Answers.{Moves, Only, Barred, Built, Stuck}
+use Rattle.jsx_tree.specs.Answers.{Moves, Only, Barred, Built}
 use Rattle.jsx_tree.specs.Grows.{Onward, Steps, seen, stay, step}
 use Rattle.jsx_tree.specs.View.{view_expr}
 use Rattle.jsx_tree.specs.declared.tree.Expr.{Expr as Code}
 use Rattle.jsx_tree.proofs.Tokens.{and_left}
 use Rattle.jsx_tree.proofs.Apart.{clash}
-use Rattle.jsx_tree.proofs.Rows.Turns.{whole_of}
-use Rattle.jsx_tree.specs.Told.{told_expr}
-use Rattle.jsx_make.specs.NodeSpans.{expr_at}
-use Rattle.jsx_operand.specs.Spans.{IsPlaced, Spans}
 use Rattle.jsx_token.specs.declared.growth.Growth.{Growth}
-use Rattle.jsx_token.specs.Growths.{OnLine, growth_kind, rung, closed, is_blocked, is_level, level_of_kind, mark, reaches, seat, settled}
+use Rattle.jsx_token.specs.Growths.{OnLine, growth_kind, rung, closed, is_blocked, is_level, level_of_kind, mark, reaches, settled}
 use Rattle.jsx_token.specs.Marks.{ends_so_far, is_sign, row_so_far, unarrowed}
 use Rattle.jsx_token.specs.Here.{Here, place_of}
 use Rattle.jsx_token.specs.Seen.{next_token}
-use Rattle.jsx_token.proofs.Listed.{Listed, listed}
+use Rattle.jsx_token.proofs.Listed.{Listed}
 use Rattle.jsx_token.proofs.Levels.{grows_on, is_named, marks_on, side_of, steps_on}
 use Rattle.jsx_operand.specs.SoFar.{Staged, so_far}
-use Rattle.jsx_operand.specs.Climbing.{Climbs, Grown, fits, level, rises}
-use Rattle.jsx_operand.specs.Covers.{IsTurned, view_cover}
-use Rattle.jsx_operand.specs.Turning.{Turns, is_bound_name, is_bracketed, is_literal}
+use Rattle.jsx_operand.specs.Climbing.{Climbs, Grown, fits, rises}
+use Rattle.jsx_operand.specs.Covers.{view_cover}
+use Rattle.jsx_operand.specs.Turning.{is_bound_name, is_literal}
 use Rattle.jsx_operand.specs.declared.cover.Cover.{Cover}
 use Rattle.jsx_operand.proofs.Climbing.{Going, by_arrow, by_mark, by_piece, arrow_goes, climb_blocked, climb_on, climb_only, climb_tagged, mark_arrow, mark_goes, step_listed, step_next, step_sign}
 use Rattle.jsx_operand.proofs.Homes.{bindings, home_of, no_list, taken_by, value}
 use Rattle.jsx_operand.proofs.Tags.{quote_goes, sign_piece}
 use Rattle.jsx_operand.proofs.Values.{Quote}
 use Rattle.jsx_operand.proofs.Turned.{bracketed_literal}
-use Rattle.jsx_expression.specs.Covers.{BeginsAt, IsCover, IsOperand, IsPlacedCover, NoCover, Settles}
+use Rattle.jsx_expression.specs.Covers.{IsOperand}
+use Rattle.jsx_function.specs.Covers.{IsCover, NoCover, Settles}
 use Rattle.jsx_expression.proofs.Covers.{closed_open, low_blocked, settled_open}
 use Rattle.jsx_expression.proofs.CoverElements.{Bracketing, bracket_unassigned, element_only, element_unsettled, no_element}
 
@@ -214,17 +211,6 @@ unarrowed_by n h f = by (nat_le n 1) refl
     by : (b : Bool) → nat_le n 1 ≡ b → unarrowed n (next_token Operator h) ≡ true
     by false e = ap (λ b. not b || not (is_sign x (pun "=>"))) e
     by true e = (λ i. not (e i) || not (sign_off (is_sign x (pun "=>")) (At (codes "=>") AfterExpr x.rest) refl (f (leb-true n 1 e)) i))
-
--- ---- a cover that is settled
-
-pub settled_only : {v : Surroundings} {n : ℕ} {x y : Place} {c : Cover} {e : Box Code Global} → e ≡ c.expr → c.is_expr ≡ true → IsCover v n x c y → Only so_far v (Part (Expr n)) x (one (view_expr e.value)) y
-settled_only {v} {n} {x} {y} is i o = subst (λ b. Only so_far v (Part (Expr n)) x (one (view_expr b.value)) y) (sym is) (o.expr i)
-
-pub settled_span : {b e : Box Code Global} {lo hi : ℕ} → b ≡ e → Spans (expr_at e.value) lo hi → Spans (expr_at b.value) lo hi
-settled_span {lo = lo} {hi} is s = subst (λ j. Spans (expr_at j.value) lo hi) (sym is) s
-
-pub settled_placed : {c : Cover} {e : Box Code Global} {x y : Here} → e ≡ c.expr → c.is_expr ≡ true → IsPlacedCover c x y → IsPlaced (told_expr e.value) (view_expr e.value) x y
-settled_placed {x = x} {y} is i p = subst (λ b. IsPlaced (told_expr b.value) (view_expr b.value) x y) (sym is) (p.expr i)
 
 -- ---- what settles
 

@@ -22,7 +22,8 @@ use Rattle.jsx_tree.proofs.Rows.Bodies.{plain as plain_row}
 use Rattle.jsx_tree.proofs.Rows.Placing.{free_around, moved}
 use Rattle.jsx_tree.proofs.Rows.Turns.{item_of, whole_of}
 use Rattle.jsx_operand.specs.SoFar.{Staged, so_far}
-use Rattle.jsx_expression.specs.Elements.{OnlyItem, NoItem, is_hole}
+use Rattle.jsx_expression.specs.Elements.{OnlyItem}
+use Rattle.jsx_function.specs.Elements.{NoItem, is_hole}
 use Rattle.jsx_token.specs.Stage.{leaf_at, value_leaf}
 use Rattle.jsx_token.specs.Marks.{ends_so_far, row_so_far}
 use Rattle.jsx_token.specs.Growths.{opening_sign, same_sign}

@@ -32,13 +32,14 @@ use Rattle.jsx_operand.specs.declared.cover.Cover.{Cover}
 use Rattle.jsx_operand.proofs.OfSoFar.{of_so_far}
 use Rattle.jsx_operand.proofs.Homes.{home_of}
 use Rattle.jsx_operand.proofs.Turned.{element_slot, ends_alike, pat_element, slots_both, slots_parted, turned_pat}
-use Rattle.jsx_expression.specs.Covers.{CoversItems, IsCover, IsItemCover, IsTurnedSlot, NoCover, NoItemCover}
-use Rattle.jsx_expression.specs.Elements.{is_hole}
+use Rattle.jsx_expression.specs.Covers.{CoversItems, IsItemCover, IsTurnedSlot, NoItemCover}
+use Rattle.jsx_function.specs.Covers.{IsCover, NoCover}
+use Rattle.jsx_function.specs.Elements.{is_hole}
 use Rattle.jsx_expression.specs.declared.literals.Items.{Items}
 use Rattle.jsx_expression.proofs.Aimed.{at_slot, AtSlot, plain, rest, gap, dots, element_unmarked, rest_led, rest_row}
 use Rattle.jsx_expression.proofs.CoverItems.{Ends, Fills, IsGap, Longer, hole, inside as within}
 use Rattle.jsx_expression.proofs.Elements.{items, expression_item, no_expression_item, no_spread_item, spread_item}
-use Rattle.jsx_expression.proofs.Params.{comma_unless, unless_comma}
+use Rattle.jsx_function.proofs.Params.{comma_unless, unless_comma}
 
 stuck_not : {s : Sign} {x : Place} → Stuck s x → IsTrue (is_found (forth s x)) → ⊥
 stuck_not k f = let bad : IsTrue (is_found Lost) = subst (λ p. IsTrue (is_found p)) k.is f in cc

@@ -40,7 +40,8 @@ use Rattle.jsx_operand.proofs.Placing.{placed_as}
 use Rattle.jsx_operand.proofs.PlacedExpressions.{array_pattern_placed, array_row, object_pattern_placed, object_row}
 use Rattle.jsx_operand.proofs.Protos.{object_node, two_protos}
 use Rattle.jsx_operand.proofs.Values.{led_sign}
-use Rattle.jsx_expression.specs.Covers.{CoversItems, CoversMembers, IsPatternCover, IsPlacedCoverBehind, IsPlacedItems, IsPlacedMembers, NoCoverOpened, NoItems, NoMembers, OpensCover, told_cover, told_items, told_members, view_items, view_members}
+use Rattle.jsx_expression.specs.Covers.{CoversItems, CoversMembers, IsPatternCover, IsPlacedCoverBehind, IsPlacedItems, IsPlacedMembers, NoCoverOpened, NoItems, NoMembers, OpensCover, told_items, told_members, view_items, view_members}
+use Rattle.jsx_function.specs.Covers.{told_cover}
 use Rattle.jsx_expression.specs.declared.literals.Items.{Items}
 use Rattle.jsx_expression.specs.declared.literals.Members.{Members}
 

@@ -38,20 +38,22 @@ use Rattle.jsx_operand.proofs.Homes.{IsName, bindings, bound_word, idents, only_
 use Rattle.jsx_operand.proofs.Keys.{key_unmarked, literal_key}
 use Rattle.jsx_operand.proofs.Turned.{parts_both, parts_parted}
 use Rattle.jsx_operand.proofs.Values.{leaf_to}
-use Rattle.jsx_expression.specs.Covers.{CoversKeyed, CoversMembers, CoversPair, CoversShort, IsCover, IsKeyed, IsMemberCover, IsTurnedPart, NoCover, NoCoverKeyed, NoMemberCover, NoPair, NoShortCover}
-use Rattle.jsx_expression.specs.Methods.{IsBare, IsPrefix, NoneFromKey, NoneKeyed, OnlyFromKey, OnlyKeyed, is_method, keyed_in_object}
+use Rattle.jsx_expression.specs.Covers.{CoversKeyed, CoversMembers, CoversPair, CoversShort, IsKeyed, IsMemberCover, IsTurnedPart, NoCoverKeyed, NoMemberCover, NoPair, NoShortCover, IsBare}
+use Rattle.jsx_function.specs.Covers.{IsCover, NoCover}
+use Rattle.jsx_expression.proofs.Properties.{keyed_in_object, no_colon, no_property, property_only}
+use Rattle.jsx_function.specs.Methods.{IsPrefix, NoneFromKey, NoneKeyed, OnlyFromKey, OnlyKeyed, is_method}
 use Rattle.jsx_expression.specs.declared.literals.Member.{Member}
 use Rattle.jsx_expression.specs.declared.literals.Members.{Members}
 use Rattle.jsx_expression.proofs.CoverItems.{Ends, Longer}
 use Rattle.jsx_expression.proofs.CoverMembers.{FillsClosed, NoneCloses, inside as within}
 use Rattle.jsx_expression.proofs.ItemCovers.{AreAll}
-use Rattle.jsx_expression.proofs.Keyed.{keyed_first, keyed_neither, keyed_second, method_is, no_colon, no_property, property_only, unbracketed, uncalled}
-use Rattle.jsx_expression.proofs.Members.{ShortName, accessor_member, goes_by, keyed_member, keyed_word, no_accessor, no_key, no_keyed_member, no_spread, short_member, shut_not, spread_read}
+use Rattle.jsx_function.proofs.Keyed.{keyed_first, keyed_neither, keyed_second, method_is, unbracketed, uncalled}
+use Rattle.jsx_expression.proofs.Members.{ShortName, accessor_member, goes_by, keyed_member, keyed_word, no_accessor, no_key, no_keyed_member, no_spread, short_member, shut_not, spread_read, word_marked}
 use Rattle.jsx_expression.proofs.Parted.{AtPart, at_part, default_marked, default_row, default_unvalued, default_whole, key_marked, pair_row, pair_whole, paired, part_behind, rest, rest_led, rest_parts, rest_row, short, short_closed, short_marked, short_row, short_whole, uncoloned, valued, RestRead}
-use Rattle.jsx_expression.proofs.PatternParts.{Bound, as_key, bound_by, colon_moves, key_end}
-use Rattle.jsx_expression.proofs.Params.{unless_comma}
-use Rattle.jsx_expression.proofs.Prefixes.{key_before}
-use Rattle.jsx_expression.proofs.Worded.{accessor_is, accessor_key, accessor_kind, accessor_sign, accessor_word, is_accessor, word_marked}
+use Rattle.jsx_function.proofs.PatternParts.{Bound, as_key, bound_by, colon_moves, key_end}
+use Rattle.jsx_function.proofs.Params.{unless_comma}
+use Rattle.jsx_function.proofs.Prefixes.{key_before}
+use Rattle.jsx_function.proofs.Worded.{accessor_is, accessor_key, accessor_kind, accessor_sign, accessor_word, is_accessor}
 
 stuck_not : {s : Sign} {x : Place} → Stuck s x → IsTrue (is_found (forth s x)) → ⊥
 stuck_not k f = let bad : IsTrue (is_found Lost) = subst (λ p. IsTrue (is_found p)) k.is f in cc

@@ -27,7 +27,8 @@ use Rattle.jsx_operand.specs.Turning.{preset, retold_part}
 use Rattle.jsx_operand.specs.declared.cover.Cover.{Cover}
 use Rattle.jsx_operand.proofs.Placing.{placed_as, placed_to}
 use Rattle.jsx_operand.proofs.PlacedExpressions.{name_placed, pair_pattern_placed, property_row, rest_property_placed, short_default_placed, short_pattern_placed, shorthand_row}
-use Rattle.jsx_expression.specs.Covers.{IsPlacedCover, IsPlacedMember, IsPlacedPair, IsPlacedRest, IsPlacedShort, told_cover, told_member}
+use Rattle.jsx_expression.specs.Covers.{IsPlacedMember, IsPlacedPair, IsPlacedRest, IsPlacedShort, told_member}
+use Rattle.jsx_function.specs.Covers.{IsPlacedCover, told_cover}
 use Rattle.jsx_expression.specs.declared.literals.Member.{Member}
 use Rattle.jsx_expression.proofs.MemberCovers.{pair_of, preset_of, rest_of, short_of, spread_parts, turns_so, turns_tree}
 

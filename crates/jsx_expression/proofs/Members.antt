@@ -3,9 +3,10 @@ use Rattle.std.proofs.Common.{◌≡◌, Bool, List, [], ◌∷◌, true, false,
 use Rattle.std.specs.Prelude.{IsTrue, codes, ◌||◌}
 use Rattle.jsx_base.specs.Token.{Text, Operator, Punctuator, IdentifierName, among, same}
 use Rattle.jsx_tree.specs.Signs.{Sign, Tok}
-use Rattle.jsx_tree.specs.Kinds.{Getter, InClass, InObject, Kind, Method, Property, Setter, Shorthand, Spread, Static, expression, function, Tree, leaf, node, list, Forest, none, part}
+use Rattle.jsx_tree.specs.Kinds.{Getter, Holder, InClass, InObject, Kind, Method, Property, Setter, Shorthand, Spread, Static, expression, function, Tree, leaf, node, list, Forest, none, part}
 use Rattle.jsx_tree.specs.Nonterminals.{Expr, Ident, Key, ObjectMember, is_ident, leaf_in, reserved}
 use Rattle.jsx_tree.specs.Grammar.{Context, Fixed, Part, pun}
+use Rattle.jsx_tree.specs.Grammar as symbol
 use Rattle.jsx_tree.specs.Form.{admits, is_leaf}
 use Rattle.jsx_tree.specs.Reading.{Place, Lost, At, forth}
 use Rattle.jsx_tree.specs.StaticRules.{Surroundings}
@@ -22,6 +23,7 @@ use Rattle.jsx_tree.proofs.Rows.Placing.{free_around, moved}
 use Rattle.jsx_tree.proofs.Rows.Turns.{item_of}
 use Rattle.jsx_operand.specs.SoFar.{Staged, so_far}
 use Rattle.jsx_operand.specs.Members.{Closed, OnlyMember, NoMember, by_brace, by_comma}
+use Rattle.jsx_token.specs.Here.{Here, place_of}
 use Rattle.jsx_token.specs.Marks.{ends_so_far, row_so_far}
 use Rattle.jsx_operand.proofs.OfSoFar.{of_so_far}
 use Rattle.jsx_tree.proofs.Rows.Firsts.{kind_home}
@@ -29,12 +31,14 @@ use Rattle.jsx_operand.proofs.Standing.{standing}
 use Rattle.jsx_operand.proofs.Homes.{IsName, Taken, taken_by, home_of, no_list, idents, only_leaf}
 use Rattle.jsx_operand.proofs.Values.{leaf_to}
 use Rattle.jsx_operand.proofs.Climbing.{signed_built, signed_none}
-use Rattle.jsx_operand.proofs.Keys.{literal_key, mark_none}
-use Rattle.jsx_expression.specs.Methods.{IsBare, IsPrefix, NoPrefix, NoneFromKey, NoneKeyed, OnlyFromKey, OnlyKeyed, behind_key, from_key, keyed_in_object}
+use Rattle.jsx_operand.proofs.Keys.{key_unmarked, literal_key, mark_none}
+use Rattle.jsx_expression.proofs.Properties.{keyed_in_object}
+use Rattle.jsx_expression.specs.Covers.{IsBare}
+use Rattle.jsx_function.specs.Methods.{IsPrefix, NoPrefix, NoneFromKey, NoneKeyed, OnlyFromKey, OnlyKeyed, behind_key, from_key}
 use Rattle.jsx_expression.proofs.Elements.{dots_led, spread_whole}
-use Rattle.jsx_expression.proofs.Keyed.{past}
-use Rattle.jsx_expression.proofs.Prefixes.{key_before}
-use Rattle.jsx_expression.proofs.Worded.{accessor_is, accessor_key, accessor_kind, accessor_row, accessor_self, accessor_sign, accessor_word, behind_word, is_accessor, key_there, one_accessor, unworded, word_marked, word_there, worded_led}
+use Rattle.jsx_function.proofs.Keyed.{past, same_self}
+use Rattle.jsx_function.proofs.Prefixes.{key_before}
+use Rattle.jsx_function.proofs.Worded.{accessor_is, accessor_key, accessor_kind, accessor_row, accessor_sign, accessor_word, behind_word, is_accessor, one_accessor, unworded, word_there, worded_led}
 
 stuck_not : {s : Sign} {x : Place} → Stuck s x → IsTrue (is_found (forth s x)) → ⊥
 stuck_not k f = let bad : IsTrue (is_found Lost) = subst (λ p. IsTrue (is_found p)) k.is f in cc
@@ -43,9 +47,29 @@ lost_from : (x : Place) → (IsTrue (is_found x) → ⊥) → x ≡ Lost
 lost_from Lost n = refl
 lost_from (At q e text) n = absurd (n refl)
 
+-- neither dots nor a word before a key
+pub bare_by : {x y z : Here} {p : Place} → z ≡ y → y ≡ x → NoPrefix (symbol.key "get") (place_of x) → NoPrefix (symbol.key "set") (place_of y) → place_of x ≡ p → forth (pun "...") p ≡ Lost → IsBare (place_of z)
+bare_by e f g s h d = record {
+  dots = record { is = ap (λ k. forth (pun "...") (place_of k)) (e ∙ f) ∙ (ap (forth (pun "...")) h ∙ d) };
+  getting = subst (λ k. NoPrefix (symbol.key "get") (place_of k)) (sym (e ∙ f)) g;
+  setting = subst (λ k. NoPrefix (symbol.key "set") (place_of k)) (sym e) s;
+}
+
 bare_word : {x : Place} → IsBare x → (b : Bool) → NoPrefix (accessor_sign b) x
 bare_word n true = n.getting
 bare_word n false = n.setting
+
+accessor_self : (h : Holder) (b : Bool) → is_accessor h b (accessor_kind h b) ≡ true
+accessor_self h true = same_self h
+accessor_self h false = same_self h
+
+-- no mark stands where such a word does
+pub word_marked : (x : Place) (b : Bool) (d : Text) → IsTrue (is_found (forth (accessor_sign b) x)) → IsTrue (is_found (forth (Tok Operator Punctuator d) x)) → ⊥
+word_marked x b d f g = mark_none IsName (accessor_word b) d x refl f g
+
+-- a row that begins with a key begins with no mark but its bracket
+key_there : {V : List Context → Surroundings} {x z : Place} {ts : Forest} (k : Kind) (d : Text) → same (codes "[") d ≡ false → Walk (Whole so_far) V (from_key k) x ts z → IsTrue (is_found (forth (Tok Operator Punctuator d) x)) → ⊥
+key_there k d n (next (tree q) w) f = key_unmarked d n q.reads f
 
 -- ---- what stands there
 

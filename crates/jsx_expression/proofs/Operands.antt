@@ -41,7 +41,8 @@ use Rattle.jsx_operand.proofs.Rungs.{rung_operand}
 use Rattle.jsx_operand.proofs.Turned.{bracketed_literal, turned_aims, turned_bracketed}
 use Rattle.jsx_operand.proofs.Turning.{turns_once}
 use Rattle.jsx_operand.proofs.Values.{Bracketed, in_array, in_object, listed_node}
-use Rattle.jsx_expression.specs.Covers.{Apart, above, unlike, unassigned, BeginsAt, BeginsCover, IsAssigned, IsMade, IsOperand, LeadsTo, leads, leads_none, NoCoverBegins, NoOperand, NotAssigned, Settles, before_equals, as_begun, as_made, none_begun, none_made}
+use Rattle.jsx_expression.specs.Covers.{Apart, above, unlike, unassigned, BeginsAt, BeginsCover, IsAssigned, IsMade, IsOperand, LeadsTo, leads, leads_none, NoCoverBegins, NoOperand, NotAssigned, before_equals, as_begun, as_made, none_begun, none_made}
+use Rattle.jsx_function.specs.Covers.{Settles}
 use Rattle.jsx_expression.proofs.Covers.{IsBracket, bracket_is, bracket_of, closed_open, pattern_none, settled_open}
 use Rattle.jsx_expression.proofs.CoverElements.{bracket_unassigned, no_element, target_there}
 

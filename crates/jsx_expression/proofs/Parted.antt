@@ -29,8 +29,8 @@ use Rattle.jsx_operand.proofs.Standing.{standing}
 use Rattle.jsx_operand.proofs.Values.{led_sign}
 use Rattle.jsx_expression.proofs.CoverMembers.{Braced}
 use Rattle.jsx_expression.proofs.Members.{unmarked}
-use Rattle.jsx_expression.proofs.Params.{comma_unless}
-use Rattle.jsx_expression.proofs.PatternParts.{key_end, name_unmarked}
+use Rattle.jsx_function.proofs.Params.{comma_unless}
+use Rattle.jsx_function.proofs.PatternParts.{key_end, name_unmarked}
 
 stuck_not : {s : Sign} {x : Place} → Stuck s x → IsTrue (is_found (forth s x)) → ⊥
 stuck_not k f = let bad : IsTrue (is_found Lost) = subst (λ p. IsTrue (is_found p)) k.is f in cc

@@ -24,8 +24,8 @@ use Rattle.jsx_operand.specs.declared.cover.Cover.{Cover}
 use Rattle.jsx_operand.proofs.Placing.{PlacedFront, front_last, front_more, front_none, led, map_pushed, node_is, placed_from, plain_commas, plain_two, row_end, row_line, row_list, row_part, row_quiet, row_sign, row_unless, row_within}
 use Rattle.jsx_operand.proofs.PlacedExpressions.{no_trailing, sequence_row, takes_trailing}
 use Rattle.jsx_expression.specs.Arrows.{TurnCovers, covers_none, covers_more, PlacedGroup, are_exprs, arrow_kind, bare_kind, end_symbols, has_rest, inner_symbols, retold_cover, retold_covers, told_covers, told_group, told_rest, view_rest}
-use Rattle.jsx_expression.specs.Covers.{IsPlacedCover, told_cover}
-use Rattle.jsx_expression.specs.Functions.{params_symbols}
+use Rattle.jsx_function.specs.Covers.{IsPlacedCover, told_cover}
+use Rattle.jsx_function.specs.Functions.{params_symbols}
 use Rattle.jsx_expression.specs.declared.arrow.Group.{Group}
 use Rattle.jsx_expression.proofs.ArrowOpenings.{rest_unread, trails_unread}
 use Rattle.jsx_expression.proofs.CoverParams.{close_stuck}

@@ -28,12 +28,12 @@ use Rattle.jsx_operand.specs.Openings.{NoneOpened, OnlyOpened}
 use Rattle.jsx_operand.specs.Spans.{IsPlaced, IsPlacedFront, IsPlacedRow, Spans}
 use Rattle.jsx_operand.specs.Turning.{retold}
 use Rattle.jsx_operand.specs.declared.cover.Cover.{Cover}
-use Rattle.jsx_expression.specs.Covers.{IsCover, IsPlacedCover, told_cover}
-use Rattle.jsx_expression.specs.Functions.{params_row, params_symbols}
+use Rattle.jsx_function.specs.Covers.{IsCover, IsPlacedCover, told_cover}
+use Rattle.jsx_function.specs.Functions.{params_row, params_symbols}
 use Rattle.jsx_expression.specs.declared.arrow.ArrowBody.{ArrowBody}
 use Rattle.jsx_expression.specs.declared.arrow.ArrowBody.TheVariants as end
 use Rattle.jsx_expression.specs.declared.arrow.Group.{Group}
-use Rattle.jsx_expression.specs.declared.function.Parameters.{Parameters}
+use Rattle.jsx_function.specs.declared.function.Parameters.{Parameters}
 
 -- ---- behind the parameters
 

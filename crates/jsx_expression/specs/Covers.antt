@@ -1,15 +1,14 @@
--- What is read before it is known whether it is an expression or a pattern: of both at once, in the words of the grammar (ECMA-262 sections 13.2.5 and 13.15.5).
---
--- A cover is read as an expression where it is one, and as the pattern that it turns into; and nothing else is read there, of either. So a text that is no cover is neither.
+-- What is read before it is known whether it is an expression or a pattern, of both at once: what begins so, and what stands in an array and in an object (ECMA-262 sections 13.2.5 and 13.15.5).
 use Rattle.std.specs.Prelude.{◌≡◌, ℕ, nat_le, List, [], ◌∷◌, Bool, true, false, IsTrue, map, ◌||◌}
 use Rattle.jsx_base.specs.Token.{Text, Operator, IdentifierName, among}
 use Rattle.jsx_tree.specs.Signs.{Pad, SameLine, Sign, Tok}
-use Rattle.jsx_tree.specs.Kinds.{Assign, Assigns, Array, ArrayPat, Object, ObjectPat, PropertyPat, RestProperty, Spread, expression, function, Tree, leaf, node, list, Forest, none, part}
-use Rattle.jsx_tree.specs.Nonterminals.{Expr, ArrayItem, Ident, Key, ObjectMember, PatElement, PatProp, Pat, Slot, reserved}
+use Rattle.jsx_tree.specs.Kinds.{Assign, Assigns, Array, ArrayPat, Object, ObjectPat, RestProperty, Spread, expression, function, Tree, leaf, node, list, Forest, none, part}
+use Rattle.jsx_tree.specs.Nonterminals.{Expr, ArrayItem, Ident, Key, ObjectMember, PatProp, Pat, Slot, reserved}
 use Rattle.jsx_tree.specs.Grammar.{Commas, Elisions, Fixed, Many, Part, p, pun}
+use Rattle.jsx_tree.specs.Grammar as symbol
 use Rattle.jsx_tree.specs.Reading.{Place, Lost, forth}
 use Rattle.jsx_tree.specs.StaticRules.{Surroundings}
-use Rattle.jsx_tree.specs.Spans.{Told, Tales, no_tales, tale}
+use Rattle.jsx_tree.specs.Spans.{Told, no_tales, tale}
 use Rattle.jsx_tree.specs.Told.{told_expr, told_list, told_prop}
 use Rattle.jsx_tree.specs.View.{forest, inside, view_expr}
 use Rattle.jsx_tree.specs.declared.tree.Expr.{Expr as Code}
@@ -19,7 +18,7 @@ use Rattle.jsx_tree.specs.Grows.{Onward}
 use Rattle.jsx_tree.specs.Answers.{Barred, Moves, NoRow, Only, OnlyRow, Stuck}
 use Rattle.jsx_token.specs.Here.{Here}
 use Rattle.jsx_token.specs.Marks.{row_so_far}
-use Rattle.jsx_token.specs.Growths.{Rung, rung, asked, is_rung, same_sign, seat, is_blocked, settled}
+use Rattle.jsx_token.specs.Growths.{Rung, rung, asked, is_rung, same_sign, seat, is_blocked}
 use Rattle.jsx_token.specs.Places.{Takes, begin_of, end_of, next_of}
 use Rattle.jsx_make.specs.Members.{view_prop}
 use Rattle.jsx_make.specs.NodeSpans.{expr_at}
@@ -28,34 +27,16 @@ use Rattle.jsx_operand.specs.Climbing.{Climbs, NoneBegins, rises}
 use Rattle.jsx_operand.specs.Members.{Closed, behind_brace}
 use Rattle.jsx_operand.specs.Openings.{NoneOpened, OnlyOpened}
 use Rattle.jsx_operand.specs.Spans.{IsPlaced, IsPlacedRow, Spans}
-use Rattle.jsx_operand.specs.Covers.{IsTurned, IsTurnedElement, view_cover}
-use Rattle.jsx_operand.specs.Turning.{Turns, TurnsElement, TurnsParts, TurnsSlots, is_bound_name, is_bracketed, is_literal, retold, retold_list, retold_part, retold_parts_list}
+use Rattle.jsx_operand.specs.Covers.{IsTurned, view_cover}
+use Rattle.jsx_operand.specs.Turning.{TurnsParts, TurnsSlots, is_bound_name, is_bracketed, is_literal, retold, retold_list, retold_part, retold_parts_list}
 use Rattle.jsx_operand.specs.declared.cover.Cover.{Cover}
-use Rattle.jsx_expression.specs.Elements.{NoItem, OnlyItem, is_hole}
-use Rattle.jsx_expression.specs.Methods.{IsBare}
+use Rattle.jsx_function.specs.Covers.{IsPlacedCover, NoCover, told_cover}
+use Rattle.jsx_function.specs.Elements.{NoItem, is_hole}
+use Rattle.jsx_function.specs.Methods.{NoPrefix}
+use Rattle.jsx_expression.specs.Elements.{OnlyItem}
 use Rattle.jsx_expression.specs.declared.literals.Items.{Items}
 use Rattle.jsx_expression.specs.declared.literals.Member.{Member}
 use Rattle.jsx_expression.specs.declared.literals.Members.{Members}
-
--- what binds more tightly than a conditional expression doesn't end with the block of an arrow function
-pub record Settles (n : ℕ) (y : Place) : Type 0 where
-  pub on : nat_le 3 n ≡ true → settled y ≡ true
-
--- ---- at a level of expressions: at that of assignments also where an element of a pattern stands, of all that has come to its end there
-
-pub record IsElementCover (v : Surroundings) (x : Place) (c : Cover) (y : Place) : Type 0 where
-  pub reads : (p : Tree) → IsTurnedElement c p → Staged v false (PatElement Assigns) x p y
-  pub alone : (p : Tree) (z : Place) → Whole so_far v false (PatElement Assigns) x p z → IsTurnedElement c p × (y ≡ z)
-
-pub record IsCover (v : Surroundings) (level : ℕ) (x : Place) (c : Cover) (y : Place) : Type 0 where
-  pub expr : c.is_expr ≡ true → Only so_far v (Part (Expr level)) x (one (view_cover c)) y
-  pub none : c.is_expr ≡ false → Barred so_far v (Part (Expr level)) x
-  pub element : level ≡ 1 → IsElementCover v x c y
-  pub unsettled : c.is_expr ≡ false → is_literal (view_cover c) ≡ true
-
-pub record NoCover (v : Surroundings) (level : ℕ) (x : Place) : Type 0 where
-  pub none : Barred so_far v (Part (Expr level)) x
-  pub element : level ≡ 1 → (p : Tree) (z : Place) → Whole so_far v false (PatElement Assigns) x p z → ⊥
 
 -- ---- what they begin with: a pattern in brackets ends with its own, whatever stands behind it
 
@@ -227,6 +208,12 @@ pub record NoMemberCover (v : Surroundings) (x : Place) : Type 0 where
   pub member : (u : Tree) (z : Place) → Closed z → Whole so_far v false ObjectMember x u z → ⊥
   pub part' : (p : Tree) (z : Place) → Closed z → Whole so_far v false (PatProp Assigns) x p z → ⊥
 
+-- neither `...` nor a word of an object before its key stands there
+pub record IsBare (x : Place) : Type 0 where
+  pub dots : Stuck (pun "...") x
+  pub getting : NoPrefix (symbol.key "get") x
+  pub setting : NoPrefix (symbol.key "set") x
+
 -- a key that is no name, or one behind which a name alone can't have ended
 pub record IsKeyed (k : Tree) (x : Place) : Type 0 where
   pub named : (t : Text) → k ≡ leaf IdentifierName t → (among t reserved || (is_found (forth (pun ":") x) || is_found (forth (pun "(") x))) ≡ true
@@ -279,13 +266,6 @@ pub record NoMembers (v : Surroundings) (x : Place) : Type 0 where
   pub parts : NoRow so_far v parts_row x
 
 -- ---- the places of what they tell, as an expression and as the pattern
-
-abbrev pub told_cover : Cover → Told
-told_cover c = told_expr c.expr.value
-
-pub record IsPlacedCover (c : Cover) (x y : Here) : Type 0 where
-  pub expr : c.is_expr ≡ true → IsPlaced (told_cover c) (view_cover c) x y
-  pub element : (p : Tree) → IsTurnedElement c p → IsPlaced (retold (view_cover c) (told_cover c)) p x y
 
 pub record IsPlacedCoverBehind (s : Sign) (x : Here) (c : Cover) (y : Here) : Type 0 where
   pub on : (w : Here) → Takes s w x → begin_of x ≡ next_of w → IsPlacedCover c w y

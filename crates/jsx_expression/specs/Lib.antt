@@ -1,9 +1,5 @@
 pub mod Covers
 pub mod Arrows
-pub mod Within
 pub mod Elements
 pub mod Gathering
-pub mod Functions
-pub mod Patterns
-pub mod Methods
-pub mod Classes
+pub mod Supers

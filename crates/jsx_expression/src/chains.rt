@@ -20,7 +20,7 @@ ghost use Rattle.jsx_token.specs.Growths.{mark, settled};
 ghost use Rattle.jsx_make.specs.NodeSpans.{expr_at};
 ghost use Rattle.jsx_operand.specs.Spans.{Extends, IsPlacedBehind, IsPlacedOn};
 ghost use Rattle.jsx_token.specs.Places.{end_of};
-ghost use Rattle.jsx_expression.specs.Within.{ReadsWithin};
+ghost use Rattle.jsx_function.specs.Within.{ReadsWithin};
 ghost use Rattle.jsx_operand.specs.Bodies.{ReadsBodies};
 
 use crate::grammar::Expressions;
@@ -45,8 +45,8 @@ impl<
         lo: BytePos,
         form: LinkForm,
     ) -> Result<Box<Link<'s>>, ParseError>
-        requires nests { ReadsWithin (suc (left lexer.old)) (F.pre self.now.inner) (F.post self.now.inner) self.now.body }
-        requires bodies { ReadsBodies (left lexer.old) (B.pre self.now.body) (B.post self.now.body) }
+        requires nests { ReadsWithin (suc (left lexer.old)) (F.pre self.now.within.inner) (F.post self.now.within.inner) self.now.within.body }
+        requires bodies { ReadsBodies (left lexer.old) (B.pre self.now.within.body) (B.post self.now.within.body) }
         ensures read { IfOk result (λ l. Built so_far (around_of context.entry.around) (tail (row_so_far (expression (IndexLink false)))) (expression (IndexLink (is_optional form))) (λ ts. ts) (view_link l.value) (place_of lexer.old) (place_of lexer.new)) }
         ensures placed { IfOk result (λ l. IsPlacedLink lo.0 form (sign_of fixed.OpenBracket) lexer.old (told_link l.value) (view_link l.value) lexer.new) }
         ensures shorter { OnOk result (left lexer.new < left lexer.old) }
@@ -66,8 +66,8 @@ impl<
         lo: BytePos,
         form: LinkForm,
     ) -> Result<Box<Link<'s>>, ParseError>
-        requires nests { ReadsWithin (suc (left lexer.old)) (F.pre self.now.inner) (F.post self.now.inner) self.now.body }
-        requires bodies { ReadsBodies (left lexer.old) (B.pre self.now.body) (B.post self.now.body) }
+        requires nests { ReadsWithin (suc (left lexer.old)) (F.pre self.now.within.inner) (F.post self.now.within.inner) self.now.within.body }
+        requires bodies { ReadsBodies (left lexer.old) (B.pre self.now.within.body) (B.post self.now.within.body) }
         ensures read { IfOk result (λ l. Built so_far (around_of context.entry.around) (tail (row_so_far (expression (CallLink false)))) (expression (CallLink (is_optional form))) (λ ts. ts) (view_link l.value) (place_of lexer.old) (place_of lexer.new)) }
         ensures placed { IfOk result (λ l. IsPlacedLink lo.0 form (sign_of fixed.Open) lexer.old (told_link l.value) (view_link l.value) lexer.new) }
         ensures shorter { OnOk result (left lexer.new < left lexer.old) }
@@ -84,8 +84,8 @@ impl<
         context: Context,
         lexer: &mut Lexer<'s>,
     ) -> Result<Box<Link<'s>>, ParseError>
-        requires nests { ReadsWithin (suc (left lexer.old)) (F.pre self.now.inner) (F.post self.now.inner) self.now.body }
-        requires bodies { ReadsBodies (left lexer.old) (B.pre self.now.body) (B.post self.now.body) }
+        requires nests { ReadsWithin (suc (left lexer.old)) (F.pre self.now.within.inner) (F.post self.now.within.inner) self.now.within.body }
+        requires bodies { ReadsBodies (left lexer.old) (B.pre self.now.within.body) (B.post self.now.within.body) }
         ensures read { IfOk result (λ l. OnlyLink (around_of context.entry.around) (link_sign linkings.Optional) (place_of lexer.old) (view_link l.value) (place_of lexer.new)) }
         ensures optional { IfOk result (λ l. is_optional_link (view_link l.value) ≡ true) }
         ensures placed { IfOk result (λ l. IsPlacedBehind (link_sign linkings.Optional) lexer.old (told_link l.value) (view_link l.value) lexer.new) }
@@ -110,8 +110,8 @@ impl<
         lexer: &mut Lexer<'s>,
         linking: Linking,
     ) -> Result<Box<Link<'s>>, ParseError>
-        requires nests { ReadsWithin (suc (left lexer.old)) (F.pre self.now.inner) (F.post self.now.inner) self.now.body }
-        requires bodies { ReadsBodies (left lexer.old) (B.pre self.now.body) (B.post self.now.body) }
+        requires nests { ReadsWithin (suc (left lexer.old)) (F.pre self.now.within.inner) (F.post self.now.within.inner) self.now.within.body }
+        requires bodies { ReadsBodies (left lexer.old) (B.pre self.now.within.body) (B.post self.now.within.body) }
         ensures read { IfOk result (λ l. OnlyLink (around_of context.entry.around) (link_sign linking) (place_of lexer.old) (view_link l.value) (place_of lexer.new)) }
         ensures placed { IfOk result (λ l. IsPlacedBehind (link_sign linking) lexer.old (told_link l.value) (view_link l.value) lexer.new) }
         ensures shorter { OnOk result (left lexer.new < left lexer.old) }
@@ -134,8 +134,8 @@ impl<
         lexer: &mut Lexer<'s>,
         base: Box<Expr<'s>>,
     ) -> Result<Box<Expr<'s>>, ParseError>
-        requires nests { ReadsWithin (suc (left lexer.old)) (F.pre self.now.inner) (F.post self.now.inner) self.now.body }
-        requires bodies { ReadsBodies (left lexer.old) (B.pre self.now.body) (B.post self.now.body) }
+        requires nests { ReadsWithin (suc (left lexer.old)) (F.pre self.now.within.inner) (F.post self.now.within.inner) self.now.within.body }
+        requires bodies { ReadsBodies (left lexer.old) (B.pre self.now.within.body) (B.post self.now.within.body) }
         ensures read { IfOk result (λ e. Grown (around_of context.entry.around) (expression Chain) (view_expr base.entry.value) (place_of lexer.old) (view_expr e.value) (place_of lexer.new)) }
         ensures span { IfOk result (λ e. Extends (expr_at base.entry.value) (expr_at e.value) (end_of lexer.new)) }
         ensures placed { IfOk result (λ e. IsPlacedOn (mark (expression Chain)) base.entry.value lexer.old e.value lexer.new) }

@@ -17,7 +17,8 @@ ghost use Rattle.jsx_operand.specs.Templates.{IsPlacedTag, NotTagged};
 ghost use Rattle.jsx_operand.specs.Climbing as climbing;
 ghost use Rattle.jsx_operand.specs.Climbing.{Grown, NotGrown};
 ghost use Rattle.jsx_operand.specs.Covers.{view_cover};
-ghost use Rattle.jsx_expression.specs.Covers.{IsCover, IsOperand, IsPlacedCover, NoCover, NoOperand, Settles};
+ghost use Rattle.jsx_function.specs.Covers.{IsCover, IsPlacedCover, NoCover, Settles};
+ghost use Rattle.jsx_expression.specs.Covers.{IsOperand, NoOperand};
 ghost use Rattle.jsx_token.specs.Growths.{closed, growth_kind, is_level, level_of_kind, mark, settled};
 ghost use Rattle.jsx_expression.specs.Gathering.{IsGathered, NotGathered};
 ghost use Rattle.jsx_make.specs.NodeSpans.{expr_at};
@@ -26,6 +27,7 @@ ghost use Rattle.jsx_token.specs.Places.{end_of, next_of};
 ghost use Rattle.jsx_operand.specs.Bodies.{ReadsBodies};
 
 use crate::grammar::Expressions;
+use jsx_function::Within;
 use jsx_operand::cover::settle;
 use jsx_operand::{Body, Context, Cover, ParseError};
 use jsx_token::Lexer;
@@ -53,8 +55,10 @@ where
     ensures refused { Refused result (NoOperand (around_of context.entry.around) level (place_of lexer.old)) }
 {
     Expressions {
-        inner: cover::<B>,
-        body,
+        within: Within {
+            inner: cover::<B>,
+            body,
+        },
     }
     .operand(context, lexer, level)
 }
@@ -80,8 +84,10 @@ where
     ensures refused { Refused result (NotGrown (around_of context.entry.around) (growth_kind growth) (place_of lexer.old)) }
 {
     Expressions {
-        inner: cover::<B>,
-        body,
+        within: Within {
+            inner: cover::<B>,
+            body,
+        },
     }
     .grow(context, lexer, growth, first)
 }
@@ -105,8 +111,10 @@ where
     ensures refused { Refused result (NotTagged (around_of context.entry.around) (view_expr tag.entry.value) (place_of lexer.old)) }
 {
     Expressions {
-        inner: cover::<B>,
-        body,
+        within: Within {
+            inner: cover::<B>,
+            body,
+        },
     }
     .tagged(context, lexer, tag)
 }
@@ -131,8 +139,10 @@ where
     ensures refused { Refused result (NoCover (around_of context.entry.around) level (place_of lexer.old)) }
 {
     Expressions {
-        inner: cover::<B>,
-        body,
+        within: Within {
+            inner: cover::<B>,
+            body,
+        },
     }
     .expression(context, lexer, level)
 }
@@ -177,8 +187,10 @@ where
     ensures refused { Refused result (Barred so_far (around_of context.entry.around) (Part (grammar.Expr 0)) (place_of lexer.old)) }
 {
     Expressions {
-        inner: cover::<B>,
-        body,
+        within: Within {
+            inner: cover::<B>,
+            body,
+        },
     }
     .sequence(context, lexer)
 }
@@ -200,8 +212,10 @@ where
     ensures refused { Refused result (NotGathered (around_of context.entry.around) (view_expr first.entry.value) (place_of lexer.old)) }
 {
     Expressions {
-        inner: cover::<B>,
-        body,
+        within: Within {
+            inner: cover::<B>,
+            body,
+        },
     }
     .more_items(context, lexer, first)
 }

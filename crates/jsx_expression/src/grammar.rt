@@ -1,7 +1,6 @@
 //! Expressions, over the function that reads those within.
 
-ghost use Rattle.std.specs.Prelude.{◌≡◌, ◌<◌, ◌≤◌, ◌&&◌, IfOk, OnOk, IsTrue, suc, true};
-ghost use Rattle.jsx_base.specs.Token.{same};
+ghost use Rattle.std.specs.Prelude.{◌<◌, ◌≤◌, IfOk, OnOk, IsTrue, suc};
 ghost use Rattle.jsx_tree.specs.Kinds.{New, expression};
 ghost use Rattle.jsx_tree.specs.Nonterminals as grammar;
 ghost use Rattle.jsx_tree.specs.Grammar.{Part};
@@ -10,7 +9,8 @@ ghost use Rattle.jsx_tree.specs.Told.{told_expr};
 ghost use Rattle.jsx_tree.specs.Walk.{one};
 ghost use Rattle.jsx_tree.specs.Answers.{Only, Barred};
 ghost use Rattle.jsx_operand.specs.Openings.{OnlyOpened, NoneOpened};
-ghost use Rattle.jsx_expression.specs.Covers.{BeginsCover, IsCover, IsOperand, IsPlacedCover, IsPlacedCoverBehind, NoCover, NoCoverBegins, NoCoverOpened, NoOperand, OpensCover, Settles};
+ghost use Rattle.jsx_function.specs.Covers.{IsCover, IsPlacedCover, NoCover, Settles};
+ghost use Rattle.jsx_expression.specs.Covers.{BeginsCover, IsOperand, IsPlacedCoverBehind, NoCoverBegins, NoCoverOpened, NoOperand, OpensCover};
 ghost use Rattle.jsx_operand.specs.Around.{around_of};
 ghost use Rattle.jsx_operand.specs.SoFar.{so_far};
 ghost use Rattle.jsx_token.specs.Here.{place_of, left};
@@ -23,9 +23,10 @@ ghost use Rattle.jsx_expression.specs.Gathering.{IsGathered, NotGathered};
 ghost use Rattle.jsx_make.specs.NodeSpans.{expr_at};
 ghost use Rattle.jsx_operand.specs.Spans.{Extends, IsPlaced, IsPlacedBehind, IsPlacedOn, Spans};
 ghost use Rattle.jsx_token.specs.Places.{begin_of, end_of, next_of};
-ghost use Rattle.jsx_expression.specs.Within.{ReadsWithin};
+ghost use Rattle.jsx_function.specs.Within.{ReadsWithin};
 ghost use Rattle.jsx_operand.specs.Bodies.{ReadsBodies};
 
+use jsx_function::Within;
 use jsx_make::make;
 use jsx_operand::cover::{is_before_arrow, is_literal, parameter_name, refuse_arrow, settle};
 use jsx_operand::operand::{
@@ -41,45 +42,23 @@ use jsx_tree::{Expr, Word as Constant};
 /// alone.
 #[derive(Clone, Copy)]
 pub(crate) struct Expressions<F, B> {
-    /// Reads an expression of a level or more, by the function that reads bodies.
-    pub(crate) inner: F,
-    /// Reads the body of a function behind its `{`, with its `}`.
-    pub(crate) body: B,
+    /// What reads these, and the functions, classes and patterns over them.
+    pub(crate) within: Within<F, B>,
 }
 
 impl<
     F: for<'c, 's> Fn(Context<'c>, &mut Lexer<'s>, u8, B) -> Result<Cover<'s>, ParseError>,
     B: Copy + for<'c, 's> Fn(Context<'c>, &mut Lexer<'s>) -> Result<Body<'s>, ParseError>,
 > Expressions<F, B> {
-    /// What may stand within another expression at a level or more, before it is known whether it is an expression.
-    fn covered<'s>(
-        &self,
-        context: Context,
-        lexer: &mut Lexer<'s>,
-        level: u8,
-    ) -> Result<Cover<'s>, ParseError>
-        requires nests { ReadsWithin (suc (left lexer.old)) (F.pre self.now.inner) (F.post self.now.inner) self.now.body }
-        requires bodies { ReadsBodies (left lexer.old) (B.pre self.now.body) (B.post self.now.body) }
-        requires ranked { IsTrue (is_level level) }
-        ensures read { IfOk result (λ c. IsCover (around_of context.entry.around) level (place_of lexer.old) c (place_of lexer.new)) }
-        ensures span { IfOk result (λ c. Spans (expr_at c.expr.value) (next_of lexer.old) (end_of lexer.new)) }
-        ensures placed { IfOk result (λ c. IsPlacedCover c lexer.old lexer.new) }
-        ensures shorter { OnOk result (left lexer.new < left lexer.old) }
-        ensures ended { OnOk result (IsTrue (closed (place_of lexer.new))) }
-        ensures settles { OnOk result (Settles level (place_of lexer.new)) }
-        ensures refused { Refused result (NoCover (around_of context.entry.around) level (place_of lexer.old)) }
-    {
-        (self.inner)(context, lexer, level, self.body)
-    }
-
-    /// The same at the level of assignments: `a = b`, or `{a = 1}`, which `=` may still turn into a pattern.
+    /// What may stand within another expression at the level of assignments, before it is known whether it is an expression: `a = b`,
+    /// or `{a = 1}`, which `=` may still turn into a pattern.
     pub(crate) fn cover<'s>(
         &self,
         context: Context,
         lexer: &mut Lexer<'s>,
     ) -> Result<Cover<'s>, ParseError>
-        requires nests { ReadsWithin (suc (left lexer.old)) (F.pre self.now.inner) (F.post self.now.inner) self.now.body }
-        requires bodies { ReadsBodies (left lexer.old) (B.pre self.now.body) (B.post self.now.body) }
+        requires nests { ReadsWithin (suc (left lexer.old)) (F.pre self.now.within.inner) (F.post self.now.within.inner) self.now.within.body }
+        requires bodies { ReadsBodies (left lexer.old) (B.pre self.now.within.body) (B.post self.now.within.body) }
         ensures read { IfOk result (λ c. IsCover (around_of context.entry.around) 1 (place_of lexer.old) c (place_of lexer.new)) }
         ensures span { IfOk result (λ c. Spans (expr_at c.expr.value) (next_of lexer.old) (end_of lexer.new)) }
         ensures placed { IfOk result (λ c. IsPlacedCover c lexer.old lexer.new) }
@@ -87,29 +66,7 @@ impl<
         ensures ended { OnOk result (IsTrue (closed (place_of lexer.new))) }
         ensures refused { Refused result (NoCover (around_of context.entry.around) 1 (place_of lexer.old)) }
     {
-        self.covered(context, lexer, ASSIGNMENT)
-    }
-
-    /// An expression within another, of a level or more.
-    pub(crate) fn inner<'s>(
-        &self,
-        context: Context,
-        lexer: &mut Lexer<'s>,
-        level: u8,
-    ) -> Result<Box<Expr<'s>>, ParseError>
-        requires nests { ReadsWithin (suc (left lexer.old)) (F.pre self.now.inner) (F.post self.now.inner) self.now.body }
-        requires bodies { ReadsBodies (left lexer.old) (B.pre self.now.body) (B.post self.now.body) }
-        requires ranked { IsTrue (is_level level) }
-        ensures read { IfOk result (λ e. Only so_far (around_of context.entry.around) (Part (grammar.Expr level)) (place_of lexer.old) (one (view_expr e.value)) (place_of lexer.new)) }
-        ensures span { IfOk result (λ e. Spans (expr_at e.value) (next_of lexer.old) (end_of lexer.new)) }
-        ensures placed { IfOk result (λ e. IsPlaced (told_expr e.value) (view_expr e.value) lexer.old lexer.new) }
-        ensures shorter { OnOk result (left lexer.new < left lexer.old) }
-        ensures ended { OnOk result (IsTrue (closed (place_of lexer.new))) }
-        ensures settles { OnOk result (Settles level (place_of lexer.new)) }
-        ensures refused { Refused result (Barred so_far (around_of context.entry.around) (Part (grammar.Expr level)) (place_of lexer.old)) }
-    {
-        let read = self.covered(context, lexer, level)?;
-        Ok(settle(read, lexer)?)
+        self.within.covered(context, lexer, ASSIGNMENT)
     }
 
     /// What stands at a level or more, up to where it doesn't go on: `a.b(c) + d`. A template goes on with it at every level, and
@@ -120,8 +77,8 @@ impl<
         lexer: &mut Lexer<'s>,
         level: u8,
     ) -> Result<Cover<'s>, ParseError>
-        requires nests { ReadsWithin (left lexer.old) (F.pre self.now.inner) (F.post self.now.inner) self.now.body }
-        requires bodies { ReadsBodies (left lexer.old) (B.pre self.now.body) (B.post self.now.body) }
+        requires nests { ReadsWithin (left lexer.old) (F.pre self.now.within.inner) (F.post self.now.within.inner) self.now.within.body }
+        requires bodies { ReadsBodies (left lexer.old) (B.pre self.now.within.body) (B.post self.now.within.body) }
         requires ranked { IsTrue (is_level level) }
         ensures read { IfOk result (λ c. IsCover (around_of context.entry.around) level (place_of lexer.old) c (place_of lexer.new)) }
         ensures span { IfOk result (λ c. Spans (expr_at c.expr.value) (next_of lexer.old) (end_of lexer.new)) }
@@ -166,8 +123,8 @@ impl<
         lexer: &mut Lexer<'s>,
         level: u8,
     ) -> Result<Cover<'s>, ParseError>
-        requires nests { ReadsWithin (left lexer.old) (F.pre self.now.inner) (F.post self.now.inner) self.now.body }
-        requires bodies { ReadsBodies (left lexer.old) (B.pre self.now.body) (B.post self.now.body) }
+        requires nests { ReadsWithin (left lexer.old) (F.pre self.now.within.inner) (F.post self.now.within.inner) self.now.within.body }
+        requires bodies { ReadsBodies (left lexer.old) (B.pre self.now.within.body) (B.post self.now.within.body) }
         requires ranked { IsTrue (is_level level) }
         ensures read { IfOk result (λ c. IsOperand (around_of context.entry.around) level (place_of lexer.old) c (place_of lexer.new)) }
         ensures span { IfOk result (λ c. Spans (expr_at c.expr.value) (next_of lexer.old) (end_of lexer.new)) }
@@ -209,8 +166,8 @@ impl<
         context: Context,
         lexer: &mut Lexer<'s>,
     ) -> Result<Cover<'s>, ParseError>
-        requires nests { ReadsWithin (left lexer.old) (F.pre self.now.inner) (F.post self.now.inner) self.now.body }
-        requires bodies { ReadsBodies (left lexer.old) (B.pre self.now.body) (B.post self.now.body) }
+        requires nests { ReadsWithin (left lexer.old) (F.pre self.now.within.inner) (F.post self.now.within.inner) self.now.within.body }
+        requires bodies { ReadsBodies (left lexer.old) (B.pre self.now.within.body) (B.post self.now.within.body) }
         ensures read { IfOk result (λ c. BeginsCover (around_of context.entry.around) (place_of lexer.old) c (place_of lexer.new)) }
         ensures span { IfOk result (λ c. Spans (expr_at c.expr.value) (next_of lexer.old) (end_of lexer.new)) }
         ensures placed { IfOk result (λ c. IsPlacedCover c lexer.old lexer.new) }
@@ -237,8 +194,8 @@ impl<
         lexer: &mut Lexer<'s>,
         opening: Opening,
     ) -> Result<Cover<'s>, ParseError>
-        requires nests { ReadsWithin (suc (left lexer.old)) (F.pre self.now.inner) (F.post self.now.inner) self.now.body }
-        requires bodies { ReadsBodies (left lexer.old) (B.pre self.now.body) (B.post self.now.body) }
+        requires nests { ReadsWithin (suc (left lexer.old)) (F.pre self.now.within.inner) (F.post self.now.within.inner) self.now.within.body }
+        requires bodies { ReadsBodies (left lexer.old) (B.pre self.now.within.body) (B.post self.now.within.body) }
         ensures read { IfOk result (λ c. OpensCover (around_of context.entry.around) (opening_sign (opening_kind opening)) c (place_of lexer.old) (place_of lexer.new)) }
         ensures span { IfOk result (λ c. Spans (expr_at c.expr.value) (begin_of lexer.old) (end_of lexer.new)) }
         ensures placed { IfOk result (λ c. IsPlacedCoverBehind (opening_sign (opening_kind opening)) lexer.old c lexer.new) }
@@ -253,8 +210,10 @@ impl<
             Opening::Paren => Ok(Cover::settled(self.parenthesized(context, lexer)?)),
             Opening::Array => Ok(self.array(context, lexer)?),
             Opening::Object => Ok(self.object(context, lexer)?),
-            Opening::Function => Ok(Cover::settled(self.function_expression(context, lexer)?)),
-            Opening::Class => Ok(Cover::settled(self.class_expression(context, lexer)?)),
+            Opening::Function => Ok(Cover::settled(
+                self.within.function_expression(context, lexer)?,
+            )),
+            Opening::Class => Ok(Cover::settled(self.within.class_expression(context, lexer)?)),
             Opening::Super => Ok(Cover::settled(self.super_expression(context, lexer)?)),
             Opening::Unary(operator) => {
                 Ok(Cover::settled(self.unary(context, lexer, operator)?))
@@ -274,8 +233,8 @@ impl<
         context: Context,
         lexer: &mut Lexer<'s>,
     ) -> Result<Box<Expr<'s>>, ParseError>
-        requires nests { ReadsWithin (suc (left lexer.old)) (F.pre self.now.inner) (F.post self.now.inner) self.now.body }
-        requires bodies { ReadsBodies (left lexer.old) (B.pre self.now.body) (B.post self.now.body) }
+        requires nests { ReadsWithin (suc (left lexer.old)) (F.pre self.now.within.inner) (F.post self.now.within.inner) self.now.within.body }
+        requires bodies { ReadsBodies (left lexer.old) (B.pre self.now.within.body) (B.post self.now.within.body) }
         ensures read { IfOk result (λ e. OnlyOpened (around_of context.entry.around) (opening_sign (expression New)) (view_expr e.value) (place_of lexer.old) (place_of lexer.new)) }
         ensures span { IfOk result (λ e. Spans (expr_at e.value) (begin_of lexer.old) (end_of lexer.new)) }
         ensures placed { IfOk result (λ e. IsPlacedBehind (opening_sign (expression New)) lexer.old (told_expr e.value) (view_expr e.value) lexer.new) }
@@ -306,8 +265,8 @@ impl<
         context: Context,
         lexer: &mut Lexer<'s>,
     ) -> Result<Box<Expr<'s>>, ParseError>
-        requires nests { ReadsWithin (suc (left lexer.old)) (F.pre self.now.inner) (F.post self.now.inner) self.now.body }
-        requires bodies { ReadsBodies (left lexer.old) (B.pre self.now.body) (B.post self.now.body) }
+        requires nests { ReadsWithin (suc (left lexer.old)) (F.pre self.now.within.inner) (F.post self.now.within.inner) self.now.within.body }
+        requires bodies { ReadsBodies (left lexer.old) (B.pre self.now.within.body) (B.post self.now.within.body) }
         ensures read { IfOk result (λ e. Only so_far (around_of context.entry.around) (Part grammar.NewCallee) (place_of lexer.old) (one (view_expr e.value)) (place_of lexer.new)) }
         ensures placed { IfOk result (λ e. IsPlaced (told_expr e.value) (view_expr e.value) lexer.old lexer.new) }
         ensures shorter { OnOk result (left lexer.new < left lexer.old) }
@@ -340,8 +299,8 @@ impl<
         context: Context,
         lexer: &mut Lexer<'s>,
     ) -> Result<Box<Expr<'s>>, ParseError>
-        requires nests { ReadsWithin (suc (left lexer.old)) (F.pre self.now.inner) (F.post self.now.inner) self.now.body }
-        requires bodies { ReadsBodies (left lexer.old) (B.pre self.now.body) (B.post self.now.body) }
+        requires nests { ReadsWithin (suc (left lexer.old)) (F.pre self.now.within.inner) (F.post self.now.within.inner) self.now.within.body }
+        requires bodies { ReadsBodies (left lexer.old) (B.pre self.now.within.body) (B.post self.now.within.body) }
         ensures read { IfOk result (λ e. Only so_far (around_of context.entry.around) (Part (grammar.Expr 0)) (place_of lexer.old) (one (view_expr e.value)) (place_of lexer.new)) }
         ensures span { IfOk result (λ e. Spans (expr_at e.value) (next_of lexer.old) (end_of lexer.new)) }
         ensures placed { IfOk result (λ e. IsPlaced (told_expr e.value) (view_expr e.value) lexer.old lexer.new) }
@@ -349,7 +308,7 @@ impl<
         ensures ended { OnOk result (IsTrue (closed (place_of lexer.new))) }
         ensures refused { Refused result (Barred so_far (around_of context.entry.around) (Part (grammar.Expr 0)) (place_of lexer.old)) }
     {
-        let first = self.inner(context, lexer, ASSIGNMENT)?;
+        let first = self.within.inner(context, lexer, ASSIGNMENT)?;
         Ok(self.more_items(context, lexer, first)?)
     }
 
@@ -360,8 +319,8 @@ impl<
         lexer: &mut Lexer<'s>,
         first: Box<Expr<'s>>,
     ) -> Result<Box<Expr<'s>>, ParseError>
-        requires nests { ReadsWithin (suc (left lexer.old)) (F.pre self.now.inner) (F.post self.now.inner) self.now.body }
-        requires bodies { ReadsBodies (left lexer.old) (B.pre self.now.body) (B.post self.now.body) }
+        requires nests { ReadsWithin (suc (left lexer.old)) (F.pre self.now.within.inner) (F.post self.now.within.inner) self.now.within.body }
+        requires bodies { ReadsBodies (left lexer.old) (B.pre self.now.within.body) (B.post self.now.within.body) }
         requires settled { IsTrue (closed (place_of lexer.old)) }
         ensures read { IfOk result (λ e. IsGathered (around_of context.entry.around) first.entry.value lexer.old e.value lexer.new) }
         ensures within { OnOk result (left lexer.new ≤ left lexer.old) }
@@ -375,7 +334,7 @@ impl<
         let mut all = Vec::with_capacity(context.alloc, 2)?;
         all.push(first)?;
         'items: loop {
-            let next = self.inner(context, lexer, ASSIGNMENT)?;
+            let next = self.within.inner(context, lexer, ASSIGNMENT)?;
             all.push(next)?;
             if !lexer.take(Fixed::Comma) {
                 return Ok(make::sequence(context.alloc, span_to(lo, lexer), all)?);
@@ -392,8 +351,8 @@ impl<
         growth: Growth,
         first: Box<Expr<'s>>,
     ) -> Result<Box<Expr<'s>>, ParseError>
-        requires nests { ReadsWithin (suc (left lexer.old)) (F.pre self.now.inner) (F.post self.now.inner) self.now.body }
-        requires bodies { ReadsBodies (left lexer.old) (B.pre self.now.body) (B.post self.now.body) }
+        requires nests { ReadsWithin (suc (left lexer.old)) (F.pre self.now.within.inner) (F.post self.now.within.inner) self.now.within.body }
+        requires bodies { ReadsBodies (left lexer.old) (B.pre self.now.within.body) (B.post self.now.within.body) }
         requires settled { IsTrue (settled (place_of lexer.old)) }
         ensures read { IfOk result (λ e. Grown (around_of context.entry.around) (growth_kind growth) (view_expr first.entry.value) (place_of lexer.old) (view_expr e.value) (place_of lexer.new)) }
         ensures span { IfOk result (λ e. Extends (expr_at first.entry.value) (expr_at e.value) (end_of lexer.new)) }

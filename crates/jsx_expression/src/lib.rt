@@ -4,12 +4,9 @@
 mod access;
 mod arrow;
 mod chains;
-pub mod class;
 pub mod expression;
 pub mod function;
 mod grammar;
 mod literals;
-mod method;
 mod operations;
-pub mod pattern;
 mod quoted;

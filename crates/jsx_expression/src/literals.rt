@@ -1,9 +1,8 @@
 //! Arrays and objects (ECMA-262 sections 13.2.4 and 13.2.5).
 
-ghost use Rattle.std.specs.Prelude.{◌≡◌, ◌<◌, ◌≤◌, [], ◌∷◌, IfOk, OnOk, IsTrue, suc, true};
+ghost use Rattle.std.specs.Prelude.{◌≡◌, ◌<◌, ◌≤◌, IfOk, OnOk, IsTrue, suc, true};
 ghost use Rattle.std.specs.Str.{chars};
-ghost use Rattle.jsx_tree.specs.Kinds.{Array, Object, Spread, ComputedKey, function, expression, part};
-ghost use Rattle.jsx_tree.specs.Nonterminals as grammar;
+ghost use Rattle.jsx_tree.specs.Kinds.{Array, Object, Spread, expression};
 ghost use Rattle.jsx_tree.specs.Grammar.{p};
 ghost use Rattle.jsx_tree.specs.View.{view_expr, view_key};
 ghost use Rattle.jsx_make.specs.Members.{view_prop};
@@ -13,21 +12,19 @@ ghost use Rattle.jsx_tree.specs.Answers.{NoRow, Built};
 ghost use Rattle.jsx_operand.specs.Around.{around_of};
 ghost use Rattle.jsx_operand.specs.SoFar.{so_far};
 ghost use Rattle.jsx_token.specs.Marks.{row_so_far};
-ghost use Rattle.jsx_token.specs.Here.{place_of, left, sign_of};
-ghost use Rattle.jsx_token.specs.declared.lexer.Fixed.TheVariants as fixed;
+ghost use Rattle.jsx_token.specs.Here.{place_of, left};
 ghost use Rattle.jsx_operand.specs.Answers.{Refused};
 ghost use Rattle.jsx_token.specs.Growths.{opening_sign, settled};
 ghost use Rattle.jsx_make.specs.NodeSpans.{expr_at};
 ghost use Rattle.jsx_operand.specs.Spans.{IsPlacedBehind, Spans};
 ghost use Rattle.jsx_token.specs.Places.{begin_of, end_of};
-ghost use Rattle.jsx_expression.specs.Methods.{IsBare};
-ghost use Rattle.jsx_expression.specs.Within.{ReadsWithin};
+ghost use Rattle.jsx_function.specs.Within.{ReadsWithin};
 ghost use Rattle.jsx_operand.specs.Bodies.{ReadsBodies};
-ghost use Rattle.jsx_expression.specs.Covers.{CoversItems, CoversMembers, CoversPair, CoversShort, IsItemCover, IsMemberCover, IsPlacedCoverBehind, IsPlacedItem, IsPlacedItems, IsPlacedMember, IsPlacedMembers, IsPlacedPair, IsPlacedRest, IsPlacedShort, NoCoverOpened, NoItemCover, NoItems, NoMemberCover, NoMembers, NoPair, NoShortCover, OpensCover};
+ghost use Rattle.jsx_expression.specs.Covers.{CoversItems, CoversKeyed, CoversMembers, CoversPair, CoversShort, IsBare, IsItemCover, IsMemberCover, IsPlacedCoverBehind, IsPlacedItem, IsPlacedItems, IsPlacedMember, IsPlacedMembers, IsPlacedPair, IsPlacedRest, IsPlacedShort, NoCoverKeyed, NoCoverOpened, NoItemCover, NoItems, NoMemberCover, NoMembers, NoPair, NoShortCover, OpensCover};
 
 use crate::grammar::Expressions;
-use crate::method::{Home, take_prefix};
 use jsx_base::BytePos;
+use jsx_function::method::{Home, take_prefix};
 use jsx_make::make;
 use jsx_operand::operand::{ASSIGNMENT, is_keyed, literal_key};
 use jsx_operand::parser::{expect, give_up, span_to};
@@ -109,8 +106,8 @@ impl<
         context: Context,
         lexer: &mut Lexer<'s>,
     ) -> Result<Box<Expr<'s>>, ParseError>
-        requires nests { ReadsWithin (suc (left lexer.old)) (F.pre self.now.inner) (F.post self.now.inner) self.now.body }
-        requires bodies { ReadsBodies (left lexer.old) (B.pre self.now.body) (B.post self.now.body) }
+        requires nests { ReadsWithin (suc (left lexer.old)) (F.pre self.now.within.inner) (F.post self.now.within.inner) self.now.within.body }
+        requires bodies { ReadsBodies (left lexer.old) (B.pre self.now.within.body) (B.post self.now.within.body) }
         ensures read { IfOk result (λ e. Built so_far (around_of context.entry.around) (tail (row_so_far (expression Spread))) (expression Spread) (λ ts. ts) (view_expr e.value) (place_of lexer.old) (place_of lexer.new)) }
         ensures span { IfOk result (λ e. Spans (expr_at e.value) (begin_of lexer.old) (end_of lexer.new)) }
         ensures placed { IfOk result (λ e. IsPlacedBehind (opening_sign (expression Spread)) lexer.old (told_expr e.value) (view_expr e.value) lexer.new) }
@@ -118,7 +115,7 @@ impl<
         ensures refused { Refused result (NoRow so_far (around_of context.entry.around) (tail (row_so_far (expression Spread))) (place_of lexer.old)) }
     {
         let lo = lexer.last_place();
-        let inner = self.inner(context, lexer, ASSIGNMENT)?;
+        let inner = self.within.inner(context, lexer, ASSIGNMENT)?;
         Ok(make::spread(context.alloc, span_to(lo, lexer), inner)?)
     }
 
@@ -128,8 +125,8 @@ impl<
         context: Context,
         lexer: &mut Lexer<'s>,
     ) -> Result<Cover<'s>, ParseError>
-        requires nests { ReadsWithin (suc (left lexer.old)) (F.pre self.now.inner) (F.post self.now.inner) self.now.body }
-        requires bodies { ReadsBodies (left lexer.old) (B.pre self.now.body) (B.post self.now.body) }
+        requires nests { ReadsWithin (suc (left lexer.old)) (F.pre self.now.within.inner) (F.post self.now.within.inner) self.now.within.body }
+        requires bodies { ReadsBodies (left lexer.old) (B.pre self.now.within.body) (B.post self.now.within.body) }
         ensures read { IfOk result (λ c. IsItemCover (around_of context.entry.around) (place_of lexer.old) c (place_of lexer.new)) }
         ensures placed { IfOk result (λ c. IsPlacedItem c lexer.old lexer.new) }
         ensures shorter { OnOk result (left lexer.new < left lexer.old) }
@@ -154,8 +151,8 @@ impl<
         context: Context,
         lexer: &mut Lexer<'s>,
     ) -> Result<Items<'s>, ParseError>
-        requires nests { ReadsWithin (suc (left lexer.old)) (F.pre self.now.inner) (F.post self.now.inner) self.now.body }
-        requires bodies { ReadsBodies (left lexer.old) (B.pre self.now.body) (B.post self.now.body) }
+        requires nests { ReadsWithin (suc (left lexer.old)) (F.pre self.now.within.inner) (F.post self.now.within.inner) self.now.within.body }
+        requires bodies { ReadsBodies (left lexer.old) (B.pre self.now.within.body) (B.post self.now.within.body) }
         ensures read { IfOk result (λ q. CoversItems (around_of context.entry.around) (place_of lexer.old) q (place_of lexer.new)) }
         ensures placed { IfOk result (λ q. IsPlacedItems q lexer.old lexer.new) }
         ensures shorter { OnOk result (left lexer.new < left lexer.old) }
@@ -189,8 +186,8 @@ impl<
         context: Context,
         lexer: &mut Lexer<'s>,
     ) -> Result<Cover<'s>, ParseError>
-        requires nests { ReadsWithin (suc (left lexer.old)) (F.pre self.now.inner) (F.post self.now.inner) self.now.body }
-        requires bodies { ReadsBodies (left lexer.old) (B.pre self.now.body) (B.post self.now.body) }
+        requires nests { ReadsWithin (suc (left lexer.old)) (F.pre self.now.within.inner) (F.post self.now.within.inner) self.now.within.body }
+        requires bodies { ReadsBodies (left lexer.old) (B.pre self.now.within.body) (B.post self.now.within.body) }
         ensures read { IfOk result (λ c. OpensCover (around_of context.entry.around) (opening_sign (expression Array)) c (place_of lexer.old) (place_of lexer.new)) }
         ensures span { IfOk result (λ c. Spans (expr_at c.expr.value) (begin_of lexer.old) (end_of lexer.new)) }
         ensures placed { IfOk result (λ c. IsPlacedCoverBehind (opening_sign (expression Array)) lexer.old c lexer.new) }
@@ -218,8 +215,8 @@ impl<
         context: Context,
         lexer: &mut Lexer<'s>,
     ) -> Result<Box<Prop<'s>>, ParseError>
-        requires nests { ReadsWithin (suc (left lexer.old)) (F.pre self.now.inner) (F.post self.now.inner) self.now.body }
-        requires bodies { ReadsBodies (left lexer.old) (B.pre self.now.body) (B.post self.now.body) }
+        requires nests { ReadsWithin (suc (left lexer.old)) (F.pre self.now.within.inner) (F.post self.now.within.inner) self.now.within.body }
+        requires bodies { ReadsBodies (left lexer.old) (B.pre self.now.within.body) (B.post self.now.within.body) }
         ensures read { IfOk result (λ p. Built so_far (around_of context.entry.around) (tail (row_so_far (expression Spread))) (expression Spread) (λ ts. ts) (view_prop p.value) (place_of lexer.old) (place_of lexer.new)) }
         ensures placed { IfOk result (λ p. IsPlacedBehind (opening_sign (expression Spread)) lexer.old (told_prop p.value) (view_prop p.value) lexer.new) }
         ensures rest { IfOk result (λ p. IsPlacedRest lexer.old (told_prop p.value) (view_prop p.value) lexer.new) }
@@ -227,27 +224,8 @@ impl<
         ensures refused { Refused result (NoRow so_far (around_of context.entry.around) (tail (row_so_far (expression Spread))) (place_of lexer.old)) }
     {
         let lo = lexer.last_place();
-        let inner = self.inner(context, lexer, ASSIGNMENT)?;
+        let inner = self.within.inner(context, lexer, ASSIGNMENT)?;
         Ok(make::spread_member(context.alloc, span_to(lo, lexer), inner)?)
-    }
-
-    /// A key that is computed, behind its `[`: `[a]` (ECMA-262 section 13.2.5).
-    pub(crate) fn computed_key<'s>(
-        &self,
-        context: Context,
-        lexer: &mut Lexer<'s>,
-    ) -> Result<Key<'s>, ParseError>
-        requires nests { ReadsWithin (suc (left lexer.old)) (F.pre self.now.inner) (F.post self.now.inner) self.now.body }
-        requires bodies { ReadsBodies (left lexer.old) (B.pre self.now.body) (B.post self.now.body) }
-        ensures read { IfOk result (λ k. Built so_far (around_of context.entry.around) (tail (row_so_far (function ComputedKey))) (function ComputedKey) (λ ts. ts) (view_key k) (place_of lexer.old) (place_of lexer.new)) }
-        ensures placed { IfOk result (λ k. IsPlacedBehind (sign_of fixed.OpenBracket) lexer.old (told_key k) (view_key k) lexer.new) }
-        ensures shorter { OnOk result (left lexer.new < left lexer.old) }
-        ensures refused { Refused result (NoRow so_far (around_of context.entry.around) (tail (row_so_far (function ComputedKey))) (place_of lexer.old)) }
-    {
-        let lo = lexer.last_place();
-        let inner = self.inner(context, lexer, ASSIGNMENT)?;
-        expect(context, lexer, Fixed::CloseBracket)?;
-        Ok(make::computed_key(span_to(lo, lexer), inner))
     }
 
     /// A property behind its key, which begins at a place: `a: b` (ECMA-262 section 13.2.5).
@@ -258,8 +236,8 @@ impl<
         lo: BytePos,
         key: Key<'s>,
     ) -> Result<Member<'s>, ParseError>
-        requires nests { ReadsWithin (suc (left lexer.old)) (F.pre self.now.inner) (F.post self.now.inner) self.now.body }
-        requires bodies { ReadsBodies (left lexer.old) (B.pre self.now.body) (B.post self.now.body) }
+        requires nests { ReadsWithin (suc (left lexer.old)) (F.pre self.now.within.inner) (F.post self.now.within.inner) self.now.within.body }
+        requires bodies { ReadsBodies (left lexer.old) (B.pre self.now.within.body) (B.post self.now.within.body) }
         ensures read { IfOk result (λ m. CoversPair (around_of context.entry.around) (view_key key.entry) m (place_of lexer.old) (place_of lexer.new)) }
         ensures placed { IfOk result (λ m. IsPlacedPair lo.0 (told_key key.entry) (view_key key.entry) lexer.old m lexer.new) }
         ensures shorter { OnOk result (left lexer.new < left lexer.old) }
@@ -275,6 +253,28 @@ impl<
         })
     }
 
+    /// What stands in an object behind its key, which begins at a place: a method, or the value of a property.
+    pub(crate) fn object_keyed<'s>(
+        &self,
+        context: Context,
+        lexer: &mut Lexer<'s>,
+        lo: BytePos,
+        key: Key<'s>,
+    ) -> Result<Member<'s>, ParseError>
+        requires nests { ReadsWithin (suc (left lexer.old)) (F.pre self.now.within.inner) (F.post self.now.within.inner) self.now.within.body }
+        requires bodies { ReadsBodies (left lexer.old) (B.pre self.now.within.body) (B.post self.now.within.body) }
+        ensures read { IfOk result (λ m. CoversKeyed (around_of context.entry.around) (view_key key.entry) m (place_of lexer.old) (place_of lexer.new)) }
+        ensures placed { IfOk result (λ m. IsPlacedPair lo.0 (told_key key.entry) (view_key key.entry) lexer.old m lexer.new) }
+        ensures shorter { OnOk result (left lexer.new < left lexer.old) }
+        ensures refused { Refused result (NoCoverKeyed (around_of context.entry.around) (view_key key.entry) (place_of lexer.old)) }
+    {
+        if lexer.is_before(Fixed::Open) {
+            let prop = self.within.method(context, lexer, lo, Home::Object, key)?;
+            return Ok(Member::settled(prop));
+        }
+        Ok(self.property(context, lexer, lo, key)?)
+    }
+
     /// A name behind which its default may stand, and that begins at a place: `a`, or `a = b`, which a pattern alone may have (ECMA-262
     /// section 13.2.5).
     pub(crate) fn short_member<'s>(
@@ -284,8 +284,8 @@ impl<
         lo: BytePos,
         raw: &'s str,
     ) -> Result<Member<'s>, ParseError>
-        requires nests { ReadsWithin (suc (left lexer.old)) (F.pre self.now.inner) (F.post self.now.inner) self.now.body }
-        requires bodies { ReadsBodies (left lexer.old) (B.pre self.now.body) (B.post self.now.body) }
+        requires nests { ReadsWithin (suc (left lexer.old)) (F.pre self.now.within.inner) (F.post self.now.within.inner) self.now.within.body }
+        requires bodies { ReadsBodies (left lexer.old) (B.pre self.now.within.body) (B.post self.now.within.body) }
         ensures read { IfOk result (λ m. CoversShort (around_of context.entry.around) (chars raw.now) (place_of lexer.old) m (place_of lexer.new)) }
         ensures placed { IfOk result (λ m. IsPlacedShort lo.0 (chars raw.now) lexer.old m lexer.new) }
         ensures within { OnOk result (left lexer.new ≤ left lexer.old) }
@@ -300,7 +300,7 @@ impl<
         if !is_bound(raw) {
             return Err(give_up(lexer));
         }
-        let value = self.inner(context, lexer, ASSIGNMENT)?;
+        let value = self.within.inner(context, lexer, ASSIGNMENT)?;
         let key = make::name_key(text);
         let span = span_to(lo, lexer);
         let prop = make::field(context.alloc, span, Placement::Instance, key, Some(value))?;
@@ -318,8 +318,8 @@ impl<
         context: Context,
         lexer: &mut Lexer<'s>,
     ) -> Result<Member<'s>, ParseError>
-        requires nests { ReadsWithin (suc (left lexer.old)) (F.pre self.now.inner) (F.post self.now.inner) self.now.body }
-        requires bodies { ReadsBodies (left lexer.old) (B.pre self.now.body) (B.post self.now.body) }
+        requires nests { ReadsWithin (suc (left lexer.old)) (F.pre self.now.within.inner) (F.post self.now.within.inner) self.now.within.body }
+        requires bodies { ReadsBodies (left lexer.old) (B.pre self.now.within.body) (B.post self.now.within.body) }
         ensures read { IfOk result (λ m. IsMemberCover (around_of context.entry.around) (place_of lexer.old) m (place_of lexer.new)) }
         ensures placed { IfOk result (λ m. IsPlacedMember m lexer.old lexer.new) }
         ensures shorter { OnOk result (left lexer.new < left lexer.old) }
@@ -335,12 +335,12 @@ impl<
         }
         if take_prefix(lexer, Word::Get) {
             let lo = lexer.last_place();
-            let prop = self.getter_member(context, lexer, lo, Home::Object)?;
+            let prop = self.within.getter_member(context, lexer, lo, Home::Object)?;
             return Ok(Member::settled(prop));
         }
         if take_prefix(lexer, Word::Set) {
             let lo = lexer.last_place();
-            let prop = self.setter_member(context, lexer, lo, Home::Object)?;
+            let prop = self.within.setter_member(context, lexer, lo, Home::Object)?;
             return Ok(Member::settled(prop));
         }
         Ok(self.bare_member(context, lexer)?)
@@ -352,8 +352,8 @@ impl<
         context: Context,
         lexer: &mut Lexer<'s>,
     ) -> Result<Member<'s>, ParseError>
-        requires nests { ReadsWithin (suc (left lexer.old)) (F.pre self.now.inner) (F.post self.now.inner) self.now.body }
-        requires bodies { ReadsBodies (left lexer.old) (B.pre self.now.body) (B.post self.now.body) }
+        requires nests { ReadsWithin (suc (left lexer.old)) (F.pre self.now.within.inner) (F.post self.now.within.inner) self.now.within.body }
+        requires bodies { ReadsBodies (left lexer.old) (B.pre self.now.within.body) (B.post self.now.within.body) }
         requires bare { IsBare (place_of lexer.old) }
         ensures read { IfOk result (λ m. IsMemberCover (around_of context.entry.around) (place_of lexer.old) m (place_of lexer.new)) }
         ensures placed { IfOk result (λ m. IsPlacedMember m lexer.old lexer.new) }
@@ -362,7 +362,7 @@ impl<
     {
         if lexer.take(Fixed::OpenBracket) {
             let lo = lexer.last_place();
-            let key = self.computed_key(context, lexer)?;
+            let key = self.within.computed_key(context, lexer)?;
             return Ok(self.object_keyed(context, lexer, lo, key)?);
         }
         if let Some(raw) = lexer.leaf(Leaf::Name) {
@@ -383,8 +383,8 @@ impl<
         context: Context,
         lexer: &mut Lexer<'s>,
     ) -> Result<Members<'s>, ParseError>
-        requires nests { ReadsWithin (suc (left lexer.old)) (F.pre self.now.inner) (F.post self.now.inner) self.now.body }
-        requires bodies { ReadsBodies (left lexer.old) (B.pre self.now.body) (B.post self.now.body) }
+        requires nests { ReadsWithin (suc (left lexer.old)) (F.pre self.now.within.inner) (F.post self.now.within.inner) self.now.within.body }
+        requires bodies { ReadsBodies (left lexer.old) (B.pre self.now.within.body) (B.post self.now.within.body) }
         ensures read { IfOk result (λ q. CoversMembers (around_of context.entry.around) (place_of lexer.old) q (place_of lexer.new)) }
         ensures placed { IfOk result (λ q. IsPlacedMembers q lexer.old lexer.new) }
         ensures shorter { OnOk result (left lexer.new < left lexer.old) }
@@ -414,8 +414,8 @@ impl<
         context: Context,
         lexer: &mut Lexer<'s>,
     ) -> Result<Cover<'s>, ParseError>
-        requires nests { ReadsWithin (suc (left lexer.old)) (F.pre self.now.inner) (F.post self.now.inner) self.now.body }
-        requires bodies { ReadsBodies (left lexer.old) (B.pre self.now.body) (B.post self.now.body) }
+        requires nests { ReadsWithin (suc (left lexer.old)) (F.pre self.now.within.inner) (F.post self.now.within.inner) self.now.within.body }
+        requires bodies { ReadsBodies (left lexer.old) (B.pre self.now.within.body) (B.post self.now.within.body) }
         ensures read { IfOk result (λ c. OpensCover (around_of context.entry.around) (opening_sign (expression Object)) c (place_of lexer.old) (place_of lexer.new)) }
         ensures span { IfOk result (λ c. Spans (expr_at c.expr.value) (begin_of lexer.old) (end_of lexer.new)) }
         ensures placed { IfOk result (λ c. IsPlacedCoverBehind (opening_sign (expression Object)) lexer.old c lexer.new) }

@@ -18,10 +18,11 @@ ghost use Rattle.jsx_expression.specs.Covers.{IsAssigned, IsPlacedAssigned, NotA
 ghost use Rattle.jsx_make.specs.NodeSpans.{expr_at};
 ghost use Rattle.jsx_operand.specs.Spans.{Extends, IsPlacedBehind, IsPlacedOn, Spans};
 ghost use Rattle.jsx_token.specs.Places.{begin_of, end_of};
-ghost use Rattle.jsx_expression.specs.Within.{ReadsWithin};
+ghost use Rattle.jsx_function.specs.Within.{ReadsWithin};
 ghost use Rattle.jsx_operand.specs.Bodies.{ReadsBodies};
 
 use crate::grammar::Expressions;
+use jsx_function::MEMBER;
 use jsx_make::make;
 use jsx_operand::operand::{ASSIGNMENT, deletes_name, is_target, start_of, target_of};
 use jsx_operand::parser::{expect, give_up, span_to};
@@ -32,9 +33,6 @@ use jsx_tree::{AssignOp, BinaryOp, Expr, UnaryOp, UpdateOp};
 
 /// The level of a unary expression.
 const UNARY: u8 = 15;
-
-/// The level of calls and members, and of what may be assigned to.
-pub(crate) const MEMBER: u8 = 17;
 
 impl<
     F: for<'c, 's> Fn(Context<'c>, &mut Lexer<'s>, u8, B) -> Result<Cover<'s>, ParseError>,
@@ -47,8 +45,8 @@ impl<
         lexer: &mut Lexer<'s>,
         test: Box<Expr<'s>>,
     ) -> Result<Box<Expr<'s>>, ParseError>
-        requires nests { ReadsWithin (suc (left lexer.old)) (F.pre self.now.inner) (F.post self.now.inner) self.now.body }
-        requires bodies { ReadsBodies (left lexer.old) (B.pre self.now.body) (B.post self.now.body) }
+        requires nests { ReadsWithin (suc (left lexer.old)) (F.pre self.now.within.inner) (F.post self.now.within.inner) self.now.within.body }
+        requires bodies { ReadsBodies (left lexer.old) (B.pre self.now.within.body) (B.post self.now.within.body) }
         ensures read { IfOk result (λ e. Built so_far (around_of context.entry.around) (tail (tail (row_so_far (expression Cond)))) (expression Cond) (part (view_expr test.entry.value)) (view_expr e.value) (place_of lexer.old) (place_of lexer.new)) }
         ensures span { IfOk result (λ e. Extends (expr_at test.entry.value) (expr_at e.value) (end_of lexer.new)) }
         ensures placed { IfOk result (λ e. IsPlacedOn (mark (expression Cond)) test.entry.value lexer.old e.value lexer.new) }
@@ -56,9 +54,9 @@ impl<
         ensures ended { OnOk result (IsTrue (closed (place_of lexer.new))) }
         ensures refused { Refused result (NoRow so_far (around_of context.entry.around) (tail (tail (row_so_far (expression Cond)))) (place_of lexer.old)) }
     {
-        let then = self.inner(context, lexer, ASSIGNMENT)?;
+        let then = self.within.inner(context, lexer, ASSIGNMENT)?;
         expect(context, lexer, Fixed::Colon)?;
-        let other = self.inner(context, lexer, ASSIGNMENT)?;
+        let other = self.within.inner(context, lexer, ASSIGNMENT)?;
         let span = span_to(start_of(&test), lexer);
         Ok(make::conditional(context.alloc, span, test, then, other)?)
     }
@@ -71,8 +69,8 @@ impl<
         operator: BinaryOp,
         first: Box<Expr<'s>>,
     ) -> Result<Box<Expr<'s>>, ParseError>
-        requires nests { ReadsWithin (suc (left lexer.old)) (F.pre self.now.inner) (F.post self.now.inner) self.now.body }
-        requires bodies { ReadsBodies (left lexer.old) (B.pre self.now.body) (B.post self.now.body) }
+        requires nests { ReadsWithin (suc (left lexer.old)) (F.pre self.now.within.inner) (F.post self.now.within.inner) self.now.within.body }
+        requires bodies { ReadsBodies (left lexer.old) (B.pre self.now.within.body) (B.post self.now.within.body) }
         ensures read { IfOk result (λ e. Built so_far (around_of context.entry.around) (tail (tail (row_so_far (expression (Binary (binary_of operator)))))) (expression (Binary (binary_of operator))) (part (view_expr first.entry.value)) (view_expr e.value) (place_of lexer.old) (place_of lexer.new)) }
         ensures span { IfOk result (λ e. Extends (expr_at first.entry.value) (expr_at e.value) (end_of lexer.new)) }
         ensures placed { IfOk result (λ e. IsPlacedOn (mark (expression (Binary (binary_of operator)))) first.entry.value lexer.old e.value lexer.new) }
@@ -80,7 +78,9 @@ impl<
         ensures ended { OnOk result (IsTrue (settled (place_of lexer.new))) }
         ensures refused { Refused result (NoRow so_far (around_of context.entry.around) (tail (tail (row_so_far (expression (Binary (binary_of operator)))))) (place_of lexer.old)) }
     {
-        let right = self.inner(context, lexer, growth::right_level(operator))?;
+        let right = self
+            .within
+            .inner(context, lexer, growth::right_level(operator))?;
         let span = span_to(start_of(&first), lexer);
         Ok(make::binary(context.alloc, span, operator, first, right)?)
     }
@@ -92,8 +92,8 @@ impl<
         lexer: &mut Lexer<'s>,
         first: Box<Expr<'s>>,
     ) -> Result<Box<Expr<'s>>, ParseError>
-        requires nests { ReadsWithin (suc (left lexer.old)) (F.pre self.now.inner) (F.post self.now.inner) self.now.body }
-        requires bodies { ReadsBodies (left lexer.old) (B.pre self.now.body) (B.post self.now.body) }
+        requires nests { ReadsWithin (suc (left lexer.old)) (F.pre self.now.within.inner) (F.post self.now.within.inner) self.now.within.body }
+        requires bodies { ReadsBodies (left lexer.old) (B.pre self.now.within.body) (B.post self.now.within.body) }
         ensures read { IfOk result (λ e. Built so_far (around_of context.entry.around) (tail (tail (row_so_far (expression Assign)))) (expression Assign) (part (as_target (view_expr first.entry.value))) (view_expr e.value) (place_of lexer.old) (place_of lexer.new)) }
         ensures span { IfOk result (λ e. Extends (expr_at first.entry.value) (expr_at e.value) (end_of lexer.new)) }
         ensures placed { IfOk result (λ e. IsPlacedOn (mark (expression Assign)) first.entry.value lexer.old e.value lexer.new) }
@@ -101,7 +101,7 @@ impl<
         ensures ended { OnOk result (IsTrue (closed (place_of lexer.new))) }
         ensures refused { Refused result (NoRow so_far (around_of context.entry.around) (tail (tail (row_so_far (expression Assign)))) (place_of lexer.old)) }
     {
-        let value = self.inner(context, lexer, ASSIGNMENT)?;
+        let value = self.within.inner(context, lexer, ASSIGNMENT)?;
         let span = span_to(start_of(&first), lexer);
         let target = target_of(context.alloc, first)?;
         Ok(make::assign(context.alloc, span, target, value)?)
@@ -116,8 +116,8 @@ impl<
         lexer: &mut Lexer<'s>,
         first: Cover<'s>,
     ) -> Result<Box<Expr<'s>>, ParseError>
-        requires nests { ReadsWithin (suc (left lexer.old)) (F.pre self.now.inner) (F.post self.now.inner) self.now.body }
-        requires bodies { ReadsBodies (left lexer.old) (B.pre self.now.body) (B.post self.now.body) }
+        requires nests { ReadsWithin (suc (left lexer.old)) (F.pre self.now.within.inner) (F.post self.now.within.inner) self.now.within.body }
+        requires bodies { ReadsBodies (left lexer.old) (B.pre self.now.within.body) (B.post self.now.within.body) }
         ensures read { IfOk result (λ e. IsAssigned (around_of context.entry.around) first.entry (view_expr e.value) (place_of lexer.old) (place_of lexer.new)) }
         ensures span { IfOk result (λ e. Extends (expr_at first.entry.expr.value) (expr_at e.value) (end_of lexer.new)) }
         ensures placed { IfOk result (λ e. IsPlacedAssigned first.entry lexer.old e.value lexer.new) }
@@ -127,7 +127,7 @@ impl<
     {
         let lo = start_of(&first.expr);
         let target = turn(context.alloc, lexer.last_place(), first)?;
-        let value = self.inner(context, lexer, ASSIGNMENT)?;
+        let value = self.within.inner(context, lexer, ASSIGNMENT)?;
         Ok(make::assign(context.alloc, span_to(lo, lexer), target, value)?)
     }
 
@@ -139,8 +139,8 @@ impl<
         operator: AssignOp,
         first: Box<Expr<'s>>,
     ) -> Result<Box<Expr<'s>>, ParseError>
-        requires nests { ReadsWithin (suc (left lexer.old)) (F.pre self.now.inner) (F.post self.now.inner) self.now.body }
-        requires bodies { ReadsBodies (left lexer.old) (B.pre self.now.body) (B.post self.now.body) }
+        requires nests { ReadsWithin (suc (left lexer.old)) (F.pre self.now.within.inner) (F.post self.now.within.inner) self.now.within.body }
+        requires bodies { ReadsBodies (left lexer.old) (B.pre self.now.within.body) (B.post self.now.within.body) }
         ensures read { IfOk result (λ e. Built so_far (around_of context.entry.around) (tail (tail (row_so_far (expression (OpAssign (assign_of operator)))))) (expression (OpAssign (assign_of operator))) (part (as_target (view_expr first.entry.value))) (view_expr e.value) (place_of lexer.old) (place_of lexer.new)) }
         ensures span { IfOk result (λ e. Extends (expr_at first.entry.value) (expr_at e.value) (end_of lexer.new)) }
         ensures placed { IfOk result (λ e. IsPlacedOn (mark (expression (OpAssign (assign_of operator)))) first.entry.value lexer.old e.value lexer.new) }
@@ -148,7 +148,7 @@ impl<
         ensures ended { OnOk result (IsTrue (closed (place_of lexer.new))) }
         ensures refused { Refused result (NoRow so_far (around_of context.entry.around) (tail (tail (row_so_far (expression (OpAssign (assign_of operator)))))) (place_of lexer.old)) }
     {
-        let value = self.inner(context, lexer, ASSIGNMENT)?;
+        let value = self.within.inner(context, lexer, ASSIGNMENT)?;
         let span = span_to(start_of(&first), lexer);
         let target = target_of(context.alloc, first)?;
         Ok(make::op_assign(context.alloc, span, operator, target, value)?)
@@ -161,8 +161,8 @@ impl<
         lexer: &mut Lexer<'s>,
         operator: UnaryOp,
     ) -> Result<Box<Expr<'s>>, ParseError>
-        requires nests { ReadsWithin (suc (left lexer.old)) (F.pre self.now.inner) (F.post self.now.inner) self.now.body }
-        requires bodies { ReadsBodies (left lexer.old) (B.pre self.now.body) (B.post self.now.body) }
+        requires nests { ReadsWithin (suc (left lexer.old)) (F.pre self.now.within.inner) (F.post self.now.within.inner) self.now.within.body }
+        requires bodies { ReadsBodies (left lexer.old) (B.pre self.now.within.body) (B.post self.now.within.body) }
         ensures read { IfOk result (λ e. BuiltNode so_far (around_of context.entry.around) (tail (row_so_far (expression (Unary (unary_of operator))))) (expression (Unary (unary_of operator))) (view_expr e.value) (place_of lexer.old) (place_of lexer.new)) }
         ensures span { IfOk result (λ e. Spans (expr_at e.value) (begin_of lexer.old) (end_of lexer.new)) }
         ensures placed { IfOk result (λ e. IsPlacedBehind (opening_sign (expression (Unary (unary_of operator)))) lexer.old (told_expr e.value) (view_expr e.value) lexer.new) }
@@ -171,7 +171,7 @@ impl<
         ensures refused { Refused result (NoNode so_far (around_of context.entry.around) (tail (row_so_far (expression (Unary (unary_of operator))))) (expression (Unary (unary_of operator))) (place_of lexer.old)) }
     {
         let lo = lexer.last_place();
-        let operand = self.inner(context, lexer, UNARY)?;
+        let operand = self.within.inner(context, lexer, UNARY)?;
         if deletes_name(operator, &operand) {
             return Err(give_up(lexer));
         }
@@ -185,8 +185,8 @@ impl<
         lexer: &mut Lexer<'s>,
         operator: UpdateOp,
     ) -> Result<Box<Expr<'s>>, ParseError>
-        requires nests { ReadsWithin (suc (left lexer.old)) (F.pre self.now.inner) (F.post self.now.inner) self.now.body }
-        requires bodies { ReadsBodies (left lexer.old) (B.pre self.now.body) (B.post self.now.body) }
+        requires nests { ReadsWithin (suc (left lexer.old)) (F.pre self.now.within.inner) (F.post self.now.within.inner) self.now.within.body }
+        requires bodies { ReadsBodies (left lexer.old) (B.pre self.now.within.body) (B.post self.now.within.body) }
         ensures read { IfOk result (λ e. Built so_far (around_of context.entry.around) (tail (row_so_far (expression (PrefixUpdate (step_of operator))))) (expression (PrefixUpdate (step_of operator))) (λ ts. ts) (view_expr e.value) (place_of lexer.old) (place_of lexer.new)) }
         ensures span { IfOk result (λ e. Spans (expr_at e.value) (begin_of lexer.old) (end_of lexer.new)) }
         ensures placed { IfOk result (λ e. IsPlacedBehind (opening_sign (expression (PrefixUpdate (step_of operator)))) lexer.old (told_expr e.value) (view_expr e.value) lexer.new) }
@@ -195,7 +195,7 @@ impl<
         ensures refused { Refused result (NoRow so_far (around_of context.entry.around) (tail (row_so_far (expression (PrefixUpdate (step_of operator))))) (place_of lexer.old)) }
     {
         let lo = lexer.last_place();
-        let operand = self.inner(context, lexer, MEMBER)?;
+        let operand = self.within.inner(context, lexer, MEMBER)?;
         if !is_target(&operand) {
             return Err(give_up(lexer));
         }

@@ -20,7 +20,7 @@ ghost use Rattle.jsx_token.specs.Growths.{settled};
 ghost use Rattle.jsx_make.specs.NodeSpans.{expr_at};
 ghost use Rattle.jsx_operand.specs.Spans.{Extends, IsPlaced, IsPlacedRow, Spans};
 ghost use Rattle.jsx_token.specs.Places.{end_of, next_of};
-ghost use Rattle.jsx_expression.specs.Within.{ReadsWithin};
+ghost use Rattle.jsx_function.specs.Within.{ReadsWithin};
 ghost use Rattle.jsx_operand.specs.Bodies.{ReadsBodies};
 
 use crate::grammar::Expressions;
@@ -46,8 +46,8 @@ impl<
         lo: BytePos,
         head: Text<'s>,
     ) -> Result<Template<'s>, ParseError>
-        requires nests { ReadsWithin (suc (left lexer.old)) (F.pre self.now.inner) (F.post self.now.inner) self.now.body }
-        requires bodies { ReadsBodies (left lexer.old) (B.pre self.now.body) (B.post self.now.body) }
+        requires nests { ReadsWithin (suc (left lexer.old)) (F.pre self.now.within.inner) (F.post self.now.within.inner) self.now.within.body }
+        requires bodies { ReadsBodies (left lexer.old) (B.pre self.now.within.body) (B.post self.now.within.body) }
         requires fits { fits_tag is_tagged (text_of head) ≡ true }
         ensures divided { IfOk result (λ t. IsDivided is_tagged head.entry t.pieces.items t.parts.items) }
         ensures begins { IfOk result (λ t. t.lo ≡ lo) }
@@ -81,8 +81,8 @@ impl<
         lexer: &mut Lexer<'s>,
         is_tagged: bool,
     ) -> Result<Template<'s>, ParseError>
-        requires nests { ReadsWithin (left lexer.old) (F.pre self.now.inner) (F.post self.now.inner) self.now.body }
-        requires bodies { ReadsBodies (left lexer.old) (B.pre self.now.body) (B.post self.now.body) }
+        requires nests { ReadsWithin (left lexer.old) (F.pre self.now.within.inner) (F.post self.now.within.inner) self.now.within.body }
+        requires bodies { ReadsBodies (left lexer.old) (B.pre self.now.within.body) (B.post self.now.within.body) }
         ensures begins { IfOk result (λ t. t.lo.0 ≡ next_of lexer.old) }
         ensures read { IfOk result (λ t. IsTemplate (around_of context.entry.around) is_tagged (place_of lexer.old) (template is_tagged t.pieces.items (map (inside view_expr) t.parts.items)) (place_of lexer.new)) }
         ensures placed { IfOk result (λ t. IsPlacedTemplate is_tagged t.pieces.items t.parts.items lexer.old lexer.new) }
@@ -108,8 +108,8 @@ impl<
         context: Context,
         lexer: &mut Lexer<'s>,
     ) -> Result<Box<Expr<'s>>, ParseError>
-        requires nests { ReadsWithin (left lexer.old) (F.pre self.now.inner) (F.post self.now.inner) self.now.body }
-        requires bodies { ReadsBodies (left lexer.old) (B.pre self.now.body) (B.post self.now.body) }
+        requires nests { ReadsWithin (left lexer.old) (F.pre self.now.within.inner) (F.post self.now.within.inner) self.now.within.body }
+        requires bodies { ReadsBodies (left lexer.old) (B.pre self.now.within.body) (B.post self.now.within.body) }
         requires quoted { IsTrue (is_quoted (next_token Operator lexer.old)) }
         ensures read { IfOk result (λ e. Begins (around_of context.entry.around) (place_of lexer.old) (view_expr e.value) (place_of lexer.new)) }
         ensures span { IfOk result (λ e. Spans (expr_at e.value) (next_of lexer.old) (end_of lexer.new)) }
@@ -131,8 +131,8 @@ impl<
         lexer: &mut Lexer<'s>,
         tag: Box<Expr<'s>>,
     ) -> Result<Box<Expr<'s>>, ParseError>
-        requires nests { ReadsWithin (suc (left lexer.old)) (F.pre self.now.inner) (F.post self.now.inner) self.now.body }
-        requires bodies { ReadsBodies (left lexer.old) (B.pre self.now.body) (B.post self.now.body) }
+        requires nests { ReadsWithin (suc (left lexer.old)) (F.pre self.now.within.inner) (F.post self.now.within.inner) self.now.within.body }
+        requires bodies { ReadsBodies (left lexer.old) (B.pre self.now.within.body) (B.post self.now.within.body) }
         ensures read { IfOk result (λ e. Built so_far (around_of context.entry.around) (tail (row_so_far (expression Tagged))) (expression Tagged) (part (view_expr tag.entry.value)) (view_expr e.value) (place_of lexer.old) (place_of lexer.new)) }
         ensures fits { OnOk result (IsTrue (climbing.fits (expression Tagged) (view_expr tag.entry.value))) }
         ensures span { IfOk result (λ e. Extends (expr_at tag.entry.value) (expr_at e.value) (end_of lexer.new)) }

@@ -42,8 +42,8 @@ use Rattle.jsx_operand.proofs.OfSoFar.{of_so_far}
 use Rattle.jsx_operand.proofs.Openings.{free_none, free_parts, parts_barred, parts_only}
 use Rattle.jsx_operand.proofs.Placing.{node_is, row_part, row_quiet, row_sign, row_within}
 use Rattle.jsx_operand.proofs.Standing.{standing}
-use Rattle.jsx_expression.specs.Classes.{NoClass, OnlyClass, class_row, keep_members}
-use Rattle.jsx_expression.specs.Functions.{NoCode, code_row, code_symbols}
+use Rattle.jsx_function.specs.Classes.{NoClass, OnlyClass, class_row, keep_members}
+use Rattle.jsx_function.specs.Functions.{NoCode, code_row, code_symbols}
 use Rattle.jsx_statement.specs.Heads.{NoDeclaring, declare_sign}
 use Rattle.jsx_statement.proofs.PlacedNodes.{declaring_is}
 use Rattle.jsx_statement.proofs.Statements.{heading_stands, lost_there, one_heading}

@@ -44,7 +44,8 @@ use Rattle.jsx_operand.proofs.Rungs.{rung_single}
 use Rattle.jsx_operand.proofs.Values.{at_one, listed_node, move, Quote}
 use Rattle.jsx_operand.proofs.Tags.{sign_piece}
 use Rattle.jsx_operand.proofs.Climbing.{begins_grows, below_level, climb_barred, climb_on, climb_only, climb_tagged, climb_unfit, next_mark, mark_goes, tagged_unread, Going, by_arrow, by_mark, by_piece, goes_next}
-use Rattle.jsx_expression.specs.Covers.{above, BeginsAt, BeginsCover, BeforeSign, before_equals, before_arrow, Higher, as_begun, as_made, IsMade, IsOperand, IsPlacedCover, LeadsTo, leads, leads_none, NoHigher, none_begun, none_made, NoOperand, Settles}
+use Rattle.jsx_expression.specs.Covers.{above, BeginsAt, BeginsCover, BeforeSign, before_equals, before_arrow, Higher, as_begun, as_made, IsMade, IsOperand, LeadsTo, leads, leads_none, NoHigher, none_begun, none_made, NoOperand}
+use Rattle.jsx_function.specs.Covers.{IsPlacedCover, Settles}
 use Rattle.jsx_expression.proofs.CoverSteps.{cover_of, IsOngoing, ongoing, ongoing_arrow, ongoing_grown, ongoing_tagged}
 use Rattle.jsx_expression.proofs.Sequences.{closed_of, several_of, whole_only}
 use Rattle.jsx_statement.proofs.Statements.{lost_if}

@@ -24,7 +24,7 @@ ghost use Rattle.jsx_operand.specs.Bodies.{ReadsBodies};
 
 use crate::grammar::Statements;
 use crate::statement::{Seat, has_part};
-use jsx_expression::pattern::binding;
+use jsx_expression::function::binding;
 use jsx_make::make;
 use jsx_operand::{Body, Context, ParseError, expect, give_up, span_to};
 use jsx_token::{Fixed, Lexer, Word};

@@ -25,7 +25,7 @@ ghost use Rattle.jsx_operand.specs.Bodies.{ReadsBodies};
 use crate::open_in::{any_has_open_in, head_has_open_in};
 use crate::statement::{initialized, more_declarators};
 use jsx_expression::expression::{grow, more_items, operand, sequence, tagged};
-use jsx_expression::pattern::binding;
+use jsx_expression::function::binding;
 use jsx_make::make;
 use jsx_operand::cover::{refuse_arrow, settle};
 use jsx_operand::operand::{ASSIGNMENT, fits, level};

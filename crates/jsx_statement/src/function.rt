@@ -24,9 +24,10 @@ ghost use Rattle.jsx_statement.specs.Functions.{returned_symbols};
 
 use crate::for_head::declare_word;
 use crate::statement::{body, declaration};
-use jsx_expression::class::{ClassCode, class_code};
 use jsx_expression::expression::sequence;
-use jsx_expression::function::{FunctionCode, function_code};
+use jsx_expression::function::{class_code, function_code};
+use jsx_function::class::ClassCode;
+use jsx_function::function::FunctionCode;
 use jsx_make::make;
 use jsx_operand::parser::bound_name;
 use jsx_operand::{Body, Context, ParseError, give_up, semicolon, span_to};

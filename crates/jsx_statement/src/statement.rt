@@ -31,7 +31,7 @@ use crate::grammar::Statements;
 use crate::label::{jump_label, may_break, may_continue, target};
 use jsx_base::BytePos;
 use jsx_expression::expression::{expression, sequence};
-use jsx_expression::pattern::binding;
+use jsx_expression::function::binding;
 use jsx_make::make;
 use jsx_operand::operand::{ASSIGNMENT, start_of};
 use jsx_operand::pattern::{is_compound, start_of_pattern};

@@ -36,7 +36,7 @@ use Rattle.jsx_operand.proofs.Openings.{parts_barred, parts_only}
 use Rattle.jsx_operand.proofs.Standing.{standing}
 use Rattle.jsx_operand.proofs.Values.{led_sign}
 use Rattle.jsx_operand.proofs.Headless.{default_heads, no_default}
-use Rattle.jsx_expression.specs.Functions.{NoNamed, named_row}
+use Rattle.jsx_function.specs.Functions.{NoNamed, named_row}
 use Rattle.jsx_statement.specs.Heads.{NoDeclaring, declare_sign}
 use Rattle.jsx_statement.proofs.Declarations.{undeclared}
 use Rattle.jsx_statement.proofs.Statements.{lost_there, signed_row, unless_lost}

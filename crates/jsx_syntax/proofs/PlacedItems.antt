@@ -13,8 +13,8 @@ use Rattle.jsx_token.specs.Here.{Here}
 use Rattle.jsx_token.specs.Places.{Takes, end_of, next_of}
 use Rattle.jsx_operand.specs.Spans.{IsPlaced, IsPlacedFront, IsPlacedList, IsPlacedRow, Spans}
 use Rattle.jsx_operand.proofs.Placing.{led, node_is, row_end, row_list, row_part, row_quiet, row_sign, row_unless}
-use Rattle.jsx_expression.specs.Functions.{named_symbols}
-use Rattle.jsx_expression.proofs.Functions.{named_placed}
+use Rattle.jsx_function.specs.Functions.{named_symbols}
+use Rattle.jsx_function.proofs.Functions.{named_placed}
 use Rattle.jsx_syntax.specs.Items.{from_symbols, source_symbols}
 use Rattle.jsx_syntax.specs.Specifiers.{specifier_symbols}
 

@@ -13,9 +13,9 @@ ghost use Rattle.jsx_syntax.specs.Items.{IsPlacedExport, NoneBehind, NoneExport,
 use crate::import::{from_source, source};
 use crate::specifier::{Side, misfit, specifiers};
 use jsx_base::BytePos;
-use jsx_expression::class::class_expression;
 use jsx_expression::expression::expression;
-use jsx_expression::function::{FunctionCode, NamedFunction, named_function};
+use jsx_expression::function::{class_expression, named_function};
+use jsx_function::function::{FunctionCode, NamedFunction};
 use jsx_operand::operand::ASSIGNMENT;
 use jsx_operand::parser::identifier_name;
 use jsx_operand::{Body, Context, ParseError, semicolon, span_to};

@@ -5,7 +5,7 @@ use Rattle.jsx_tree.specs.View.{forest, inside, view_expr}
 use Rattle.jsx_operand.specs.Covers.{view_cover}
 use Rattle.jsx_operand.proofs.Steps.{passed}
 use Rattle.jsx_expression.specs.Arrows.{are_exprs}
-use Rattle.jsx_expression.specs.Covers.{told_cover}
+use Rattle.jsx_function.specs.Covers.{told_cover}
 use Rattle.jsx_expression.proofs.CoverLists.{all_yielded, exprs_past, exprs_refused, mapped_past}
 use Rattle.jsx_expression.proofs.arrow.exprs_of.Goals as goal
 

@@ -4,7 +4,7 @@ use Rattle.jsx_tree.specs.Told.{told_expr}
 use Rattle.jsx_tree.specs.View.{inside, view_expr}
 use Rattle.jsx_operand.specs.Covers.{view_cover}
 use Rattle.jsx_expression.specs.Arrows.{are_exprs}
-use Rattle.jsx_expression.specs.Covers.{told_cover}
+use Rattle.jsx_function.specs.Covers.{told_cover}
 use Rattle.jsx_expression.proofs.arrow.exprs_of.Given as goal
 
 abbrev pub invariant-exprs : goal.invariant-exprs

@@ -1,5 +1,5 @@
 use Rattle.jsx_operand.proofs.Steps.{passed}
-use Rattle.jsx_expression.proofs.CoverSteps.{settled_only, settled_placed, settled_span}
+use Rattle.jsx_function.proofs.Settled.{settled_only, settled_placed, settled_span}
 use Rattle.jsx_expression.proofs.expression.expression.Goals as goal
 
 pub returns-in_err-read-clause-refused : goal.returns-in_err-read-clause-refused

@@ -14,7 +14,7 @@ use Rattle.jsx_operand.proofs.Steps.{passed}
 use Rattle.jsx_expression.proofs.MemberCovers.{name_read, no_key_cover, worded, wordless}
 use Rattle.jsx_expression.proofs.MemberPlaces.{member_from, takes_to}
 use Rattle.jsx_expression.proofs.Members.{unkeyed}
-use Rattle.jsx_expression.proofs.Prefixes.{key_from, no_key_from}
+use Rattle.jsx_function.proofs.Prefixes.{key_from, no_key_from}
 use Rattle.jsx_expression.proofs.grammar.Expressions.bare_member.Goals as goal
 
 -- a key in brackets

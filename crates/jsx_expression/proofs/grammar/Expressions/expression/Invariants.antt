@@ -5,7 +5,7 @@ use Rattle.jsx_token.specs.Growths.{closed}
 use Rattle.jsx_make.specs.NodeSpans.{expr_at}
 use Rattle.jsx_operand.specs.Spans.{Spans}
 use Rattle.jsx_token.specs.Places.{end_of, next_of}
-use Rattle.jsx_expression.specs.Covers.{IsPlacedCover, Settles}
+use Rattle.jsx_function.specs.Covers.{IsPlacedCover, Settles}
 use Rattle.jsx_expression.proofs.CoverSteps.{IsOngoing, cover_of}
 use Rattle.jsx_expression.proofs.grammar.Expressions.expression.Given as goal
 

@@ -2,8 +2,8 @@ use Rattle.std.proofs.Common.{true, false, sym, ◌∙◌, ap}
 use Rattle.jsx_make.specs.Members.{view_prop}
 use Rattle.jsx_operand.proofs.Placing.{placed_to}
 use Rattle.jsx_operand.proofs.Steps.{passed}
-use Rattle.jsx_expression.specs.Methods.{took_none}
-use Rattle.jsx_expression.proofs.Keyed.{keyed_at, no_keyed_at}
+use Rattle.jsx_function.specs.Methods.{took_none}
+use Rattle.jsx_function.proofs.Keyed.{keyed_at, no_keyed_at}
 use Rattle.jsx_expression.proofs.MemberCovers.{keyed_as, method_cover, method_unturned, no_method_cover, no_pair_keyed, pair_keyed}
 use Rattle.jsx_expression.proofs.MemberPlaces.{pair_from, settled_placed}
 use Rattle.jsx_expression.proofs.grammar.Expressions.object_keyed.Goals as goal

@@ -2,10 +2,10 @@ use Rattle.std.proofs.Common.{true, false, not, refl, ◌∙◌, ap}
 use Rattle.jsx_make.specs.Members.{view_prop}
 use Rattle.jsx_token.specs.Here.{place_of}
 use Rattle.jsx_operand.proofs.Steps.{passed}
-use Rattle.jsx_expression.specs.Methods.{took_more, took_none}
+use Rattle.jsx_function.specs.Methods.{took_more, took_none}
 use Rattle.jsx_expression.proofs.MemberCovers.{accessor_cover, cover_from, cover_to, from_key_as, no_accessor_cover, no_cover_from, no_spread_cover, spread_cover, worded_unturned}
 use Rattle.jsx_expression.proofs.MemberPlaces.{member_from, member_to, settled_placed, spread_placed}
-use Rattle.jsx_expression.proofs.Prefixes.{bare_by}
+use Rattle.jsx_expression.proofs.Members.{bare_by}
 use Rattle.jsx_expression.proofs.grammar.Expressions.object_member.Goals as goal
 
 -- a spread

@@ -19,7 +19,8 @@ use Rattle.jsx_expression.specs.Covers.{unassigned, unlike}
 use Rattle.jsx_expression.proofs.BareArrows.{bare_settles, named_operand, named_settled, off_line, unnamed_operand}
 use Rattle.jsx_expression.proofs.Covers.{literal_high}
 use Rattle.jsx_expression.proofs.CoverPlaces.{assigned_placed, bare_placed, cover_placed_to}
-use Rattle.jsx_expression.proofs.CoverSteps.{settled_span, settles_to}
+use Rattle.jsx_expression.proofs.CoverSteps.{settles_to}
+use Rattle.jsx_function.proofs.Settled.{settled_span}
 use Rattle.jsx_expression.proofs.Operands.{assigned_settles, literal_named, no_operand_at, operand_assigned, operand_at, operand_first, operand_high, operand_kept, operand_to, operand_unassigned, operand_unbegun, operand_unsettled}
 use Rattle.jsx_expression.proofs.grammar.Expressions.operand.Goals as goal
 

@@ -1,9 +1,0 @@
-use Rattle.jsx_operand.proofs.Steps.{passed}
-use Rattle.jsx_expression.proofs.Keyed.{no_row_in, row_in}
-use Rattle.jsx_expression.proofs.grammar.Expressions.field_code.Goals as goal
-
-pub returns-in_err-value-clause-refused : goal.returns-in_err-value-clause-refused
-returns-in_err-value-clause-refused g c = passed _ c.in_err-value.ensures.refused c.from_residual.ensures.1 (λ n. no_row_in c.of_field.ensures n)
-
-pub returns-clause-read : goal.returns-clause-read
-returns-clause-read g c = row_in c.of_field.ensures c.in_ok-value.ensures.read

@@ -1,0 +1,17 @@
+pub mod Settled
+pub mod Prefixes
+pub mod Keyed
+pub mod PlacedMembers
+pub mod Worded
+pub mod Params
+pub mod Functions
+pub mod Fields
+pub mod Lines
+pub mod ClassElements
+pub mod PlacedElements
+pub mod ClassMembers
+pub mod Classes
+pub mod Defaults
+pub mod Slots
+pub mod Accessors
+pub mod PatternParts
