@@ -16,9 +16,8 @@ use Rattle.jsx_tree.specs.Fits.{is_plain, is_solid, may_begin, held, helds, held
 use Rattle.jsx_tree.proofs.ReadBack.RowChecks.{link_ok, sound, sounds, sound_each, is_formed}
 use Rattle.jsx_tree.specs.Layout.{laid}
 use Rattle.jsx_tree.specs.Spans.{Told}
-use Rattle.jsx_pen.specs.Calls.{noted, bare, begun, places}
-use Rattle.jsx_pen.specs.Pen.{begin, puts, signs}
-use Rattle.jsx_pen.proofs.Marking.{Chosen}
+use Rattle.jsx_pen.specs.Calls.{noted, bare, begun}
+use Rattle.jsx_pen.specs.Pen.{begin, puts, signs, whole}
 use Rattle.jsx_pen.proofs.Phases.{Free, run, is_fine, bare_run}
 use Rattle.jsx_pen.proofs.Laid.{puts_lay}
 use Rattle.jsx_pen.proofs.Noting.{sound_tidy, bare_signs_of}
@@ -127,8 +126,8 @@ top_runs _ p h = absurd (false≢true p)
 pub signs_bare : (t : Tree) (d : Told) → IsTrue (fits t) → bare (signs (noted t d)) ≡ spelled (laid_tree t)
 signs_bare t d h = bare_signs_of t d (sound_tidy WholeProgram [] (laid_tree t) (top_sound (laid_tree t) h))
 
--- what a pen writes of a program that fits is its layout, with a mark before each call that is chosen
-pub pen_lays : (o : List Bool) (mk : ℕ → Bool) (t : Tree) (d : Told) → is_top t ≡ true → IsTrue (fits t) → Chosen o mk 0 (places (signs (noted t d))) → (puts (begin o) (signs (noted t d))).written ≡ noted_layout (marks (begun mk 0 false (signs (noted t d)))) t
-pen_lays o mk t d p h u =
+-- what a pen writes of a program that fits is its layout, with a mark before each call whose place has one
+pub pen_lays : (mk : ℕ → Bool) (t : Tree) (d : Told) → is_top t ≡ true → IsTrue (fits t) → whole mk (puts begin (signs (noted t d))) ≡ noted_layout (marks (begun mk 0 false (signs (noted t d)))) t
+pen_lays mk t d p h =
     let e : bare (signs (noted t d)) ≡ spelled (laid_tree t) = signs_bare t d h in
-    puts_lay o mk (signs (noted t d)) (ap is_fine (bare_run Free (signs (noted t d)) ∙ ap (run Free) e) ∙ top_runs t p h) u ∙ ap (laid (marks (begun mk 0 false (signs (noted t d)))) 0 [] [] false) e
+    puts_lay mk (signs (noted t d)) (ap is_fine (bare_run Free (signs (noted t d)) ∙ ap (run Free) e) ∙ top_runs t p h) ∙ ap (laid (marks (begun mk 0 false (signs (noted t d)))) 0 [] [] false) e

@@ -6,9 +6,8 @@ use Rattle.jsx_base.specs.Token.{Text, Mode, TokenKind, Operand, Operator, Piece
 use Rattle.jsx_tree.specs.Signs.{Sign, Tok, Semicolon, TrailingComma, Unless, SameLine, Ends, Space, Pad, Line, Indent, Outdent, Unindent, Apart, Begin, Count, One, End}
 use Rattle.jsx_tree.specs.Layout.{Beside, laid, notes_text, line, pull, is_pad, is_out, last, first_char, first_token}
 use Rattle.jsx_tree.specs.Notes.{marks, at_code}
-use Rattle.jsx_pen.specs.Calls.{is_place, first_place, bare, hold, may_mark, begun, places}
-use Rattle.jsx_pen.specs.declared.pen.Gap.TheVariants as gap
-use Rattle.jsx_pen.specs.Pen.{State, at, chosen, mark, margin, raw, inked, ink, unready, placed, padded, lined, indented, unindented, outdented, parted, is_opened, coded, toked, puts}
+use Rattle.jsx_pen.specs.Calls.{is_place, first_place, bare, hold, may_mark, begun}
+use Rattle.jsx_pen.specs.Pen.{mark}
 
 pub held_here : (i : ℕ) (b : Bool) (g : ℕ → Bool) → hold i b g i ≡ b
 held_here i b g = ap (λ c. cond c b (g i)) (eq-eqb i i refl)
@@ -119,53 +118,3 @@ begun_code f i d (Begin ∷ ms) = begun_code f i d ms
 begun_code f i d (Count ∷ ms) = begun_code f i d ms
 begun_code f i d (One ∷ ms) = begun_code f i d ms
 begun_code f i d (End ∷ ms) = begun_code f i d ms
-
--- ---- what is chosen of the calls, in the order in which they begin, and what is said of their places
-
-abbrev pub Chosen : List Bool → (ℕ → Bool) → ℕ → List ℕ → Type 0
-Chosen o f j [] = Unit {0}
-Chosen o f j (x ∷ xs) = (chosen o j ≡ f x) × Chosen o f (suc j) xs
-
--- ---- the calls that a pen meets
-
-coded_met : (m : Mode) (t : Text) (p : State) → (coded m t p).met ≡ p.met
-unfolding inked ink unready
-coded_met Piece t p = refl
-coded_met Children t p = refl
-coded_met Operand t p = refl
-coded_met Operator t p = refl
-coded_met Tag t p = refl
-
-outdented_met : (p : State) → (outdented p).met ≡ p.met
-unfolding outdented unindented lined
-outdented_met p = either (is_opened p.gap)
-  where
-    either : (b : Bool) → (cond b (at p.written (p.depth - 1) gap.Settled false p.met p.marked) (at (p.written ++ (10 ∷ margin (p.depth - 1))) (p.depth - 1) gap.Settled false p.met p.marked)).met ≡ p.met
-    either true = refl
-    either false = refl
-
-tok_met : (b : Bool) (m : Mode) (t : Text) (p : State) (ms : List Sign) → ((q : State) → (puts q ms).met ≡ q.met ++ places ms) → (puts (toked b m t p) ms).met ≡ p.met ++ cond b (first_place t ∷ places ms) (places ms)
-unfolding placed
-tok_met true m t p ms h = h (placed p (first_place t)) ∙ append_assoc p.met (first_place t ∷ []) (places ms)
-tok_met false m t p ms h = h (coded m t p) ∙ ap (λ c. c ++ places ms) (coded_met m t p)
-
-pub puts_met : (p : State) (ms : List Sign) → (puts p ms).met ≡ p.met ++ places ms
-unfolding raw inked ink padded lined indented unindented parted
-puts_met p [] = sym (append-nil p.met)
-puts_met p (Tok m k t ∷ ms) = tok_met (is_place k) m t p ms (λ q. puts_met q ms)
-puts_met p (Semicolon ∷ ms) = puts_met (inked p (59 ∷ [])) ms
-puts_met p (Space ∷ ms) = puts_met (raw p (32 ∷ [])) ms
-puts_met p (Pad ∷ ms) = puts_met (padded p) ms
-puts_met p (Line ∷ ms) = puts_met (lined p) ms
-puts_met p (Indent ∷ ms) = puts_met (indented p) ms
-puts_met p (Outdent ∷ ms) = puts_met (outdented p) ms ∙ ap (λ c. c ++ places ms) (outdented_met p)
-puts_met p (Unindent ∷ ms) = puts_met (unindented p) ms
-puts_met p (Apart ∷ ms) = puts_met (parted p) ms
-puts_met p (TrailingComma ∷ ms) = puts_met p ms
-puts_met p (Unless ts ∷ ms) = puts_met p ms
-puts_met p (SameLine ∷ ms) = puts_met p ms
-puts_met p (Ends e ∷ ms) = puts_met p ms
-puts_met p (Begin ∷ ms) = puts_met p ms
-puts_met p (Count ∷ ms) = puts_met p ms
-puts_met p (One ∷ ms) = puts_met p ms
-puts_met p (End ∷ ms) = puts_met p ms

@@ -110,9 +110,3 @@ begun f i d (Outdent ∷ ms) = begun f i false ms
 begun f i d (Unindent ∷ ms) = begun f i false ms
 begun f i d (Apart ∷ ms) = begun f i false ms
 begun f i d (m ∷ ms) = begun f i d ms
-
--- the places of the calls, in the order in which they begin
-abbrev pub places : List Sign → List ℕ
-places [] = []
-places (Tok m k t ∷ ms) = cond (is_place k) (first_place t ∷ places ms) (places ms)
-places (m ∷ ms) = places ms

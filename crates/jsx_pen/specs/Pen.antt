@@ -1,5 +1,7 @@
 -- What a pen has written, and what each further sign adds to it.
-use Rattle.std.specs.Prelude.{ℕ, zero, suc, ◌-◌, List, [], ◌∷◌, ◌++◌, codes, get_or, length, Bool, true, false, cond, nat_eq, not, ◌&&◌, ◌||◌, Option, Some, None}
+use Rattle.std.specs.Prelude.{ℕ, zero, suc, ◌-◌, List, [], ◌∷◌, ◌++◌, codes, map, string_bytes, Bool, true, false, cond, nat_eq, not, ◌&&◌, Option, Some, None}
+use Rattle.std.specs.List.{list_any}
+use Rattle.std.specs.Str.{chars}
 use Rattle.jsx_base.specs.Token as token
 use Rattle.jsx_base.specs.Token.{Operator, Piece, Children, IdentifierName, first_is}
 use Rattle.jsx_base.specs.declared.place.Span.{Span}
@@ -17,29 +19,41 @@ use Rattle.jsx_tree.specs.Layout.{four, last}
 use Rattle.jsx_pen.specs.Calls.{is_place, first_place, said, each_said}
 use Rattle.jsx_pen.specs.declared.pen.Gap.{Gap}
 use Rattle.jsx_pen.specs.declared.pen.Gap.TheVariants as gap
+use Rattle.jsx_pen.specs.declared.pen.Stretch.{Stretch}
 
--- the text so far; how many levels it is indented; what is open before the next token, and whether a mark is due; the places of the calls so far, and before which calls a mark stands
+-- a text, and the places of the calls whose first token comes behind it
+abbrev pub Portion : Type 0
+Portion = token.Text × List ℕ
+
+abbrev pub portion_of : Stretch → Portion
+portion_of s = (chars (string_bytes s.text), map (λ b. b.0) s.calls.items)
+
+-- the text up to the last token that is the first of a call, and from there on; how many levels it is indented; what is open before the next token, and the places of the calls that begin with it
 pub record State : Type 0 where
+  pub done : List Portion
   pub written : token.Text
   pub depth : ℕ
   pub gap : Gap
-  pub due : Bool
-  pub met : List ℕ
-  pub marked : List Bool
+  pub due : List ℕ
 
-abbrev pub at : token.Text → ℕ → Gap → Bool → List ℕ → List Bool → State
-at w n g d c f = record { written = w; depth = n; gap = g; due = d; met = c; marked = f }
+abbrev pub at : List Portion → token.Text → ℕ → Gap → List ℕ → State
+at s w n g d = record { done = s; written = w; depth = n; gap = g; due = d }
 
-abbrev pub begin : List Bool → State
-begin f = at [] 0 gap.Settled false [] f
-
--- whether a mark stands before a call
-abbrev pub chosen : List Bool → ℕ → Bool
-chosen f j = get_or f j false
+abbrev pub begin : State
+begin = at [] [] 0 gap.Settled []
 
 abbrev pub mark : Bool → token.Text
 mark true = codes "/*#__PURE__*/ "
 mark false = []
+
+-- the text of these portions, with a mark before each token with which a call begins that has one
+abbrev pub joint : (ℕ → Bool) → List Portion → token.Text
+joint f [] = []
+joint f (s ∷ ss) = s.0 ++ (mark (list_any f s.1) ++ joint f ss)
+
+-- all of the text
+abbrev pub whole : (ℕ → Bool) → State → token.Text
+whole f p = joint f p.done ++ p.written
 
 abbrev pub margin : ℕ → token.Text
 margin zero = []
@@ -55,23 +69,28 @@ blank gap.Minus t = cond (first_is (nat_eq 45) t) (32 ∷ []) []
 
 -- a text that needs no blank before it
 unfoldable pub raw : State → token.Text → State
-raw p t = at (p.written ++ t) p.depth gap.Settled false p.met p.marked
+raw p t = at p.done (p.written ++ t) p.depth gap.Settled []
 
 -- no call begins with a semicolon
 abbrev pub is_word : token.Text → Bool
 is_word t = not (first_is (nat_eq 59) t)
 
--- a token, with a mark before it or without
+abbrev pub is_due : List ℕ → Bool
+is_due [] = false
+is_due (x ∷ xs) = true
+
+-- a token that is the first of the calls that are due, and one that is not
 unfoldable pub ink : Bool → State → token.Text → State
-ink b p t = at (p.written ++ (blank p.gap t ++ (mark b ++ t))) p.depth gap.Settled false p.met p.marked
+ink true p t = at (p.done ++ ((p.written ++ blank p.gap t, p.due) ∷ [])) t p.depth gap.Settled []
+ink false p t = at p.done (p.written ++ (blank p.gap t ++ t)) p.depth gap.Settled []
 
 -- a token
 unfoldable pub inked : State → token.Text → State
-inked p t = ink (is_word t && p.due) p t
+inked p t = ink (is_word t && is_due p.due) p t
 
 -- a call begins here
 unfoldable pub placed : State → ℕ → State
-placed p x = at p.written p.depth p.gap (p.due || chosen p.marked (length p.met)) (p.met ++ (x ∷ [])) p.marked
+placed p x = at p.done p.written p.depth p.gap (p.due ++ (x ∷ []))
 
 -- the same, if it has a place
 abbrev pub placed_at : State → Option Span → State
@@ -80,7 +99,7 @@ placed_at p (Some s) = placed p s.lo.0
 
 -- what comes next begins no call
 unfoldable pub unready : State → State
-unready p = at p.written p.depth p.gap false p.met p.marked
+unready p = at p.done p.written p.depth p.gap []
 
 -- a blank inside of braces: two that meet are none
 abbrev pub turned : Gap → Gap
@@ -91,16 +110,16 @@ turned gap.Plus = gap.Padded
 turned gap.Minus = gap.Padded
 
 unfoldable pub padded : State → State
-padded p = at p.written p.depth (turned p.gap) false p.met p.marked
+padded p = at p.done p.written p.depth (turned p.gap) []
 
 unfoldable pub lined : State → State
-lined p = at (p.written ++ (10 ∷ margin p.depth)) p.depth gap.Settled false p.met p.marked
+lined p = at p.done (p.written ++ (10 ∷ margin p.depth)) p.depth gap.Settled []
 
 unfoldable pub indented : State → State
-indented p = at p.written (suc p.depth) gap.Opened false p.met p.marked
+indented p = at p.done p.written (suc p.depth) gap.Opened []
 
 unfoldable pub unindented : State → State
-unindented p = at p.written (p.depth - 1) gap.Settled false p.met p.marked
+unindented p = at p.done p.written (p.depth - 1) gap.Settled []
 
 abbrev pub is_opened : Gap → Bool
 is_opened gap.Opened = true
@@ -115,7 +134,7 @@ abbrev pub sign_gap : ℕ → Gap
 sign_gap c = cond (nat_eq c 43) gap.Plus (cond (nat_eq c 45) gap.Minus gap.Settled)
 
 unfoldable pub parted : State → State
-parted p = at p.written p.depth (sign_gap (last p.written)) false p.met p.marked
+parted p = at p.done p.written p.depth (sign_gap (last p.written)) []
 
 -- a token that is read in this mode, or the place of a call
 abbrev pub coded : token.Mode → token.Text → State → State

@@ -5,6 +5,6 @@ mod pen;
 mod step;
 mod words;
 
-pub use pen::{Draft, Pen};
+pub use pen::{Draft, Pen, Stretch};
 pub use step::Step;
 pub use words::{assign_text, before_call, before_index, dot, infix, step_text};

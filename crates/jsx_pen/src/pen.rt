@@ -1,11 +1,11 @@
 //! The text under construction.
 
-ghost use Rattle.std.specs.Prelude.{◌≡◌, ◌&&◌, IfOk, codes, false, length, OnOk, IsTrue, map, nat_eq, string_bytes, true};
+ghost use Rattle.std.specs.Prelude.{◌≡◌, ◌&&◌, IfOk, codes, false, OnOk, IsTrue, map, nat_eq, string_bytes, true};
 ghost use Rattle.std.specs.Str.{chars};
 ghost use Rattle.jsx_base.specs.Token.{first_is};
 ghost use Rattle.jsx_tree.specs.View.{text_of};
 ghost use Rattle.jsx_pen.specs.declared.pen.Gap.TheVariants as gap;
-ghost use Rattle.jsx_pen.specs.Pen.{begin, blank, chosen, indented, ink, inked, is_opened, is_word, lined, outdented, padded, parted, piece, placed, raw, turned, unindented};
+ghost use Rattle.jsx_pen.specs.Pen.{begin, blank, indented, ink, inked, is_due, is_opened, is_word, lined, outdented, padded, parted, piece, placed, portion_of, raw, turned, unindented};
 ghost use Rattle.jsx_pen.specs.Ascii.{is_ascii};
 ghost use Rattle.jsx_pen.specs.Steps.{stepped};
 
@@ -14,6 +14,10 @@ use jsx_base::BytePos;
 use jsx_tree::Text;
 use std::alloc::{AllocError, Global};
 use std::marker::Model;
+use std::mem;
+
+/// About how long a stretch of text will be.
+const STRETCH: usize = 128;
 
 /// What is open before the next token.
 #[derive(Clone, Copy)]
@@ -28,65 +32,72 @@ pub enum Gap {
     Minus,
 }
 
+/// A text, and where the calls stand in the source whose first token comes behind it.
+#[derive(Drop)]
+pub struct Stretch {
+    pub text: String,
+    pub calls: Vec<BytePos>,
+}
+
 /// The text of a program's code under construction.
 #[derive(Drop)]
 pub struct Pen {
+    alloc: Global,
+    /// The text up to the last token that is the first of a call.
+    done: Vec<Stretch>,
+    /// The text from there on.
     text: String,
     depth: usize,
     gap: Gap,
-    /// Whether a mark is due before the next token.
-    due: bool,
-    /// Where the calls so far stand in the source.
-    calls: Vec<BytePos>,
-    /// Before which calls a mark is written.
-    marks: Vec<bool>,
+    /// Where the calls stand in the source that begin with the next token.
+    due: Vec<BytePos>,
 }
 
-/// A text, and where its calls stand in the source, in the order in which they begin.
+/// A text, in stretches that end where a call begins, and what comes behind the last of these.
 #[derive(Drop)]
 pub struct Draft {
-    pub text: String,
-    pub calls: Vec<BytePos>,
+    pub stretches: Vec<Stretch>,
+    pub rest: String,
 }
 
 impl Model for Pen {
     ghost use Rattle.std.specs.Prelude.{map, string_bytes};
     ghost use Rattle.std.specs.Str.{chars};
-    ghost use Rattle.jsx_pen.specs.Pen.{State, at};
+    ghost use Rattle.jsx_pen.specs.Pen.{State, at, portion_of};
 
     ghost Value = { State };
 
-    ghost view = { λ p. at (chars (string_bytes p.text)) p.depth p.gap p.due (map (λ b. b.0) p.calls.items) p.marks.items };
+    ghost view = { λ p. at (map portion_of p.done.items) (chars (string_bytes p.text)) p.depth p.gap (map (λ b. b.0) p.due.items) };
 }
 
 impl Pen {
-    /// A pen that writes a mark before these calls.
+    /// A pen that has written nothing.
     ///
     /// # Errors
     ///
     /// `AllocError` for want of memory.
     #[tactic(auto, using(crate::proofs::Characters::fresh))]
-    pub fn new(alloc: Global, capacity: usize, marks: Vec<bool>) -> Result<Self, AllocError>
-        ensures { IfOk result (λ pen. pen ≡ begin marks.items) }
+    pub fn new(alloc: Global) -> Result<Self, AllocError>
+        ensures { IfOk result (λ pen. pen ≡ begin) }
     {
         Ok(Pen {
-            text: String::with_capacity(alloc, capacity)?,
+            alloc,
+            done: Vec::new(alloc),
+            text: String::with_capacity(alloc, STRETCH)?,
             depth: 0,
             gap: Gap::Settled,
-            due: false,
-            calls: Vec::new(alloc),
-            marks,
+            due: Vec::new(alloc),
         })
     }
 
     /// What was written.
     pub fn finish(self) -> Draft
-        ensures text { chars (string_bytes result.text) ≡ self.written }
-        ensures calls { map (λ b. b.0) result.calls.items ≡ self.met }
+        ensures stretches { map portion_of result.stretches.items ≡ self.done }
+        ensures rest { chars (string_bytes result.rest) ≡ self.written }
     {
         Draft {
-            text: self.text,
-            calls: self.calls,
+            stretches: self.done,
+            rest: self.text,
         }
     }
 
@@ -99,20 +110,8 @@ impl Pen {
     pub fn call(&mut self, at: BytePos) -> Result<(), AllocError>
         ensures { OnOk result (self.new ≡ placed self.old at.0) }
     {
-        self.due = self.due || self.is_marked();
-        self.calls.push(at)?;
+        self.due.push(at)?;
         Ok(())
-    }
-
-    /// Whether a mark stands before the next call.
-    #[tactic(auto, using(crate::proofs::Writing::counting))]
-    fn is_marked(&self) -> bool
-        ensures { result ≡ chosen self.now.marked (length self.now.met) }
-    {
-        match self.marks.get(self.calls.len()) {
-            Some(marked) => *marked,
-            None => false,
-        }
     }
 
     /// A text that needs no blank before it.
@@ -125,7 +124,7 @@ impl Pen {
         ensures { OnOk result (self.new ≡ raw self.old (chars piece.now)) }
     {
         self.gap = Gap::Settled;
-        self.due = false;
+        self.due.clear();
         self.text.push_str(piece)
     }
 
@@ -138,33 +137,49 @@ impl Pen {
     pub fn token(&mut self, piece: &str) -> Result<(), AllocError>
         ensures { OnOk result (self.new ≡ inked self.old (chars piece.now)) }
     {
-        if self.is_due(piece) {
-            self.marked_token(piece)
+        if self.is_first(piece) {
+            self.first_token(piece)
         } else {
             self.plain_token(piece)
         }
     }
 
-    fn is_due(&self, piece: &str) -> bool
-        ensures { result ≡ (is_word (chars piece.now) && self.now.due) }
+    /// Whether a call begins with this token.
+    fn is_first(&self, piece: &str) -> bool
+        ensures { result ≡ (is_word (chars piece.now) && is_due self.now.due) }
     {
-        is_word(piece) && self.due
+        !self.due.is_empty() && is_word(piece)
     }
 
-    /// A token with a mark before it.
+    /// A token that is the first of a call.
     #[tactic(auto, using(crate::proofs::Writing::wording))]
-    fn marked_token(&mut self, piece: &str) -> Result<(), AllocError>
+    fn first_token(&mut self, piece: &str) -> Result<(), AllocError>
         ensures { OnOk result (self.new ≡ ink true self.old (chars piece.now)) }
     {
-        let blank = blank(self.gap, piece);
-        self.put(blank)?;
-        self.put("/*#__PURE__*/ ")?;
-        self.put(piece)
+        self.text.push_str(blank(self.gap, piece))?;
+        let mut rest = String::with_capacity(self.alloc, STRETCH)?;
+        rest.push_str(piece)?;
+        let text = mem::replace(&mut self.text, rest);
+        let calls = mem::replace(&mut self.due, Vec::new(self.alloc));
+        self.done.push(Stretch { text, calls })?;
+        self.gap = Gap::Settled;
+        Ok(())
     }
 
     /// A token with no mark.
     #[tactic(auto, using(crate::proofs::Writing::wording))]
     fn plain_token(&mut self, piece: &str) -> Result<(), AllocError>
+        ensures { OnOk result (self.new ≡ ink false self.old (chars piece.now)) }
+    {
+        match self.gap {
+            Gap::Settled => self.put(piece),
+            Gap::Opened | Gap::Padded | Gap::Plus | Gap::Minus => self.parted_token(piece),
+        }
+    }
+
+    /// A token before which a blank may be due.
+    #[tactic(auto, using(crate::proofs::Writing::wording))]
+    fn parted_token(&mut self, piece: &str) -> Result<(), AllocError>
         ensures { OnOk result (self.new ≡ ink false self.old (chars piece.now)) }
     {
         let blank = blank(self.gap, piece);
@@ -219,7 +234,7 @@ impl Pen {
         ensures { self.new ≡ padded self.old }
     {
         self.gap = turned(self.gap);
-        self.due = false;
+        self.due.clear();
     }
 
     /// A `+` or `-` before an operand.
@@ -246,6 +261,23 @@ impl Pen {
     fn line(&mut self) -> Result<(), AllocError>
         ensures { OnOk result (self.new ≡ lined self.old) }
     {
+        match self.depth {
+            0 => self.raw("\n"),
+            1 => self.raw("\n    "),
+            2 => self.raw("\n        "),
+            3 => self.raw("\n            "),
+            4 => self.raw("\n                "),
+            5 => self.raw("\n                    "),
+            6 => self.raw("\n                        "),
+            _ => self.deep_line(),
+        }
+    }
+
+    /// The begin of a line, level by level.
+    #[tactic(auto, using(crate::proofs::Writing::lining))]
+    fn deep_line(&mut self) -> Result<(), AllocError>
+        ensures { OnOk result (self.new ≡ lined self.old) }
+    {
         let depth = self.depth;
         self.raw("\n")?;
         for _level in 0..depth {
@@ -264,7 +296,7 @@ impl Pen {
         };
         self.depth = depth;
         self.gap = Gap::Opened;
-        self.due = false;
+        self.due.clear();
         Ok(())
     }
 
@@ -275,7 +307,7 @@ impl Pen {
     {
         self.depth = self.depth.saturating_sub(1);
         self.gap = Gap::Settled;
-        self.due = false;
+        self.due.clear();
     }
 
     /// What changes the state alone, or writes what it is always written as.

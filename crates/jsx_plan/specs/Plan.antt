@@ -1,5 +1,5 @@
 -- What a printer has written and what it has left to write.
-use Rattle.std.specs.Prelude.{ℕ, Bool, List, [], ◌∷◌, map, codes, drop, reverse, Option, Some, None, Box}
+use Rattle.std.specs.Prelude.{ℕ, List, [], ◌∷◌, map, codes, drop, reverse, Option, Some, None, Box}
 use Rattle.std.specs.Global.{Global}
 use Rattle.std.specs.Str.{chars}
 use Rattle.jsx_base.specs.Token as token
@@ -129,8 +129,8 @@ pub record Job : Type 0 where
   pub todo : List Task
 
 -- nothing written yet, and nothing to write
-abbrev pub fresh : List Bool → Job
-fresh f = record { pen = begin f; todo = [] }
+abbrev pub fresh : Job
+fresh = record { pen = begin; todo = [] }
 
 unfoldable pub job_of : Printer → Job
 job_of p = record { pen = p.pen; todo = map seen (reverse p.todo.items) }

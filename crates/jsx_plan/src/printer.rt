@@ -3,6 +3,7 @@
 ghost use Rattle.std.specs.Prelude.{◌≡◌, IfOk, IsTrue, OnOk, codes, drop, map, string_bytes};
 ghost use Rattle.std.specs.Str.{chars};
 ghost use Rattle.jsx_pen.specs.Ascii.{is_ascii};
+ghost use Rattle.jsx_pen.specs.Pen.{portion_of};
 ghost use Rattle.jsx_plan.specs.Plan.{Commas, Does, Ended, Ink, Joined, Lead, Many, MoreCommas, OnLines, Piece, Put, Spans, filled, fresh, job_of, keyed, led, led_boxed, led_name, may, may_boxed, may_name, may_place, owner_of, pen_of, pushed, role_of, seen, side_of, templ};
 ghost use Rattle.jsx_tree.specs.View.{directive, forest, forest_at, inside, members_of_class, members_of_object, optional_at_of, optional_of, text_of};
 ghost use Rattle.jsx_tree.specs.ViewProgram.{view_specifier};
@@ -22,17 +23,17 @@ pub struct Printer<'a, 's> {
 }
 
 impl<'a, 's> Printer<'a, 's> {
-    /// A printer that has nothing to print, and writes a mark before these calls.
+    /// A printer that has nothing to print.
     ///
     /// # Errors
     ///
     /// `AllocError` for want of memory.
     #[tactic(auto, using(crate::proofs::Planning::running))]
-    pub fn new(alloc: Global, capacity: usize, marks: Vec<bool>) -> Result<Self, AllocError>
-        ensures { IfOk result (λ printer. job_of printer ≡ fresh marks.items) }
+    pub fn new(alloc: Global) -> Result<Self, AllocError>
+        ensures { IfOk result (λ printer. job_of printer ≡ fresh) }
     {
         Ok(Printer {
-            pen: Pen::new(alloc, capacity, marks)?,
+            pen: Pen::new(alloc)?,
             todo: Vec::new(alloc),
         })
     }
@@ -40,8 +41,8 @@ impl<'a, 's> Printer<'a, 's> {
     /// What was written.
     #[tactic(auto, using(crate::proofs::Planning::running))]
     pub fn finish(self) -> Draft
-        ensures text { chars (string_bytes result.text) ≡ (pen_of (job_of self.entry)).written }
-        ensures calls { map (λ b. b.0) result.calls.items ≡ (pen_of (job_of self.entry)).met }
+        ensures stretches { map portion_of result.stretches.items ≡ (pen_of (job_of self.entry)).done }
+        ensures rest { chars (string_bytes result.rest) ≡ (pen_of (job_of self.entry)).written }
     {
         self.pen.finish()
     }

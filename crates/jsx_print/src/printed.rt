@@ -1,6 +1,7 @@
 //! The text of a program.
 
-ghost use Rattle.std.specs.Prelude.{◌≡◌, IfOk, IsTrue, OnOk, map, string_bytes};
+ghost use Rattle.std.specs.Prelude.{◌≡◌, ◌++◌, IfOk, IsTrue, OnOk, map, string_bytes};
+ghost use Rattle.std.specs.List.{list_any};
 ghost use Rattle.std.specs.Str.{chars};
 ghost use Rattle.jsx_base.specs.Comments.{is_marked};
 ghost use Rattle.jsx_tree.specs.declared.text.Goal.{Goal};
@@ -9,7 +10,7 @@ ghost use Rattle.jsx_tree.specs.Normal.{laid_tree};
 ghost use Rattle.jsx_tree.specs.Program.{is_goal, Reads};
 ghost use Rattle.jsx_tree.specs.Told.{told};
 ghost use Rattle.jsx_tree.specs.ViewProgram.{view};
-ghost use Rattle.jsx_pen.specs.Pen.{begin, puts, signs};
+ghost use Rattle.jsx_pen.specs.Pen.{begin, joint, mark, portion_of, puts, signs};
 ghost use Rattle.jsx_plan.specs.Noted.{noted_program};
 ghost use Rattle.jsx_plan.specs.Plan.{job_of, pen_of, with_tree};
 ghost use Rattle.jsx_print.specs.Printing.{IsPrinted, marked_text};
@@ -17,7 +18,7 @@ ghost use Rattle.jsx_print.specs.Printing.{IsPrinted, marked_text};
 use crate::module::open_program;
 use crate::run::run;
 use jsx_base::{BytePos, Comments};
-use jsx_pen::Draft;
+use jsx_pen::{Draft, Stretch};
 use jsx_plan::Printer;
 use jsx_tree::Program;
 use std::alloc::{AllocError, Global};
@@ -44,47 +45,67 @@ pub fn print<C: Comments>(
     ensures layout { IfOk result (λ p. IsTrue (fits (view program.now)) → IsPrinted (view program.now) (chars (string_bytes p.text))) }
     ensures reads { IfOk result (λ p. (goal : Goal) → IsTrue (is_goal goal (view program.now)) → IsTrue (fits (view program.now)) → Reads goal (chars (string_bytes p.text)) (laid_tree (view program.now))) }
 {
-    let plain = draft(alloc, program, source_len(program), Vec::new(alloc))?;
-    let marks = marks_of(alloc, &plain.calls, comments)?;
-    if !marks.contains(&true) {
-        return Ok(Printed { text: plain.text });
-    }
-    // Which calls have a mark is known once all calls are met.
-    let marked = draft(alloc, program, plain.text.len(), marks)?;
-    Ok(Printed { text: marked.text })
+    let draft = draft(alloc, program)?;
+    let mut text = marked(alloc, source_len(program), &draft.stretches, comments)?;
+    text.push_str(draft.rest.as_str())?;
+    Ok(Printed { text })
 }
 
-/// Which of these places have a mark.
-fn marks_of<C: Comments>(
-    alloc: Global,
-    calls: &[BytePos],
-    comments: &C,
-) -> Result<Vec<bool>, AllocError>
-    ensures { IfOk result (λ marks. marks.items ≡ map (is_marked (C.marked comments.now)) (map (λ b. b.0) calls.now)) }
-{
-    let mut marks = Vec::with_capacity(alloc, calls.len())?;
-    for call in calls {
-        marks.push(comments.has_pure(*call))?;
-    }
-    Ok(marks)
-}
-
-/// The text with a mark before these calls.
+/// The text of a program, in stretches that end where a call begins.
 #[tactic(auto, using(crate::proofs::Prints::drafting))]
-fn draft(
-    alloc: Global,
-    program: &Program<'_>,
-    capacity: usize,
-    marks: Vec<bool>,
-) -> Result<Draft, AllocError>
-    ensures text { IfOk result (λ d. chars (string_bytes d.text) ≡ (puts (begin marks.items) (signs (noted_program program.now))).written) }
-    ensures calls { IfOk result (λ d. map (λ b. b.0) d.calls.items ≡ (puts (begin marks.items) (signs (noted_program program.now))).met) }
+fn draft(alloc: Global, program: &Program<'_>) -> Result<Draft, AllocError>
+    ensures stretches { IfOk result (λ d. map portion_of d.stretches.items ≡ (puts begin (signs (noted_program program.now))).done) }
+    ensures rest { IfOk result (λ d. chars (string_bytes d.rest) ≡ (puts begin (signs (noted_program program.now))).written) }
 {
-    let mut printer = Printer::new(alloc, capacity, marks)?;
+    let mut printer = Printer::new(alloc)?;
     match write(&mut printer, program) {
         Ok(()) => Ok(printer.finish()),
         Err(error) => Err(error),
     }
+}
+
+/// These stretches one behind the other, each with a mark behind it where the comments have one for a call that begins there.
+#[tactic(auto, using(crate::proofs::Prints::nothing))]
+fn marked<C: Comments>(
+    alloc: Global,
+    capacity: usize,
+    stretches: &[Stretch],
+    comments: &C,
+) -> Result<String, AllocError>
+    ensures { IfOk result (λ text. chars (string_bytes text) ≡ joint (is_marked (C.marked comments.now)) (map portion_of stretches.now)) }
+{
+    let mut text = String::with_capacity(alloc, capacity)?;
+    for stretch in stretches {
+        push_stretch(&mut text, stretch, comments)?;
+    }
+    Ok(text)
+}
+
+/// A stretch, and the mark behind it.
+fn push_stretch<C: Comments>(
+    text: &mut String,
+    stretch: &Stretch,
+    comments: &C,
+) -> Result<(), AllocError>
+    ensures { OnOk result (chars (string_bytes text.new) ≡ chars (string_bytes text.old) ++ ((portion_of stretch.now).0 ++ mark (list_any (is_marked (C.marked comments.now)) (portion_of stretch.now).1))) }
+{
+    text.push_str(stretch.text.as_str())?;
+    if has_mark(&stretch.calls, comments) {
+        text.push_str("/*#__PURE__*/ ")?;
+    }
+    Ok(())
+}
+
+/// Whether one of these places has a mark.
+fn has_mark<C: Comments>(calls: &[BytePos], comments: &C) -> bool
+    ensures { result ≡ list_any (is_marked (C.marked comments.now)) (map (λ b. b.0) calls.now) }
+{
+    for call in calls {
+        if comments.has_pure(*call) {
+            return true;
+        }
+    }
+    false
 }
 
 /// All of a program.
