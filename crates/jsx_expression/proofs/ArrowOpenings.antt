@@ -43,7 +43,7 @@ use Rattle.jsx_expression.proofs.CoverParams.{covers_once, no_param, param_word,
 use Rattle.jsx_function.proofs.Defaults.{rest_row}
 use Rattle.jsx_function.proofs.Params.{no_rest_param}
 use Rattle.jsx_expression.proofs.Parentheses.{Passes, PassesFrom, dotted_value, last_contents, passes_barred, rest_contents, trailing_contents}
-use Rattle.jsx_expression.proofs.Sequences.{closed_of, whole_barred}
+use Rattle.jsx_member.proofs.Sequences.{closed_of, whole_barred}
 
 -- ---- which kinds begin so
 

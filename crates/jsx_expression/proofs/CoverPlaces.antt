@@ -26,7 +26,8 @@ use Rattle.jsx_operand.proofs.Placing.{placed_as}
 use Rattle.jsx_operand.proofs.PlacedTargets.{placed_target}
 use Rattle.jsx_operand.proofs.Turned.{turned_aims, turned_target}
 use Rattle.jsx_expression.specs.Arrows.{BareEnds, bare_kind}
-use Rattle.jsx_expression.specs.Covers.{IsAssigned, IsPlacedAssigned, IsPlacedCoverBehind}
+use Rattle.jsx_member.specs.Covers.{IsPlacedCoverBehind}
+use Rattle.jsx_expression.specs.Covers.{IsAssigned, IsPlacedAssigned}
 use Rattle.jsx_function.specs.Covers.{IsPlacedCover, told_cover}
 
 target_formed : (t : Tree) → is_target t ≡ true → pairs_formed t ≡ true

@@ -39,7 +39,8 @@ use Rattle.jsx_operand.proofs.Homes.{Value, made, home_of}
 use Rattle.jsx_operand.proofs.Openings.{BegunSo, so_bracketed, so_opened, NoBracket, bracket_rises, opened_begun, signed_blocked, signed_follows, unopened_begun, unread_bracket, unread_opening}
 use Rattle.jsx_operand.proofs.Turned.{bracketed_literal}
 use Rattle.jsx_operand.proofs.Values.{Bracketed, Quote, in_array, in_object, bracket_none, bracket_opener, bracket_sign, node_to, opened_sign, opener_of, opener_piece, unbracketed}
-use Rattle.jsx_expression.specs.Covers.{Apart, above, unlike, unassigned, BeginsAt, BeginsCover, IsPatternCover, NoCoverBegins, NoCoverOpened, NoPatternCover, OpensCover, PatternFirst, is_bracket_sign}
+use Rattle.jsx_member.specs.Covers.{IsPatternCover, NoCoverOpened, NoPatternCover, OpensCover, is_bracket_sign}
+use Rattle.jsx_expression.specs.Covers.{Apart, above, unlike, unassigned, BeginsAt, BeginsCover, NoCoverBegins, PatternFirst}
 use Rattle.jsx_function.specs.Covers.{Settles}
 
 -- ---- where it ended

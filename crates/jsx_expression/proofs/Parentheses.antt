@@ -32,7 +32,7 @@ use Rattle.jsx_expression.specs.declared.arrow.Group.{Group}
 use Rattle.jsx_expression.proofs.CoverParams.{Lasting, Passing, cover_param, lasting_none, lasting_one, lasting_rest, params_alone, params_reads, passing_both, passing_none, passing_one}
 use Rattle.jsx_function.proofs.Defaults.{rest_row}
 use Rattle.jsx_function.proofs.Params.{rest_param}
-use Rattle.jsx_expression.proofs.Sequences.{Listing, listing_more, listing_one, sequence_barred, sequence_only, whole_barred, whole_only}
+use Rattle.jsx_member.proofs.Sequences.{Listing, listing_more, listing_one, sequence_barred, sequence_only, whole_barred, whole_only}
 
 -- ---- where no expression begins
 

@@ -1,11 +1,11 @@
--- What begins with `import` or with `new`: kinds that begin with one sign, told apart by what stands behind it.
+-- What begins with `new`: kinds that begin with one sign, told apart by what stands behind it.
 use Rattle.std.proofs.Common.{◌≡◌, nat_eq, Bool, true, false, not, [], ◌∷◌, refl, sym, ◌∙◌, ap, subst}
 use Rattle.std.specs.Prelude.{IsTrue, codes, ◌||◌}
 use Rattle.std.proofs.lemmas.Bool.{eqb-true, eq-eqb}
 use Rattle.jsx_base.specs.Token.{Text, Operator, Punctuator, Lexeme, among, at_front, breaks, first_is, is_token, kind_number, same, skip, token}
 use Rattle.jsx_base.proofs.Fronts.{other_ahead}
 use Rattle.jsx_tree.specs.Signs.{AfterExpr, Unless}
-use Rattle.jsx_tree.specs.Kinds.{Call, New, NewWithoutArguments, NewTarget, ImportCall, ImportMeta, Kind, expression, Tree, node, Forest, none, part}
+use Rattle.jsx_tree.specs.Kinds.{Call, New, NewWithoutArguments, NewTarget, Kind, expression, Tree, node, Forest, none, part}
 use Rattle.jsx_tree.specs.Nonterminals.{NewCallee}
 use Rattle.jsx_tree.specs.Grammar.{Fixed, Part, key, pun}
 use Rattle.jsx_tree.specs.Reading.{Place, Lost, At, forth, go_if}
@@ -14,7 +14,7 @@ use Rattle.jsx_tree.specs.Walk.{is_found, Given, Past, nothing, one, tail, tree}
 use Rattle.jsx_tree.specs.Language.{Whole}
 use Rattle.jsx_tree.specs.Answers.{Moves, Missed, Only, Barred, OnlyRow, NoRow, NoNode, Built, BuiltNode}
 use Rattle.jsx_tree.proofs.Tokens.{and_right, and_both}
-use Rattle.jsx_tree.proofs.Apart.{clash, one_token}
+use Rattle.jsx_tree.proofs.Apart.{clash}
 use Rattle.jsx_tree.proofs.Rows.Bridge.{found_at}
 use Rattle.jsx_tree.proofs.Rows.Laws.{end_found}
 use Rattle.jsx_tree.proofs.Rows.Placing.{no_node}
@@ -28,23 +28,8 @@ use Rattle.jsx_operand.specs.SoFar.{so_far}
 use Rattle.jsx_operand.specs.Openings.{opens_with, NoParts, OnlyOpened, NoneOpened}
 use Rattle.jsx_operand.proofs.OfSoFar.{of_so_far}
 use Rattle.jsx_token.proofs.Levels.{grows_on}
-use Rattle.jsx_operand.proofs.Values.{First, name, opened, begun, led_sign, literal_opening, one_opening, opened_sign, opener, opener_of, quoted, piece_of, opener_piece, bracketed, bracket_none}
+use Rattle.jsx_operand.proofs.Values.{First, name, opened, begun, literal_opening, one_opening, opened_sign, opener, opener_of, quoted, piece_of, opener_piece, bracketed, bracket_none}
 use Rattle.jsx_operand.proofs.Openings.{Other, itself, barred, free_none, kept_behind, opened_by, opens_listed}
-
--- ---- which kinds begin so
-
-abbrev imports : Kind → Bool
-imports j = implies (opens_with (key "import") j) (nat_eq (code j) (code (expression ImportCall)) || nat_eq (code j) (code (expression ImportMeta)))
-
-all_imports : every imports kinds ≡ true
-all_imports = refl
-
-of_import : (P : Kind → Type 0) → P (expression ImportCall) → P (expression ImportMeta) → (j : Kind) → opens_with (key "import") j ≡ true → P j
-of_import P p q j o =
-    let m = opens_listed (key "import") j o in
-    or_cases (nat_eq (code j) (code (expression ImportCall))) (nat_eq (code j) (code (expression ImportMeta))) (implied (opens_with (key "import") j) _ (of_each imports all_imports j m) o)
-    (λ e. subst P (sym (one_place j (expression ImportCall) m (listed (expression ImportCall) refl refl refl) e)) p)
-    (λ e. subst P (sym (one_place j (expression ImportMeta) m (listed (expression ImportMeta) refl refl refl) e)) q)
 
 abbrev news : Kind → Bool
 news j = implies (opens_with (key "new") j) (nat_eq (code j) (code (expression New)) || (nat_eq (code j) (code (expression NewWithoutArguments)) || nat_eq (code j) (code (expression NewTarget))))
@@ -61,46 +46,8 @@ of_new P p q r j o =
     (λ e. subst P (sym (one_place j (expression NewWithoutArguments) m (listed (expression NewWithoutArguments) refl refl refl) e)) q)
     (λ e. subst P (sym (one_place j (expression NewTarget) m (listed (expression NewTarget) refl refl refl) e)) r))
 
--- ---- the sign behind
-
-paren_dot : (x : Place) → IsTrue (is_found (forth (pun "(") x)) → IsTrue (is_found (forth (pun ".") x)) → ⊥
-paren_dot x f g = let bad : (same (codes "(") (codes ".")) ≡ true = and_right (nat_eq (kind_number Punctuator) (kind_number Punctuator)) _ (one_token Punctuator Punctuator (codes "(") (codes ".") x f g) in cc
-
--- no `.` behind the word
-undotted : {v : Surroundings} {a : Place} → forth (pun ".") a ≡ Lost → NoRow so_far v (tail (row_so_far (expression ImportMeta))) a
-undotted n = bar (no_sign (record { is = n }))
-
 untargeted : {v : Surroundings} {a : Place} → forth (pun ".") a ≡ Lost → NoRow so_far v (tail (row_so_far (expression NewTarget))) a
 untargeted n = bar (no_sign (record { is = n }))
-
--- ---- `import`
-
-none_import : {v : Surroundings} {a : Place} → NoNode so_far v (tail (row_so_far (expression ImportCall))) (expression ImportCall) a → NoNode so_far v (tail (row_so_far (expression ImportMeta))) (expression ImportMeta) a → NoneOpened v (key "import") a
-none_import {v} {a} p q = record { no = of_import (λ j. NoParts v j a) (free_none (expression ImportCall) refl p) (free_none (expression ImportMeta) refl q) }
-
-pub import_called : {v : Surroundings} {a a' y : Place} {t : Tree} → Missed (pun ".") a a' → Built so_far v (tail (row_so_far (expression ImportCall))) (expression ImportCall) (λ ts. ts) t a' y → OnlyOpened v (key "import") t a y
-import_called {v} {a} {y = y} {t} m given =
-    let b = subst (λ p. Built so_far v (tail (row_so_far (expression ImportCall))) (expression ImportCall) (λ ts. ts) t p y) (sym m.same) given in
-    opened_by (expression ImportCall) refl refl (kept_behind (expression ImportCall) (listed (expression ImportCall) refl refl refl) refl refl b)
-    (of_import (Other v a (expression ImportCall)) itself (barred refl (no_node (undotted m.stuck.is))))
-
-pub import_uncalled : {v : Surroundings} {a a' : Place} → Missed (pun ".") a a' → NoRow so_far v (tail (row_so_far (expression ImportCall))) a' → NoneOpened v (key "import") a
-import_uncalled {v} {a} m n = none_import (no_node (subst (NoRow so_far v (tail (row_so_far (expression ImportCall)))) (sym m.same) n)) (no_node (undotted m.stuck.is))
-
-dotted_call : {v : Surroundings} {a b : Place} → Moves (pun ".") a b → NoRow so_far v (tail (row_so_far (expression ImportCall))) a
-dotted_call {a = a} m = record { no = λ ts y w. paren_dot a (led_sign (tail (row_so_far (expression ImportCall))) refl w) (found_at (sym m.is) m.found) }
-
-pub meta_opened : {v : Surroundings} {a b y : Place} {t : Tree} → v.module' ≡ true → Moves (pun ".") a b → Only so_far v (Fixed (key "meta")) b nothing y → IsTrue (is_found y) → t ≡ node (expression ImportMeta) none → OnlyOpened v (key "import") t a y
-meta_opened {v} {a} {y = y} {t} h m o f e = opened_by (expression ImportMeta) refl refl built (of_import (Other v a (expression ImportMeta)) (barred refl (no_node (dotted_call m))) itself)
-  where
-    built : BuiltNode so_far v (tail (row_so_far (expression ImportMeta))) (expression ImportMeta) t a y
-    built = record { parts = none; is = e; row = then' (only_sign m) (then' o (end f)); keeps = h }
-
-pub meta_unread : {v : Surroundings} {a b : Place} → Moves (pun ".") a b → Barred so_far v (Fixed (key "meta")) b → NoneOpened v (key "import") a
-meta_unread {v} {a} m n = none_import (no_node (dotted_call m)) (no_node (on (only_sign m) (bar n)))
-
-pub meta_outside : {v : Surroundings} {a b : Place} → v.module' ≡ false → Moves (pun ".") a b → NoneOpened v (key "import") a
-meta_outside {v} {a} h m = none_import (no_node (dotted_call m)) (record { no = λ ts y w k. clash _ (and_right (rule (expression ImportMeta) ts) _ k) h })
 
 -- ---- what stands before `(`, or not
 

@@ -1,5 +1,2 @@
 pub mod Covers
 pub mod Arrows
-pub mod Elements
-pub mod Gathering
-pub mod Supers

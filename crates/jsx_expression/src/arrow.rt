@@ -184,8 +184,8 @@ impl<
         context: Context,
         lexer: &mut Lexer<'s>,
     ) -> Result<Box<Expr<'s>>, ParseError>
-        requires nests { ReadsWithin (suc (left lexer.old)) (F.pre self.now.within.inner) (F.post self.now.within.inner) self.now.within.body }
-        requires bodies { ReadsBodies (left lexer.old) (B.pre self.now.within.body) (B.post self.now.within.body) }
+        requires nests { ReadsWithin (suc (left lexer.old)) (F.pre self.now.brackets.within.inner) (F.post self.now.brackets.within.inner) self.now.brackets.within.body }
+        requires bodies { ReadsBodies (left lexer.old) (B.pre self.now.brackets.within.body) (B.post self.now.brackets.within.body) }
         ensures read { IfOk result (λ e. OnlyOpened (around_of context.entry.around) (opening_sign (expression Parenthesized)) (view_expr e.value) (place_of lexer.old) (place_of lexer.new)) }
         ensures span { IfOk result (λ e. Spans (expr_at e.value) (begin_of lexer.old) (end_of lexer.new)) }
         ensures placed { IfOk result (λ e. IsPlacedBehind (opening_sign (expression Parenthesized)) lexer.old (told_expr e.value) (view_expr e.value) lexer.new) }
@@ -196,10 +196,10 @@ impl<
     {
         let lo = lexer.last_place();
         if is_before_parameters(lexer) {
-            let params = self.within.parameters(context, lexer)?;
+            let params = self.brackets.within.parameters(context, lexer)?;
             return Ok(self.arrow(context, lexer, lo, params)?);
         }
-        let first = self.cover(context, lexer)?;
+        let first = self.brackets.cover(context, lexer)?;
         if lexer.take(Fixed::Comma) {
             return Ok(self.several(context, lexer, lo, first)?);
         }
@@ -219,8 +219,8 @@ impl<
         lo: BytePos,
         first: Cover<'s>,
     ) -> Result<Box<Expr<'s>>, ParseError>
-        requires nests { ReadsWithin (suc (left lexer.old)) (F.pre self.now.within.inner) (F.post self.now.within.inner) self.now.within.body }
-        requires bodies { ReadsBodies (left lexer.old) (B.pre self.now.within.body) (B.post self.now.within.body) }
+        requires nests { ReadsWithin (suc (left lexer.old)) (F.pre self.now.brackets.within.inner) (F.post self.now.brackets.within.inner) self.now.brackets.within.body }
+        requires bodies { ReadsBodies (left lexer.old) (B.pre self.now.brackets.within.body) (B.post self.now.brackets.within.body) }
         ensures read { IfOk result (λ e. OneEnds (around_of context.entry.around) first.entry (view_expr e.value) (place_of lexer.old) (place_of lexer.new)) }
         ensures span { IfOk result (λ e. Spans (expr_at e.value) lo.0 (end_of lexer.new)) }
         ensures placed { IfOk result (λ e. IsPlacedOne lo.0 first.entry lexer.old (told_expr e.value) (view_expr e.value) lexer.new) }
@@ -245,8 +245,8 @@ impl<
         lexer: &mut Lexer<'s>,
         first: Cover<'s>,
     ) -> Result<Group<'s>, ParseError>
-        requires nests { ReadsWithin (suc (left lexer.old)) (F.pre self.now.within.inner) (F.post self.now.within.inner) self.now.within.body }
-        requires bodies { ReadsBodies (left lexer.old) (B.pre self.now.within.body) (B.post self.now.within.body) }
+        requires nests { ReadsWithin (suc (left lexer.old)) (F.pre self.now.brackets.within.inner) (F.post self.now.brackets.within.inner) self.now.brackets.within.body }
+        requires bodies { ReadsBodies (left lexer.old) (B.pre self.now.brackets.within.body) (B.post self.now.brackets.within.body) }
         ensures read { IfOk result (λ q. OnlyGroup (around_of context.entry.around) first.entry q (place_of lexer.old) (place_of lexer.new)) }
         ensures placed { IfOk result (λ q. IsPlacedGroup first.entry q lexer.old lexer.new) }
         ensures rest { IfOk result (λ q. IfSome q.rest (λ p. is_word (view_pat p.value) ≡ false)) }
@@ -264,14 +264,14 @@ impl<
                 });
             }
             if lexer.take(Fixed::Dots) {
-                let rest = self.within.rest_pattern(context, lexer)?;
+                let rest = self.brackets.within.rest_pattern(context, lexer)?;
                 return Ok(Group {
                     all,
                     rest: Some(rest),
                     trails: false,
                 });
             }
-            let next = self.cover(context, lexer)?;
+            let next = self.brackets.cover(context, lexer)?;
             all.push(next)?;
             if !lexer.take(Fixed::Comma) {
                 return Ok(Group {
@@ -292,8 +292,8 @@ impl<
         lo: BytePos,
         first: Cover<'s>,
     ) -> Result<Box<Expr<'s>>, ParseError>
-        requires nests { ReadsWithin (suc (left lexer.old)) (F.pre self.now.within.inner) (F.post self.now.within.inner) self.now.within.body }
-        requires bodies { ReadsBodies (left lexer.old) (B.pre self.now.within.body) (B.post self.now.within.body) }
+        requires nests { ReadsWithin (suc (left lexer.old)) (F.pre self.now.brackets.within.inner) (F.post self.now.brackets.within.inner) self.now.brackets.within.body }
+        requires bodies { ReadsBodies (left lexer.old) (B.pre self.now.brackets.within.body) (B.post self.now.brackets.within.body) }
         ensures read { IfOk result (λ e. SeveralEnd (around_of context.entry.around) first.entry (view_expr e.value) (place_of lexer.old) (place_of lexer.new)) }
         ensures span { IfOk result (λ e. Spans (expr_at e.value) lo.0 (end_of lexer.new)) }
         ensures placed { IfOk result (λ e. IsPlacedSeveral lo.0 first.entry lexer.old (told_expr e.value) (view_expr e.value) lexer.new) }
@@ -330,8 +330,8 @@ impl<
         lo: BytePos,
         params: Parameters<'s>,
     ) -> Result<Box<Expr<'s>>, ParseError>
-        requires nests { ReadsWithin (suc (left lexer.old)) (F.pre self.now.within.inner) (F.post self.now.within.inner) self.now.within.body }
-        requires bodies { ReadsBodies (left lexer.old) (B.pre self.now.within.body) (B.post self.now.within.body) }
+        requires nests { ReadsWithin (suc (left lexer.old)) (F.pre self.now.brackets.within.inner) (F.post self.now.brackets.within.inner) self.now.brackets.within.body }
+        requires bodies { ReadsBodies (left lexer.old) (B.pre self.now.brackets.within.body) (B.post self.now.brackets.within.body) }
         requires simple { params.are_simple ≡ all_of is_word (view_params params) }
         ensures read { IfOk result (λ e. ArrowEnds (around_of context.entry.around) (view_params params.entry) (view_expr e.value) (place_of lexer.old) (place_of lexer.new)) }
         ensures span { IfOk result (λ e. Spans (expr_at e.value) lo.0 (end_of lexer.new)) }
@@ -358,8 +358,8 @@ impl<
         lo: BytePos,
         parameter: Ident<'s>,
     ) -> Result<Box<Expr<'s>>, ParseError>
-        requires nests { ReadsWithin (suc (left lexer.old)) (F.pre self.now.within.inner) (F.post self.now.within.inner) self.now.within.body }
-        requires bodies { ReadsBodies (left lexer.old) (B.pre self.now.within.body) (B.post self.now.within.body) }
+        requires nests { ReadsWithin (suc (left lexer.old)) (F.pre self.now.brackets.within.inner) (F.post self.now.brackets.within.inner) self.now.brackets.within.body }
+        requires bodies { ReadsBodies (left lexer.old) (B.pre self.now.brackets.within.body) (B.post self.now.brackets.within.body) }
         ensures read { IfOk result (λ e. BareEnds (around_of context.entry.around) (name_of parameter.entry) (view_expr e.value) (place_of lexer.old) (place_of lexer.new)) }
         ensures span { IfOk result (λ e. Spans (expr_at e.value) lo.0 (end_of lexer.new)) }
         ensures placed { IfOk result (λ e. IsPlacedPast lo.0 (told_text parameter.entry.text) (name_of parameter.entry) lexer.old (told_expr e.value) (view_expr e.value) lexer.new) }
@@ -378,8 +378,8 @@ impl<
         context: Context,
         lexer: &mut Lexer<'s>,
     ) -> Result<ArrowBody<'s>, ParseError>
-        requires nests { ReadsWithin (suc (left lexer.old)) (F.pre self.now.within.inner) (F.post self.now.within.inner) self.now.within.body }
-        requires bodies { ReadsBodies (left lexer.old) (B.pre self.now.within.body) (B.post self.now.within.body) }
+        requires nests { ReadsWithin (suc (left lexer.old)) (F.pre self.now.brackets.within.inner) (F.post self.now.brackets.within.inner) self.now.brackets.within.body }
+        requires bodies { ReadsBodies (left lexer.old) (B.pre self.now.brackets.within.body) (B.post self.now.brackets.within.body) }
         ensures read { IfOk result (λ b. OnlyArrowEnd (around_of context.entry.around) b (place_of lexer.old) (place_of lexer.new)) }
         ensures placed { IfOk result (λ b. IsPlacedArrowEnd b lexer.old lexer.new) }
         ensures shorter { OnOk result (left lexer.new < left lexer.old) }
@@ -401,8 +401,8 @@ impl<
         context: Context,
         lexer: &mut Lexer<'s>,
     ) -> Result<ArrowBody<'s>, ParseError>
-        requires nests { ReadsWithin (suc (left lexer.old)) (F.pre self.now.within.inner) (F.post self.now.within.inner) self.now.within.body }
-        requires bodies { ReadsBodies (left lexer.old) (B.pre self.now.within.body) (B.post self.now.within.body) }
+        requires nests { ReadsWithin (suc (left lexer.old)) (F.pre self.now.brackets.within.inner) (F.post self.now.brackets.within.inner) self.now.brackets.within.body }
+        requires bodies { ReadsBodies (left lexer.old) (B.pre self.now.brackets.within.body) (B.post self.now.brackets.within.body) }
         ensures read { IfOk result (λ b. OnlyArrowBody (around_of context.entry.around) b (place_of lexer.old) (place_of lexer.new)) }
         ensures placed { IfOk result (λ b. IsPlacedArrowBody b lexer.old lexer.new) }
         ensures shorter { OnOk result (left lexer.new < left lexer.old) }
@@ -410,10 +410,10 @@ impl<
         ensures refused { Refused result (NoArrowBody (around_of context.entry.around) (place_of lexer.old)) }
     {
         if !lexer.take(Fixed::OpenBrace) {
-            let value = self.within.inner(context, lexer, ASSIGNMENT)?;
+            let value = self.brackets.within.inner(context, lexer, ASSIGNMENT)?;
             return Ok(ArrowBody::Value(value));
         }
-        let body = self.within.body(context, lexer)?;
+        let body = self.brackets.within.body(context, lexer)?;
         lexer.ends(Ending::Block);
         Ok(ArrowBody::Block(body))
     }

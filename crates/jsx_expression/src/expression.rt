@@ -20,7 +20,7 @@ ghost use Rattle.jsx_operand.specs.Covers.{view_cover};
 ghost use Rattle.jsx_function.specs.Covers.{IsCover, IsPlacedCover, NoCover, Settles};
 ghost use Rattle.jsx_expression.specs.Covers.{IsOperand, NoOperand};
 ghost use Rattle.jsx_token.specs.Growths.{closed, growth_kind, is_level, level_of_kind, mark, settled};
-ghost use Rattle.jsx_expression.specs.Gathering.{IsGathered, NotGathered};
+ghost use Rattle.jsx_member.specs.Gathering.{IsGathered, NotGathered};
 ghost use Rattle.jsx_make.specs.NodeSpans.{expr_at};
 ghost use Rattle.jsx_operand.specs.Spans.{Extends, IsPlaced, IsPlacedOn, Spans};
 ghost use Rattle.jsx_token.specs.Places.{end_of, next_of};
@@ -28,6 +28,7 @@ ghost use Rattle.jsx_operand.specs.Bodies.{ReadsBodies};
 
 use crate::grammar::Expressions;
 use jsx_function::Within;
+use jsx_member::Brackets;
 use jsx_operand::cover::settle;
 use jsx_operand::{Body, Context, Cover, ParseError};
 use jsx_token::Lexer;
@@ -55,9 +56,11 @@ where
     ensures refused { Refused result (NoOperand (around_of context.entry.around) level (place_of lexer.old)) }
 {
     Expressions {
-        within: Within {
-            inner: cover::<B>,
-            body,
+        brackets: Brackets {
+            within: Within {
+                inner: cover::<B>,
+                body,
+            },
         },
     }
     .operand(context, lexer, level)
@@ -84,9 +87,11 @@ where
     ensures refused { Refused result (NotGrown (around_of context.entry.around) (growth_kind growth) (place_of lexer.old)) }
 {
     Expressions {
-        within: Within {
-            inner: cover::<B>,
-            body,
+        brackets: Brackets {
+            within: Within {
+                inner: cover::<B>,
+                body,
+            },
         },
     }
     .grow(context, lexer, growth, first)
@@ -110,7 +115,7 @@ where
     ensures ended { OnOk result (IsTrue (settled (place_of lexer.new))) }
     ensures refused { Refused result (NotTagged (around_of context.entry.around) (view_expr tag.entry.value) (place_of lexer.old)) }
 {
-    Expressions {
+    Brackets {
         within: Within {
             inner: cover::<B>,
             body,
@@ -139,9 +144,11 @@ where
     ensures refused { Refused result (NoCover (around_of context.entry.around) level (place_of lexer.old)) }
 {
     Expressions {
-        within: Within {
-            inner: cover::<B>,
-            body,
+        brackets: Brackets {
+            within: Within {
+                inner: cover::<B>,
+                body,
+            },
         },
     }
     .expression(context, lexer, level)
@@ -186,7 +193,7 @@ where
     ensures ended { OnOk result (IsTrue (closed (place_of lexer.new))) }
     ensures refused { Refused result (Barred so_far (around_of context.entry.around) (Part (grammar.Expr 0)) (place_of lexer.old)) }
 {
-    Expressions {
+    Brackets {
         within: Within {
             inner: cover::<B>,
             body,
@@ -211,7 +218,7 @@ where
     ensures ended { OnOk result (IsTrue (closed (place_of lexer.new))) }
     ensures refused { Refused result (NotGathered (around_of context.entry.around) (view_expr first.entry.value) (place_of lexer.old)) }
 {
-    Expressions {
+    Brackets {
         within: Within {
             inner: cover::<B>,
             body,

@@ -10,7 +10,8 @@ ghost use Rattle.jsx_tree.specs.Walk.{one};
 ghost use Rattle.jsx_tree.specs.Answers.{Only, Barred};
 ghost use Rattle.jsx_operand.specs.Openings.{OnlyOpened, NoneOpened};
 ghost use Rattle.jsx_function.specs.Covers.{IsCover, IsPlacedCover, NoCover, Settles};
-ghost use Rattle.jsx_expression.specs.Covers.{BeginsCover, IsOperand, IsPlacedCoverBehind, NoCoverBegins, NoCoverOpened, NoOperand, OpensCover};
+ghost use Rattle.jsx_member.specs.Covers.{IsPlacedCoverBehind, NoCoverOpened, OpensCover};
+ghost use Rattle.jsx_expression.specs.Covers.{BeginsCover, IsOperand, NoCoverBegins, NoOperand};
 ghost use Rattle.jsx_operand.specs.Around.{around_of};
 ghost use Rattle.jsx_operand.specs.SoFar.{so_far};
 ghost use Rattle.jsx_token.specs.Here.{place_of, left};
@@ -19,15 +20,14 @@ ghost use Rattle.jsx_operand.specs.Climbing as climbing;
 ghost use Rattle.jsx_operand.specs.Climbing.{Grown, NotGrown};
 ghost use Rattle.jsx_operand.specs.Covers.{view_cover};
 ghost use Rattle.jsx_token.specs.Growths.{growth_kind, is_level, level_of_kind, mark, opening_kind, opening_sign, closed, settled};
-ghost use Rattle.jsx_expression.specs.Gathering.{IsGathered, NotGathered};
 ghost use Rattle.jsx_make.specs.NodeSpans.{expr_at};
 ghost use Rattle.jsx_operand.specs.Spans.{Extends, IsPlaced, IsPlacedBehind, IsPlacedOn, Spans};
 ghost use Rattle.jsx_token.specs.Places.{begin_of, end_of, next_of};
 ghost use Rattle.jsx_function.specs.Within.{ReadsWithin};
 ghost use Rattle.jsx_operand.specs.Bodies.{ReadsBodies};
 
-use jsx_function::Within;
 use jsx_make::make;
+use jsx_member::Brackets;
 use jsx_operand::cover::{is_before_arrow, is_literal, parameter_name, refuse_arrow, settle};
 use jsx_operand::operand::{
     ASSIGNMENT, fits, is_callee, member, postfix_update, primary, start_of,
@@ -42,33 +42,14 @@ use jsx_tree::{Expr, Word as Constant};
 /// alone.
 #[derive(Clone, Copy)]
 pub(crate) struct Expressions<F, B> {
-    /// What reads these, and the functions, classes and patterns over them.
-    pub(crate) within: Within<F, B>,
+    /// What stands within brackets and quotes, with what reads the expressions and the bodies there.
+    pub(crate) brackets: Brackets<F, B>,
 }
 
 impl<
     F: for<'c, 's> Fn(Context<'c>, &mut Lexer<'s>, u8, B) -> Result<Cover<'s>, ParseError>,
     B: Copy + for<'c, 's> Fn(Context<'c>, &mut Lexer<'s>) -> Result<Body<'s>, ParseError>,
 > Expressions<F, B> {
-    /// What may stand within another expression at the level of assignments, before it is known whether it is an expression: `a = b`,
-    /// or `{a = 1}`, which `=` may still turn into a pattern.
-    pub(crate) fn cover<'s>(
-        &self,
-        context: Context,
-        lexer: &mut Lexer<'s>,
-    ) -> Result<Cover<'s>, ParseError>
-        requires nests { ReadsWithin (suc (left lexer.old)) (F.pre self.now.within.inner) (F.post self.now.within.inner) self.now.within.body }
-        requires bodies { ReadsBodies (left lexer.old) (B.pre self.now.within.body) (B.post self.now.within.body) }
-        ensures read { IfOk result (λ c. IsCover (around_of context.entry.around) 1 (place_of lexer.old) c (place_of lexer.new)) }
-        ensures span { IfOk result (λ c. Spans (expr_at c.expr.value) (next_of lexer.old) (end_of lexer.new)) }
-        ensures placed { IfOk result (λ c. IsPlacedCover c lexer.old lexer.new) }
-        ensures shorter { OnOk result (left lexer.new < left lexer.old) }
-        ensures ended { OnOk result (IsTrue (closed (place_of lexer.new))) }
-        ensures refused { Refused result (NoCover (around_of context.entry.around) 1 (place_of lexer.old)) }
-    {
-        self.within.covered(context, lexer, ASSIGNMENT)
-    }
-
     /// What stands at a level or more, up to where it doesn't go on: `a.b(c) + d`. A template goes on with it at every level, and
     /// with the block of an arrow function nothing does.
     pub(crate) fn expression<'s>(
@@ -77,8 +58,8 @@ impl<
         lexer: &mut Lexer<'s>,
         level: u8,
     ) -> Result<Cover<'s>, ParseError>
-        requires nests { ReadsWithin (left lexer.old) (F.pre self.now.within.inner) (F.post self.now.within.inner) self.now.within.body }
-        requires bodies { ReadsBodies (left lexer.old) (B.pre self.now.within.body) (B.post self.now.within.body) }
+        requires nests { ReadsWithin (left lexer.old) (F.pre self.now.brackets.within.inner) (F.post self.now.brackets.within.inner) self.now.brackets.within.body }
+        requires bodies { ReadsBodies (left lexer.old) (B.pre self.now.brackets.within.body) (B.post self.now.brackets.within.body) }
         requires ranked { IsTrue (is_level level) }
         ensures read { IfOk result (λ c. IsCover (around_of context.entry.around) level (place_of lexer.old) c (place_of lexer.new)) }
         ensures span { IfOk result (λ c. Spans (expr_at c.expr.value) (next_of lexer.old) (end_of lexer.new)) }
@@ -99,7 +80,7 @@ impl<
         let mut expr = first.expr;
         'steps: while !lexer.is_behind_block() {
             if lexer.is_before_template() {
-                expr = self.tagged(context, lexer, expr)?;
+                expr = self.brackets.tagged(context, lexer, expr)?;
             } else {
                 let Some(growth) = lexer.growth(level) else {
                     refuse_arrow(lexer, level)?;
@@ -123,8 +104,8 @@ impl<
         lexer: &mut Lexer<'s>,
         level: u8,
     ) -> Result<Cover<'s>, ParseError>
-        requires nests { ReadsWithin (left lexer.old) (F.pre self.now.within.inner) (F.post self.now.within.inner) self.now.within.body }
-        requires bodies { ReadsBodies (left lexer.old) (B.pre self.now.within.body) (B.post self.now.within.body) }
+        requires nests { ReadsWithin (left lexer.old) (F.pre self.now.brackets.within.inner) (F.post self.now.brackets.within.inner) self.now.brackets.within.body }
+        requires bodies { ReadsBodies (left lexer.old) (B.pre self.now.brackets.within.body) (B.post self.now.brackets.within.body) }
         requires ranked { IsTrue (is_level level) }
         ensures read { IfOk result (λ c. IsOperand (around_of context.entry.around) level (place_of lexer.old) c (place_of lexer.new)) }
         ensures span { IfOk result (λ c. Spans (expr_at c.expr.value) (next_of lexer.old) (end_of lexer.new)) }
@@ -166,8 +147,8 @@ impl<
         context: Context,
         lexer: &mut Lexer<'s>,
     ) -> Result<Cover<'s>, ParseError>
-        requires nests { ReadsWithin (left lexer.old) (F.pre self.now.within.inner) (F.post self.now.within.inner) self.now.within.body }
-        requires bodies { ReadsBodies (left lexer.old) (B.pre self.now.within.body) (B.post self.now.within.body) }
+        requires nests { ReadsWithin (left lexer.old) (F.pre self.now.brackets.within.inner) (F.post self.now.brackets.within.inner) self.now.brackets.within.body }
+        requires bodies { ReadsBodies (left lexer.old) (B.pre self.now.brackets.within.body) (B.post self.now.brackets.within.body) }
         ensures read { IfOk result (λ c. BeginsCover (around_of context.entry.around) (place_of lexer.old) c (place_of lexer.new)) }
         ensures span { IfOk result (λ c. Spans (expr_at c.expr.value) (next_of lexer.old) (end_of lexer.new)) }
         ensures placed { IfOk result (λ c. IsPlacedCover c lexer.old lexer.new) }
@@ -180,7 +161,7 @@ impl<
             return Ok(self.open(context, lexer, opening)?);
         }
         if lexer.is_before_template() {
-            return Ok(Cover::settled(self.untagged(context, lexer)?));
+            return Ok(Cover::settled(self.brackets.untagged(context, lexer)?));
         }
         Ok(Cover::settled(primary(context, lexer)?))
     }
@@ -194,8 +175,8 @@ impl<
         lexer: &mut Lexer<'s>,
         opening: Opening,
     ) -> Result<Cover<'s>, ParseError>
-        requires nests { ReadsWithin (suc (left lexer.old)) (F.pre self.now.within.inner) (F.post self.now.within.inner) self.now.within.body }
-        requires bodies { ReadsBodies (left lexer.old) (B.pre self.now.within.body) (B.post self.now.within.body) }
+        requires nests { ReadsWithin (suc (left lexer.old)) (F.pre self.now.brackets.within.inner) (F.post self.now.brackets.within.inner) self.now.brackets.within.body }
+        requires bodies { ReadsBodies (left lexer.old) (B.pre self.now.brackets.within.body) (B.post self.now.brackets.within.body) }
         ensures read { IfOk result (λ c. OpensCover (around_of context.entry.around) (opening_sign (opening_kind opening)) c (place_of lexer.old) (place_of lexer.new)) }
         ensures span { IfOk result (λ c. Spans (expr_at c.expr.value) (begin_of lexer.old) (end_of lexer.new)) }
         ensures placed { IfOk result (λ c. IsPlacedCoverBehind (opening_sign (opening_kind opening)) lexer.old c lexer.new) }
@@ -205,16 +186,18 @@ impl<
         ensures refused { Refused result (NoCoverOpened (around_of context.entry.around) (opening_sign (opening_kind opening)) (place_of lexer.old)) }
     {
         match opening {
-            Opening::Import => Ok(Cover::settled(self.import(context, lexer)?)),
+            Opening::Import => Ok(Cover::settled(self.brackets.import(context, lexer)?)),
             Opening::New => Ok(Cover::settled(self.new_expression(context, lexer)?)),
             Opening::Paren => Ok(Cover::settled(self.parenthesized(context, lexer)?)),
-            Opening::Array => Ok(self.array(context, lexer)?),
-            Opening::Object => Ok(self.object(context, lexer)?),
+            Opening::Array => Ok(self.brackets.array(context, lexer)?),
+            Opening::Object => Ok(self.brackets.object(context, lexer)?),
             Opening::Function => Ok(Cover::settled(
-                self.within.function_expression(context, lexer)?,
+                self.brackets.within.function_expression(context, lexer)?,
             )),
-            Opening::Class => Ok(Cover::settled(self.within.class_expression(context, lexer)?)),
-            Opening::Super => Ok(Cover::settled(self.super_expression(context, lexer)?)),
+            Opening::Class => Ok(Cover::settled(
+                self.brackets.within.class_expression(context, lexer)?,
+            )),
+            Opening::Super => Ok(Cover::settled(self.brackets.super_expression(context, lexer)?)),
             Opening::Unary(operator) => {
                 Ok(Cover::settled(self.unary(context, lexer, operator)?))
             }
@@ -233,8 +216,8 @@ impl<
         context: Context,
         lexer: &mut Lexer<'s>,
     ) -> Result<Box<Expr<'s>>, ParseError>
-        requires nests { ReadsWithin (suc (left lexer.old)) (F.pre self.now.within.inner) (F.post self.now.within.inner) self.now.within.body }
-        requires bodies { ReadsBodies (left lexer.old) (B.pre self.now.within.body) (B.post self.now.within.body) }
+        requires nests { ReadsWithin (suc (left lexer.old)) (F.pre self.now.brackets.within.inner) (F.post self.now.brackets.within.inner) self.now.brackets.within.body }
+        requires bodies { ReadsBodies (left lexer.old) (B.pre self.now.brackets.within.body) (B.post self.now.brackets.within.body) }
         ensures read { IfOk result (λ e. OnlyOpened (around_of context.entry.around) (opening_sign (expression New)) (view_expr e.value) (place_of lexer.old) (place_of lexer.new)) }
         ensures span { IfOk result (λ e. Spans (expr_at e.value) (begin_of lexer.old) (end_of lexer.new)) }
         ensures placed { IfOk result (λ e. IsPlacedBehind (opening_sign (expression New)) lexer.old (told_expr e.value) (view_expr e.value) lexer.new) }
@@ -254,7 +237,7 @@ impl<
         if !lexer.take(Fixed::Open) {
             return Ok(make::new_without_arguments(context.alloc, span_to(lo, lexer), callee)?);
         }
-        let all = self.arguments(context, lexer)?;
+        let all = self.brackets.arguments(context, lexer)?;
         Ok(make::new_with_arguments(context.alloc, span_to(lo, lexer), callee, all)?)
     }
 
@@ -265,8 +248,8 @@ impl<
         context: Context,
         lexer: &mut Lexer<'s>,
     ) -> Result<Box<Expr<'s>>, ParseError>
-        requires nests { ReadsWithin (suc (left lexer.old)) (F.pre self.now.within.inner) (F.post self.now.within.inner) self.now.within.body }
-        requires bodies { ReadsBodies (left lexer.old) (B.pre self.now.within.body) (B.post self.now.within.body) }
+        requires nests { ReadsWithin (suc (left lexer.old)) (F.pre self.now.brackets.within.inner) (F.post self.now.brackets.within.inner) self.now.brackets.within.body }
+        requires bodies { ReadsBodies (left lexer.old) (B.pre self.now.brackets.within.body) (B.post self.now.brackets.within.body) }
         ensures read { IfOk result (λ e. Only so_far (around_of context.entry.around) (Part grammar.NewCallee) (place_of lexer.old) (one (view_expr e.value)) (place_of lexer.new)) }
         ensures placed { IfOk result (λ e. IsPlaced (told_expr e.value) (view_expr e.value) lexer.old lexer.new) }
         ensures shorter { OnOk result (left lexer.new < left lexer.old) }
@@ -280,7 +263,7 @@ impl<
         }
         'members: loop {
             if lexer.is_before_template() {
-                expr = self.tagged(context, lexer, expr)?;
+                expr = self.brackets.tagged(context, lexer, expr)?;
             } else {
                 let Some(growth) = lexer.member_growth() else {
                     return Ok(expr);
@@ -289,55 +272,6 @@ impl<
                     return Err(give_up(lexer));
                 }
                 expr = self.grow(context, lexer, growth, expr)?;
-            }
-        }
-    }
-
-    /// An expression, or several with commas between: `a, b` (ECMA-262 section 13.16).
-    pub(crate) fn sequence<'s>(
-        &self,
-        context: Context,
-        lexer: &mut Lexer<'s>,
-    ) -> Result<Box<Expr<'s>>, ParseError>
-        requires nests { ReadsWithin (suc (left lexer.old)) (F.pre self.now.within.inner) (F.post self.now.within.inner) self.now.within.body }
-        requires bodies { ReadsBodies (left lexer.old) (B.pre self.now.within.body) (B.post self.now.within.body) }
-        ensures read { IfOk result (λ e. Only so_far (around_of context.entry.around) (Part (grammar.Expr 0)) (place_of lexer.old) (one (view_expr e.value)) (place_of lexer.new)) }
-        ensures span { IfOk result (λ e. Spans (expr_at e.value) (next_of lexer.old) (end_of lexer.new)) }
-        ensures placed { IfOk result (λ e. IsPlaced (told_expr e.value) (view_expr e.value) lexer.old lexer.new) }
-        ensures shorter { OnOk result (left lexer.new < left lexer.old) }
-        ensures ended { OnOk result (IsTrue (closed (place_of lexer.new))) }
-        ensures refused { Refused result (Barred so_far (around_of context.entry.around) (Part (grammar.Expr 0)) (place_of lexer.old)) }
-    {
-        let first = self.within.inner(context, lexer, ASSIGNMENT)?;
-        Ok(self.more_items(context, lexer, first)?)
-    }
-
-    /// What is read with an expression that stands before it, with commas between: `a` and `, b`.
-    pub(crate) fn more_items<'s>(
-        &self,
-        context: Context,
-        lexer: &mut Lexer<'s>,
-        first: Box<Expr<'s>>,
-    ) -> Result<Box<Expr<'s>>, ParseError>
-        requires nests { ReadsWithin (suc (left lexer.old)) (F.pre self.now.within.inner) (F.post self.now.within.inner) self.now.within.body }
-        requires bodies { ReadsBodies (left lexer.old) (B.pre self.now.within.body) (B.post self.now.within.body) }
-        requires settled { IsTrue (closed (place_of lexer.old)) }
-        ensures read { IfOk result (λ e. IsGathered (around_of context.entry.around) first.entry.value lexer.old e.value lexer.new) }
-        ensures within { OnOk result (left lexer.new ≤ left lexer.old) }
-        ensures ended { OnOk result (IsTrue (closed (place_of lexer.new))) }
-        ensures refused { Refused result (NotGathered (around_of context.entry.around) (view_expr first.entry.value) (place_of lexer.old)) }
-    {
-        if !lexer.take(Fixed::Comma) {
-            return Ok(first);
-        }
-        let lo = start_of(&first);
-        let mut all = Vec::with_capacity(context.alloc, 2)?;
-        all.push(first)?;
-        'items: loop {
-            let next = self.within.inner(context, lexer, ASSIGNMENT)?;
-            all.push(next)?;
-            if !lexer.take(Fixed::Comma) {
-                return Ok(make::sequence(context.alloc, span_to(lo, lexer), all)?);
             }
         }
     }
@@ -351,8 +285,8 @@ impl<
         growth: Growth,
         first: Box<Expr<'s>>,
     ) -> Result<Box<Expr<'s>>, ParseError>
-        requires nests { ReadsWithin (suc (left lexer.old)) (F.pre self.now.within.inner) (F.post self.now.within.inner) self.now.within.body }
-        requires bodies { ReadsBodies (left lexer.old) (B.pre self.now.within.body) (B.post self.now.within.body) }
+        requires nests { ReadsWithin (suc (left lexer.old)) (F.pre self.now.brackets.within.inner) (F.post self.now.brackets.within.inner) self.now.brackets.within.body }
+        requires bodies { ReadsBodies (left lexer.old) (B.pre self.now.brackets.within.body) (B.post self.now.brackets.within.body) }
         requires settled { IsTrue (settled (place_of lexer.old)) }
         ensures read { IfOk result (λ e. Grown (around_of context.entry.around) (growth_kind growth) (view_expr first.entry.value) (place_of lexer.old) (view_expr e.value) (place_of lexer.new)) }
         ensures span { IfOk result (λ e. Extends (expr_at first.entry.value) (expr_at e.value) (end_of lexer.new)) }
@@ -369,10 +303,10 @@ impl<
                 context, lexer, operator, first,
             )?),
             Growth::Cond => Ok(self.conditional(context, lexer, first)?),
-            Growth::Call => Ok(self.call(context, lexer, first)?),
+            Growth::Call => Ok(self.brackets.call(context, lexer, first)?),
             Growth::Member => Ok(member(context, lexer, first)?),
-            Growth::Index => Ok(self.index(context, lexer, first)?),
-            Growth::Chain => Ok(self.chain(context, lexer, first)?),
+            Growth::Index => Ok(self.brackets.index(context, lexer, first)?),
+            Growth::Chain => Ok(self.brackets.chain(context, lexer, first)?),
             Growth::Update(operator) => Ok(postfix_update(context, lexer, operator, first)?),
         }
     }

@@ -45,8 +45,8 @@ impl<
         lexer: &mut Lexer<'s>,
         test: Box<Expr<'s>>,
     ) -> Result<Box<Expr<'s>>, ParseError>
-        requires nests { ReadsWithin (suc (left lexer.old)) (F.pre self.now.within.inner) (F.post self.now.within.inner) self.now.within.body }
-        requires bodies { ReadsBodies (left lexer.old) (B.pre self.now.within.body) (B.post self.now.within.body) }
+        requires nests { ReadsWithin (suc (left lexer.old)) (F.pre self.now.brackets.within.inner) (F.post self.now.brackets.within.inner) self.now.brackets.within.body }
+        requires bodies { ReadsBodies (left lexer.old) (B.pre self.now.brackets.within.body) (B.post self.now.brackets.within.body) }
         ensures read { IfOk result (λ e. Built so_far (around_of context.entry.around) (tail (tail (row_so_far (expression Cond)))) (expression Cond) (part (view_expr test.entry.value)) (view_expr e.value) (place_of lexer.old) (place_of lexer.new)) }
         ensures span { IfOk result (λ e. Extends (expr_at test.entry.value) (expr_at e.value) (end_of lexer.new)) }
         ensures placed { IfOk result (λ e. IsPlacedOn (mark (expression Cond)) test.entry.value lexer.old e.value lexer.new) }
@@ -54,9 +54,9 @@ impl<
         ensures ended { OnOk result (IsTrue (closed (place_of lexer.new))) }
         ensures refused { Refused result (NoRow so_far (around_of context.entry.around) (tail (tail (row_so_far (expression Cond)))) (place_of lexer.old)) }
     {
-        let then = self.within.inner(context, lexer, ASSIGNMENT)?;
+        let then = self.brackets.within.inner(context, lexer, ASSIGNMENT)?;
         expect(context, lexer, Fixed::Colon)?;
-        let other = self.within.inner(context, lexer, ASSIGNMENT)?;
+        let other = self.brackets.within.inner(context, lexer, ASSIGNMENT)?;
         let span = span_to(start_of(&test), lexer);
         Ok(make::conditional(context.alloc, span, test, then, other)?)
     }
@@ -69,8 +69,8 @@ impl<
         operator: BinaryOp,
         first: Box<Expr<'s>>,
     ) -> Result<Box<Expr<'s>>, ParseError>
-        requires nests { ReadsWithin (suc (left lexer.old)) (F.pre self.now.within.inner) (F.post self.now.within.inner) self.now.within.body }
-        requires bodies { ReadsBodies (left lexer.old) (B.pre self.now.within.body) (B.post self.now.within.body) }
+        requires nests { ReadsWithin (suc (left lexer.old)) (F.pre self.now.brackets.within.inner) (F.post self.now.brackets.within.inner) self.now.brackets.within.body }
+        requires bodies { ReadsBodies (left lexer.old) (B.pre self.now.brackets.within.body) (B.post self.now.brackets.within.body) }
         ensures read { IfOk result (λ e. Built so_far (around_of context.entry.around) (tail (tail (row_so_far (expression (Binary (binary_of operator)))))) (expression (Binary (binary_of operator))) (part (view_expr first.entry.value)) (view_expr e.value) (place_of lexer.old) (place_of lexer.new)) }
         ensures span { IfOk result (λ e. Extends (expr_at first.entry.value) (expr_at e.value) (end_of lexer.new)) }
         ensures placed { IfOk result (λ e. IsPlacedOn (mark (expression (Binary (binary_of operator)))) first.entry.value lexer.old e.value lexer.new) }
@@ -79,6 +79,7 @@ impl<
         ensures refused { Refused result (NoRow so_far (around_of context.entry.around) (tail (tail (row_so_far (expression (Binary (binary_of operator)))))) (place_of lexer.old)) }
     {
         let right = self
+            .brackets
             .within
             .inner(context, lexer, growth::right_level(operator))?;
         let span = span_to(start_of(&first), lexer);
@@ -92,8 +93,8 @@ impl<
         lexer: &mut Lexer<'s>,
         first: Box<Expr<'s>>,
     ) -> Result<Box<Expr<'s>>, ParseError>
-        requires nests { ReadsWithin (suc (left lexer.old)) (F.pre self.now.within.inner) (F.post self.now.within.inner) self.now.within.body }
-        requires bodies { ReadsBodies (left lexer.old) (B.pre self.now.within.body) (B.post self.now.within.body) }
+        requires nests { ReadsWithin (suc (left lexer.old)) (F.pre self.now.brackets.within.inner) (F.post self.now.brackets.within.inner) self.now.brackets.within.body }
+        requires bodies { ReadsBodies (left lexer.old) (B.pre self.now.brackets.within.body) (B.post self.now.brackets.within.body) }
         ensures read { IfOk result (λ e. Built so_far (around_of context.entry.around) (tail (tail (row_so_far (expression Assign)))) (expression Assign) (part (as_target (view_expr first.entry.value))) (view_expr e.value) (place_of lexer.old) (place_of lexer.new)) }
         ensures span { IfOk result (λ e. Extends (expr_at first.entry.value) (expr_at e.value) (end_of lexer.new)) }
         ensures placed { IfOk result (λ e. IsPlacedOn (mark (expression Assign)) first.entry.value lexer.old e.value lexer.new) }
@@ -101,7 +102,7 @@ impl<
         ensures ended { OnOk result (IsTrue (closed (place_of lexer.new))) }
         ensures refused { Refused result (NoRow so_far (around_of context.entry.around) (tail (tail (row_so_far (expression Assign)))) (place_of lexer.old)) }
     {
-        let value = self.within.inner(context, lexer, ASSIGNMENT)?;
+        let value = self.brackets.within.inner(context, lexer, ASSIGNMENT)?;
         let span = span_to(start_of(&first), lexer);
         let target = target_of(context.alloc, first)?;
         Ok(make::assign(context.alloc, span, target, value)?)
@@ -116,8 +117,8 @@ impl<
         lexer: &mut Lexer<'s>,
         first: Cover<'s>,
     ) -> Result<Box<Expr<'s>>, ParseError>
-        requires nests { ReadsWithin (suc (left lexer.old)) (F.pre self.now.within.inner) (F.post self.now.within.inner) self.now.within.body }
-        requires bodies { ReadsBodies (left lexer.old) (B.pre self.now.within.body) (B.post self.now.within.body) }
+        requires nests { ReadsWithin (suc (left lexer.old)) (F.pre self.now.brackets.within.inner) (F.post self.now.brackets.within.inner) self.now.brackets.within.body }
+        requires bodies { ReadsBodies (left lexer.old) (B.pre self.now.brackets.within.body) (B.post self.now.brackets.within.body) }
         ensures read { IfOk result (λ e. IsAssigned (around_of context.entry.around) first.entry (view_expr e.value) (place_of lexer.old) (place_of lexer.new)) }
         ensures span { IfOk result (λ e. Extends (expr_at first.entry.expr.value) (expr_at e.value) (end_of lexer.new)) }
         ensures placed { IfOk result (λ e. IsPlacedAssigned first.entry lexer.old e.value lexer.new) }
@@ -127,7 +128,7 @@ impl<
     {
         let lo = start_of(&first.expr);
         let target = turn(context.alloc, lexer.last_place(), first)?;
-        let value = self.within.inner(context, lexer, ASSIGNMENT)?;
+        let value = self.brackets.within.inner(context, lexer, ASSIGNMENT)?;
         Ok(make::assign(context.alloc, span_to(lo, lexer), target, value)?)
     }
 
@@ -139,8 +140,8 @@ impl<
         operator: AssignOp,
         first: Box<Expr<'s>>,
     ) -> Result<Box<Expr<'s>>, ParseError>
-        requires nests { ReadsWithin (suc (left lexer.old)) (F.pre self.now.within.inner) (F.post self.now.within.inner) self.now.within.body }
-        requires bodies { ReadsBodies (left lexer.old) (B.pre self.now.within.body) (B.post self.now.within.body) }
+        requires nests { ReadsWithin (suc (left lexer.old)) (F.pre self.now.brackets.within.inner) (F.post self.now.brackets.within.inner) self.now.brackets.within.body }
+        requires bodies { ReadsBodies (left lexer.old) (B.pre self.now.brackets.within.body) (B.post self.now.brackets.within.body) }
         ensures read { IfOk result (λ e. Built so_far (around_of context.entry.around) (tail (tail (row_so_far (expression (OpAssign (assign_of operator)))))) (expression (OpAssign (assign_of operator))) (part (as_target (view_expr first.entry.value))) (view_expr e.value) (place_of lexer.old) (place_of lexer.new)) }
         ensures span { IfOk result (λ e. Extends (expr_at first.entry.value) (expr_at e.value) (end_of lexer.new)) }
         ensures placed { IfOk result (λ e. IsPlacedOn (mark (expression (OpAssign (assign_of operator)))) first.entry.value lexer.old e.value lexer.new) }
@@ -148,7 +149,7 @@ impl<
         ensures ended { OnOk result (IsTrue (closed (place_of lexer.new))) }
         ensures refused { Refused result (NoRow so_far (around_of context.entry.around) (tail (tail (row_so_far (expression (OpAssign (assign_of operator)))))) (place_of lexer.old)) }
     {
-        let value = self.within.inner(context, lexer, ASSIGNMENT)?;
+        let value = self.brackets.within.inner(context, lexer, ASSIGNMENT)?;
         let span = span_to(start_of(&first), lexer);
         let target = target_of(context.alloc, first)?;
         Ok(make::op_assign(context.alloc, span, operator, target, value)?)
@@ -161,8 +162,8 @@ impl<
         lexer: &mut Lexer<'s>,
         operator: UnaryOp,
     ) -> Result<Box<Expr<'s>>, ParseError>
-        requires nests { ReadsWithin (suc (left lexer.old)) (F.pre self.now.within.inner) (F.post self.now.within.inner) self.now.within.body }
-        requires bodies { ReadsBodies (left lexer.old) (B.pre self.now.within.body) (B.post self.now.within.body) }
+        requires nests { ReadsWithin (suc (left lexer.old)) (F.pre self.now.brackets.within.inner) (F.post self.now.brackets.within.inner) self.now.brackets.within.body }
+        requires bodies { ReadsBodies (left lexer.old) (B.pre self.now.brackets.within.body) (B.post self.now.brackets.within.body) }
         ensures read { IfOk result (λ e. BuiltNode so_far (around_of context.entry.around) (tail (row_so_far (expression (Unary (unary_of operator))))) (expression (Unary (unary_of operator))) (view_expr e.value) (place_of lexer.old) (place_of lexer.new)) }
         ensures span { IfOk result (λ e. Spans (expr_at e.value) (begin_of lexer.old) (end_of lexer.new)) }
         ensures placed { IfOk result (λ e. IsPlacedBehind (opening_sign (expression (Unary (unary_of operator)))) lexer.old (told_expr e.value) (view_expr e.value) lexer.new) }
@@ -171,7 +172,7 @@ impl<
         ensures refused { Refused result (NoNode so_far (around_of context.entry.around) (tail (row_so_far (expression (Unary (unary_of operator))))) (expression (Unary (unary_of operator))) (place_of lexer.old)) }
     {
         let lo = lexer.last_place();
-        let operand = self.within.inner(context, lexer, UNARY)?;
+        let operand = self.brackets.within.inner(context, lexer, UNARY)?;
         if deletes_name(operator, &operand) {
             return Err(give_up(lexer));
         }
@@ -185,8 +186,8 @@ impl<
         lexer: &mut Lexer<'s>,
         operator: UpdateOp,
     ) -> Result<Box<Expr<'s>>, ParseError>
-        requires nests { ReadsWithin (suc (left lexer.old)) (F.pre self.now.within.inner) (F.post self.now.within.inner) self.now.within.body }
-        requires bodies { ReadsBodies (left lexer.old) (B.pre self.now.within.body) (B.post self.now.within.body) }
+        requires nests { ReadsWithin (suc (left lexer.old)) (F.pre self.now.brackets.within.inner) (F.post self.now.brackets.within.inner) self.now.brackets.within.body }
+        requires bodies { ReadsBodies (left lexer.old) (B.pre self.now.brackets.within.body) (B.post self.now.brackets.within.body) }
         ensures read { IfOk result (λ e. Built so_far (around_of context.entry.around) (tail (row_so_far (expression (PrefixUpdate (step_of operator))))) (expression (PrefixUpdate (step_of operator))) (λ ts. ts) (view_expr e.value) (place_of lexer.old) (place_of lexer.new)) }
         ensures span { IfOk result (λ e. Spans (expr_at e.value) (begin_of lexer.old) (end_of lexer.new)) }
         ensures placed { IfOk result (λ e. IsPlacedBehind (opening_sign (expression (PrefixUpdate (step_of operator)))) lexer.old (told_expr e.value) (view_expr e.value) lexer.new) }
@@ -195,7 +196,7 @@ impl<
         ensures refused { Refused result (NoRow so_far (around_of context.entry.around) (tail (row_so_far (expression (PrefixUpdate (step_of operator))))) (place_of lexer.old)) }
     {
         let lo = lexer.last_place();
-        let operand = self.within.inner(context, lexer, MEMBER)?;
+        let operand = self.brackets.within.inner(context, lexer, MEMBER)?;
         if !is_target(&operand) {
             return Err(give_up(lexer));
         }

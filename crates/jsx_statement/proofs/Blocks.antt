@@ -26,7 +26,8 @@ use Rattle.jsx_token.specs.declared.heading.Heading.{Heading}
 use Rattle.jsx_operand.proofs.OfSoFar.{of_so_far}
 use Rattle.jsx_token.proofs.Headings.{of_heading}
 use Rattle.jsx_token.proofs.Marks.{one_sign}
-use Rattle.jsx_statement.proofs.Statements.{coded, lost_if, none_begins, stmts}
+use Rattle.jsx_declaration.proofs.Statements.{coded, lost_if}
+use Rattle.jsx_statement.proofs.Statements.{none_begins, stmts}
 
 -- ---- the steps of the loop
 

@@ -22,7 +22,7 @@ use Rattle.jsx_tree.proofs.Rows.Guarded.{loosen, to_grammar, whole_items_found, 
 use Rattle.jsx_tree.proofs.Rows.Lists.{brace, closed}
 use Rattle.jsx_tree.proofs.Rows.Placing.{no_node}
 use Rattle.jsx_tree.proofs.Rows.Steps.{bar, both, on, only_sign, then'}
-use Rattle.jsx_statement.proofs.Controls.{barred_in, only_in}
+use Rattle.jsx_declaration.proofs.Controls.{barred_in, only_in}
 use Rattle.jsx_tree.proofs.Rows.Stopping.{is_not, never_stops, or_cases}
 use Rattle.jsx_tree.proofs.Rows.Turns.{Turn, early, prepend, prepend_cons, turn_as, turn_both, turn_only, turn_symbol, whole_of}
 use Rattle.jsx_statement.specs.Cases.{IsBody, IsCase, IsDefault, MoreCases, NoCase, NoCases, body_row, cases_row, default_row, one_default, with_case}
@@ -43,8 +43,9 @@ use Rattle.jsx_operand.proofs.Values.{led_sign}
 use Rattle.jsx_statement.specs.Inners.{NoInner, NoInners, are_inner, first_inner, is_inner_list}
 use Rattle.jsx_statement.proofs.Inners.{first_line, next_inner, signed_inners}
 use Rattle.jsx_statement.proofs.Blocks.{both_none, no_heading, turn_line, turn_none_left}
-use Rattle.jsx_statement.proofs.Heads.{as_front, as_turn, behind_both, head_of, items_of, rest_of}
-use Rattle.jsx_statement.proofs.Statements.{KeySign, Spot, coded, heading_stands, keyed, named, none_begins, spot_kind, stmts, unlabelled_word, worded_evaluation}
+use Rattle.jsx_declaration.proofs.Heads.{as_front, as_turn, behind_both, head_of, items_of, rest_of}
+use Rattle.jsx_declaration.proofs.Statements.{KeySign, Spot, coded, heading_stands, keyed, named, spot_kind, unlabelled_word, worded_evaluation}
+use Rattle.jsx_statement.proofs.Statements.{none_begins, stmts}
 
 -- ---- the words of cases
 

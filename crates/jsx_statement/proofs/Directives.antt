@@ -37,13 +37,14 @@ use Rattle.jsx_operand.proofs.Homes.{IsString, Taken, taken_by, home_of, no_list
 use Rattle.jsx_operand.proofs.Standing.{standing}
 use Rattle.jsx_operand.proofs.Values.{leaf_forth, literal_follows, literal_opening, opener_of, same_both}
 use Rattle.jsx_operand.proofs.Headless.{no_heads}
-use Rattle.jsx_expression.proofs.Sequences.{closed_of, comma_goes, whole_only}
+use Rattle.jsx_member.proofs.Sequences.{closed_of, comma_goes, whole_only}
 use Rattle.jsx_statement.specs.Directives.{IsDirective, NoDirective, Prologue, begun, ended}
-use Rattle.jsx_statement.specs.Labels.{NoLabel}
+use Rattle.jsx_declaration.specs.Labels.{NoLabel}
 use Rattle.jsx_statement.proofs.Blocks.{both_none, braced}
-use Rattle.jsx_statement.proofs.Heads.{behind_both}
-use Rattle.jsx_statement.proofs.Items.{statement_built}
-use Rattle.jsx_statement.proofs.Statements.{lost_there, plain_only, stmts}
+use Rattle.jsx_declaration.proofs.Heads.{behind_both}
+use Rattle.jsx_declaration.proofs.Items.{statement_built}
+use Rattle.jsx_declaration.proofs.Statements.{lost_there}
+use Rattle.jsx_statement.proofs.Statements.{plain_only, stmts}
 
 -- what may stand behind directives: a statement, or an item
 pub record Listing (c : Nonterminal) : Type 0 where

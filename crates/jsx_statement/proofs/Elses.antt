@@ -28,7 +28,7 @@ use Rattle.jsx_operand.proofs.OfSoFar.{of_so_far}
 use Rattle.jsx_operand.proofs.Homes.{no_list, taken_by, home_of}
 use Rattle.jsx_statement.proofs.PartWords.{absent_word, barred_word, of_else, present_word}
 use Rattle.jsx_statement.proofs.Tries.{try_closed}
-use Rattle.jsx_statement.proofs.Statements.{Spot, subs, spot_kind, unless_lost}
+use Rattle.jsx_declaration.proofs.Statements.{Spot, subs, spot_kind, unless_lost}
 
 -- ---- behind the first statement
 

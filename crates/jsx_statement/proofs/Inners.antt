@@ -27,7 +27,8 @@ use Rattle.jsx_operand.proofs.Homes.{no_list}
 use Rattle.jsx_operand.proofs.OfSoFar.{of_so_far}
 use Rattle.jsx_statement.specs.Inners.{NoInner, NoInners, are_inner, first_inner, is_inner}
 use Rattle.jsx_statement.proofs.Blocks.{braced}
-use Rattle.jsx_statement.proofs.Statements.{headed_kind, heading_stands, lost_there, stmts}
+use Rattle.jsx_declaration.proofs.Statements.{headed_kind, heading_stands, lost_there}
+use Rattle.jsx_statement.proofs.Statements.{stmts}
 
 -- ---- a function begins with its word, and nothing else does
 

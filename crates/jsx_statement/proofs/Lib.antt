@@ -1,4 +1,3 @@
-pub mod Items
 pub mod Statements
 pub mod PartWords
 pub mod Tries
@@ -6,20 +5,11 @@ pub mod Elses
 pub mod Blocks
 pub mod Inners
 pub mod Controls
-pub mod OpenIn
 pub mod Heads
-pub mod Overs
-pub mod Stems
-pub mod Turned
-pub mod Declaring
-pub mod Lists
 pub mod Loops
 pub mod Cases
 pub mod PlacedNodes
 pub mod Labels
-pub mod Jumps
 pub mod Directives
 pub mod PlacedRuns
-pub mod Returns
 pub mod Declarations
-pub mod Initials

@@ -19,9 +19,9 @@ use Rattle.jsx_token.specs.declared.heading.Heading.TheVariants as heading
 use Rattle.jsx_token.specs.Marks.{row_so_far}
 use Rattle.jsx_operand.specs.SoFar.{so_far}
 use Rattle.jsx_operand.proofs.OfSoFar.{of_so_far}
-use Rattle.jsx_statement.specs.declared.for_head.ForHead.{ForHead}
-use Rattle.jsx_statement.specs.declared.for_head.ForHead.TheVariants as head
-use Rattle.jsx_statement.specs.Heads.{Heads, IsInitial, IsItems, IsKeys, IsPlacedHead, NoHeads, NotOver, initial_symbols, items_row, items_symbols, keys_row, keys_symbols, over_row}
+use Rattle.jsx_declaration.specs.declared.for_head.ForHead.{ForHead}
+use Rattle.jsx_declaration.specs.declared.for_head.ForHead.TheVariants as head
+use Rattle.jsx_declaration.specs.Heads.{Heads, IsInitial, IsItems, IsKeys, IsPlacedHead, NoHeads, NotOver, initial_symbols, items_row, items_symbols, keys_row, keys_symbols, over_row}
 use Rattle.jsx_operand.specs.Spans.{IsPlacedFront}
 use Rattle.jsx_token.specs.Here.{Here}
 use Rattle.jsx_tree.specs.View.{optional_at_of, view_pattern, view_target}
@@ -30,9 +30,9 @@ use Rattle.jsx_tree.specs.declared.tree.Pat.{Pat}
 use Rattle.jsx_operand.specs.Openings.{NoParts}
 use Rattle.jsx_operand.proofs.Openings.{free_none, free_parts}
 use Rattle.jsx_statement.specs.Statements.{NoneHeaded, OnlyHeaded, loop_row}
-use Rattle.jsx_statement.proofs.Controls.{barred_in, only_in}
+use Rattle.jsx_declaration.proofs.Controls.{barred_in, only_in}
 use Rattle.jsx_statement.proofs.Heads.{no_for_initial}
-use Rattle.jsx_statement.proofs.Statements.{plain_node}
+use Rattle.jsx_declaration.proofs.Statements.{plain_node}
 
 -- ---- which of the three it is
 

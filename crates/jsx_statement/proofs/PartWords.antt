@@ -20,7 +20,7 @@ use Rattle.jsx_tree.proofs.Rows.Laws.{end_found, lost_barred}
 use Rattle.jsx_tree.proofs.Rows.Turns.{item_of, whole_of}
 use Rattle.jsx_operand.specs.SoFar.{so_far}
 use Rattle.jsx_operand.proofs.OfSoFar.{of_so_far}
-use Rattle.jsx_statement.proofs.Statements.{unless_lost}
+use Rattle.jsx_declaration.proofs.Statements.{unless_lost}
 
 -- ---- a token that is spelled as a word is that word
 

@@ -36,7 +36,7 @@ use Rattle.jsx_operand.proofs.OfSoFar.{of_so_far}
 use Rattle.jsx_operand.proofs.Values.{led_sign}
 use Rattle.jsx_statement.specs.Tries.{IsCatch, catch_row, catch_symbol, finally_symbol}
 use Rattle.jsx_operand.proofs.Standing.{standing}
-use Rattle.jsx_statement.proofs.Items.{unless_none}
+use Rattle.jsx_declaration.proofs.Items.{unless_none}
 use Rattle.jsx_statement.proofs.Statements.{signed_none, signed_row}
 use Rattle.jsx_tree.proofs.Rows.Stopping.{stays}
 

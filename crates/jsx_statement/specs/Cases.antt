@@ -10,7 +10,7 @@ use Rattle.jsx_tree.specs.StaticRules.{Surroundings, at_most, is_default}
 use Rattle.jsx_tree.specs.Walk.{Piece, piece, pieces, one, Past, Walk, steady}
 use Rattle.jsx_tree.specs.Language.{Whole}
 use Rattle.jsx_operand.specs.SoFar.{so_far}
-use Rattle.jsx_statement.specs.Heads.{Front}
+use Rattle.jsx_declaration.specs.Heads.{Front}
 use Rattle.jsx_statement.specs.Inners.{is_inner_list}
 
 -- the cases, and the brace behind them

@@ -1,11 +1,8 @@
 pub mod Statements
 pub mod Seats
 pub mod Within
-pub mod Heads
 pub mod Cases
 pub mod Labels
 pub mod Tries
-pub mod OpenIn
 pub mod Directives
 pub mod Inners
-pub mod Functions

@@ -1,5 +1,5 @@
 -- The rows of statements behind what they begin with.
-use Rattle.std.specs.Prelude.{◌≡◌, List, [], ◌∷◌, ◌||◌, Bool, not, true, codes, Option, Some, None, Box, IsTrue, ⊤}
+use Rattle.std.specs.Prelude.{◌≡◌, List, [], ◌∷◌, true, codes, Option, Some, None, Box, IsTrue, ⊤}
 use Rattle.std.specs.Global.{Global}
 use Rattle.jsx_tree.specs.Signs.{Space, Outdent}
 use Rattle.jsx_tree.specs.Nonterminals as grammar
@@ -7,13 +7,12 @@ use Rattle.jsx_tree.specs.Grammar.{Lines, Many, Optional, Part, Production, key,
 use Rattle.jsx_tree.specs.Grammar as symbol
 use Rattle.jsx_tree.specs.Walk.{Piece, around, is_found, one, pieces, Walk}
 use Rattle.jsx_tree.specs.declared.tree.Stmt.{Stmt}
-use Rattle.jsx_tree.specs.Kinds.{DeclareWord, ConstWord, Declarator, Kind, statement, Tree, node, Forest, none, part}
-use Rattle.jsx_tree.specs.StaticRules.{Surroundings, is_here}
+use Rattle.jsx_tree.specs.Kinds.{Kind, Tree, Forest}
+use Rattle.jsx_tree.specs.StaticRules.{Surroundings}
 use Rattle.jsx_tree.specs.Reading.{Place, forth}
 use Rattle.jsx_tree.specs.Language.{Whole}
 use Rattle.jsx_tree.specs.Answers.{Barred, Only}
 use Rattle.jsx_operand.specs.Openings.{NoParts, OnlyParts}
-use Rattle.jsx_operand.specs.Patterns.{is_compound}
 use Rattle.jsx_operand.specs.SoFar.{so_far}
 use Rattle.jsx_operand.specs.Spans.{IsPlacedList}
 use Rattle.jsx_tree.specs.Spans.{Tales}
@@ -52,16 +51,6 @@ loop_row = pieces [] loop_symbols
 abbrev pub Closes : Option (Box Stmt Global) → Place → Type 0
 Closes None x = ⊤
 Closes (Some s) x = IsTrue (is_found (forth (key "else") x))
-
--- whether what a variable binds wants an initializer: a pattern in brackets does, and all that `const` binds
-abbrev pub wants_value : DeclareWord → Tree → Bool
-wants_value ConstWord q = true
-wants_value w q = is_compound q
-
--- whether a variable has an initializer where it wants one
-abbrev pub has_value : DeclareWord → Tree → Bool
-has_value w (node (statement Declarator) (part q (part i none))) = is_here i || not (wants_value w q)
-has_value w t = true
 
 -- the tree is the statement that stands there, as a part of another and in a list; none stands there
 pub record OnlyStatement (v : Surroundings) (x : Place) (t : Tree) (y : Place) : Type 0 where

@@ -23,7 +23,8 @@ ghost use Rattle.jsx_statement.specs.Within.{ReadsStatements};
 ghost use Rattle.jsx_operand.specs.Bodies.{ReadsBodies};
 
 use crate::grammar::Statements;
-use crate::statement::{Seat, has_part};
+use crate::statement::Seat;
+use jsx_declaration::statement::has_part;
 use jsx_expression::function::binding;
 use jsx_make::make;
 use jsx_operand::{Body, Context, ParseError, expect, give_up, span_to};

@@ -27,10 +27,11 @@ ghost use Rattle.std.specs.Prelude.{suc};
 ghost use Rattle.jsx_statement.specs.Within.{ReadsStatements};
 ghost use Rattle.jsx_operand.specs.Bodies.{ReadsBodies};
 
-use crate::function::{class_declaration, function_declaration, return_statement};
-use crate::label::{Label, has_label, is_before_loop, take_label};
-use crate::statement::{
-    Seat, break_statement, continue_statement, debugger_statement, declaration, empty_statement,
+use crate::statement::Seat;
+use jsx_declaration::function::{class_declaration, function_declaration, return_statement};
+use jsx_declaration::label::{Label, has_label, is_before_loop, take_label};
+use jsx_declaration::statement::{
+    break_statement, continue_statement, debugger_statement, declaration, empty_statement,
     expression_statement, throw_statement,
 };
 use jsx_make::make;

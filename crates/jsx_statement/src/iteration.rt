@@ -22,10 +22,9 @@ ghost use Rattle.std.specs.Prelude.{suc};
 ghost use Rattle.jsx_statement.specs.Within.{ReadsStatements};
 ghost use Rattle.jsx_operand.specs.Bodies.{ReadsBodies};
 
-use crate::for_head::{ForHead, clause, head};
 use crate::grammar::Statements;
-use crate::label::target;
 use crate::statement::Seat;
+use jsx_declaration::for_head::{ForHead, clause, head};
 use jsx_expression::expression::{expression, sequence};
 use jsx_make::make;
 use jsx_operand::operand::ASSIGNMENT;

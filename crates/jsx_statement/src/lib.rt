@@ -3,11 +3,8 @@
 
 pub mod body;
 mod catching;
-mod for_head;
 pub mod function;
 mod grammar;
 mod iteration;
-mod label;
-mod open_in;
 pub mod statement;
 mod switch;

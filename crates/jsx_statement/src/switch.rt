@@ -25,7 +25,8 @@ ghost use Rattle.jsx_statement.specs.Within.{ReadsStatements};
 ghost use Rattle.jsx_operand.specs.Bodies.{ReadsBodies};
 
 use crate::grammar::Statements;
-use crate::statement::{Seat, one_default};
+use crate::statement::Seat;
+use jsx_declaration::statement::one_default;
 use jsx_expression::expression::sequence;
 use jsx_make::make;
 use jsx_operand::{Body, Context, ParseError, expect, span_to};

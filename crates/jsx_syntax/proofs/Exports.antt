@@ -37,9 +37,10 @@ use Rattle.jsx_operand.proofs.Standing.{standing}
 use Rattle.jsx_operand.proofs.Values.{led_sign}
 use Rattle.jsx_operand.proofs.Headless.{default_heads, no_default}
 use Rattle.jsx_function.specs.Functions.{NoNamed, named_row}
-use Rattle.jsx_statement.specs.Heads.{NoDeclaring, declare_sign}
+use Rattle.jsx_declaration.specs.Heads.{NoDeclaring, declare_sign}
 use Rattle.jsx_statement.proofs.Declarations.{undeclared}
-use Rattle.jsx_statement.proofs.Statements.{lost_there, signed_row, unless_lost}
+use Rattle.jsx_declaration.proofs.Statements.{lost_there, unless_lost}
+use Rattle.jsx_statement.proofs.Statements.{signed_row}
 use Rattle.jsx_syntax.specs.Items.{NoneBehind, NoneExport, OnlyBehind, OnlyExport, begins_with, behind_both, behind_word, from_row, goes_with, source_row}
 use Rattle.jsx_syntax.specs.Specifiers.{fits, specifier_row}
 use Rattle.jsx_syntax.proofs.Items.{Other, barred, itself, only_of, past_sign, sign_lost, sign_stuck, there}

@@ -31,9 +31,9 @@ use Rattle.jsx_operand.proofs.Homes.{IsName, IsString, bindings, home_of, no_lea
 use Rattle.jsx_operand.proofs.Keys.{mark_none}
 use Rattle.jsx_operand.proofs.Standing.{standing}
 use Rattle.jsx_operand.proofs.Values.{led_sign, leaf_forth, node_to}
-use Rattle.jsx_statement.specs.Heads.{Front, Rest}
-use Rattle.jsx_statement.proofs.Heads.{as_front, as_turn}
-use Rattle.jsx_statement.proofs.Statements.{lost_there}
+use Rattle.jsx_declaration.specs.Heads.{Front, Rest}
+use Rattle.jsx_declaration.proofs.Heads.{as_front, as_turn}
+use Rattle.jsx_declaration.proofs.Statements.{lost_there}
 use Rattle.jsx_syntax.specs.Items.{NoneBehind, OnlyBehind, begins_with, behind_word, from_row, source_row}
 use Rattle.jsx_syntax.proofs.Items.{AtClause, all, at_clause, barred, bound, bound_there, clause_starts, itself, only_of, Other, some, stuck_there, there, two, unquoted_start}
 

@@ -37,7 +37,8 @@ use Rattle.jsx_operand.proofs.Standing.{standing}
 use Rattle.jsx_operand.proofs.Values.{First, at_one, begun, led_sign, leaf_forth, literal_opening, move, name, one_opening, opened, opened_sign, opener, opener_of, opener_piece, piece_of, quoted, bracketed, bracket_none}
 use Rattle.jsx_statement.specs.Directives.{IsDirective}
 use Rattle.jsx_statement.proofs.Directives.{Strings, string_only}
-use Rattle.jsx_statement.proofs.Statements.{coded, end_lost, heading_stands, keyed, lost_if, lost_there, named, none_begins, signed_row, spot_kind, stmts, unlabelled_word, worded_evaluation}
+use Rattle.jsx_declaration.proofs.Statements.{coded, end_lost, heading_stands, keyed, lost_if, lost_there, named, spot_kind, unlabelled_word, worded_evaluation}
+use Rattle.jsx_statement.proofs.Statements.{none_begins, signed_row, stmts}
 use Rattle.jsx_syntax.specs.Items.{IsImport, NoImport, elsewhere, called, dotted, NoneBehind, NoneOf, OnlyBehind, OnlyOf, begins_with, behind_word, is_portal}
 
 -- ---- signs

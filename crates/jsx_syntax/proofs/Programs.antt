@@ -30,7 +30,8 @@ use Rattle.jsx_operand.specs.SoFar.{Staged, so_far, in_module}
 use Rattle.jsx_operand.proofs.OfSoFar.{of_so_far}
 use Rattle.jsx_statement.specs.Directives.{Prologue}
 use Rattle.jsx_statement.proofs.Directives.{NoString, Strings, behind_first, of_top, prologue_end, prologue_run, prologue_same, to_top}
-use Rattle.jsx_statement.proofs.Statements.{coded, end_lost, lost_there, none_begins, stmts}
+use Rattle.jsx_declaration.proofs.Statements.{coded, end_lost, lost_there}
+use Rattle.jsx_statement.proofs.Statements.{none_begins, stmts}
 use Rattle.jsx_syntax.specs.Programs.{IsProgram, NoProgram, OnlyProgram, program_parts, program_row}
 
 -- ---- nothing stands at the end

@@ -17,7 +17,7 @@ ghost use Rattle.jsx_operand.specs.Around.{around_of};
 ghost use Rattle.jsx_operand.specs.SoFar.{so_far};
 ghost use Rattle.jsx_operand.specs.Answers.{Refused};
 ghost use Rattle.jsx_operand.specs.Spans.{IsPlaced, IsPlacedBehind, IsPlacedRow};
-ghost use Rattle.jsx_statement.specs.Heads.{Front};
+ghost use Rattle.jsx_declaration.specs.Heads.{Front};
 ghost use Rattle.jsx_syntax.specs.Items.{IsImport, NoImport, NoneBehind, OnlyBehind, from_row, from_symbols, source_row, source_symbols};
 
 use crate::specifier::{Side, misfit, specifiers};

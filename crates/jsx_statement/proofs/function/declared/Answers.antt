@@ -4,7 +4,7 @@ use Rattle.jsx_tree.specs.Reading.{Lost, forth}
 use Rattle.jsx_token.specs.declared.heading.Heading.TheVariants as heading
 use Rattle.jsx_token.specs.Here.{place_of}
 use Rattle.jsx_token.specs.Places.{Takes, next_of}
-use Rattle.jsx_statement.specs.Heads.{NoDeclaring, declare_sign}
+use Rattle.jsx_declaration.specs.Heads.{NoDeclaring, declare_sign}
 use Rattle.jsx_operand.proofs.Placing.{takes_from}
 use Rattle.jsx_operand.proofs.Steps.{passed}
 use Rattle.jsx_statement.proofs.Declarations.{class_opens, declared_barred, declared_only, declared_parts, function_opens, no_declared_parts, undeclared, word_moves, word_opens, word_takes}

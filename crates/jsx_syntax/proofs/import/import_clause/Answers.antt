@@ -13,7 +13,7 @@ use Rattle.jsx_operand.proofs.Places.{spans_from}
 use Rattle.jsx_operand.proofs.PlacedExpressions.{name_placed}
 use Rattle.jsx_operand.proofs.Placing.{placed_from, placed_to}
 use Rattle.jsx_operand.proofs.Steps.{passed}
-use Rattle.jsx_statement.specs.Heads.{Front}
+use Rattle.jsx_declaration.specs.Heads.{Front}
 use Rattle.jsx_syntax.specs.Items.{from_row}
 use Rattle.jsx_syntax.proofs.Imports.{clause_both, clause_name, clause_names, clause_row, front_from, front_to, no_names, no_second, unbound}
 use Rattle.jsx_syntax.proofs.PlacedItems.{both_placed}

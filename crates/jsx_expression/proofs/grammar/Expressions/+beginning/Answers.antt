@@ -48,13 +48,14 @@ use Rattle.jsx_operand.specs.Spans.{IsPlaced, IsPlacedBehind, Spans}
 use Rattle.jsx_make.specs.NodeSpans.{expr_at}
 use Rattle.jsx_operand.specs.Turning.{is_literal}
 use Rattle.jsx_operand.specs.declared.cover.Cover.{Cover}
-use Rattle.jsx_expression.specs.Covers.{BeginsCover, IsPlacedCoverBehind, NoCoverBegins, NoCoverOpened, OpensCover, is_bracket_sign}
+use Rattle.jsx_member.specs.Covers.{IsPlacedCoverBehind, NoCoverOpened, OpensCover, is_bracket_sign}
+use Rattle.jsx_expression.specs.Covers.{BeginsCover, NoCoverBegins}
 use Rattle.jsx_function.specs.Covers.{IsPlacedCover, Settles}
 use Rattle.jsx_expression.proofs.Covers.{NoBrackets, brackets_quoted, brackets_unopened, callee_begins, callee_high, callee_unfit, callee_unsettled, cover_begins, no_cover_begins, opened_cover, opened_other, plain_begins, plain_unbegun, plain_unlike, unopened_cover}
 use Rattle.jsx_expression.proofs.CoverPlaces.{placed_cover, placed_cover_behind}
 use Rattle.jsx_expression.proofs.CoverSteps.{settles_by}
 use Rattle.jsx_function.proofs.Settled.{settled_placed, settled_span}
-use Rattle.jsx_expression.proofs.Sequences.{closed_of}
+use Rattle.jsx_member.proofs.Sequences.{closed_of}
 use Rattle.jsx_expression.proofs.grammar.Expressions.+beginning.Goals as goal
 
 -- an operator's row, whichever it is

@@ -19,7 +19,7 @@ use Rattle.jsx_operand.proofs.Steps.{passed}
 use Rattle.jsx_operand.proofs.Templates.{quoted_to, unquoted_to}
 use Rattle.jsx_operand.proofs.Placing.{placed_to}
 use Rattle.jsx_function.specs.Covers.{IsCover, IsPlacedCover}
-use Rattle.jsx_expression.proofs.Sequences.{closed_of}
+use Rattle.jsx_member.proofs.Sequences.{closed_of}
 use Rattle.jsx_expression.proofs.CoverPlaces.{cover_placed_to, placed_cover}
 use Rattle.jsx_expression.proofs.CoverSteps.{as_ongoing, cover_of, covers_to, marked_goes, grown_unlike, ongoing, ongoing_arrow, ongoing_blocked, ongoing_ended, ongoing_grown, ongoing_none, ongoing_tagged, ongoing_to, open_to, operand_low, quote_stops, settles_at, settles_by, settles_to, unarrowed_by, unsettled_whole}
 use Rattle.jsx_expression.proofs.Operands.{level_low}

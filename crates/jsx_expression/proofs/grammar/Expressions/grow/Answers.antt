@@ -7,7 +7,7 @@ use Rattle.jsx_operand.proofs.Steps.{passed}
 use Rattle.jsx_token.specs.Here.{place_of}
 use Rattle.jsx_token.specs.declared.growth.Growth.TheVariants as growth
 use Rattle.jsx_expression.proofs.CoverSteps.{settles_by, settles_low}
-use Rattle.jsx_expression.proofs.Sequences.{closed_of}
+use Rattle.jsx_member.proofs.Sequences.{closed_of}
 use Rattle.jsx_expression.proofs.grammar.Expressions.grow.Goals as goal
 
 pub returns-in_ok-binary-in-Binary-clause-read : goal.returns-in_ok-binary-in-Binary-clause-read

@@ -10,7 +10,7 @@ use Rattle.jsx_operand.proofs.Steps.{passed}
 use Rattle.jsx_operand.proofs.Values.{sign_ended}
 use Rattle.jsx_expression.proofs.ArrowEnds.{moves_of}
 use Rattle.jsx_expression.proofs.ArrowOpenings.{arrow_guard, arrow_opened, arrow_settles, arrow_unread, barred_from, guard_kept, inside_of, moves_from, moves_to, no_arrow_at, no_cover_from, no_paren, no_row_from, not_rest, not_shut, nothing_inside, params_unread, paren_ended, paren_opened, paren_settles, paren_unread, row_from, unclosed}
-use Rattle.jsx_expression.proofs.Arguments.{paren_placed}
+use Rattle.jsx_expression.proofs.PlacedParentheses.{paren_placed}
 use Rattle.jsx_expression.proofs.Parentheses.{no_expression, one_contents}
 use Rattle.jsx_expression.proofs.PlacedArrows.{cover_from, front_from, takes_to}
 use Rattle.jsx_expression.proofs.grammar.Expressions.parenthesized.Goals as goal

@@ -11,7 +11,7 @@ use Rattle.jsx_operand.proofs.Steps.{passed}
 use Rattle.jsx_operand.proofs.Values.{sign_ended}
 use Rattle.jsx_expression.proofs.ArrowEnds.{moves_of}
 use Rattle.jsx_expression.proofs.ArrowOpenings.{arrow_guard, arrow_settles, covers_unread, guard_kept, moves_to, no_arrow_at, paren_ended, paren_opened, paren_settles, paren_unread, rest_unread, sequence_read, trails_unread, turned_opened, turned_unread, unclosed, unturned}
-use Rattle.jsx_expression.proofs.Arguments.{paren_placed}
+use Rattle.jsx_expression.proofs.PlacedParentheses.{paren_placed}
 use Rattle.jsx_expression.proofs.PlacedArrows.{as_told, takes_to}
 use Rattle.jsx_expression.proofs.grammar.Expressions.several.Goals as goal
 

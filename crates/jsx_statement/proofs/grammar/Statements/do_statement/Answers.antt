@@ -2,7 +2,8 @@ use Rattle.std.proofs.Common.{refl, ◌∙◌, ap}
 use Rattle.jsx_tree.proofs.Rows.Placing.{no_node}
 use Rattle.jsx_tree.proofs.Rows.Steps.{bar, on, only_sign}
 use Rattle.jsx_token.specs.Here.{place_of}
-use Rattle.jsx_statement.proofs.Controls.{barred_in, do_built, only_in}
+use Rattle.jsx_declaration.proofs.Controls.{barred_in, only_in}
+use Rattle.jsx_statement.proofs.Controls.{do_built}
 use Rattle.jsx_operand.proofs.Steps.{passed}
 use Rattle.jsx_operand.proofs.Placing.{placed_as, takes_ends}
 use Rattle.jsx_operand.proofs.Places.{spans_from}

@@ -4,7 +4,7 @@ use Rattle.jsx_tree.specs.Kinds.{Label, statement, leaf, node, none, part}
 use Rattle.jsx_tree.specs.Told.{told_node, told_stmt, told_text}
 use Rattle.jsx_tree.specs.View.{text_of, view_stmt}
 use Rattle.jsx_tree.proofs.Rows.Steps.{on}
-use Rattle.jsx_statement.specs.Labels.{label_text}
+use Rattle.jsx_declaration.specs.Labels.{label_text}
 use Rattle.jsx_statement.proofs.Labels.{label_built, no_label_body, taken_label}
 use Rattle.jsx_operand.proofs.Steps.{passed}
 use Rattle.jsx_operand.proofs.Placing.{placed_as}

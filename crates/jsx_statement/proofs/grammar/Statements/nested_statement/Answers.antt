@@ -4,7 +4,8 @@ use Rattle.jsx_operand.specs.Around.{around_of}
 use Rattle.jsx_statement.specs.Statements.{NoStatement, OnlyStatement}
 use Rattle.jsx_token.specs.Headings.{NoHeading}
 use Rattle.jsx_token.specs.Here.{place_of}
-use Rattle.jsx_statement.proofs.Statements.{headed_barred, headed_only, homeless_barred, lexical_home, nested_home, subs}
+use Rattle.jsx_declaration.proofs.Statements.{subs}
+use Rattle.jsx_statement.proofs.Statements.{headed_barred, headed_only, homeless_barred, lexical_home, nested_home}
 use Rattle.jsx_operand.proofs.Steps.{passed}
 use Rattle.jsx_statement.proofs.grammar.Statements.nested_statement.Goals as goal
 

@@ -1,0 +1,16 @@
+pub mod Items
+pub mod Statements
+pub mod Controls
+pub mod OpenIn
+pub mod Heads
+pub mod Overs
+pub mod Stems
+pub mod Turned
+pub mod Declaring
+pub mod Lists
+pub mod PlacedNodes
+pub mod Labels
+pub mod Jumps
+pub mod Returns
+pub mod Declarations
+pub mod Initials

@@ -1,0 +1,4 @@
+pub mod Covers
+pub mod Elements
+pub mod Gathering
+pub mod Supers
