@@ -1,0 +1,45 @@
+pub mod Gives
+pub mod Leads
+pub mod Shows
+pub mod Calls
+pub mod Evals
+pub mod Quiet
+pub mod Bound
+pub mod Vars
+pub mod Stated
+pub mod Steady
+pub mod Listed
+pub mod ScopeNames
+pub mod ForNames
+pub mod Heard
+pub mod Found
+pub mod Whole
+pub mod Faults
+pub mod Unheaded
+pub mod Sees
+pub mod Refers
+pub mod Rises
+pub mod RisesTree
+pub mod Homes
+pub mod BareTrees
+pub mod First
+pub mod Turns
+pub mod OwnClashes
+pub mod Places
+pub mod ClashTree
+pub mod Unspoken
+pub mod Exported
+pub mod Items
+pub mod Lengths
+pub mod NameTests
+pub mod SeenLate
+pub mod Going
+pub mod Scanning
+pub mod Collecting
+pub mod Lateness
+pub mod Numbered
+pub mod Leasts
+pub mod FirstFault
+mod Examples
+mod FaultExamples
+mod BindingExamples

@@ -1,0 +1,16 @@
+pub mod Events
+pub mod Answers
+pub mod Given
+pub mod Resolved
+pub mod Proper
+pub mod Heard
+pub mod Referred
+pub mod Rising
+pub mod Faults
+pub mod Code
+pub mod Tables
+pub mod Ends
+pub mod Scanned
+pub mod Collected
+pub mod Least
+pub mod Bindings
