@@ -1,9 +1,8 @@
 -- The first early error by number has the place that the definitions find.
-use Rattle.std.proofs.Common.{◌≡◌, ℕ, suc, List, [], ◌∷◌, Bool, true, false, refl, sym, ap, ◌∙◌, arith, ◌⊎◌, inl, inr}
-use Rattle.std.specs.Prelude.{cond, not, ◌&&◌, ◌||◌, nat_eq, Option, Some, None, ⊤}
+use Rattle.std.proofs.Common.{◌≡◌, ℕ, List, [], ◌∷◌, Bool, true, false, refl, sym, ap, ◌∙◌, arith, ◌⊎◌, inl, inr}
+use Rattle.std.specs.Prelude.{cond, not, ◌||◌, nat_eq, Option, Some, None, ⊤}
 use Rattle.std.specs.List.{list_any}
 use Rattle.std.specs.Option.{option_map}
-use Rattle.jsx_base.specs.Token.{same}
 use Rattle.jsx_tree.proofs.Tokens.{same_is, same_self}
 use Rattle.jsx_tree.specs.Clashes.{Place, AtName, AtDefault, first_of, is_before, least, path_of}
 use Rattle.jsx_names.specs.Events.{Event}
@@ -22,7 +21,7 @@ place_is (AtDefault p) (AtDefault q) e = ap AtDefault (same_is p q e)
 place_is (AtName p) (AtDefault q) e = absurd (sym e)
 place_is (AtDefault p) (AtName q) e = absurd (sym e)
 
-place_self : (a : Place) → same_place a a ≡ true
+pub place_self : (a : Place) → same_place a a ≡ true
 place_self (AtName p) = same_self p
 place_self (AtDefault p) = same_self p
 

@@ -40,6 +40,8 @@ pub mod Lateness
 pub mod Numbered
 pub mod Leasts
 pub mod FirstFault
+pub mod Orderly
+pub mod Pathless
 mod Examples
 mod FaultExamples
 mod BindingExamples

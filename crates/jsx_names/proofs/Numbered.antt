@@ -12,7 +12,7 @@ use Rattle.jsx_names.specs.Faults.{Extent, Noted, again, called, called_at, call
 use Rattle.jsx_names.proofs.Lateness.{lates, clashing_late}
 
 -- a function that has the places of these events, from number i on
-abbrev Places : (ℕ → Place) → ℕ → List Event → Type 0
+abbrev pub Places : (ℕ → Place) → ℕ → List Event → Type 0
 Places F i [] = ⊤
 Places F i (e ∷ es) = (F i ≡ placed e) × Places F (suc i) es
 
@@ -30,7 +30,7 @@ places_from : (all es : List Event) (i : ℕ) → drop i all ≡ es → Places (
 places_from all [] i h = tt
 places_from all (e ∷ es) i h = (ap placed_first h, places_from all es (suc i) (sym (drop_rest i all) ∙ ap rest h))
 
-places_all : (es : List Event) → Places (placed_at es) 0 es
+pub places_all : (es : List Event) → Places (placed_at es) 0 es
 places_all es = places_from es es 0 refl
 
 any_places : (P : Place → Bool) (xs ys : List Place) → list_any P (xs ++ ys) ≡ list_any P xs || list_any P ys

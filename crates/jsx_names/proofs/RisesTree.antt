@@ -1,5 +1,5 @@
 -- The places of the events of a proper program rise.
-use Rattle.std.proofs.Common.{◌≡◌, ℕ, suc, List, [], ◌∷◌, ◌++◌, Bool, true, false, cond, ◌&&◌, refl, sym, ap, ◌∙◌, append_assoc, append-nil, subst}
+use Rattle.std.proofs.Common.{◌≡◌, ℕ, suc, List, [], ◌∷◌, ◌++◌, Bool, true, false, cond, not, ◌&&◌, refl, sym, ap, ◌∙◌, append_assoc, append-nil, subst}
 use Rattle.jsx_base.specs.Token.{TokenKind, Text, IdentifierName}
 use Rattle.jsx_tree.specs.Kinds.{Exported, From, Specifier, SpecifierAs, ExportAllAs, ExportDefaultFn, ExportDefaultClass, ExportDefaultExpr, Script, Kind, program, Tree, leaf, node, list, Forest, none, part}
 use Rattle.jsx_tree.specs.Nonterminals.{Nonterminal, Ident, Name, StringOnly, WholeProgram}
@@ -10,11 +10,12 @@ use Rattle.jsx_tree.specs.Clashes.{Place, AtName, AtDefault, Export, export_name
 use Rattle.jsx_tree.proofs.Tokens.{and_left, and_right, and_both}
 use Rattle.jsx_names.specs.Events.{Frame, Event, Closes, Refers, Simply, Exported', InHead, Mode, Plain, Binding, mode, is_scope, frame, has_scope, inner, is_inner, is_behind, entering, around, exported_here, wanted_here, exported, wanted, called, of_node, of_leaf, events_below, events_parts, events_each, events}
 use Rattle.jsx_names.specs.Proper.{stands, fill, is_proper, is_sided, proper}
+use Rattle.jsx_names.specs.Least.{is_out}
 use Rattle.jsx_names.specs.Rising.{places_in, none_before, rising}
 use Rattle.jsx_names.proofs.ScopeNames.{never}
 use Rattle.jsx_names.proofs.Evals.{inner_all, outer_first, all_ordered}
 use Rattle.jsx_names.proofs.ClashTree.{rest_first, rest_inner}
-use Rattle.jsx_names.proofs.Rises.{under, under_self, all_under, all_from, from_append, under_append, all_under_from, all_from_before, all_from_under, rising_parts, none_above, places_append}
+use Rattle.jsx_names.proofs.Rises.{under, under_self, all_under, all_from, from_append, under_append, all_under_from, all_from_before, all_from_under, rising_parts, none_above, self_in, places_append}
 
 -- ---- lists of events
 
@@ -66,7 +67,7 @@ one_climbs p a e h = record { rise = refl; low = and_both (under p e) true h ref
 
 twice_climbs : (p e : Path) → under p e ≡ true → Climbs p (AtName e ∷ (AtName e ∷ []))
 twice_climbs p e h = record {
-  rise = and_both (none_before (AtName e) (AtName e ∷ [])) true (none_above (AtName e) e (AtName e ∷ []) refl (and_both (under e e) true (under_self e) refl)) refl;
+  rise = and_both (none_before (AtName e) (AtName e ∷ [])) true (and_both (not (is_out (AtName e) (AtName e))) true (ap not (self_in (AtName e))) refl) refl;
   low = and_both (under p e) (under p e && true) h (and_both (under p e) true h refl);
 }
 
@@ -142,7 +143,7 @@ head_climbs k p cs ys w n r f = go (is_named_alone k) refl
     plain = record { rise = r; low = all_from_under p 0 ys f }
 
     default : Climbs p (AtDefault p ∷ ys)
-    default = record { rise = and_both (none_before (AtDefault p) ys) (rising ys) (none_above (AtDefault p) p ys refl (all_from_under p 0 ys f)) r; low = and_both (under p p) (all_under p ys) (under_self p) (all_from_under p 0 ys f) }
+    default = record { rise = and_both (none_before (AtDefault p) ys) (rising ys) (none_above (AtDefault p) p ys refl f) r; low = and_both (under p p) (all_under p ys) (under_self p) (all_from_under p 0 ys f) }
 
     others : (l : Kind) → is_named_alone l ≡ false → Climbs p (before_parts l p cs ++ ys)
     others (program (Specifier Exported)) e = never (sym e)

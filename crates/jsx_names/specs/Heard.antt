@@ -3,12 +3,8 @@ use Rattle.std.specs.Prelude.{List, [], ◌∷◌, ◌++◌, Bool, true, false, 
 use Rattle.jsx_tree.specs.Kinds.{Script, program, Kind, Tree, leaf, node, list, Forest, none, part}
 use Rattle.jsx_tree.specs.Nonterminals.{Nonterminal, WholeProgram}
 use Rattle.jsx_tree.specs.Form.{Position, position, positions}
-use Rattle.jsx_tree.specs.Clashes.{Place, AtName, AtDefault}
+use Rattle.jsx_tree.specs.Clashes.{AtName}
 use Rattle.jsx_names.specs.Events.{Event, Opens, Enters, Closes, Declares, Refers, Exports, Wants, Evals, Mode, Plain, mode, is_scope, frame, has_scope, inner, is_inner, is_behind, entering, around, of_node, of_leaf}
-
-abbrev pub bare_place : Place → Place
-bare_place (AtName p) = AtName []
-bare_place (AtDefault p) = AtDefault []
 
 abbrev pub bare : Event → Event
 bare (Opens f p) = Opens f []
@@ -16,8 +12,8 @@ bare Enters = Enters
 bare Closes = Closes
 bare (Declares h s t p) = Declares h s t []
 bare (Refers t p) = Refers t []
-bare (Exports t a) = Exports t (bare_place a)
-bare (Wants t a) = Wants t (bare_place a)
+bare (Exports t a) = Exports t (AtName [])
+bare (Wants t a) = Wants t (AtName [])
 bare (Evals p) = Evals []
 
 abbrev pub bare_all : List Event → List Event

@@ -1,6 +1,7 @@
 //! Laws of the definitions: what the events of a tree say is what the tree says.
 
-ghost use Rattle.std.specs.Prelude.{◌≡◌, [], true};
+ghost use Rattle.std.specs.Prelude.{◌≡◌, List, [], true};
+ghost use Rattle.std.specs.Option.{option_map};
 ghost use Rattle.jsx_base.specs.Token.{Text};
 ghost use Rattle.jsx_tree.specs.declared.text.Goal.{Goal};
 ghost use Rattle.jsx_tree.specs.Program.{Reads};
@@ -9,8 +10,10 @@ ghost use Rattle.jsx_tree.specs.Kinds.{Script, program, Tree};
 ghost use Rattle.jsx_tree.specs.Nonterminals.{WholeProgram};
 ghost use Rattle.jsx_tree.specs.Clashes.{direct_evals, first_clash};
 ghost use Rattle.jsx_tree.specs.Scopes.{Path, refers};
-ghost use Rattle.jsx_names.specs.Events.{Plain, events};
+ghost use Rattle.jsx_names.specs.Events.{Event, Plain, events};
 ghost use Rattle.jsx_names.specs.Answers.{answers, clashing, evals_in, first_fault};
+ghost use Rattle.jsx_names.specs.Faults.{calls, first_faulty, placed_at};
+ghost use Rattle.jsx_names.specs.Heard.{bare_all, heard_in};
 ghost use Rattle.jsx_names.specs.Resolved.{resolved, clashed};
 ghost use Rattle.jsx_names.specs.Proper.{proper};
 ghost use Rattle.jsx_names.specs.Rising.{places_in, rising};
@@ -39,10 +42,19 @@ pub fn faults_of_a_tree()
     ensures { (t : Tree) → proper t ≡ true → first_fault (events t) ≡ first_clash t }
 {}
 
-/// The events stand in the order of the text: of the places where names are declared, exported and wanted none is before one that
-/// stands in front of it. So the first event that is an early error is at the least place of one.
+/// The events stand in the order of the text: of the places where names are declared, exported and wanted each is behind those
+/// that stand in front of it, or at the same place. So the first event that is an early error is at the least place of one.
 pub fn order_of_events()
     ensures { (t : Tree) → proper t ≡ true → rising (places_in (events t)) ≡ true }
+{}
+
+/// So the first early error on names is at the place of the first event that is one.
+pub fn faults_in_order()
+    ensures placed { (t : Tree) → proper t ≡ true → first_clash t ≡ option_map (placed_at (events t)) (first_faulty (events t)) }
+    // A walk hears the events without their paths, which it doesn't know; and no number hangs on these.
+    ensures heard { (t : Tree) → heard_in t ≡ bare_all (events t) }
+    ensures bare { (es : List Event) → first_faulty (bare_all es) ≡ first_faulty es }
+    ensures calls { (es : List Event) → calls 0 (bare_all es) ≡ calls 0 es }
 {}
 
 /// What the name at a place refers to (ECMA-262 section 8.2, scope analysis) is the answer there among those to the events, and

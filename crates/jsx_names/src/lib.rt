@@ -15,8 +15,8 @@ mod wanted;
 pub use early::check;
 pub use event::{EarlyError, Event, Frame, Sort};
 pub use laws::{
-    answers_of_a_tree, calls_of_a_tree, clashes_of_a_tree, faults_of_a_tree, order_of_events,
-    references_of_a_tree, trees_that_read,
+    answers_of_a_tree, calls_of_a_tree, clashes_of_a_tree, faults_in_order, faults_of_a_tree,
+    order_of_events, references_of_a_tree, trees_that_read,
 };
 pub use numbers::{calls_are_numbered, faults_are_numbered, first_has_its_place, first_is_least};
 
