@@ -42,6 +42,10 @@ pub mod Leasts
 pub mod FirstFault
 pub mod Orderly
 pub mod Pathless
+pub mod AnswersByNumber
+pub mod GatheredAll
+pub mod Shadowing
+pub mod Keeping
 mod Examples
 mod FaultExamples
 mod BindingExamples

@@ -37,3 +37,15 @@ bindings i ss (Closes ∷ es) = bindings (suc i) (left ss) es
 bindings i ss (Declares h s t p ∷ es) = cond (is_ident t) (bound_to t ss ∷ []) [] ++ bindings (suc i) ss es
 bindings i ss (Refers t p ∷ es) = bound_to t ss ∷ bindings (suc i) ss es
 bindings i ss (e ∷ es) = bindings (suc i) ss es
+
+-- of one event, and the scopes behind event i
+abbrev pub names_at : List Shown → Event → List (Option ℕ)
+names_at ss (Declares h s t p) = cond (is_ident t) (bound_to t ss ∷ []) []
+names_at ss (Refers t p) = bound_to t ss ∷ []
+names_at ss e = []
+
+abbrev pub within : ℕ → List Shown → Event → List Event → List Shown
+within i ss (Opens f p) es = shown f i (collected [] es) ∷ ss
+within i ss Enters es = behind_head ss
+within i ss Closes es = left ss
+within i ss e es = ss

@@ -14,3 +14,6 @@ pub mod Scanned
 pub mod Collected
 pub mod Least
 pub mod Bindings
+pub mod ByNumber
+pub mod Gathered
+pub mod Shadowed

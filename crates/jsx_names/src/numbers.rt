@@ -1,10 +1,12 @@
 //! Laws of lists of events: their early errors by number are those that the definitions find by place.
 
-ghost use Rattle.std.specs.Prelude.{◌≡◌, Bool, List, map};
+ghost use Rattle.std.specs.Prelude.{◌≡◌, Bool, List, [], map};
 ghost use Rattle.std.specs.List.{list_any};
 ghost use Rattle.std.specs.Option.{option_map};
 ghost use Rattle.jsx_tree.specs.Clashes.{Place};
-ghost use Rattle.jsx_names.specs.Answers.{evals_in, faults, first_fault};
+ghost use Rattle.jsx_names.specs.Answers.{answers, evals_in, faults, first_fault};
+ghost use Rattle.jsx_names.specs.Bindings.{bindings};
+ghost use Rattle.jsx_names.specs.ByNumber.{answers_by, names_in, node_at, owns_at};
 ghost use Rattle.jsx_names.specs.Events.{Event};
 ghost use Rattle.jsx_names.specs.Least.{IsLeastOf, IsOrdered};
 ghost use Rattle.jsx_names.specs.Faults.{called_at, calls, faulty, first_faulty, placed_at};
@@ -28,4 +30,9 @@ pub fn calls_are_numbered()
 /// So where places rise, it has the place of the first that is found scope by scope.
 pub fn first_has_its_place()
     ensures { (es : List Event) → IsOrdered (first_faulty es) es → first_fault es ≡ option_map (placed_at es) (first_faulty es) }
+{}
+
+/// What each name refers to is told by the numbers of the events that begin their scopes.
+pub fn answers_are_numbered()
+    ensures { (es : List Event) → answers [] es ≡ answers_by (node_at es) (owns_at es) (names_in es) (bindings 0 [] es) }
 {}

@@ -1,6 +1,7 @@
-//! The first early error of small programs, by their events: each name is at its place in the text.
+//! The first early error of small programs, by their events, and the scope of each name: each name is at
+//! its place in the text.
 
-use crate::{EarlyError, Event, Frame, Sort, check};
+use crate::{EarlyError, Event, Frame, Sort, bindings, check};
 use jsx_base::BytePos;
 use std::test::Fail;
 
@@ -90,5 +91,34 @@ fn a_name_is_exported_once(rt: HostRuntime) -> Result<(), Fail> {
     ];
     assert!(rt; check(rt.alloc(), &events)? == Err(EarlyError::Scope(BytePos(28))));
     assert!(rt; check(rt.alloc(), &events[..4])? == Ok(()));
+    Ok(())
+}
+
+/// `function f(a = b) { var b; { b; } } f; c;`
+#[test]
+fn parameters_do_not_see_the_body(rt: HostRuntime) -> Result<(), Fail> {
+    let events = [
+        Event::Opens(Frame::Script),
+        declares(Sort::Function, "f", 9),
+        Event::Opens(Frame::Function),
+        Event::Declares {
+            in_head: true,
+            sort: Sort::Parameter,
+            name: "a",
+            at: BytePos(11),
+        },
+        Event::Refers("b", BytePos(15)),
+        Event::Enters,
+        declares(Sort::Var, "b", 24),
+        Event::Opens(Frame::Block),
+        Event::Refers("b", BytePos(29)),
+        Event::Closes,
+        Event::Closes,
+        Event::Refers("f", BytePos(36)),
+        Event::Refers("c", BytePos(39)),
+        Event::Closes,
+    ];
+    let wanted: [Option<usize>; 7] = [Some(0), Some(2), None, Some(2), Some(2), Some(0), None];
+    assert!(rt; bindings(rt.alloc(), &events)?.as_slice() == wanted.as_slice());
     Ok(())
 }
