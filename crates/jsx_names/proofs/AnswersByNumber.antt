@@ -1,6 +1,6 @@
 -- What names refer to is told by the numbers of their scopes.
 use Rattle.std.proofs.Common.{◌≡◌, ℕ, zero, suc, List, [], ◌∷◌, ◌++◌, drop, Bool, true, false, refl, sym, ap, ◌∙◌}
-use Rattle.std.specs.Prelude.{cond, ⊤, Option, Some, None}
+use Rattle.std.specs.Prelude.{cond, ⊤, Option}
 use Rattle.jsx_base.specs.Token.{Text}
 use Rattle.jsx_tree.specs.Nonterminals.{is_ident}
 use Rattle.jsx_tree.specs.Scopes.{Path, is_declared, lookup}

@@ -1,8 +1,8 @@
 -- What the loops keep that add declarations to the lists of their scopes.
-use Rattle.std.proofs.Common.{◌≡◌, ◌<◌, ◌≤◌, ◌+◌, ℕ, zero, suc, List, [], ◌∷◌, ◌++◌, length, drop, take, map, reverse, get_or, Bool, true, false, refl, sym, ap, ◌∙◌, arith, add-one, drop-cons, subst, take_all}
+use Rattle.std.proofs.Common.{◌≡◌, ◌<◌, ◌≤◌, ◌+◌, ℕ, suc, List, [], ◌∷◌, ◌++◌, length, drop, take, map, reverse, get_or, Bool, true, false, refl, sym, ap, ◌∙◌, arith, add-one, drop-cons, subst, take_all}
 use Rattle.std.proofs.lemmas.List.{take_more}
 use Rattle.std.proofs.lemmas.Grind.{common_steps}
-use Rattle.std.specs.Prelude.{cond, ◌&&◌, nat_eq, ⊤, Option, Some, None}
+use Rattle.std.specs.Prelude.{cond, nat_eq, Option, Some, None}
 use Rattle.std.specs.Ordering.{nat_cmp}
 use Rattle.std.specs.BTreeMap.{BTreeMap, get}
 use Rattle.std.specs.declared.vec.Vec.{Vec}
@@ -10,10 +10,9 @@ use Rattle.std.specs.declared.alloc.Global.{Global}
 use Rattle.std.specs.Str.{chars}
 use Rattle.jsx_base.specs.Token.{Text}
 use Rattle.jsx_tree.specs.Scopes.{AsVar, Path}
-use Rattle.jsx_names.specs.Events.{Event}
 use Rattle.jsx_names.specs.Answers.{Named, is_passed, named}
 use Rattle.jsx_names.specs.Code.{frame_of, plain, plain_all, sort_of}
-use Rattle.jsx_names.specs.Gathered.{Begun, behind, begun, gathered, given, giving, home_of, outer}
+use Rattle.jsx_names.specs.Gathered.{Begun, behind, gathered, given, giving, home_of}
 use Rattle.jsx_names.specs.Shadowed.{Gathers, Homes, begun_of, held, named_of, standing}
 use Rattle.jsx_names.specs.declared.event.Event as code
 use Rattle.jsx_names.specs.declared.gather.Begun as opened

@@ -3,7 +3,7 @@ use Rattle.std.proofs.Common.{◌≡◌, ◌<◌, ◌≤◌, ◌+◌, ℕ, zero,
 use Rattle.std.proofs.lemmas.List.{take_more}
 use Rattle.std.proofs.lemmas.Grind.{common_steps}
 use Rattle.jsx_tree.proofs.Tokens.{same_is}
-use Rattle.std.specs.Prelude.{cond, ◌&&◌, ◌||◌, ⊤, Option, Some, None}
+use Rattle.std.specs.Prelude.{cond, ◌&&◌, ◌||◌, Option, Some, None}
 use Rattle.std.specs.Str.{chars, IsUtf8}
 use Rattle.std.specs.BTreeMap.{BTreeMap}
 use Rattle.std.specs.Option.{unwrap_or}
@@ -12,14 +12,14 @@ use Rattle.std.specs.Cmp.Lexicographic.{slice_cmp}
 use Rattle.jsx_names.proofs.NameTests.{name_test}
 use denote.Ref.{Bor}
 use Rattle.jsx_base.specs.Token.{Text, same}
-use Rattle.jsx_tree.specs.Scopes.{Declaration, Path, is_declared}
+use Rattle.jsx_tree.specs.Scopes.{Path, is_declared}
 use Rattle.jsx_names.specs.Events as events
 use Rattle.jsx_names.specs.Events.{Event, Opens}
-use Rattle.jsx_names.specs.Answers.{Named, at_first, at_last, collected}
+use Rattle.jsx_names.specs.Answers.{Named, collected}
 use Rattle.jsx_names.specs.Bindings.{Shown, behind_head, bindings, bound_to, left, names_at, shown, within}
 use Rattle.jsx_names.specs.Code.{frame_of, plain, plain_all}
 use Rattle.jsx_names.specs.Gathered.{gathered, is_shown, shows}
-use Rattle.jsx_names.specs.Shadowed.{Between, Binds, IsSet, IsTop, Keeps, Presents, Restores, bound_in, named_of, restored, shown_over}
+use Rattle.jsx_names.specs.Shadowed.{Between, Binds, IsSet, IsTop, Presents, Restores, bound_in, named_of, restored, shown_over}
 use Rattle.jsx_names.specs.declared.event.Event as code
 use Rattle.jsx_names.specs.declared.event.Event.TheVariants as variant
 use Rattle.jsx_names.specs.declared.event.Frame.{Frame}

@@ -3,7 +3,7 @@ use Rattle.std.specs.Prelude.{ℕ, suc, List, [], ◌∷◌, ◌++◌, cond, Opt
 use Rattle.jsx_base.specs.Token.{Text}
 use Rattle.jsx_tree.specs.Nonterminals.{is_ident}
 use Rattle.jsx_tree.specs.Scopes.{Declaration, is_declared}
-use Rattle.jsx_names.specs.Events.{Frame, Event, Opens, Enters, Closes, Declares, Refers, Exports, Wants, Evals}
+use Rattle.jsx_names.specs.Events.{Frame, Event, Opens, Enters, Closes, Declares, Refers}
 use Rattle.jsx_names.specs.Answers.{Named, at_first, at_last, collected}
 
 -- a scope that stands open: what is seen of it now, and what will be behind its head

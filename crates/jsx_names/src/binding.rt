@@ -38,7 +38,13 @@ pub(crate) type Bound<'t> = BTreeMap<&'t str, Option<usize>>;
 
 /// For each name that is declared or referred to, in order, the number of the event that begins the scope
 /// it belongs to (ECMA-262 section 9.4.2, ResolveBinding). What is declared under a reserved word is no
-/// name. The time is by the number of events and its logarithm, where each scope has one head.
+/// name. The time is by the number of events and its logarithm where each scope has one head and no `var`
+/// stands in one, as it is with the events of a program; else it is by their number and how deep scopes
+/// stand within each other.
+///
+/// # Errors
+///
+/// `AllocError` for want of memory.
 pub fn bindings(alloc: Global, events: &[Event<'_>]) -> Result<Vec<Option<usize>>, AllocError>
     ensures { IfOk result (λ it. it.items ≡ bindings 0 [] (plain_all events.now)) }
 {
