@@ -19,6 +19,7 @@ use Rattle.jsx_operand.proofs.Placing.{placed_to}
 use Rattle.jsx_tree.specs.Walk.{is_found, nothing, one}
 use Rattle.jsx_tree.specs.Answers.{Moves, Only, Barred}
 use Rattle.jsx_tree.specs.declared.text.DeclareWord as code
+use Rattle.jsx_tree.specs.Faults.{Fault}
 use Rattle.jsx_tree.proofs.Apart.{never_both}
 use Rattle.jsx_tree.proofs.Rows.Bridge.{found_at}
 use Rattle.jsx_tree.proofs.Rows.Lists.{begun}
@@ -56,13 +57,13 @@ end_same k t (At q _ text) s = cc
 no_mark : (d w : Text) (y : Place) → settled y ≡ true → IsTrue (is_found (forth (Tok Operator IdentifierName w) y)) → forth (Tok Operator Punctuator d) (forth (Ends AfterBinding) y) ≡ Lost
 no_mark d w y s f = end_same Punctuator d y s ∙ lost_if (forth (Tok Operator Punctuator d) y) (λ g. never_both Punctuator IdentifierName d w y refl g f)
 
-name_unmarked : {v : Surroundings} {x y : Place} {n : Tree} (d : DeclareWord) (w : Text) → Only so_far v (Part (Pat Binds)) x (one n) y → IsTrue (is_found (forth (Tok Operator IdentifierName w) y)) → NotHeaded v d x
+name_unmarked : {v : Surroundings} {x y : Place} {n : Tree} {e : Fault} (d : DeclareWord) (w : Text) → Only so_far v (Part (Pat Binds)) x (one n) y → IsTrue (is_found (forth (Tok Operator IdentifierName w) y)) → NotHeaded v d x e
 name_unmarked {v} {x} {y} {n} d w o f =
     let s = name_ended o in
     let first = uninitialized o (record { is = refl; found = name_end y s }) (record { is = no_mark (codes "=") w y s f }) refl in
     let all = declares none (part _ none) (leads_none none refl) (begun none refl) (begun none refl) first (end_listed y s) (record { same = refl; stuck = record { is = no_mark (codes ",") w y s f } }) refl in
     let no = turn_none (as_turn all.marked) (bar (no_sign (record { is = no_mark (codes ";") w y s f }))) in
-    record { no = λ ts z walk k c. no.no ts z walk }
+    record { no = λ ts z walk k c h. no.no ts z walk h }
 
 -- ---- where the lexer stands
 
@@ -79,10 +80,10 @@ first_read {x = x} n p e o l b i q = record { only = i.on (place_of x) (only_fro
 -- ---- behind the word
 
 -- no semicolon stands where it does
-word_initial : {v : Surroundings} {x x1 : Place} (w : code.DeclareWord) → Moves (declare_sign w) x x1 → NoHead v x → NoInitial v x
+word_initial : {v : Surroundings} {x x1 : Place} {e : Fault} (w : code.DeclareWord) → Moves (declare_sign w) x x1 → NoHead v x e → NoInitial v x e
 word_initial {x = x} w m n = none_initial (record { is = lost_if (forth (pun ";") x) (λ g. never_both Punctuator IdentifierName (codes ";") (vars (word_of w)) x refl g (subst (λ s. IsTrue (is_found (forth s x))) (declare_is w) (found_at (sym m.is) m.found))) }) n
 
-word_headed : {v : Surroundings} {x x1 : Place} (w : code.DeclareWord) → Moves (declare_sign w) x x1 → NotHeaded v (word_of w) x1 → NoInitial v x
+word_headed : {v : Surroundings} {x x1 : Place} {e : Fault} (w : code.DeclareWord) → Moves (declare_sign w) x x1 → NotHeaded v (word_of w) x1 e → NoInitial v x e
 word_headed w m n = word_initial w m (no_declared_head w m n)
 
 pub bound_keys : {v : Surroundings} {x x1 x2 x3 : Place} {n t : Tree} (w : code.DeclareWord) → Moves (declare_sign w) x x1 → Only so_far v (Part (Pat Binds)) x1 (one n) x2 → Moves (key "in") x2 x3 → t ≡ node (statement (ForBinding (word_of w))) (part n none) → IsKeys v x t x3
@@ -95,23 +96,23 @@ bound_items {x2 = x2} w m o q is =
     let f = found_at (sym q.is) q.found in
     record { items = bound_only items w m o q is; keys = bound_lost keys w m o (λ g. two_words x2 g f); initial = word_headed w m (name_unmarked (word_of w) (codes "of") o f) }
 
-pub no_name : {v : Surroundings} {x x1 : Place} (w : code.DeclareWord) → Moves (declare_sign w) x x1 → Barred so_far v (Part (Pat Binds)) x1 → NoHeads v x
+pub no_name : {v : Surroundings} {x x1 : Place} {e : Fault} (w : code.DeclareWord) → Moves (declare_sign w) x x1 → Barred so_far v (Part (Pat Binds)) x1 e → NoHeads v x e
 no_name w m b = record { initial = word_headed w m (not_headed (not_declared (word_of w) none (begun none refl) (begun none refl) (no_binding b))); over = unbound w m b }
 
 -- neither `in` nor `of` behind the name
-name_over : {v : Surroundings} {x x1 x2 : Place} {n : Tree} (w : code.DeclareWord) → Moves (declare_sign w) x x1 → Only so_far v (Part (Pat Binds)) x1 (one n) x2 → forth (key "in") x2 ≡ Lost → forth (key "of") x2 ≡ Lost → NotOver v x
+name_over : {v : Surroundings} {x x1 x2 : Place} {n : Tree} {e : Fault} (w : code.DeclareWord) → Moves (declare_sign w) x x1 → Only so_far v (Part (Pat Binds)) x1 (one n) x2 → forth (key "in") x2 ≡ Lost → forth (key "of") x2 ≡ Lost → NotOver v x e
 name_over {x2 = x2} w m o a b = record { keys = bound_lost keys w m o (lost_there (key "in") x2 a); items = bound_lost items w m o (lost_there (key "of") x2 b) }
 
-pub no_first : {v : Surroundings} {x x1 x2 : Place} {n : Tree} (w : code.DeclareWord) → Moves (declare_sign w) x x1 → Only so_far v (Part (Pat Binds)) x1 (one n) x2 → forth (key "in") x2 ≡ Lost → forth (key "of") x2 ≡ Lost → Barred so_far v (Part Declarators) x1 → NoHeads v x
+pub no_first : {v : Surroundings} {x x1 x2 : Place} {n : Tree} {e : Fault} (w : code.DeclareWord) → Moves (declare_sign w) x x1 → Only so_far v (Part (Pat Binds)) x1 (one n) x2 → forth (key "in") x2 ≡ Lost → forth (key "of") x2 ≡ Lost → Barred so_far v (Part Declarators) x1 e → NoHeads v x e
 no_first w m o a b n = record { initial = word_headed w m (not_headed (not_declared (word_of w) none (begun none refl) (begun none refl) n)); over = name_over w m o a b }
 
-pub none_more : {v : Surroundings} {x x1 x2 : Place} {n : Tree} (w : code.DeclareWord) → Moves (declare_sign w) x x1 → Only so_far v (Part (Pat Binds)) x1 (one n) x2 → forth (key "in") x2 ≡ Lost → forth (key "of") x2 ≡ Lost → NotDeclared v (word_of w) x1 → NoHeads v x
+pub none_more : {v : Surroundings} {x x1 x2 : Place} {n : Tree} {e : Fault} (w : code.DeclareWord) → Moves (declare_sign w) x x1 → Only so_far v (Part (Pat Binds)) x1 (one n) x2 → forth (key "in") x2 ≡ Lost → forth (key "of") x2 ≡ Lost → NotDeclared v (word_of w) x1 e → NoHeads v x e
 none_more w m o a b n = record { initial = word_headed w m (not_headed n); over = name_over w m o a b }
 
-pub open_more : {v : Surroundings} {x x1 x2 y : Place} {n : Tree} (ts : Forest) (w : code.DeclareWord) → Moves (declare_sign w) x x1 → Only so_far v (Part (Pat Binds)) x1 (one n) x2 → forth (key "in") x2 ≡ Lost → forth (key "of") x2 ≡ Lost → Declares v x1 (list ts) y → any_opens ts ≡ true → NoHeads v x
+pub open_more : {v : Surroundings} {x x1 x2 y : Place} {n : Tree} {e : Fault} (ts : Forest) (w : code.DeclareWord) → Moves (declare_sign w) x x1 → Only so_far v (Part (Pat Binds)) x1 (one n) x2 → forth (key "in") x2 ≡ Lost → forth (key "of") x2 ≡ Lost → Declares v x1 (list ts) y → any_opens ts ≡ true → NoHeads v x e
 open_more ts w m o a b d h = record { initial = word_headed w m (open_headed ts d h); over = name_over w m o a b }
 
-pub unended_more : {v : Surroundings} {x x1 x2 y : Place} {n t : Tree} (w : code.DeclareWord) → Moves (declare_sign w) x x1 → Only so_far v (Part (Pat Binds)) x1 (one n) x2 → forth (key "in") x2 ≡ Lost → forth (key "of") x2 ≡ Lost → IsDeclared v (word_of w) x1 t y → Barred so_far v (symbol.Fixed (pun ";")) y → NoHeads v x
+pub unended_more : {v : Surroundings} {x x1 x2 y : Place} {n t : Tree} {e : Fault} (w : code.DeclareWord) → Moves (declare_sign w) x x1 → Only so_far v (Part (Pat Binds)) x1 (one n) x2 → forth (key "in") x2 ≡ Lost → forth (key "of") x2 ≡ Lost → IsDeclared v (word_of w) x1 t y → Barred so_far v (symbol.Fixed (pun ";")) y e → NoHeads v x e
 unended_more w m o a b d n = record { initial = unended_initial (declared_head w m d) n; over = name_over w m o a b }
 
 pub declared_initial : {v : Surroundings} {x x1 x2 y z : Place} {n t : Tree} (w : code.DeclareWord) → Moves (declare_sign w) x x1 → Only so_far v (Part (Pat Binds)) x1 (one n) x2 → forth (key "in") x2 ≡ Lost → forth (key "of") x2 ≡ Lost → IsDeclared v (word_of w) x1 t y → Only so_far v (symbol.Fixed (pun ";")) y nothing z

@@ -16,6 +16,7 @@ use Rattle.jsx_tree.specs.Language.{Whole}
 use Rattle.jsx_tree.specs.Answers.{Moves, Stuck, Missed, Only, Barred, OnlyRow, NoRow}
 use Rattle.jsx_tree.specs.declared.text.DeclareWord as code
 use Rattle.jsx_tree.specs.declared.text.DeclareWord.TheVariants as declare_word
+use Rattle.jsx_tree.specs.Faults.{Fault, Unread, Shallow, part_depth, deepest}
 use Rattle.jsx_tree.proofs.Tokens.{found_first, one_text, same_self}
 use Rattle.jsx_tree.proofs.Apart.{clash, never_both}
 use Rattle.jsx_tree.proofs.Rows.Bridge.{found_at}
@@ -26,9 +27,10 @@ use Rattle.jsx_tree.proofs.Rows.Firsts.{kind_home, no_expression}
 use Rattle.jsx_tree.proofs.Rows.Closers.{Shut, closes, shut_reading}
 use Rattle.jsx_tree.proofs.Rows.Lists.{none_next, round}
 use Rattle.jsx_tree.proofs.Rows.Optionals.{turn_absent, turn_present}
-use Rattle.jsx_tree.proofs.Rows.Placing.{no_node}
-use Rattle.jsx_tree.proofs.Rows.Steps.{bar, both, end, no_sign, on, only_sign, then'}
+use Rattle.jsx_tree.proofs.Rows.Placing.{no_node, node_shallow}
+use Rattle.jsx_tree.proofs.Rows.Steps.{bar, both, end, no_sign, only_sign, then'}
 use Rattle.jsx_tree.proofs.Rows.Turns.{Turn, early, prepend, turn_both, turn_final, turn_none, turn_only, whole_of}
+use Rattle.jsx_tree.proofs.Depth.Shallow.{shallow_first, shallow_head, part_up}
 use Rattle.jsx_operand.specs.SoFar.{Staged, so_far}
 use Rattle.jsx_token.specs.Marks.{ends_so_far, is_sign, row_so_far}
 use Rattle.jsx_token.specs.Semicolons.{in_list}
@@ -56,7 +58,7 @@ pub as_front : {v : Surroundings} {ps qs : List Piece} {x y : Place} {t : Tree} 
 as_front s = record { to = s.to; from = λ us w walk. let f = s.from us w walk in record { parts = f.parts; is = f.is; walk = f.walk } }
 
 pub as_turn : {v : Surroundings} {ps qs : List Piece} {x y : Place} {t : Tree} → Front v ps qs x t y → Turn so_far v ps qs x y (part t)
-as_turn s = record { to = s.to; from = λ us w walk. let f = s.from us w walk in record { parts = f.parts; is = f.is; walk = f.walk } }
+as_turn {t = t} s = record { to = s.to; from = λ us w walk. let f = s.from us w walk in record { parts = f.parts; is = f.is; walk = f.walk }; rises = part_up t }
 
 pub lost_there : (s : Sign) (x : Place) → forth s x ≡ Lost → IsTrue (is_found (forth s x)) → ⊥
 lost_there s x e f = let bad : IsTrue (is_found Lost) = subst (λ p. IsTrue (is_found p)) e f in cc
@@ -127,17 +129,17 @@ declares {v} {x} {z = z} {t = t} ts us l free marked o b m e = record {
   ended = subst (λ p. ends_so_far (Expr 0) p ≡ true) m.same (list_ended z b m.stuck.is (sym (one_ends z) ∙ (whole_of o.past).ends_there));
 }
 
-pub not_declared : {v : Surroundings} {x y : Place} (w : DeclareWord) (ts : Forest) → Turn so_far v free_row free_row x y (prepend ts) → Turn so_far v marked_row marked_row x y (prepend ts) → Barred so_far v (Part Declarators) y → NotDeclared v w x
+pub not_declared : {v : Surroundings} {x y : Place} {e : Fault} (w : DeclareWord) (ts : Forest) → Turn so_far v free_row free_row x y (prepend ts) → Turn so_far v marked_row marked_row x y (prepend ts) → Barred so_far v (Part Declarators) y e → NotDeclared v w x e
 not_declared w ts free marked b = record { free = no_node (none_next ts free b); marked = no_node (none_next ts marked b) }
 
-pub not_initialized : {v : Surroundings} {x y z : Place} {t : Tree} (w : DeclareWord) (ts : Forest) → Turn so_far v free_row free_row x y (prepend ts) → Turn so_far v marked_row marked_row x y (prepend ts) → Only so_far v (Part Declarators) y (one t) z → has_init w t ≡ false → NotDeclared v w x
+pub not_initialized : {v : Surroundings} {x y z : Place} {t : Tree} {e : Fault} (w : DeclareWord) (ts : Forest) → Turn so_far v free_row free_row x y (prepend ts) → Turn so_far v marked_row marked_row x y (prepend ts) → Only so_far v (Part Declarators) y (one t) z → has_init w t ≡ false → NotDeclared v w x e
 not_initialized {v} w ts free marked o n = record { free = no_init w (statement (Var w)) ts (list_inits w v) free o n; marked = no_init w (statement (ForDeclaration w)) ts (head_inits w v) marked o n }
 
 -- a statement's, with its semicolon
 pub declared_row : {v : Surroundings} {x y z : Place} {t : Tree} → Declares v x t y → Only so_far v semi y nothing z → OnlyRow so_far v free_row x (part t none) z
 declared_row d o = turn_only (as_turn d.free) (then' o (end (sign_there o.past)))
 
-pub undeclared_row : {v : Surroundings} {x y : Place} {t : Tree} → Declares v x t y → Barred so_far v semi y → NoRow so_far v free_row x
+pub undeclared_row : {v : Surroundings} {x y : Place} {t : Tree} {e : Fault} → Declares v x t y → Barred so_far v semi y e → NoRow so_far v free_row x e
 undeclared_row d b = turn_none (as_turn d.free) (bar b)
 
 -- ---- the word of a declaration
@@ -239,11 +241,11 @@ only_init {v} {x} {y} {t} n o = record { past = tree (record { reads = to_init (
     at h z (tree {t = u} w) = o.alone (one u) z (tree (whole_value n w))
 
 -- no `;` stands where an expression does
-unmarked : {v : Surroundings} {x y : Place} {t : Tree} → Staged v false (Expr 0) x t y → NoRow so_far v marked_end (forth (Unless []) x)
-unmarked {v} {x} {y} {t} r = record { no = at }
+unmarked : {v : Surroundings} {x y : Place} {t : Tree} {o : Fault} → Staged v false (Expr 0) x t y → NoRow so_far v marked_end (forth (Unless []) x) o
+unmarked {v} {x} {y} {t} {o = o} r = record { no = at }
   where
-    at : (us : Forest) (z : Place) → Walk (Whole so_far) (steady v) marked_end (forth (Unless []) x) us z → ⊥
-    at us z (next (sign e f) w) = shut_reading refl (closes {x = x} semicolon (subst (λ p. IsTrue (is_found (forth (pun ";") p))) (unless_none x (start_found of_so_far r)) (found_at e f))) r.reads
+    at : (us : Forest) (z : Place) → Walk (Whole so_far) (steady v) marked_end (forth (Unless []) x) us z → Shallow o (deepest us) → ⊥
+    at us z (next (sign e f) w) s = shut_reading refl (closes {x = x} semicolon (subst (λ p. IsTrue (is_found (forth (pun ";") p))) (unless_none x (start_found of_so_far r)) (found_at e f))) r.reads
 
 pub value_head : {v : Surroundings} {x y : Place} {t : Tree} → NoDeclaring x → Only so_far v (Part (Expr 0)) x (one t) y → opens_whole t ≡ false → IsHead v x t y
 value_head n o h =
@@ -251,16 +253,16 @@ value_head n o h =
     let r = (whole_of o.past).reads in
     record { front = as_front (turn_present refl i refl (end_found of_so_far r) (unmarked r)); closed = sym (whole_opened r) ∙ h }
 
-pub no_value_head : {v : Surroundings} {x : Place} → NoDeclaring x → Barred so_far v (Part (Expr 0)) x → NoHead v x
-no_value_head n b = record { no = λ t y w f c. b.no (one t) y (tree (whole_value n w)) }
+pub no_value_head : {v : Surroundings} {x : Place} {e : Fault} → NoDeclaring x → Barred so_far v (Part (Expr 0)) x e → NoHead v x e
+no_value_head n b = record { no = λ t y w f c s. b.no (one t) y (tree (whole_value n w)) s }
 
 abbrev pub tree_of : Given → Tree
 tree_of nothing = list none
 tree_of (one t) = t
 
-pub open_head : {v : Surroundings} {x y : Place} {t : Tree} → NoDeclaring x → Only so_far v (Part (Expr 0)) x (one t) y → opens_whole t ≡ true → NoHead v x
+pub open_head : {v : Surroundings} {x y : Place} {t : Tree} {e : Fault} → NoDeclaring x → Only so_far v (Part (Expr 0)) x (one t) y → opens_whole t ≡ true → NoHead v x e
 open_head {t = t} n o h = record {
-  no = λ u z w f c. clash _ (sym (whole_opened (whole_of o.past).reads) ∙ h) (ap (λ g. open_in (tree_of g)) (o.alone (one u) z (tree (whole_value n w))).0 ∙ c);
+  no = λ u z w f c s. clash _ (sym (whole_opened (whole_of o.past).reads) ∙ h) (ap (λ g. open_in (tree_of g)) (o.alone (one u) z (tree (whole_value n w))).0 ∙ c);
 }
 
 -- ---- a declaration
@@ -353,31 +355,32 @@ any_closed w ts d h = by d.stands
     by : {v : Surroundings} {x y : Place} → Past (Whole so_far) v (Many NoTrailing Declarators) x (one (list ts)) y → (any_open ts || false) ≡ false
     by (many n all) = ap (λ b. b || false) (sym (items_opened all) ∙ h)
 
-pub not_headed : {v : Surroundings} {x : Place} {w : DeclareWord} → NotDeclared v w x → NotHeaded v w x
-not_headed n = record { no = λ ts y walk k c. n.marked.no ts y walk k }
+pub not_headed : {v : Surroundings} {x : Place} {w : DeclareWord} {e : Fault} → NotDeclared v w x e → NotHeaded v w x e
+not_headed n = record { no = λ ts y walk k c s. n.marked.no ts y walk k s }
 
 or_left_false : (a b : Bool) → (a || b) ≡ false → a ≡ false
 or_left_false true b h = cc
 or_left_false false b h = refl
 
-pub open_headed : {v : Surroundings} {x y : Place} {w : DeclareWord} (ts : Forest) → Declares v x (list ts) y → any_opens ts ≡ true → NotHeaded v w x
-open_headed {v} {x} {y} {w} ts d h = record { no = at }
+pub open_headed : {v : Surroundings} {x y : Place} {w : DeclareWord} {o : Fault} (ts : Forest) → Declares v x (list ts) y → any_opens ts ≡ true → NotHeaded v w x o
+open_headed {v} {x} {y} {w} {o = o} ts d h = record { no = at }
   where
-    at : (us : Forest) (z : Place) → Walk (Whole so_far) (steady v) marked_row x us z → so_far.keeps (statement (ForDeclaration w)) v us ≡ true → open_in (node (statement (ForDeclaration w)) us) ≡ false → ⊥
-    at us z (next {ts = vs} (many {ts = ds} n all) rest) k c =
+    at : (us : Forest) (z : Place) → Walk (Whole so_far) (steady v) marked_row x us z → so_far.keeps (statement (ForDeclaration w)) v us ≡ true → open_in (node (statement (ForDeclaration w)) us) ≡ false → Shallow o (deepest us) → ⊥
+    at us z (next {ts = vs} (many {ts = ds} n all) rest) k c s =
         let f = d.marked.from (part (list ds) vs) z (next (many n all) rest) in
         let e : ts ≡ ds = λ i. items_of (head_of (f.is i)) in
         clash _ (sym (items_opened all) ∙ (ap any_opens (sym e) ∙ h)) (or_left_false (any_open ds) _ c)
 
-pub no_declared_head : {v : Surroundings} {x x1 : Place} (w : code.DeclareWord) → Moves (declare_sign w) x x1 → NotHeaded v (word_of w) x1 → NoHead v x
-no_declared_head {v} {x} {x1} w m n = record { no = at }
+pub no_declared_head : {v : Surroundings} {x x1 : Place} {e : Fault} (w : code.DeclareWord) → Moves (declare_sign w) x x1 → NotHeaded v (word_of w) x1 e → NoHead v x e
+no_declared_head {v} {x} {x1} {e = e} w m n = record { no = at }
   where
-    at : (t : Tree) (y : Place) → Whole so_far v false ForInit x t y → IsTrue (is_found (forth (pun ";") y)) → open_in t ≡ false → ⊥
-    at t y r f c =
+    at : (t : Tree) (y : Place) → Whole so_far v false ForInit x t y → IsTrue (is_found (forth (pun ";") y)) → open_in t ≡ false → Shallow e (part_depth t) → ⊥
+    at t y r f c s =
         let a = at_word w (found_at (sym m.is) m.found) r in
         let k = node_marked (word_of w) (word_moves w m).is a.whole refl (next (sign refl f) (done f)) in
         let p = of_so_far.from_node (statement (ForDeclaration (word_of w))) a.whole.reads in
         n.no (part k.all none) _ k.walk (subst (λ ts. so_far.keeps (statement (ForDeclaration (word_of w))) v ts ≡ true) k.is p.keeps) (ap (λ ts. open_in (node (statement (ForDeclaration (word_of w))) ts)) (sym k.is) ∙ (ap open_in (sym a.is) ∙ c))
+        (subst (λ ts. Shallow e (deepest ts)) k.is (node_shallow e false refl of_so_far a.whole.reads (subst (λ u. Shallow e (part_depth u)) a.is s)))
 
 -- ---- with the `;`
 
@@ -405,16 +408,16 @@ pub initial_closed : (t : Tree) → open_in t ≡ false → open_in (list (part 
 initial_closed t h = ap (λ b. b || false) h
 
 -- no `;` comes next, and what does come is none
-pub none_initial : {v : Surroundings} {x : Place} → Stuck (pun ";") x → NoHead v x → NoInitial v x
-none_initial {v} {x} k n = record { no = at }
+pub none_initial : {v : Surroundings} {x : Place} {o : Fault} → Stuck (pun ";") x → NoHead v x o → NoInitial v x o
+none_initial {v} {x} {o = o} k n = record { no = at }
   where
-    at : (us : Forest) (z : Place) → Walk (Whole so_far) (steady v) initial_row x us z → first_opens us ≡ false → ⊥
-    at us z (next (absent e f) (next (sign g h) rest)) c = lost_there (pun ";") x k.is (subst (λ p. IsTrue (is_found (forth (pun ";") p))) (sym e ∙ unless_none x (found_first (Unless [] ∷ []) x (found_at e f))) (found_at g h))
-    at us z (next (present {z = q} {t = t} a s b f) (next (sign g h) rest)) c =
-        n.no t q (subst (λ p. Whole so_far v false ForInit p t q) (sym a) s) (subst (λ p. IsTrue (is_found (forth (pun ";") p))) (sym b) (found_at g h)) (or_left_false (open_in t) false c)
+    at : (us : Forest) (z : Place) → Walk (Whole so_far) (steady v) initial_row x us z → first_opens us ≡ false → Shallow o (deepest us) → ⊥
+    at us z (next (absent e f) (next (sign g h) rest)) c s' = lost_there (pun ";") x k.is (subst (λ p. IsTrue (is_found (forth (pun ";") p))) (sym e ∙ unless_none x (found_first (Unless [] ∷ []) x (found_at e f))) (found_at g h))
+    at us z (next {ts = us'} (present {z = q} {t = t} a s b f) (next (sign g h) rest)) c s' =
+        n.no t q (subst (λ p. Whole so_far v false ForInit p t q) (sym a) s) (subst (λ p. IsTrue (is_found (forth (pun ";") p))) (sym b) (found_at g h)) (or_left_false (open_in t) false c) (shallow_head o t none (shallow_first o (one (list (part t none))) us' s'))
 
-pub unended_initial : {v : Surroundings} {x y : Place} {t : Tree} → IsHead v x t y → Barred so_far v (Fixed (pun ";")) y → NoInitial v x
-unended_initial h b = let n = turn_none (as_turn h.front) (bar b) in record { no = λ us z w c. n.no us z w }
+pub unended_initial : {v : Surroundings} {x y : Place} {t : Tree} {e : Fault} → IsHead v x t y → Barred so_far v (Fixed (pun ";")) y e → NoInitial v x e
+unended_initial h b = let n = turn_none (as_turn h.front) (bar b) in record { no = λ us z w c s. n.no us z w s }
 
 -- ---- the other two parts
 
@@ -432,17 +435,17 @@ no_clause {x = x} f h m =
 some_turn : {v : Surroundings} {x y : Place} {t : Tree} (f : Mark) → Stuck (sign_of f) x → Only so_far v (Part (Expr 0)) x (one t) y → Turn so_far v (clause_row f) (piece [] (Fixed (sign_of f)) ∷ []) x y (part (list (part t none)))
 some_turn {v} {x} f k o =
     let r = (whole_of o.past).reads in
-    turn_present refl o refl (end_found of_so_far r) (subst (λ p. NoRow so_far v (piece [] (Fixed (sign_of f)) ∷ []) p) (sym (unless_none x (start_found of_so_far r))) (bar (no_sign k)))
+    turn_present refl o refl (end_found of_so_far r) (subst (λ p. NoRow so_far v (piece [] (Fixed (sign_of f)) ∷ []) p Unread) (sym (unless_none x (start_found of_so_far r))) (bar (no_sign k)))
 
 pub some_clause : {v : Surroundings} {x x' y z : Place} {t : Tree} (f : Mark) → Missed (sign_of f) x x' → Only so_far v (Part (Expr 0)) x' (one t) y → Only so_far v (Fixed (sign_of f)) y nothing z → OnlyRow so_far v (clause_row f) x (part (list (part t none)) none) z
 some_clause {v} {y = y} {t = t} f m o e = turn_only (some_turn f m.stuck (subst (λ p. Only so_far v (Part (Expr 0)) p (one t) y) (sym m.same) o)) (then' e (end (sign_there e.past)))
 
-pub none_clause : {v : Surroundings} {x x' : Place} (f : Mark) → Missed (sign_of f) x x' → Barred so_far v (Part (Expr 0)) x' → NoRow so_far v (clause_row f) x
-none_clause {v} {x} {x'} f m b = record { no = at }
+pub none_clause : {v : Surroundings} {x x' : Place} {o : Fault} (f : Mark) → Missed (sign_of f) x x' → Barred so_far v (Part (Expr 0)) x' o → NoRow so_far v (clause_row f) x o
+none_clause {v} {x} {x'} {o = o} f m b = record { no = at }
   where
-    at : (us : Forest) (z : Place) → Walk (Whole so_far) (steady v) (clause_row f) x us z → ⊥
-    at us z (next (absent e g) (next (sign d h) rest)) = lost_there (sign_of f) x m.stuck.is (subst (λ p. IsTrue (is_found (forth (sign_of f) p))) (sym e ∙ unless_none x (found_first (Unless [] ∷ []) x (found_at e g))) (found_at d h))
-    at us z (next (present {t = t} a s d g) rest) = (subst (λ p. Barred so_far v (Part (Expr 0)) p) (sym m.same ∙ a) b).no (one t) _ (tree s)
+    at : (us : Forest) (z : Place) → Walk (Whole so_far) (steady v) (clause_row f) x us z → Shallow o (deepest us) → ⊥
+    at us z (next (absent e g) (next (sign d h) rest)) s' = lost_there (sign_of f) x m.stuck.is (subst (λ p. IsTrue (is_found (forth (sign_of f) p))) (sym e ∙ unless_none x (found_first (Unless [] ∷ []) x (found_at e g))) (found_at d h))
+    at us z (next {ts = us'} (present {t = t} a s d g) rest) s' = (subst (λ p. Barred so_far v (Part (Expr 0)) p o) (sym m.same ∙ a) b).no (one t) _ (tree s) (shallow_head o t none (shallow_first o (one (list (part t none))) us' s'))
 
-pub unended_clause : {v : Surroundings} {x x' y : Place} {t : Tree} (f : Mark) → Missed (sign_of f) x x' → Only so_far v (Part (Expr 0)) x' (one t) y → Barred so_far v (Fixed (sign_of f)) y → NoRow so_far v (clause_row f) x
+pub unended_clause : {v : Surroundings} {x x' y : Place} {t : Tree} {e : Fault} (f : Mark) → Missed (sign_of f) x x' → Only so_far v (Part (Expr 0)) x' (one t) y → Barred so_far v (Fixed (sign_of f)) y e → NoRow so_far v (clause_row f) x e
 unended_clause {v} {y = y} {t = t} f m o b = turn_none (some_turn f m.stuck (subst (λ p. Only so_far v (Part (Expr 0)) p (one t) y) (sym m.same) o)) (bar b)

@@ -1,41 +1,46 @@
 -- Statements of the language so far.
-use Rattle.std.proofs.Common.{◌≡◌, Bool, true, false, not, cond, List, [], ◌∷◌, refl, sym, ◌∙◌, ap, subst}
+use Rattle.std.proofs.Common.{◌≡◌, ◌≤◌, ℕ, suc, max, arith, Bool, true, false, not, cond, List, [], ◌∷◌, refl, sym, ◌∙◌, ap, subst}
 use Rattle.std.specs.Prelude.{IsTrue, codes, ◌&&◌}
 use Rattle.jsx_base.specs.Token.{Operator, Punctuator, is_token, among, token, same}
 use Rattle.jsx_tree.specs.Signs.{AfterExpr, AfterBinding, Sign, Unless, Ends}
 use Rattle.jsx_tree.specs.Kinds.{DeclareWord, VarWord, LetWord, ConstWord, Var, Declarator, ForDeclaration, ExprStmt, Binds, Kind, statement, Tree, leaf, node, list, Forest, none, part}
 use Rattle.jsx_tree.specs.Nonterminals.{Nonterminal, Expr, Pat, Declarators}
 use Rattle.jsx_tree.specs.Grammar.{NoTrailing, Part, Fixed, Many, key, pun, heads, semi}
-use Rattle.jsx_tree.specs.Form.{admits}
+use Rattle.jsx_tree.specs.Form.{admits, fits_below}
 use Rattle.jsx_tree.specs.Reading.{Place, Lost, At, forth}
 use Rattle.jsx_tree.specs.StaticRules.{Surroundings, all_of, list_rule, has_init}
-use Rattle.jsx_tree.specs.Walk.{is_found, nothing, one, Piece, piece, tail, Given, Past, sign, tree, absent, present, Walk, done, next, around, steady}
+use Rattle.jsx_tree.specs.Walk.{is_found, nothing, one, Piece, piece, Given, Past, sign, tree, absent, present, Walk, done, next, around, steady}
 use Rattle.jsx_tree.specs.Stops.{going}
 use Rattle.jsx_tree.specs.Language.{Language, Whole}
 use Rattle.jsx_tree.specs.Answers.{Moves, Stuck, Only, Barred, OnlyRow, NoRow, NoNode, BuiltNode}
+use Rattle.jsx_tree.specs.Faults.{Fault, Unread, Deep, outer, Shallow, part_depth, deepest, given_depth}
 use Rattle.jsx_operand.specs.SoFar.{Staged, so_far}
 use Rattle.jsx_token.specs.Marks.{ends_so_far, row_so_far}
 use Rattle.jsx_tree.proofs.Tokens.{and_left, and_right, and_both}
 use Rattle.jsx_tree.proofs.Apart.{clash}
 use Rattle.jsx_tree.proofs.Rows.Bridge.{found_at}
 use Rattle.jsx_tree.proofs.Rows.Stopping.{raw_of, not_is, is_not, stays}
-use Rattle.jsx_tree.proofs.Rows.Guarded.{to_grammar}
+use Rattle.jsx_tree.proofs.Rows.Guarded.{to_grammar, whole_walk}
 use Rattle.jsx_tree.proofs.Rows.Bodies.{plain}
 use Rattle.jsx_tree.proofs.Rows.Steps.{bar, on, then', end, only_sign, both}
 use Rattle.jsx_tree.proofs.Rows.Turns.{Turn, prepend, turn_only, whole_of}
 use Rattle.jsx_tree.proofs.Rows.Lists.{all_with}
-use Rattle.jsx_tree.proofs.Rows.Optionals.{turn_absent, present_last, none_last}
+use Rattle.jsx_tree.proofs.Rows.Optionals.{turn_absent, present_last}
 use Rattle.jsx_tree.proofs.Rows.Laws.{lost_barred, end_found, start_found}
-use Rattle.jsx_tree.proofs.Rows.Placing.{Chosen, OnlyAt, NoneAt, then_at, only_at, barred_at}
+use Rattle.jsx_tree.proofs.Rows.Placing.{Chosen, OnlyAt, NoneAt, then_at, only_at, barred_flat, free_around, moved}
 use Rattle.jsx_operand.proofs.OfSoFar.{of_so_far}
 use Rattle.jsx_operand.proofs.Patterns.{AtPattern, named, array, object, at_pattern, pattern_settled}
 use Rattle.jsx_operand.proofs.Homes.{no_list, Taken, taken_by, home_of}
 use Rattle.jsx_declaration.specs.Initials.{has_value}
 use Rattle.jsx_operand.proofs.Standing.{standing}
 use Rattle.jsx_tree.proofs.Rows.Firsts.{kind_home}
+use Rattle.jsx_tree.proofs.Depth.Shallow.{shallow_first, shallow_up}
+use Rattle.jsx_tree.proofs.Depth.Nodes.{depth_node}
 use Rattle.jsx_token.specs.Growths.{settled}
 use Rattle.jsx_operand.proofs.Values.{is_next, found_next}
 use Rattle.jsx_operand.proofs.Headless.{no_heads}
+use Rattle.jsx_operand.specs.Outgrown.{Outgrown}
+use Rattle.jsx_operand.proofs.Outgrown.{outgrown_deep}
 
 -- ---- a variable and its initializer
 
@@ -115,22 +120,68 @@ pub uninitialized : {v : Surroundings} {x y y1 : Place} {p w : Tree} → Only so
 uninitialized {v} {x} {y} {y1} o m k is = subst (λ t. Only so_far v (Part Declarators) x (one t) y1) (sym is)
     (one_bound (of_row (then' o (then' (only_sign m) (turn_only (turn_absent (unless_none y1 m.found) m.found (lost_barred of_so_far k.is)) (end m.found))))) (bound_ends y (name_ended o) m.is k))
 
-none_bound : {v : Surroundings} {x : Place} → NoneAt so_far v Declarators (row_so_far (statement Declarator)) (statement Declarator) x → Barred so_far v (Part Declarators) x
-none_bound n = barred_at of_so_far bound_chosen refl refl n
+none_bound : {v : Surroundings} {x : Place} {e : Fault} → NoneAt so_far v Declarators (row_so_far (statement Declarator)) (statement Declarator) x e → Barred so_far v (Part Declarators) x e
+none_bound n = barred_flat of_so_far bound_chosen refl refl n
 
-pub no_binding : {v : Surroundings} {x : Place} → Barred so_far v (Part (Pat Binds)) x → Barred so_far v (Part Declarators) x
-no_binding b = none_bound (record { no = λ ts y w k e. (bar b).no ts y w })
+pub no_binding : {v : Surroundings} {x : Place} {o : Fault} → Barred so_far v (Part (Pat Binds)) x o → Barred so_far v (Part Declarators) x o
+no_binding b = none_bound (record { no = λ ts y w k e s. (bar b).no ts y w s })
 
-pub no_initializer : {v : Surroundings} {x y y1 y2 : Place} {p : Tree} → Only so_far v (Part (Pat Binds)) x (one p) y → Moves (Ends AfterBinding) y y1 → Moves (pun "=") y1 y2 → Barred so_far v (Part (Expr 1)) y2 → Barred so_far v (Part Declarators) x
-no_initializer {v} {x} {y} {y1} {y2} o m q b = none_bound (record { no = at })
+-- behind `=` stands a value
+record Valued (v : Surroundings) (p : Tree) (a : Place) (ts : Forest) : Type 0 where
+  value : Tree
+  is : ts ≡ part p (part (list (part value none)) none)
+  place : Place
+  reads : Whole so_far v false (Expr 1) a value place
+
+one_is : {t u : Tree} → one t ≡ one u → t ≡ u
+one_is e = cc
+
+valued_row : {v : Surroundings} {x y y1 y2 z : Place} {p : Tree} {ts : Forest} → Only so_far v (Part (Pat Binds)) x (one p) y → Moves (Ends AfterBinding) y y1 → Moves (pun "=") y1 y2 → Walk (Whole so_far) (steady v) (row_so_far (statement Declarator)) x ts z → ends_so_far Declarators z ≡ true → Valued v p y2 ts
+valued_row {y = y} {y1} o m q (next {y = a} (tree {t = u} r) (next {y = b} (sign e f) (next (absent d g) (done k)))) h =
+    let same = o.alone (one u) a (tree r) in
+    let here : b ≡ y1 = sym e ∙ (ap (forth (Ends AfterBinding)) (sym same.1) ∙ sym m.is) in
+    absurd (clash _ (subst (λ c. ends_so_far Declarators c ≡ true) (sym d ∙ (unless_none b f ∙ here)) h) (bound_next y (name_ended o) m.is (found_next 61 [] y1 (found_at (sym q.is) q.found))))
+valued_row {v} {y1 = y1} o m q (next {y = a} (tree {t = u} r) (next {y = b} (sign e f) (next (present {y = c} {z = i} {t = w} d g k l) (done n)))) h =
+    let same = o.alone (one u) a (tree r) in
+    let here : b ≡ y1 = sym e ∙ (ap (forth (Ends AfterBinding)) (sym same.1) ∙ sym m.is) in
+    record { value = w; is = ap (λ t. part t (part (list (part w none)) none)) (sym (one_is same.0)); place = i; reads = subst (λ s. Whole so_far v false (Expr 1) s w i) (sym d ∙ (ap (forth (pun "=")) here ∙ sym q.is)) g }
+
+-- so it is one deeper than the pattern, and than its value
+barred_valued : {v : Surroundings} {x y y1 y2 : Place} {p : Tree} {e : Fault} → Only so_far v (Part (Pat Binds)) x (one p) y → Moves (Ends AfterBinding) y y1 → Moves (pun "=") y1 y2 → ((t : Tree) (z : Place) → Whole so_far v false (Expr 1) y2 t z → Shallow e (suc (max (part_depth p) (part_depth t))) → ⊥) → Barred so_far v (Part Declarators) x e
+barred_valued {v} {x} {p = p} {e} o m q f = record { no = at }
   where
-    last : (us : Forest) (u : Place) → Walk (Whole so_far) (steady v) (tail (tail (row_so_far (statement Declarator)))) y1 us u → ends_so_far Declarators u ≡ true → ⊥
-    last us u w h = none_last {o = Declarators} (bound_next y (name_ended o) m.is (found_next 61 [] y1 (found_at (sym q.is) q.found))) (sym q.is) b us u w h
+    deep : (t : Tree) → fits_below Declarators (node (statement Declarator) (part p (part (list (part t none)) none))) ≡ true → suc (max (part_depth p) (part_depth t)) ≤ part_depth (node (statement Declarator) (part p (part (list (part t none)) none)))
+    deep t h =
+        let d : part_depth (node (statement Declarator) (part p (part (list (part t none)) none))) ≡ suc (max 0 (max (part_depth p) (max (max (part_depth t) 0) 0))) = depth_node Declarators (statement Declarator) (part p (part (list (part t none)) none)) refl h in
+        omega (arith, d)
 
-    at : (ts : Forest) (z : Place) → Walk (Whole so_far) (steady v) (row_so_far (statement Declarator)) x ts z → so_far.keeps (statement Declarator) v ts ≡ true → ends_so_far Declarators z ≡ true → ⊥
-    at ts z (next r (next {ts = us} (sign e f) w)) k h =
-        let same = o.alone _ _ r in
-        last us z (subst (λ p. Walk (Whole so_far) (steady v) (tail (tail (row_so_far (statement Declarator)))) p us z) (sym e ∙ (ap (forth (Ends AfterBinding)) (sym same.1) ∙ sym m.is)) w) h
+    by : (u : Tree) (z : Place) → Whole so_far v false Declarators x u z → Shallow e (part_depth u) → ⊥
+    by (leaf s t) z w a = bound_chosen.no_leaf s t z w
+    by (list ts) z w a = no_list w.reads
+    by (node l us) z w a =
+        let i = bound_kind l us (taken_by w.reads) (home_of w.reads) in
+        let w' : Whole so_far v false Declarators x (node (statement Declarator) us) z = subst (λ k. Whole so_far v false Declarators x (node k us) z) i w in
+        let row = moved (λ c h. free_around c us v h) refl (whole_walk of_so_far Declarators (row_so_far (statement Declarator)) refl w'.ends_there (of_so_far.from_node (statement Declarator) w'.reads).walk) in
+        let n = valued_row o m q row w'.ends_there in
+        let formed = and_right (admits Declarators (node (statement Declarator) us)) (fits_below Declarators (node (statement Declarator) us)) w'.reads.reads.is in
+        let le = deep n.value (subst (λ ts. fits_below Declarators (node (statement Declarator) ts) ≡ true) n.is formed) in
+        let same : part_depth (node l us) ≡ part_depth (node (statement Declarator) (part p (part (list (part n.value none)) none))) = ap part_depth (ap (λ k. node k us) i ∙ ap (node (statement Declarator)) n.is) in
+        f n.value n.place n.reads (shallow_up e (suc (max (part_depth p) (part_depth n.value))) (part_depth (node l us)) (omega (arith, le, same)) a)
+
+    at : (h : Given) (z : Place) → Past (Whole so_far) v (Part Declarators) x h z → Shallow e (given_depth h) → ⊥
+    at h z (tree {t = u} w) a = by u z w a
+
+-- no value stands there, within what is left for it
+pub no_initializer : {v : Surroundings} {x y y1 y2 : Place} {p : Tree} {d : Fault} → Only so_far v (Part (Pat Binds)) x (one p) y → Moves (Ends AfterBinding) y y1 → Moves (pun "=") y1 y2 → Barred so_far v (Part (Expr 1)) y2 d → Barred so_far v (Part Declarators) x (outer d)
+no_initializer {p = p} {d = d} o m q b = barred_valued o m q (λ t z r a. b.no (one t) z (tree r) (less d (part_depth p) (part_depth t) a))
+  where
+    less : (d : Fault) (m n : ℕ) → Shallow (outer d) (suc (max m n)) → Shallow d n
+    less Unread m n a = tt
+    less (Deep k) m n a = omega (arith, a)
+
+-- or the pattern is too deep for one
+pub outgrown_initializer : {v : Surroundings} {x y y1 y2 : Place} {p : Tree} {e : Fault} → Only so_far v (Part (Pat Binds)) x (one p) y → Moves (Ends AfterBinding) y y1 → Moves (pun "=") y1 y2 → Outgrown p e → Barred so_far v (Part Declarators) x e
+outgrown_initializer {p = p} {e = e} o m q b = barred_valued o m q (λ t z r a. outgrown_deep (Pat Binds) e p (and_right (admits (Pat Binds) p) (fits_below (Pat Binds) p) (whole_of o.past).reads.reads.is) b (shallow_up e (suc (part_depth p)) (suc (max (part_depth p) (part_depth t))) (omega arith) a))
 
 -- ---- a declaration of variables, behind its word
 
@@ -159,12 +210,12 @@ pub head_inits : (w : DeclareWord) (v : Surroundings) (ts us : Forest) → so_fa
 head_inits w v ts us k = and_left (inits w ts) _ (and_left (all_of (list_rule (inits w)) (part (list ts) us)) _ k)
 
 -- one without an initializer, whatever stands behind the list
-pub no_init : {v : Surroundings} {ps : List Piece} {x y z : Place} {t : Tree} (w : DeclareWord) (k : Kind) (ts : Forest) → ((us ws : Forest) → so_far.keeps k v (part (list us) ws) ≡ true → inits w us ≡ true)
-    → Turn so_far v (piece [] (Many NoTrailing Declarators) ∷ ps) (piece [] (Many NoTrailing Declarators) ∷ ps) x y (prepend ts) → Only so_far v (Part Declarators) y (one t) z → has_init w t ≡ false → NoNode so_far v (piece [] (Many NoTrailing Declarators) ∷ ps) k x
-no_init {v} {ps} {x} {t = t} w k ts asks so o n = record { no = at }
+pub no_init : {v : Surroundings} {ps : List Piece} {x y z : Place} {t : Tree} {e : Fault} (w : DeclareWord) (k : Kind) (ts : Forest) → ((us ws : Forest) → so_far.keeps k v (part (list us) ws) ≡ true → inits w us ≡ true)
+    → Turn so_far v (piece [] (Many NoTrailing Declarators) ∷ ps) (piece [] (Many NoTrailing Declarators) ∷ ps) x y (prepend ts) → Only so_far v (Part Declarators) y (one t) z → has_init w t ≡ false → NoNode so_far v (piece [] (Many NoTrailing Declarators) ∷ ps) k x e
+no_init {v} {ps} {x} {t = t} {e = e} w k ts asks so o n = record { no = at }
   where
-    at : (us : Forest) (z : Place) → Walk (Whole so_far) (steady v) (piece [] (Many NoTrailing Declarators) ∷ ps) x us z → so_far.keeps k v us ≡ true → ⊥
-    at us z walk h =
+    at : (us : Forest) (z : Place) → Walk (Whole so_far) (steady v) (piece [] (Many NoTrailing Declarators) ∷ ps) x us z → so_far.keeps k v us ≡ true → Shallow e (deepest us) → ⊥
+    at us z walk h s =
         let a = all_with ts so o us z walk in
         without w ts t a.0 n (asks (both ts (part t a.0)) a.1.0 (subst (λ vs. so_far.keeps k v vs ≡ true) a.1.1 h))
 
@@ -217,11 +268,11 @@ statement_built {v} {t = t} k f c o s is =
     let r = statement_row k f c o s in
     record { parts = part t none; is = is; row = r; keeps = and_both _ _ (plain (row_so_far (statement ExprStmt)) refl (to_grammar of_so_far r.walk)) refl }
 
-pub no_value_statement : {v : Surroundings} {x : Place} → Barred so_far v (Part (Expr 0)) x → NoRow so_far v (row_so_far (statement ExprStmt)) x
-no_value_statement {v} {x} b = record { no = at }
+pub no_value_statement : {v : Surroundings} {x : Place} {o : Fault} → Barred so_far v (Part (Expr 0)) x o → NoRow so_far v (row_so_far (statement ExprStmt)) x o
+no_value_statement {v} {x} {o = o} b = record { no = at }
   where
-    at : (us : Forest) (w : Place) → Walk (Whole so_far) (steady v) (row_so_far (statement ExprStmt)) x us w → ⊥
-    at us w (next (sign e f) (next {y = z} {g = g} q walk)) = b.no g z (subst (λ p. Past (Whole so_far) v (Part (Expr 0)) p g z) (sym e ∙ stays (Unless heads) x refl (found_at e f)) q)
+    at : (us : Forest) (w : Place) → Walk (Whole so_far) (steady v) (row_so_far (statement ExprStmt)) x us w → Shallow o (deepest us) → ⊥
+    at us w (next (sign e f) (next {y = z} {g = g} {ts = vs} q walk)) s = b.no g z (subst (λ p. Past (Whole so_far) v (Part (Expr 0)) p g z) (sym e ∙ stays (Unless heads) x refl (found_at e f)) q) (shallow_first o g vs s)
 
-pub unfinished : {v : Surroundings} {x y : Place} {t : Tree} → Stuck (pun "{") x → Stuck (key "function") x → Stuck (key "class") x → Only so_far v (Part (Expr 0)) x (one t) y → Barred so_far v semi y → NoRow so_far v (row_so_far (statement ExprStmt)) x
+pub unfinished : {v : Surroundings} {x y : Place} {t : Tree} {e : Fault} → Stuck (pun "{") x → Stuck (key "function") x → Stuck (key "class") x → Only so_far v (Part (Expr 0)) x (one t) y → Barred so_far v semi y e → NoRow so_far v (row_so_far (statement ExprStmt)) x e
 unfinished k f c o s = on (heads_only (start_found of_so_far (whole_of o.past).reads) (no_heads k f c (whole_of o.past).reads)) (on o (bar s))

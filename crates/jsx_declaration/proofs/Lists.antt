@@ -10,6 +10,7 @@ use Rattle.jsx_tree.specs.Answers.{Only, Barred, Moves}
 use Rattle.jsx_tree.specs.View.{forest, inside, view_pat}
 use Rattle.jsx_tree.specs.Told.{told_pat}
 use Rattle.jsx_tree.specs.declared.tree.Pat.{Pat as Code}
+use Rattle.jsx_tree.specs.Faults.{Fault}
 use Rattle.jsx_tree.proofs.Rows.Bridge.{found_at}
 use Rattle.jsx_tree.proofs.Rows.Lists.{begun, one_next}
 use Rattle.jsx_tree.proofs.Rows.Turns.{Turn, prepend}
@@ -87,10 +88,10 @@ read_all {w = w} {ps = ps} {qs} p a e h b l same = record {
       };
 }
 
-pub read_bare : {v : Surroundings} {w : DeclareWord} {first p : Code} {y z : Here} {ps : List (Box Code Global)} → AllRead v w first y ps p z → has_value w (view_pat p) ≡ false → NoneDeclare v w first y
+pub read_bare : {v : Surroundings} {w : DeclareWord} {first p : Code} {y z : Here} {ps : List (Box Code Global)} {e : Fault} → AllRead v w first y ps p z → has_value w (view_pat p) ≡ false → NoneDeclare v w first y e
 read_bare {w = w} a h = record { no = λ x f. let r = a.on x f in not_initialized w _ r.free r.marked r.next.only (read_value w r.next.only ∙ h) }
 
-pub read_none : {v : Surroundings} {w : DeclareWord} {first : Code} {y z : Here} {ps qs : List (Box Code Global)} (p : Box Code Global) (u : Here) → AllRead v w first y ps p.value z → qs ≡ ps ++ p ∷ [] → in_list (place_of z) ≡ true → Moves (pun ",") (place_of z) (place_of u) → Barred so_far v (Part Declarators) (place_of u) → NoneDeclare v w first y
+pub read_none : {v : Surroundings} {w : DeclareWord} {first : Code} {y z : Here} {ps qs : List (Box Code Global)} {o : Fault} (p : Box Code Global) (u : Here) → AllRead v w first y ps p.value z → qs ≡ ps ++ p ∷ [] → in_list (place_of z) ≡ true → Moves (pun ",") (place_of z) (place_of u) → Barred so_far v (Part Declarators) (place_of u) o → NoneDeclare v w first y o
 read_none {w = w} {z = z} {ps = ps} {qs} p u a e b m n = record {
   no = λ x f.
       let r = a.on x f in

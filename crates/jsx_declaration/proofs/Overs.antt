@@ -6,7 +6,7 @@ use Rattle.jsx_tree.specs.Signs.{Sign, Tok}
 use Rattle.jsx_tree.specs.Kinds.{DeclareWord, Binds, Assigns, ArrayPat, ObjectPat, ForBinding, Member, Index, SuperMember, SuperIndex, ParenTarget, Parenthesized, Kind, statement, expression, function, Tree, leaf, node, list, Forest, none, part}
 use Rattle.jsx_tree.specs.Nonterminals.{Nonterminal, Expr, ForHead, ForOfHead, Pat, SimpleTarget, homes, in_homes, leaf_in}
 use Rattle.jsx_tree.specs.Grammar.{Part, key, pun, vars}
-use Rattle.jsx_tree.specs.Form.{admits, is_leaf}
+use Rattle.jsx_tree.specs.Form.{admits, fits_below, is_leaf}
 use Rattle.jsx_tree.specs.Reading.{Place, forth}
 use Rattle.jsx_tree.specs.StaticRules.{Surroundings}
 use Rattle.jsx_tree.specs.View.{word_of}
@@ -15,7 +15,9 @@ use Rattle.jsx_tree.specs.Language.{Whole}
 use Rattle.jsx_tree.specs.Grows.{as_target}
 use Rattle.jsx_tree.specs.Answers.{Moves, Only, Barred, OnlyRow, NoRow}
 use Rattle.jsx_tree.specs.declared.text.DeclareWord as code
-use Rattle.jsx_tree.proofs.Tokens.{and_left, and_both}
+use Rattle.jsx_tree.specs.Depth.{deep, depth}
+use Rattle.jsx_tree.specs.Faults.{Fault, Unread, Shallow, part_depth, deepest, given_depth}
+use Rattle.jsx_tree.proofs.Tokens.{and_left, and_right, and_both}
 use Rattle.jsx_tree.proofs.Apart.{clash, never_both, one_token}
 use Rattle.jsx_tree.proofs.Rows.Bridge.{found_at}
 use Rattle.jsx_tree.proofs.Rows.Bodies.{plain}
@@ -23,8 +25,11 @@ use Rattle.jsx_tree.proofs.Rows.Closers.{closes, shut_reading}
 use Rattle.jsx_tree.proofs.Rows.Guarded.{loosen, to_grammar}
 use Rattle.jsx_tree.proofs.Rows.Laws.{end_found}
 use Rattle.jsx_tree.proofs.Rows.Stopping.{heeds, never_stops, or_cases, sign_stops}
-use Rattle.jsx_tree.proofs.Rows.Targets.{as_value, is_member, Aim, named, member, paired, Target, name_target, member_target, pair_target, value_aims, target_back, Level, level_0, left_simple}
+use Rattle.jsx_tree.proofs.Rows.Targets.{as_value, is_member, Aim, named, member, paired, Target, name_target, member_target, pair_target, value_aims, target_back, Level, level_0, left_simple, spelled_target}
 use Rattle.jsx_tree.proofs.Rows.Turns.{whole_of}
+use Rattle.jsx_tree.proofs.Depth.Nodes.{read_depth}
+use Rattle.jsx_tree.proofs.Depth.Shallow.{shallow_head}
+use Rattle.jsx_tree.proofs.Rows.Placing.{flat_shallow}
 use Rattle.jsx_token.specs.Stage.{leaf_at}
 use Rattle.jsx_token.specs.Marks.{row_so_far}
 use Rattle.jsx_operand.specs.SoFar.{Staged, so_far}
@@ -136,18 +141,18 @@ pattern_is (node _ ts) e = cc
 pattern_is _ e = cc
 
 -- no pattern in brackets stands there with the word behind it
-pub record NoPattern (v : Surroundings) (s : Sign) (x : Place) : Type 0 where
-  pub no : (c : Nonterminal) (k : Kind) (ts : Forest) (z : Place) → is_bracket k ≡ true → Staged v false c x (node k ts) z → IsTrue (is_found (forth s z)) → ⊥
+pub record NoPattern (v : Surroundings) (s : Sign) (x : Place) (e : Fault) : Type 0 where
+  pub no : (c : Nonterminal) (k : Kind) (ts : Forest) (z : Place) → is_bracket k ≡ true → Staged v false c x (node k ts) z → IsTrue (is_found (forth s z)) → Shallow e (part_depth (node k ts)) → ⊥
 
 -- nor with the other
-pub record NoOver (v : Surroundings) (x : Place) : Type 0 where
-  pub keys : NoPattern v (key "in") x
-  pub items : NoPattern v (key "of") x
+pub record NoOver (v : Surroundings) (x : Place) (e : Fault) : Type 0 where
+  pub keys : NoPattern v (key "in") x e
+  pub items : NoPattern v (key "of") x e
 
-not_pattern : {v : Surroundings} {c : Nonterminal} {s : Sign} {x z : Place} (u : Tree) → NoPattern v s x → Staged v false c x u z → IsTrue (is_found (forth s z)) → (b : Bool) → in_brackets u ≡ b → b ≡ false
-not_pattern u n r f false e = refl
-not_pattern {c = c} {z = z} (node k ts) n r f true e = absurd (n.no c k ts z e r f)
-not_pattern _ n r f true e = cc
+not_pattern : {v : Surroundings} {c : Nonterminal} {s : Sign} {x z : Place} {o : Fault} (u : Tree) → NoPattern v s x o → Staged v false c x u z → IsTrue (is_found (forth s z)) → Shallow o (part_depth u) → (b : Bool) → in_brackets u ≡ b → b ≡ false
+not_pattern u n r f a false e = refl
+not_pattern {c = c} {z = z} (node k ts) n r f a true e = absurd (n.no c k ts z e r f a)
+not_pattern _ n r f a true e = cc
 
 -- none does where another token stands
 other_pattern : {v : Surroundings} {c : Nonterminal} {x z : Place} (l : TokenKind) (w : Text) → (is_kind Punctuator l && same (codes "[") w) ≡ false → (is_kind Punctuator l && same (codes "{") w) ≡ false → IsTrue (is_found (forth (Tok Operator l w) x)) → (u : Tree) → Staged v false c x u z → (b : Bool) → in_brackets u ≡ b → b ≡ false
@@ -215,8 +220,8 @@ one_is : {t u : Tree} → one t ≡ one u → t ≡ u
 one_is e = cc
 
 -- whatever stands there with the word behind it is the one expression that ends before `in`
-aimed_one : {v : Surroundings} {c : Nonterminal} {s : Sign} {x y z : Place} {t u : Tree} (h : Header c s) → NoDeclaring x → NoPattern v s x → Only so_far v (Part (Expr 11)) x (one t) y → Staged v false c x u z → IsTrue (is_found (forth s z)) → Aimed h t u y z
-aimed_one {v} {c} {x = x} {y} {z} {t} {u} h n b o r f = head_cases h u (not_pattern u b r f (in_brackets u) refl) r aimed (λ w ts e. absurd (no_binding_there n (subst (λ q. Staged v false c x q z) e r)))
+aimed_one : {v : Surroundings} {c : Nonterminal} {s : Sign} {x y z : Place} {t u : Tree} (e : Fault) (h : Header c s) → NoDeclaring x → NoPattern v s x e → Only so_far v (Part (Expr 11)) x (one t) y → Staged v false c x u z → IsTrue (is_found (forth s z)) → Shallow e (part_depth u) → Aimed h t u y z
+aimed_one {v} {c} {x = x} {y} {z} {t} {u} e h n b o r f a = head_cases h u (not_pattern u b r f a (in_brackets u) refl) r aimed (λ w ts i. absurd (no_binding_there n (subst (λ q. Staged v false c x q z) i r)))
   where
     aimed : Target u → h.fits (as_value u) ≡ true → Aimed h t u y z
     aimed p i =
@@ -224,46 +229,56 @@ aimed_one {v} {c} {x = x} {y} {z} {t} {u} h n b o r f = head_cases h u (not_patt
         let e = one_is same.0 in
         record { is = ap as_target e ∙ target_back p; fits = ap h.fits e ∙ i; place = same.1 }
 
-pub aimed_only : {v : Surroundings} {c : Nonterminal} {s : Sign} {x y y' : Place} {t : Tree} {d : Nonterminal} (h : Header c s) → NoDeclaring x → NoPattern v s x → Only so_far v (Part (Expr 11)) x (one t) y → h.fits t ≡ true → Staged v false d x t y → Moves s y y' → OnlyRow so_far v (over_row c s) x (part (as_target t) none) y'
+pub aimed_only : {v : Surroundings} {c : Nonterminal} {s : Sign} {x y y' : Place} {t : Tree} {d : Nonterminal} (h : Header c s) → NoDeclaring x → NoPattern v s x Unread → Only so_far v (Part (Expr 11)) x (one t) y → h.fits t ≡ true → Staged v false d x t y → Moves s y y' → OnlyRow so_far v (over_row c s) x (part (as_target t) none) y'
 aimed_only {v} {c} {s} {x} {y} {y'} {t} h n b o i r m = record { walk = next (tree (head_ended h (aimed_head h i r) (found_at (sym m.is) m.found))) (next (sign (sym m.is) m.found) (done m.found)); alone = at }
   where
     at : (us : Forest) (w : Place) → Walk (Whole so_far) (steady v) (over_row c s) x us w → (part (as_target t) none ≡ us) × (y' ≡ w)
     at us w (next {y = z} (tree {t = u} q) (next (sign e f) (done g))) =
-        let same = aimed_one h n b o q.reads (found_at e f) in
+        let same = aimed_one Unread h n b o q.reads (found_at e f) tt in
         (ap (λ a. part a none) same.is, m.is ∙ (ap (forth s) same.place ∙ e))
 
 -- no such word stands there, or the expression is no target
-pub aimed_none : {v : Surroundings} {c : Nonterminal} {s : Sign} {x y : Place} {t : Tree} (h : Header c s) → NoDeclaring x → NoPattern v s x → Only so_far v (Part (Expr 11)) x (one t) y → (h.fits t ≡ true → IsTrue (is_found (forth s y)) → ⊥) → NoRow so_far v (over_row c s) x
-aimed_none {v} {c} {s} {x} {y} {t} h n b o bad = record { no = at }
+pub aimed_none : {v : Surroundings} {c : Nonterminal} {s : Sign} {x y : Place} {t : Tree} {d : Fault} (h : Header c s) → NoDeclaring x → NoPattern v s x d → Only so_far v (Part (Expr 11)) x (one t) y → (h.fits t ≡ true → IsTrue (is_found (forth s y)) → ⊥) → NoRow so_far v (over_row c s) x d
+aimed_none {v} {c} {s} {x} {y} {t} {d = d} h n b o bad = record { no = at }
   where
-    at : (us : Forest) (w : Place) → Walk (Whole so_far) (steady v) (over_row c s) x us w → ⊥
-    at us w (next {y = z} (tree {t = u} q) (next (sign e f) (done g))) =
-        let same = aimed_one h n b o q.reads (found_at e f) in
+    at : (us : Forest) (w : Place) → Walk (Whole so_far) (steady v) (over_row c s) x us w → Shallow d (deepest us) → ⊥
+    at us w (next {y = z} (tree {t = u} q) (next (sign e f) (done g))) a =
+        let same = aimed_one d h n b o q.reads (found_at e f) (shallow_head d u none a) in
         bad same.fits (subst (λ p. IsTrue (is_found (forth s p))) (sym same.place) (found_at e f))
 
-pub barred_none : {v : Surroundings} {c : Nonterminal} {s : Sign} {x : Place} → Header c s → NoDeclaring x → NoPattern v s x → Barred so_far v (Part (Expr 11)) x → NoRow so_far v (over_row c s) x
-barred_none {v} {c} {s} {x} h n p b = record { no = at }
-  where
-    at : (us : Forest) (w : Place) → Walk (Whole so_far) (steady v) (over_row c s) x us w → ⊥
-    at us w (next {y = z} (tree {t = u} q) (next (sign e f) (done g))) =
-        head_cases h u (not_pattern u p q.reads (found_at e f) (in_brackets u) refl) q.reads (λ w i. b.no (one (as_value u)) z (tree (aimed_whole h w q.reads (found_at e f)))) (λ d ts a. no_binding_there n (subst (λ w. Staged v false c x w z) a q.reads))
+formed : {v : Surroundings} {c : Nonterminal} {x y : Place} {t : Tree} → Staged v false c x t y → fits_below c t ≡ true
+formed {c = c} {t = t} q = and_right (admits c t) (fits_below c t) (of_so_far.is_read q).is
 
-pub none_over : {v : Surroundings} {x : Place} → NoDeclaring x → NoPattern v (key "in") x → NoPattern v (key "of") x → Barred so_far v (Part (Expr 11)) x → NotOver v x
+-- a target is as deep as the expression that it is read as
+aimed_depth : {v : Surroundings} {c d : Nonterminal} {x y : Place} {u : Tree} → Target u → Staged v false c x u y → Staged v false d x (as_value u) y → part_depth u ≡ part_depth (as_value u)
+aimed_depth {c = c} {d} {u = u} p q r = sym (read_depth c u (formed q)) ∙ (sym (ap depth (target_back p)) ∙ (ap deep (spelled_target (as_value u)) ∙ read_depth d (as_value u) (formed r)))
+
+pub barred_none : {v : Surroundings} {c : Nonterminal} {s : Sign} {x : Place} {o : Fault} → Header c s → NoDeclaring x → NoPattern v s x o → Barred so_far v (Part (Expr 11)) x o → NoRow so_far v (over_row c s) x o
+barred_none {v} {c} {s} {x} {o = o} h n p b = record { no = at }
+  where
+    at : (us : Forest) (w : Place) → Walk (Whole so_far) (steady v) (over_row c s) x us w → Shallow o (deepest us) → ⊥
+    at us w (next {y = z} (tree {t = u} q) (next (sign e f) (done g))) s' =
+        let a = shallow_head o u none s' in
+        head_cases h u (not_pattern u p q.reads (found_at e f) a (in_brackets u) refl) q.reads
+        (λ w i. let r = aimed_whole h w q.reads (found_at e f) in b.no (one (as_value u)) z (tree r) (subst (Shallow o) (aimed_depth w q.reads r.reads) a))
+        (λ d ts i. no_binding_there n (subst (λ w. Staged v false c x w z) i q.reads))
+
+pub none_over : {v : Surroundings} {x : Place} {e : Fault} → NoDeclaring x → NoPattern v (key "in") x e → NoPattern v (key "of") x e → Barred so_far v (Part (Expr 11)) x e → NotOver v x e
 none_over n p q b = record { keys = barred_none keys n p b; items = barred_none items n q b }
 
-pub passed_over : {v : Surroundings} {x y : Place} {t : Tree} → NoDeclaring x → NoPattern v (key "in") x → NoPattern v (key "of") x → Only so_far v (Part (Expr 11)) x (one t) y → (IsTrue (is_found (forth (key "in") y)) → ⊥) → (IsTrue (is_found (forth (key "of") y)) → ⊥) → NotOver v x
+pub passed_over : {v : Surroundings} {x y : Place} {t : Tree} {e : Fault} → NoDeclaring x → NoPattern v (key "in") x e → NoPattern v (key "of") x e → Only so_far v (Part (Expr 11)) x (one t) y → (IsTrue (is_found (forth (key "in") y)) → ⊥) → (IsTrue (is_found (forth (key "of") y)) → ⊥) → NotOver v x e
 passed_over n p q o a b = record { keys = aimed_none keys n p o (λ i f. a f); items = aimed_none items n q o (λ i f. b f) }
 
 -- where a semicolon stands
-marked_none : {v : Surroundings} {c : Nonterminal} {s : Sign} {x : Place} → Header c s → IsTrue (is_found (forth (pun ";") x)) → NoRow so_far v (over_row c s) x
-marked_none {v} {c} {s} {x} h m = record { no = at }
+marked_none : {v : Surroundings} {c : Nonterminal} {s : Sign} {x : Place} {o : Fault} → Header c s → IsTrue (is_found (forth (pun ";") x)) → NoRow so_far v (over_row c s) x o
+marked_none {v} {c} {s} {x} {o = o} h m = record { no = at }
   where
-    at : (us : Forest) (w : Place) → Walk (Whole so_far) (steady v) (over_row c s) x us w → ⊥
-    at us w (next {y = z} (tree {t = u} q) (next (sign e f) (done g))) =
+    at : (us : Forest) (w : Place) → Walk (Whole so_far) (steady v) (over_row c s) x us w → Shallow o (deepest us) → ⊥
+    at us w (next {y = z} (tree {t = u} q) (next (sign e f) (done g))) s' =
         head_cases h u (other_pattern Punctuator (codes ";") refl refl m u q.reads (in_brackets u) refl) q.reads (λ p i. shut_reading refl (closes {x = x} semicolon m) (as_any p q.reads).reads)
         (λ d ts a. never_both Punctuator IdentifierName (codes ";") (vars d) x refl m (binding_found (subst (λ p. Staged v false c x p z) a q.reads)))
 
-pub marked_over : {v : Surroundings} {x : Place} → IsTrue (is_found (forth (pun ";") x)) → NotOver v x
+pub marked_over : {v : Surroundings} {x : Place} {e : Fault} → IsTrue (is_found (forth (pun ";") x)) → NotOver v x e
 marked_over m = record { keys = marked_none keys m; items = marked_none items m }
 
 -- ---- behind the word of a declaration
@@ -313,15 +328,18 @@ bound_only {v} {c} {s} {x} {x1} {x2} {x3} {n} {t} h w m o q is = record { walk =
         let same = o.alone (one b.name) p b.stands in
         (ap (λ a. part a none) (is ∙ (ap (λ a. node (statement (ForBinding (word_of w))) (part a none)) (one_is same.0) ∙ sym b.is)), q.is ∙ (ap (forth s) same.1 ∙ e))
 
-bound_none : {v : Surroundings} {c : Nonterminal} {s : Sign} {x x1 : Place} → Header c s → (w : code.DeclareWord) → Moves (declare_sign w) x x1 → ((n : Tree) (z : Place) → Past (Whole so_far) v (Part (Pat Binds)) x1 (one n) z → IsTrue (is_found (forth s z)) → ⊥) → NoRow so_far v (over_row c s) x
-bound_none {v} {c} {s} {x} h w m bad = record { no = at }
+bound_none : {v : Surroundings} {c : Nonterminal} {s : Sign} {x x1 : Place} {o : Fault} → Header c s → (w : code.DeclareWord) → Moves (declare_sign w) x x1 → ((n : Tree) (z : Place) → Past (Whole so_far) v (Part (Pat Binds)) x1 (one n) z → IsTrue (is_found (forth s z)) → Shallow o (given_depth (one n)) → ⊥) → NoRow so_far v (over_row c s) x o
+bound_none {v} {c} {s} {x} {o = o} h w m bad = record { no = at }
   where
-    at : (us : Forest) (z : Place) → Walk (Whole so_far) (steady v) (over_row c s) x us z → ⊥
-    at us z (next {y = p} (tree {t = u} r) (next (sign e f) (done g))) = let b = word_bound h w m r.reads in bad b.name p b.stands (found_at e f)
+    at : (us : Forest) (z : Place) → Walk (Whole so_far) (steady v) (over_row c s) x us z → Shallow o (deepest us) → ⊥
+    at us z (next {y = p} (tree {t = u} r) (next (sign e f) (done g))) a =
+        let b = word_bound h w m r.reads in
+        bad b.name p b.stands (found_at e f)
+        (shallow_head o b.name none (flat_shallow o of_so_far (subst (λ t. Staged v false c x t p) b.is r.reads) (subst (λ t. Shallow o (part_depth t)) b.is (shallow_head o u none a))))
 
 -- no name stands there, or no such word behind it
-pub unbound : {v : Surroundings} {x x1 : Place} (w : code.DeclareWord) → Moves (declare_sign w) x x1 → Barred so_far v (Part (Pat Binds)) x1 → NotOver v x
-unbound w m b = record { keys = bound_none keys w m (λ n z p f. b.no (one n) z p); items = bound_none items w m (λ n z p f. b.no (one n) z p) }
+pub unbound : {v : Surroundings} {x x1 : Place} {e : Fault} (w : code.DeclareWord) → Moves (declare_sign w) x x1 → Barred so_far v (Part (Pat Binds)) x1 e → NotOver v x e
+unbound w m b = record { keys = bound_none keys w m (λ n z p f s. b.no (one n) z p s); items = bound_none items w m (λ n z p f s. b.no (one n) z p s) }
 
-pub bound_lost : {v : Surroundings} {c : Nonterminal} {s : Sign} {x x1 x2 : Place} {n : Tree} → Header c s → (w : code.DeclareWord) → Moves (declare_sign w) x x1 → Only so_far v (Part (Pat Binds)) x1 (one n) x2 → (IsTrue (is_found (forth s x2)) → ⊥) → NoRow so_far v (over_row c s) x
-bound_lost {s = s} h w m o l = bound_none h w m (λ k z p f. l (subst (λ q. IsTrue (is_found (forth s q))) (sym (o.alone (one k) z p).1) f))
+pub bound_lost : {v : Surroundings} {c : Nonterminal} {s : Sign} {x x1 x2 : Place} {n : Tree} {e : Fault} → Header c s → (w : code.DeclareWord) → Moves (declare_sign w) x x1 → Only so_far v (Part (Pat Binds)) x1 (one n) x2 → (IsTrue (is_found (forth s x2)) → ⊥) → NoRow so_far v (over_row c s) x e
+bound_lost {s = s} h w m o l = bound_none h w m (λ k z p f _. l (subst (λ q. IsTrue (is_found (forth s q))) (sym (o.alone (one k) z p).1) f))

@@ -16,7 +16,6 @@ use Rattle.jsx_token.specs.Here.{Here, place_of, sign_of}
 use Rattle.jsx_token.specs.declared.lexer.Fixed.{Fixed}
 use Rattle.jsx_token.specs.declared.lexer.Fixed.TheVariants as fixed
 use Rattle.jsx_declaration.specs.Heads.{clause_symbols, declare_sign, initial_symbols, items_symbols, keys_symbols}
-use Rattle.jsx_token.specs.declared.word.Word.TheVariants as word
 use Rattle.jsx_declaration.specs.declared.label.Label.{Label}
 use Rattle.jsx_declaration.specs.Labels.{jump_symbols, label_text, target_of, told_target}
 use Rattle.jsx_operand.specs.Spans.{Spans, IsPlaced, IsPlacedFront, IsPlacedList}

@@ -1,6 +1,5 @@
 -- `return` behind its word, with its value on the line or with none.
 use Rattle.std.proofs.Common.{◌≡◌, true, false, List, [], ◌∷◌, refl, sym, ◌∙◌, subst}
-use Rattle.std.specs.Prelude.{◌&&◌}
 use Rattle.jsx_base.specs.declared.place.Span.{Span}
 use Rattle.std.specs.Prelude.{Option}
 use Rattle.jsx_tree.specs.Signs.{AfterWord, Ends, SameLine, Semicolon}
@@ -9,11 +8,12 @@ use Rattle.jsx_tree.specs.Nonterminals.{Expr}
 use Rattle.jsx_tree.specs.Grammar.{Part, semi}
 use Rattle.jsx_tree.specs.Reading.{Place, forth}
 use Rattle.jsx_tree.specs.StaticRules.{Surroundings, has_plain_params}
-use Rattle.jsx_tree.specs.Spans.{Told, no_tales, tale, tells}
+use Rattle.jsx_tree.specs.Spans.{Told, no_tales, tale}
 use Rattle.jsx_tree.specs.Told.{told_list, told_node}
 use Rattle.jsx_tree.specs.Walk.{Piece, nothing, one, tail, sign, absent, present, Walk, next}
 use Rattle.jsx_tree.specs.Language.{Whole}
 use Rattle.jsx_tree.specs.Answers.{Moves, Missed, Only, Barred, OnlyRow, NoRow, NoNode, BuiltNode}
+use Rattle.jsx_tree.specs.Faults.{Fault}
 use Rattle.jsx_tree.proofs.Apart.{clash}
 use Rattle.jsx_tree.proofs.Tokens.{and_both, and_right}
 use Rattle.jsx_tree.proofs.Rows.Bodies.{plain}
@@ -45,10 +45,10 @@ no_value m n = then' (only_sign m) (turn_only (word_absent of_so_far refl (only_
 pub some_value : {v : Surroundings} {x y y' z w : Place} {t : Tree} → Moves (Ends AfterWord) x y → Missed Semicolon y y' → Only so_far v (Part (Expr 0)) y' (one t) z → Only so_far v semi z nothing w → OnlyRow so_far v returned_row x (part (list (part t none)) none) w
 some_value m n o e = then' (only_sign m) (turn_only (word_present of_so_far refl (only_sign m) n o) (ended_sign e))
 
-pub unread_value : {v : Surroundings} {x y y' : Place} → Moves (Ends AfterWord) x y → Missed Semicolon y y' → Barred so_far v (Part (Expr 0)) y' → NoRow so_far v returned_row x
+pub unread_value : {v : Surroundings} {x y y' : Place} {e : Fault} → Moves (Ends AfterWord) x y → Missed Semicolon y y' → Barred so_far v (Part (Expr 0)) y' e → NoRow so_far v returned_row x e
 unread_value m n b = on (only_sign m) (word_none of_so_far (only_sign m) n b)
 
-pub unended_value : {v : Surroundings} {x y y' z : Place} {t : Tree} → Moves (Ends AfterWord) x y → Missed Semicolon y y' → Only so_far v (Part (Expr 0)) y' (one t) z → Barred so_far v semi z → NoRow so_far v returned_row x
+pub unended_value : {v : Surroundings} {x y y' z : Place} {t : Tree} {e : Fault} → Moves (Ends AfterWord) x y → Missed Semicolon y y' → Only so_far v (Part (Expr 0)) y' (one t) z → Barred so_far v semi z e → NoRow so_far v returned_row x e
 unended_value m n o b = on (only_sign m) (turn_none (word_present of_so_far refl (only_sign m) n o) (bar b))
 
 -- a value that is read so stands on the line
@@ -63,8 +63,8 @@ on_its_line {v} {x} {y} {w} {t} m o = at o.walk refl
 pub return_built : {v : Surroundings} {x z : Place} {t : Tree} {ts : Forest} → v.returns ≡ true → OnlyRow so_far v returned_row x ts z → t ≡ node (statement Return) ts → BuiltNode so_far v returned_row (statement Return) t x z
 return_built {ts = ts} r o is = record { parts = ts; is = is; row = o; keeps = and_both (has_plain_params ts) _ (plain returned_row refl (to_grammar of_so_far o.walk)) r }
 
-pub no_return : {v : Surroundings} {x : Place} → v.returns ≡ false → NoNode so_far v returned_row (statement Return) x
-no_return {v} n = record { no = λ ts z w h. clash _ (and_right (has_plain_params ts) v.returns h) n }
+pub no_return : {v : Surroundings} {x : Place} {e : Fault} → v.returns ≡ false → NoNode so_far v returned_row (statement Return) x e
+no_return {v} n = record { no = λ ts z w h s. clash _ (and_right (has_plain_params ts) v.returns h) n }
 
 -- ---- places
 

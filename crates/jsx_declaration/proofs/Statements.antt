@@ -23,7 +23,7 @@ use Rattle.jsx_tree.proofs.Rows.Guarded.{guarded, to_grammar}
 use Rattle.jsx_tree.proofs.Rows.Bodies.{bodiless, plain}
 use Rattle.jsx_tree.proofs.Rows.Firsts.{Keyed, is_head, kind_home, key_row, row_key}
 use Rattle.jsx_tree.proofs.Rows.Closers.{Closer, Shut, closes, shut_reading}
-use Rattle.jsx_tree.proofs.Rows.Placing.{Chosen, free}
+use Rattle.jsx_tree.proofs.Rows.Placing.{Chosen}
 use Rattle.jsx_token.specs.Stage.{leaf_at}
 use Rattle.jsx_operand.specs.SoFar.{Staged, so_far}
 use Rattle.jsx_token.specs.Marks.{ends_so_far, row_so_far}

@@ -16,6 +16,7 @@ use Rattle.jsx_tree.specs.Walk.{is_found, one, Items, nil, last, more, tree, tai
 use Rattle.jsx_tree.specs.Language.{Whole}
 use Rattle.jsx_tree.specs.Answers.{Moves, Stuck, Only, Barred, Built}
 use Rattle.jsx_tree.specs.declared.tree.Expr.{Expr as Code}
+use Rattle.jsx_tree.specs.Faults.{Fault, Unread, Shallow, part_depth, outer}
 use Rattle.jsx_tree.proofs.Tokens.{and_left, and_right, and_both, one_text, same_self}
 use Rattle.jsx_tree.proofs.Apart.{clash, never_both}
 use Rattle.jsx_tree.proofs.Rows.Bridge.{found_at}
@@ -23,9 +24,10 @@ use Rattle.jsx_tree.proofs.Rows.Guarded.{whole_items_found}
 use Rattle.jsx_tree.proofs.Rows.Stopping.{is_not, or_cases, sign_stops}
 use Rattle.jsx_tree.proofs.Rows.Targets.{left_pattern}
 use Rattle.jsx_tree.proofs.Rows.Turns.{whole_of}
+use Rattle.jsx_tree.proofs.Rows.Steps.{any_barred}
 use Rattle.jsx_token.specs.Here.{Here, place_of}
 use Rattle.jsx_token.specs.Marks.{ends_so_far, row_so_far}
-use Rattle.jsx_token.specs.Growths.{rung, OnLine, level_of_kind, mark, same_sign, closed, settled, is_blocked}
+use Rattle.jsx_token.specs.Growths.{Rung, rung, is_rung, reaches, seat, OnLine, level_of_kind, mark, same_sign, closed, settled, is_blocked}
 use Rattle.jsx_token.proofs.Listed.{Listed, kinds, every, of_each, implies, implied}
 use Rattle.jsx_token.proofs.Levels.{grows_on, marked, marks_on}
 use Rattle.jsx_token.proofs.Marks.{one_sign}
@@ -43,6 +45,8 @@ use Rattle.jsx_operand.proofs.Homes.{AtWhole, single, several, Value, at_whole, 
 use Rattle.jsx_operand.proofs.Rungs.{rung_single}
 use Rattle.jsx_operand.proofs.Values.{at_one, listed_node, move, Quote}
 use Rattle.jsx_operand.proofs.Tags.{sign_piece}
+use Rattle.jsx_operand.specs.Outgrown.{Outgrown}
+use Rattle.jsx_operand.proofs.Outgrowing.{climb_outgrown}
 use Rattle.jsx_operand.proofs.Climbing.{begins_grows, below_level, climb_barred, climb_on, climb_only, climb_tagged, climb_unfit, next_mark, mark_goes, tagged_unread, Going, by_arrow, by_mark, by_piece, goes_next}
 use Rattle.jsx_expression.specs.Covers.{above, BeginsAt, BeginsCover, BeforeSign, before_equals, before_arrow, Higher, as_begun, as_made, IsMade, IsOperand, LeadsTo, leads, leads_none, NoHigher, none_begun, none_made, NoOperand}
 use Rattle.jsx_function.specs.Covers.{IsPlacedCover, Settles}
@@ -117,8 +121,8 @@ ends_one : (z : Place) → ends_so_far (Expr 0) z ≡ true → ends_so_far (Expr
 ends_one z e = of_so_far.covered (Expr 0) (Expr 1) z refl e
 
 -- so no `for` stands there whose first part may have none
-pub in_head : {v : Surroundings} {x y : Place} {t : Tree} → NoDeclaring x → Climbs v (rung 1) x t y → IsTrue (is_found (forth (key "in") y)) → NoHead v x
-in_head {v} {x} {y} {t} n c f = record { no = λ u z w m o. by u z (at_whole u (whole_value n w).reads) (whole_value n w) m o }
+pub in_head : {v : Surroundings} {x y : Place} {t : Tree} {d : Fault} → NoDeclaring x → Climbs v (rung 1) x t y → IsTrue (is_found (forth (key "in") y)) → NoHead v x d
+in_head {v} {x} {y} {t} {d = d} n c f = record { no = λ u z w m o s'. by u z (at_whole u (whole_value n w).reads) (whole_value n w) m o s' }
   where
     first : Value t
     first = value t (rung_single (rung 1) refl) c.reads
@@ -131,19 +135,19 @@ in_head {v} {x} {y} {t} n c f = record { no = λ u z w m o. by u z (at_whole u (
         (λ a b. absurd (never_both Punctuator IdentifierName (codes ",") (codes "in") y refl (subst (λ h. IsTrue (is_found (forth (pun ",") h))) (sym b) (found_at g (whole_items_found of_so_far all))) f))
         (λ o. ap (λ b. b || any_open (part q us)) o)
 
-    by : (u : Tree) (z : Place) → AtWhole u → Whole so_far v false (Expr 0) x u z → IsTrue (is_found (forth (pun ";") z)) → open_in u ≡ false → ⊥
-    by u z (single a) w m o =
+    by : (u : Tree) (z : Place) → AtWhole u → Whole so_far v false (Expr 0) x u z → IsTrue (is_found (forth (pun ";") z)) → open_in u ≡ false → Shallow d (part_depth u) → ⊥
+    by u z (single a) w m o s =
         in_or_stay first f (c.follows.all u z (record { reads = move at_one a w.reads; ends_there = ends_one z w.ends_there }))
         (λ a b. never_both Punctuator IdentifierName (codes ";") (codes "in") y refl (subst (λ p. IsTrue (is_found (forth (pun ";") p))) (sym b) m) f)
         (λ i. clash _ i o)
-    by u z (several {ts = vs}) w m o =
+    by u z (several {ts = vs}) w m o s =
         let p = several_of w in
         clash _ (ap (λ b. b || false) (items_open p.parts p.two p.items)) (ap (λ ws. open_in (node (expression Seq) ws)) (sym p.is) ∙ o)
 
 -- nor before `of`
-pub of_head : {v : Surroundings} {x y : Place} {t : Tree} → NoDeclaring x → Only so_far v (Part (Expr 1)) x (one t) y → closed y ≡ true → IsTrue (is_found (forth (key "of") y)) → NoHead v x
+pub of_head : {v : Surroundings} {x y : Place} {t : Tree} {e : Fault} → NoDeclaring x → Only so_far v (Part (Expr 1)) x (one t) y → closed y ≡ true → IsTrue (is_found (forth (key "of") y)) → NoHead v x e
 of_head {v} {x} {y} {t} n o s f = record {
-  no = λ u z w m c.
+  no = λ u z w m c h.
       let same = (whole_only o s (lost_if (forth (pun ",") y) (λ g. never_both Punctuator IdentifierName (codes ",") (codes "of") y refl g f))).alone (one u) z (tree (whole_value n w)) in
       never_both Punctuator IdentifierName (codes ";") (codes "of") y refl (subst (λ p. IsTrue (is_found (forth (pun ";") p))) (sym same.1) m) f;
 }
@@ -162,13 +166,13 @@ pub record PatternsAt (v : Surroundings) (x y : Place) : Type 0 where
   pub on : (p : Tree) (z : Place) → is_bracketed p ≡ true → Staged v false (Pat Assigns) x p z → Over z → y ≡ z
 
 -- at no place
-abbrev NoneOver : Surroundings → Place → Type 0
-NoneOver v x = (p : Tree) (z : Place) → is_bracketed p ≡ true → Staged v false (Pat Assigns) x p z → Over z → ⊥
+record NoneOver (v : Surroundings) (x : Place) (e : Fault) : Type 0 where
+  no : (p : Tree) (z : Place) → is_bracketed p ≡ true → Staged v false (Pat Assigns) x p z → Over z → Shallow e (part_depth p) → ⊥
 
-none_past : {v : Surroundings} {x : Place} → NoneOver v x → NoOver v x
+none_past : {v : Surroundings} {x : Place} {o : Fault} → NoneOver v x o → NoOver v x o
 none_past {v} {x} n = record {
-  keys = record { no = λ c k ts z e r f. n (node k ts) z (pattern_is (node k ts) e) (pattern_there (node k ts) e r) (over_keys f) };
-  items = record { no = λ c k ts z e r f. n (node k ts) z (pattern_is (node k ts) e) (pattern_there (node k ts) e r) (over_items f) };
+  keys = record { no = λ c k ts z e r f s. n.no (node k ts) z (pattern_is (node k ts) e) (pattern_there (node k ts) e r) (over_keys f) s };
+  items = record { no = λ c k ts z e r f s. n.no (node k ts) z (pattern_is (node k ts) e) (pattern_there (node k ts) e r) (over_items f) s };
 }
 
 over_at : {y z : Place} → y ≡ z → Over z → (IsTrue (is_found (forth (key "in") y)) → ⊥) → (IsTrue (is_found (forth (key "of") y)) → ⊥) → ⊥
@@ -176,17 +180,23 @@ over_at e (over_keys f) a b = a (subst (λ q. IsTrue (is_found (forth (key "in")
 over_at e (over_items f) a b = b (subst (λ q. IsTrue (is_found (forth (key "of") q))) (sym e) f)
 
 -- no word stands at the one place where it may
-none_over_at : {v : Surroundings} {x y : Place} → PatternsAt v x y → (IsTrue (is_found (forth (key "in") y)) → ⊥) → (IsTrue (is_found (forth (key "of") y)) → ⊥) → NoneOver v x
-none_over_at n a b = λ p z e r o. over_at (n.on p z e r o) o a b
+none_over_at : {v : Surroundings} {x y : Place} {d : Fault} → PatternsAt v x y → (IsTrue (is_found (forth (key "in") y)) → ⊥) → (IsTrue (is_found (forth (key "of") y)) → ⊥) → NoneOver v x d
+none_over_at n a b = record { no = λ p z e r o s. over_at (n.on p z e r o) o a b }
 
 -- ---- whether a target is near
 
-over_far : {v : Surroundings} {x : Place} → NoDeclaring x → NoneOver v x → Far v x → NotOver v x
-over_far n p (far_value b) = let q = none_past p in none_over n q.keys q.items b
-over_far n p (far_over o) = o
+over_value : {v : Surroundings} {x : Place} {e : Fault} → NoDeclaring x → NoneOver v x e → Barred so_far v (Part (Expr 11)) x e → NotOver v x e
+over_value n p b = let q = none_past p in none_over n q.keys q.items b
+
+any_over : {v : Surroundings} {x : Place} {e : Fault} → NotOver v x Unread → NotOver v x e
+any_over o = record { keys = record { no = λ ts y w s. o.keys.no ts y w tt }; items = record { no = λ ts y w s. o.items.no ts y w tt } }
+
+over_far : {v : Surroundings} {x : Place} {e : Fault} → NoDeclaring x → NoneOver v x e → Far v x → NotOver v x e
+over_far n p (far_value b) = over_value n p (any_barred b)
+over_far n p (far_over o) = any_over o
 
 -- where a mark other than `in` comes next, it goes on before an `in`, or no target ends there
-on_or_over : {v : Surroundings} {x y : Place} {t : Tree} {A : Type 0} (k : Kind) → NoDeclaring x → NoneOver v x → is_blocked y ≡ false → Near v x t y → Listed k → marks_on k ≡ true → OnLine k y → IsTrue (is_found (forth (mark k) y)) → (IsTrue (is_found (forth (key "in") y)) → ⊥) → (nat_le 11 (level_of_kind k) ≡ true → Climbs v (rung 11) x t y → A) → (Far v x → A) → A
+on_or_over : {v : Surroundings} {x y : Place} {t : Tree} {A : Type 0} (k : Kind) → NoDeclaring x → NoneOver v x Unread → is_blocked y ≡ false → Near v x t y → Listed k → marks_on k ≡ true → OnLine k y → IsTrue (is_found (forth (mark k) y)) → (IsTrue (is_found (forth (key "in") y)) → ⊥) → (nat_le 11 (level_of_kind k) ≡ true → Climbs v (rung 11) x t y → A) → (Far v x → A) → A
 on_or_over k n p s (far o) l g i f a on other = other o
 on_or_over {y = y} k n p s (near_whole e o) l g i f a on other = absurd (clash (is_blocked y) e s)
 on_or_over {v} {x} {y} {t} {A} k n p s (near c) l g i f a on other = by (nat_le 11 (level_of_kind k)) refl
@@ -219,18 +229,18 @@ made_ends : {a : Place} → BeforeSign a → ends_so_far (Expr 11) a ≡ true
 made_ends {a} (before_equals f) = of_so_far.ends_there (Expr 11) a (sign_stops (Expr 11) (pun "=") a refl f)
 made_ends {a} (before_arrow f) = of_so_far.ends_there (Expr 11) a (sign_stops (Expr 11) (pun "=>") a refl f)
 
-made_none : {v : Surroundings} {x : Place} → IsMade v x → NoneOver v x
-made_none m = λ p z e r o. over_at (m.pattern p z e r) o (made_in m.sign) (made_of m.sign)
+made_none : {v : Surroundings} {x : Place} {d : Fault} → IsMade v x → NoneOver v x d
+made_none m = record { no = λ p z e r o s. over_at (m.pattern p z e r) o (made_in m.sign) (made_of m.sign) }
 
-made_over : {v : Surroundings} {x : Place} → NoDeclaring x → IsMade v x → NotOver v x
-made_over {v} {x} n m = by (m.higher (rung 11) refl refl)
+made_over : {v : Surroundings} {x : Place} {e : Fault} → NoDeclaring x → IsMade v x → NotOver v x e
+made_over {v} {x} {e = e} n m = by (m.higher (rung 11) refl refl)
   where
-    past : NoOver v x
+    past : NoOver v x e
     past = none_past (made_none m)
 
-    by : LeadsTo v (rung 11) x m.place → NotOver v x
+    by : LeadsTo v (rung 11) x m.place → NotOver v x e
     by (leads t c) = passed_over n past.keys past.items (climb_only (rung 11) refl c (made_ends m.sign)) (made_in m.sign) (made_of m.sign)
-    by (leads_none b) = none_over n past.keys past.items b
+    by (leads_none b) = none_over n past.keys past.items (any_barred b)
 
 higher_near : {v : Surroundings} {x y : Place} {c : Cover} → NoDeclaring x → Higher v x c y → c.is_expr ≡ true → Near v x (view_cover c) y
 higher_near n (as_made m) e = far (far_over (made_over n m))
@@ -240,11 +250,11 @@ higher_far : {v : Surroundings} {x y : Place} {c : Cover} → NoDeclaring x → 
 higher_far n (as_made m) e = far_over (made_over n m)
 higher_far n (as_begun b) e = far_value (b.none e (rung 11) refl (above refl))
 
-pub stem_unbegun : {v : Surroundings} {x : Place} → NoDeclaring x → NoOperand v 1 x → NoStem v x
-stem_unbegun {v} {x} n b = record { barred = b.whole.none; over = by (b.higher refl) }
+pub stem_unbegun : {v : Surroundings} {x : Place} {f : Fault} → NoDeclaring x → NoOperand v 1 x f → NoStem v x f
+stem_unbegun {v} {x} {f = f} n b = record { barred = b.whole.none; over = by (b.higher refl) }
   where
-    by : NoHigher v x → NotOver v x
-    by (none_begun d) = over_far n (λ p z e r o. d.pattern.no p z e r) (far_value (d.none.on (rung 11) refl))
+    by : NoHigher v x f → NotOver v x f
+    by (none_begun d) = over_value n (record { no = λ p z e r o s. d.pattern.no p z e r s }) (d.none.on (rung 11) refl)
     by (none_made m) = made_over n m
 
 -- ---- the loop
@@ -295,20 +305,20 @@ stem_pattern {c = c} n o e s = record {
 }
 
 -- what may not stand there
-pub stem_low : {v : Surroundings} {x y : Place} {c : Cover} → NoDeclaring x → IsOperand v 1 x c y → nat_le 1 (level (view_cover c)) ≡ false → nat_le 11 (level (view_cover c)) ≡ false → NoStem v x
-stem_low {v} {x} {y} {c} n o l h = record { barred = barred_by c.is_expr refl; over = by (o.higher refl) }
+pub stem_low : {v : Surroundings} {x y : Place} {c : Cover} {d : Fault} → NoDeclaring x → IsOperand v 1 x c y → nat_le 1 (level (view_cover c)) ≡ false → nat_le 11 (level (view_cover c)) ≡ false → NoStem v x d
+stem_low {v} {x} {y} {c} {d = d} n o l h = record { barred = barred_by c.is_expr refl; over = by (o.higher refl) }
   where
-    barred_by : (b : Bool) → c.is_expr ≡ b → Barred so_far v (Part (Expr 1)) x
-    barred_by true e = (o.expr e).low l
-    barred_by false e = o.none e
+    barred_by : (b : Bool) → c.is_expr ≡ b → Barred so_far v (Part (Expr 1)) x d
+    barred_by true e = any_barred ((o.expr e).low l)
+    barred_by false e = any_barred (o.none e)
 
-    tight : BeginsCover v x c y → (b : Bool) → c.is_expr ≡ b → Barred so_far v (Part (Expr 11)) x
-    tight b true e = (b.expr e (rung 11) refl (above refl)).low h
-    tight b false e = b.none e (rung 11) refl (above refl)
+    tight : BeginsCover v x c y → (b : Bool) → c.is_expr ≡ b → Barred so_far v (Part (Expr 11)) x d
+    tight b true e = any_barred ((b.expr e (rung 11) refl (above refl)).low h)
+    tight b false e = any_barred (b.none e (rung 11) refl (above refl))
 
-    by : Higher v x c y → NotOver v x
+    by : Higher v x c y → NotOver v x d
     by (as_made m) = made_over n m
-    by (as_begun b) = over_far n (λ p z i r w. clash (is_literal (view_cover c)) (bracketed_literal (b.pattern.alone p z i r).0.turns i) (literal_high (view_cover c) l)) (far_value (tight b c.is_expr refl))
+    by (as_begun b) = over_value n (record { no = λ p z i r w s. clash (is_literal (view_cover c)) (bracketed_literal (b.pattern.alone p z i r).0.turns i) (literal_high (view_cover c) l) }) (tight b c.is_expr refl)
 
 patterns_at : {v : Surroundings} {x y : Place} {c : Cover} → Stem v x c y → PatternsAt v x y
 patterns_at s = record { on = λ p z e r o. (s.patterns p z e r o).1 }
@@ -346,8 +356,8 @@ grown_is {t = t} k l g n =
 pub tagged_is : {v : Surroundings} {t w : Tree} {a y : Place} → Built so_far v (tail (row_so_far (expression Tagged))) (expression Tagged) (part t) w a y → IsGrown w
 tagged_is n = record { plain = ap is_literal n.is; bare = ap is_pair n.is }
 
-stem_grown : {v : Surroundings} {x y : Place} {e : Box Code Global} → NoneOver v x → IsGrown (view_expr e.value) → closed y ≡ true → IsOngoing v 1 x (cover_of e true) y → Near v x (view_expr e.value) y → Stem v x (cover_of e true) y
-stem_grown {v} {x} {y} {e} n g s o h = record { so_far = o; targets = h; reads = reads_by; patterns = λ p z i r w. absurd (n p z i r w); may = λ h. refl; ended = s }
+stem_grown : {v : Surroundings} {x y : Place} {e : Box Code Global} → NoneOver v x Unread → IsGrown (view_expr e.value) → closed y ≡ true → IsOngoing v 1 x (cover_of e true) y → Near v x (view_expr e.value) y → Stem v x (cover_of e true) y
+stem_grown {v} {x} {y} {e} n g s o h = record { so_far = o; targets = h; reads = reads_by; patterns = λ p z i r w. absurd (n.no p z i r w tt); may = λ h. refl; ended = s }
   where
     read : (i : Bool) → is_blocked y ≡ i → Staged v false (Expr 1) x (view_expr e.value) y
     read true h = (whole_of (o.blocked h).past).reads
@@ -356,7 +366,7 @@ stem_grown {v} {x} {y} {e} n g s o h = record { so_far = o; targets = h; reads =
     reads_by : (p : Tree) → IsTurned (cover_of e true) p → Staged v false (Pat Assigns) x p y
     reads_by p d = subst (λ u. Staged v false (Pat Assigns) x u y) (sym (turned_target d.turns g.plain)) (staged_target left_pattern refl (aim_of (view_expr e.value) (turned_aims d.turns g.plain)) (read (is_blocked y) refl))
 
-near_more : {v : Surroundings} {x a b y : Place} {t w : Tree} (k : Kind) → NoDeclaring x → NoneOver v x → is_blocked a ≡ false → Near v x t a → Listed k → marks_on k ≡ true → OnLine k a → Moves (mark k) a b → (IsTrue (is_found (forth (key "in") a)) → ⊥) → fits k t ≡ true → Grown v k t b w y → Settles (level_of_kind k) y → Near v x w y
+near_more : {v : Surroundings} {x a b y : Place} {t w : Tree} (k : Kind) → NoDeclaring x → NoneOver v x Unread → is_blocked a ≡ false → Near v x t a → Listed k → marks_on k ≡ true → OnLine k a → Moves (mark k) a b → (IsTrue (is_found (forth (key "in") a)) → ⊥) → fits k t ≡ true → Grown v k t b w y → Settles (level_of_kind k) y → Near v x w y
 near_more k n p e c l g o m i f built s = on_or_over k n p e c l g o (found_at (sym m.is) m.found) i (λ h d. near (climb_on (rung 11) k refl l g d o m h f built (s.on (tighter (level_of_kind k) h)))) (λ d. far d)
   where
     tighter : (n : ℕ) → nat_le 11 n ≡ true → nat_le 3 n ≡ true
@@ -374,7 +384,7 @@ near_tagged e (near c) q f built s = near (climb_tagged (rung 11) refl c q f bui
 near_tagged {a = a} e (near_whole b o) q f built s = absurd (clash (is_blocked a) b e)
 near_tagged e (far o) q f built s = far o
 
-quote_none : {v : Surroundings} {x a : Place} {c : Cover} → Stem v x c a → Quote a → NoneOver v x
+quote_none : {v : Surroundings} {x a : Place} {c : Cover} {e : Fault} → Stem v x c a → Quote a → NoneOver v x e
 quote_none st q = none_over_at (patterns_at st) (λ f. sign_piece (key "in") _ refl refl f q) (λ f. sign_piece (key "of") _ refl refl f q)
 
 pub stem_tagged : {v : Surroundings} {x a y : Place} {c : Cover} {e : Box Code Global} → Stem v x c a → is_blocked a ≡ false → Quote a → fits (expression Tagged) (view_cover c) ≡ true → Built so_far v (tail (row_so_far (expression Tagged))) (expression Tagged) (part (view_cover c)) (view_expr e.value) a y → settled y ≡ true → Stem v x (cover_of e true) y
@@ -382,38 +392,42 @@ stem_tagged {y = y} {e = e} st free q f built s = stem_grown (quote_none st q) (
 
 -- ---- what can't be read
 
-pub stem_untagged : {v : Surroundings} {x a : Place} {c : Cover} → NoDeclaring x → Stem v x c a → is_blocked a ≡ false → Quote a → NotTagged v (view_cover c) a → NoStem v x
-stem_untagged {v} {x} {a} {c} n st free q u = record { barred = tagged_unread (rung 1) refl (st.so_far.climbs free) q u; over = by st.targets }
+pub stem_untagged : {v : Surroundings} {x a : Place} {c : Cover} {d : Fault} → NoDeclaring x → Stem v x c a → is_blocked a ≡ false → Quote a → NotTagged v (view_cover c) a d → NoStem v x d
+stem_untagged {v} {x} {a} {c} {d = d} n st free q u = record { barred = tagged_unread (rung 1) refl (st.so_far.climbs free) q u; over = by st.targets }
   where
-    by : Near v x (view_cover c) a → NotOver v x
-    by (near e) = over_far n (quote_none st q) (far_value (tagged_unread (rung 11) refl e q u))
+    by : Near v x (view_cover c) a → NotOver v x d
+    by (near e) = over_value n (quote_none st q) (tagged_unread (rung 11) refl e q u)
     by (near_whole b o) = absurd (clash (is_blocked a) b free)
     by (far o) = over_far n (quote_none st q) o
 
-pub stem_unfit : {v : Surroundings} {x a b : Place} {c : Cover} (k : Kind) → NoDeclaring x → Stem v x c a → is_blocked a ≡ false → Listed k → marks_on k ≡ true → OnLine k a → Moves (mark k) a b → nat_le 1 (level_of_kind k) ≡ true → (IsTrue (is_found (forth (key "in") a)) → ⊥) → fits k (view_cover c) ≡ false → NoStem v x
-stem_unfit k n st free l g o m e i f =
-    let p = none_over_at (patterns_at st) i (unlike_of _ k l g (found_at (sym m.is) m.found)) in
+-- behind a mark that goes on, what bars it from the two levels
+stem_marked : {v : Surroundings} {x a b : Place} {c : Cover} {d : Fault} (k : Kind) → NoDeclaring x → Stem v x c a → is_blocked a ≡ false → Listed k → marks_on k ≡ true → OnLine k a → Moves (mark k) a b → nat_le 1 (level_of_kind k) ≡ true → (IsTrue (is_found (forth (key "in") a)) → ⊥)
+    → ((r : Rung) → is_rung r ≡ true → Climbs v r x (view_cover c) a → reaches r k ≡ true → Barred so_far v (Part (seat r)) x d) → NoStem v x d
+stem_marked k n st free l g o m e i f =
+    let there = found_at (sym m.is) m.found in
+    let past = unlike_of _ k l g there in
     record {
-      barred = climb_unfit (rung 1) k refl l g (st.so_far.climbs free) o m e f;
-      over = on_or_over k n p free st.targets l g o (found_at (sym m.is) m.found) i (λ h q. over_far n p (far_value (climb_unfit (rung 11) k refl l g q o m h f))) (λ q. over_far n p q);
+      barred = f (rung 1) refl (st.so_far.climbs free) e;
+      over = on_or_over k n (none_over_at (patterns_at st) i past) free st.targets l g o there i (λ h q. over_value n (none_over_at (patterns_at st) i past) (f (rung 11) refl q h)) (λ q. over_far n (none_over_at (patterns_at st) i past) q);
     }
 
-pub stem_barred : {v : Surroundings} {x a b : Place} {c : Cover} (k : Kind) → NoDeclaring x → Stem v x c a → is_blocked a ≡ false → Listed k → marks_on k ≡ true → OnLine k a → Moves (mark k) a b → nat_le 1 (level_of_kind k) ≡ true → (IsTrue (is_found (forth (key "in") a)) → ⊥) → NotGrown v k b → NoStem v x
-stem_barred k n st free l g o m e i r =
-    let p = none_over_at (patterns_at st) i (unlike_of _ k l g (found_at (sym m.is) m.found)) in
-    record {
-      barred = climb_barred (rung 1) k refl l g (st.so_far.climbs free) o m e r;
-      over = on_or_over k n p free st.targets l g o (found_at (sym m.is) m.found) i (λ h q. over_far n p (far_value (climb_barred (rung 11) k refl l g q o m h r))) (λ q. over_far n p q);
-    }
+pub stem_unfit : {v : Surroundings} {x a b : Place} {c : Cover} {d : Fault} (k : Kind) → NoDeclaring x → Stem v x c a → is_blocked a ≡ false → Listed k → marks_on k ≡ true → OnLine k a → Moves (mark k) a b → nat_le 1 (level_of_kind k) ≡ true → (IsTrue (is_found (forth (key "in") a)) → ⊥) → fits k (view_cover c) ≡ false → NoStem v x d
+stem_unfit k n st free l g o m e i f = stem_marked k n st free l g o m e i (λ r h q j. climb_unfit r k h l g q o m j f)
+
+pub stem_outgrown : {v : Surroundings} {x a b : Place} {c : Cover} {d : Fault} (k : Kind) → NoDeclaring x → Stem v x c a → is_blocked a ≡ false → Listed k → marks_on k ≡ true → OnLine k a → Moves (mark k) a b → nat_le 1 (level_of_kind k) ≡ true → (IsTrue (is_found (forth (key "in") a)) → ⊥) → Outgrown (view_cover c) d → NoStem v x d
+stem_outgrown {d = d} k n st free l g o m e i u = stem_marked k n st free l g o m e i (λ r h q j. climb_outgrown r k d h l g q o m j u)
+
+pub stem_barred : {v : Surroundings} {x a b : Place} {c : Cover} {d : Fault} (k : Kind) → NoDeclaring x → Stem v x c a → is_blocked a ≡ false → Listed k → marks_on k ≡ true → OnLine k a → Moves (mark k) a b → nat_le 1 (level_of_kind k) ≡ true → (IsTrue (is_found (forth (key "in") a)) → ⊥) → NotGrown v k b d → NoStem v x (outer d)
+stem_barred k n st free l g o m e i u = stem_marked k n st free l g o m e i (λ r h q j. climb_barred r k h l g q o m j u)
 
 -- before `=>`
-pub stem_arrowed : {v : Surroundings} {x a : Place} {c : Cover} → NoDeclaring x → Stem v x c a → is_blocked a ≡ false → IsTrue (is_found (forth (pun "=>") a)) → NoStem v x
-stem_arrowed {v} {x} {a} {c} n st free f = record { barred = (ongoing_arrow 1 refl free st.so_far f).none; over = by st.targets }
+pub stem_arrowed : {v : Surroundings} {x a : Place} {c : Cover} {d : Fault} → NoDeclaring x → Stem v x c a → is_blocked a ≡ false → IsTrue (is_found (forth (pun "=>") a)) → NoStem v x d
+stem_arrowed {v} {x} {a} {c} {d = d} n st free f = record { barred = (ongoing_arrow 1 refl free st.so_far f).none; over = by st.targets }
   where
-    past : NoneOver v x
+    past : NoneOver v x d
     past = none_over_at (patterns_at st) (λ g. never_both Punctuator IdentifierName (codes "=>") (codes "in") a refl f g) (λ g. never_both Punctuator IdentifierName (codes "=>") (codes "of") a refl f g)
 
-    by : Near v x (view_cover c) a → NotOver v x
+    by : Near v x (view_cover c) a → NotOver v x d
     by (near e) = let q = none_past past in passed_over n q.keys q.items (climb_only (rung 11) refl e (of_so_far.ends_there (Expr 11) a (sign_stops (Expr 11) (pun "=>") a refl f))) (λ g. never_both Punctuator IdentifierName (codes "=>") (codes "in") a refl f g) (λ g. never_both Punctuator IdentifierName (codes "=>") (codes "of") a refl f g)
     by (near_whole e o) = absurd (clash (is_blocked a) e free)
     by (far o) = over_far n past o

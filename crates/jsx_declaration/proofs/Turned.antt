@@ -16,6 +16,7 @@ use Rattle.jsx_token.specs.Here.{Here, place_of}
 use Rattle.jsx_tree.specs.Walk.{is_found, nothing, one, sign, tree, Walk, done, next, steady}
 use Rattle.jsx_tree.specs.Language.{Whole}
 use Rattle.jsx_tree.specs.Answers.{Moves, Stuck, Only, Barred, NoRow}
+use Rattle.jsx_tree.specs.Faults.{Fault, Unread, Shallow, deepest}
 use Rattle.jsx_tree.proofs.Tokens.{and_both, and_right}
 use Rattle.jsx_tree.proofs.Apart.{clash, never_both}
 use Rattle.jsx_tree.proofs.Rows.Bridge.{found_at}
@@ -27,6 +28,7 @@ use Rattle.jsx_operand.specs.Climbing.{is_target}
 use Rattle.jsx_operand.specs.Covers.{IsTurned, view_cover}
 use Rattle.jsx_operand.specs.Turning.{Turns, turn_target, turn_array, turn_object, is_bracketed, is_literal}
 use Rattle.jsx_tree.proofs.Rows.Stopping.{is_not}
+use Rattle.jsx_tree.proofs.Rows.Steps.{any_barred}
 use Rattle.jsx_operand.specs.declared.cover.Cover.{Cover}
 use Rattle.jsx_operand.proofs.OfSoFar.{of_so_far}
 use Rattle.jsx_operand.proofs.Aims.{aim_of, aim_is}
@@ -68,7 +70,7 @@ data HeadAt {n : Nonterminal} {s : Sign} (h : Header n s) (c : Cover) (u : Tree)
 one_is : {t u : Tree} → one t ≡ one u → t ≡ u
 one_is e = cc
 
-head_at : {v : Surroundings} {n : Nonterminal} {s : Sign} {x y z : Place} {c : Cover} (h : Header n s) → NoDeclaring x → IsStem v x c y → (c.is_expr ≡ true → ends_so_far (Expr 11) y ≡ true) → (IsTrue (is_found (forth s z)) → Over z) → (NotOver v x → NoRow so_far v (over_row n s) x) → (u : Tree) → Staged v false n x u z → IsTrue (is_found (forth s z)) → HeadAt h c u y z
+head_at : {v : Surroundings} {n : Nonterminal} {s : Sign} {x y z : Place} {c : Cover} (h : Header n s) → NoDeclaring x → IsStem v x c y → (c.is_expr ≡ true → ends_so_far (Expr 11) y ≡ true) → (IsTrue (is_found (forth s z)) → Over z) → (NotOver v x Unread → NoRow so_far v (over_row n s) x Unread) → (u : Tree) → Staged v false n x u z → IsTrue (is_found (forth s z)) → HeadAt h c u y z
 head_at {v} {n} {s} {x} {y} {z} {c} h d st e o rows u r f = by (in_brackets u) refl
   where
     at : Target u → h.fits (as_value u) ≡ true → Only so_far v (Part (Expr 11)) x (one (view_cover c)) y → HeadAt h c u y z
@@ -78,8 +80,8 @@ head_at {v} {n} {s} {x} {y} {z} {c} h d st e o rows u r f = by (in_brackets u) r
         at_target p (ap h.fits is ∙ i) is same.1
 
     distant : Target u → Far v x → ⊥
-    distant p (far_value b) = b.no (one (as_value u)) z (tree (aimed_whole h p r f))
-    distant p (far_over a) = (rows a).no (part u none) (forth s z) (next (tree (head_ended h r f)) (next (sign refl f) (done f)))
+    distant p (far_value b) = b.no (one (as_value u)) z (tree (aimed_whole h p r f)) tt
+    distant p (far_over a) = (rows a).no (part u none) (forth s z) (next (tree (head_ended h r f)) (next (sign refl f) (done f))) tt
 
     near_at : Target u → h.fits (as_value u) ≡ true → c.is_expr ≡ true → Near v x (view_cover c) y → HeadAt h c u y z
     near_at p i k (near b) = at p i (climb_only (rung 11) refl b (e k))
@@ -144,16 +146,16 @@ stem_whole {v} {x} {y} {c} st n e = by (is_blocked y) refl
 
 -- ---- no `for` with three parts stands there
 
-no_first : {v : Surroundings} {x y : Place} {c : Cover} → NoDeclaring x → IsStem v x c y → (IsTrue (is_found (forth (pun ";") y)) → ⊥) → (IsTrue (is_found (forth (pun ",") y)) → ⊥) → c.is_expr ≡ true → is_blocked y ≡ true → NoHead v x
+no_first : {v : Surroundings} {x y : Place} {c : Cover} {d : Fault} → NoDeclaring x → IsStem v x c y → (IsTrue (is_found (forth (pun ";") y)) → ⊥) → (IsTrue (is_found (forth (pun ",") y)) → ⊥) → c.is_expr ≡ true → is_blocked y ≡ true → NoHead v x d
 no_first {v} {x} {y} {c} n st a b i e = record {
-  no = λ u z w m o. a (subst (λ p. IsTrue (is_found (forth (pun ";") p))) (sym ((whole_only (st.blocked i e) st.ended (lost_if (forth (pun ",") y) b)).alone (one u) z (tree (whole_value n w))).1) m);
+  no = λ u z w m o s. a (subst (λ p. IsTrue (is_found (forth (pun ";") p))) (sym ((whole_only (st.blocked i e) st.ended (lost_if (forth (pun ",") y) b)).alone (one u) z (tree (whole_value n w))).1) m);
 }
 
-stem_initial_in : {v : Surroundings} {x y : Place} {c : Cover} → Stuck (pun ";") x → NoDeclaring x → IsStem v x c y → IsTrue (is_found (forth (key "in") y)) → NoInitial v x
-stem_initial_in {v} {x} {y} {c} k n st f = none_initial k (by c.is_expr (is_blocked y) refl refl)
+stem_initial_in : {v : Surroundings} {x y : Place} {c : Cover} {e : Fault} → Stuck (pun ";") x → NoDeclaring x → IsStem v x c y → IsTrue (is_found (forth (key "in") y)) → NoInitial v x e
+stem_initial_in {v} {x} {y} {c} {e = e} k n st f = none_initial k (by c.is_expr (is_blocked y) refl refl)
   where
-    by : (a b : Bool) → c.is_expr ≡ a → is_blocked y ≡ b → NoHead v x
-    by false b p q = no_value_head n (whole_barred (st.none p).whole)
+    by : (a b : Bool) → c.is_expr ≡ a → is_blocked y ≡ b → NoHead v x e
+    by false b p q = no_value_head n (whole_barred (any_barred (st.none p).whole))
     by true false p q = in_head n (st.climbs p q) f
     by true true p q = no_first n st (λ g. never_both Punctuator IdentifierName (codes ";") (codes "in") y refl g f) (λ g. never_both Punctuator IdentifierName (codes ",") (codes "in") y refl g f) p q
 
@@ -174,31 +176,31 @@ stem_keys {v} {x} {y} {y'} {c} {p} k n st m d = record {
         let same = turned_as d (head_at keys n st (λ k. in_ends y f) over_keys (λ o. o.keys) u q.reads (found_at e g)) in
         (ap (λ a. part a none) same.0, m.is ∙ (ap (forth (key "in")) same.1 ∙ e))
 
-    none_at : (us : Forest) (w : Place) → Walk (Whole so_far) (steady v) items_row x us w → ⊥
-    none_at us w (next {y = z} (tree {t = u} q) (next (sign e g) (done h))) =
+    none_at : (us : Forest) (w : Place) → Walk (Whole so_far) (steady v) items_row x us w → Shallow Unread (deepest us) → ⊥
+    none_at us w (next {y = z} (tree {t = u} q) (next (sign e g) (done h))) s =
         let same = place_as (head_at items n st (λ k. in_ends y f) over_items (λ o. o.items) u q.reads (found_at e g)) in
         two_words y f (subst (λ a. IsTrue (is_found (forth (key "of") a))) (sym same) (found_at e g))
 
 -- what doesn't turn is gone over by none
-pub stem_no_keys : {v : Surroundings} {x y y' : Place} {c : Cover} → Stuck (pun ";") x → NoDeclaring x → IsStem v x c y → Moves (key "in") y y' → ((p : Tree) → IsTurned c p → ⊥) → NoHeads v x
-stem_no_keys {v} {x} {y} {y'} {c} k n st m d = record { initial = stem_initial_in k n st f; over = record { keys = record { no = at }; items = record { no = none_at } } }
+pub stem_no_keys : {v : Surroundings} {x y y' : Place} {c : Cover} {b : Fault} → Stuck (pun ";") x → NoDeclaring x → IsStem v x c y → Moves (key "in") y y' → ((p : Tree) → IsTurned c p → ⊥) → NoHeads v x b
+stem_no_keys {v} {x} {y} {y'} {c} {b = b} k n st m d = record { initial = stem_initial_in k n st f; over = record { keys = record { no = at }; items = record { no = none_at } } }
   where
     f : IsTrue (is_found (forth (key "in") y))
     f = found_at (sym m.is) m.found
 
-    at : (us : Forest) (w : Place) → Walk (Whole so_far) (steady v) keys_row x us w → ⊥
-    at us w (next {y = z} (tree {t = u} q) (next (sign e g) (done h))) = turns_none st d (head_at keys n st (λ k. in_ends y f) over_keys (λ o. o.keys) u q.reads (found_at e g))
+    at : (us : Forest) (w : Place) → Walk (Whole so_far) (steady v) keys_row x us w → Shallow b (deepest us) → ⊥
+    at us w (next {y = z} (tree {t = u} q) (next (sign e g) (done h))) s' = turns_none st d (head_at keys n st (λ k. in_ends y f) over_keys (λ o. o.keys) u q.reads (found_at e g))
 
-    none_at : (us : Forest) (w : Place) → Walk (Whole so_far) (steady v) items_row x us w → ⊥
-    none_at us w (next {y = z} (tree {t = u} q) (next (sign e g) (done h))) =
+    none_at : (us : Forest) (w : Place) → Walk (Whole so_far) (steady v) items_row x us w → Shallow b (deepest us) → ⊥
+    none_at us w (next {y = z} (tree {t = u} q) (next (sign e g) (done h))) s =
         let same = place_as (head_at items n st (λ k. in_ends y f) over_items (λ o. o.items) u q.reads (found_at e g)) in
         two_words y f (subst (λ a. IsTrue (is_found (forth (key "of") a))) (sym same) (found_at e g))
 
-stem_initial_of : {v : Surroundings} {x y : Place} {c : Cover} → Stuck (pun ";") x → NoDeclaring x → IsStem v x c y → (IsTrue (is_found (forth (key "in") y)) → ⊥) → IsTrue (is_found (forth (key "of") y)) → NoInitial v x
-stem_initial_of {v} {x} {y} {c} k n st a f = none_initial k (by c.is_expr refl)
+stem_initial_of : {v : Surroundings} {x y : Place} {c : Cover} {e : Fault} → Stuck (pun ";") x → NoDeclaring x → IsStem v x c y → (IsTrue (is_found (forth (key "in") y)) → ⊥) → IsTrue (is_found (forth (key "of") y)) → NoInitial v x e
+stem_initial_of {v} {x} {y} {c} {e = e} k n st a f = none_initial k (by c.is_expr refl)
   where
-    by : (b : Bool) → c.is_expr ≡ b → NoHead v x
-    by false p = no_value_head n (whole_barred (st.none p).whole)
+    by : (b : Bool) → c.is_expr ≡ b → NoHead v x e
+    by false p = no_value_head n (whole_barred (any_barred (st.none p).whole))
     by true p = of_head n (stem_whole st a p) st.ended f
 
 pub stem_items : {v : Surroundings} {x y y' : Place} {c : Cover} {p : Tree} → Stuck (pun ";") x → NoDeclaring x → IsStem v x c y → forth (key "in") y ≡ Lost → Moves (key "of") y y' → is_async (view_cover c) ≡ false → IsTurned c p → IsItems v x p y'
@@ -216,54 +218,54 @@ stem_items {v} {x} {y} {y'} {c} {p} k n st l m a d = record {
         let same = turned_as d (head_at items n st (λ k. of_ends y f) over_items (λ o. o.items) u q.reads (found_at e g)) in
         (ap (λ b. part b none) same.0, m.is ∙ (ap (forth (key "of")) same.1 ∙ e))
 
-    none_at : (us : Forest) (w : Place) → Walk (Whole so_far) (steady v) keys_row x us w → ⊥
-    none_at us w (next {y = z} (tree {t = u} q) (next (sign e g) (done h))) =
+    none_at : (us : Forest) (w : Place) → Walk (Whole so_far) (steady v) keys_row x us w → Shallow Unread (deepest us) → ⊥
+    none_at us w (next {y = z} (tree {t = u} q) (next (sign e g) (done h))) s =
         let same = place_as (head_at keys n st (λ k. of_ends y f) over_keys (λ o. o.keys) u q.reads (found_at e g)) in
         two_words y (subst (λ b. IsTrue (is_found (forth (key "in") b))) (sym same) (found_at e g)) f
 
-pub stem_async : {v : Surroundings} {x y y' : Place} {c : Cover} → Stuck (pun ";") x → NoDeclaring x → IsStem v x c y → forth (key "in") y ≡ Lost → Moves (key "of") y y' → is_async (view_cover c) ≡ true → NoHeads v x
-stem_async {v} {x} {y} {y'} {c} k n st l m d = record { initial = stem_initial_of k n st (lost_there (key "in") y l) f; over = record { keys = record { no = none_at }; items = record { no = at } } }
+pub stem_async : {v : Surroundings} {x y y' : Place} {c : Cover} {fault : Fault} → Stuck (pun ";") x → NoDeclaring x → IsStem v x c y → forth (key "in") y ≡ Lost → Moves (key "of") y y' → is_async (view_cover c) ≡ true → NoHeads v x fault
+stem_async {v} {x} {y} {y'} {c} {fault = fault} k n st l m d = record { initial = stem_initial_of k n st (lost_there (key "in") y l) f; over = record { keys = record { no = none_at }; items = record { no = at } } }
   where
     f : IsTrue (is_found (forth (key "of") y))
     f = found_at (sym m.is) m.found
 
-    at : (us : Forest) (w : Place) → Walk (Whole so_far) (steady v) items_row x us w → ⊥
-    at us w (next {y = z} (tree {t = u} q) (next (sign e g) (done h))) = async_none d (head_at items n st (λ k. of_ends y f) over_items (λ o. o.items) u q.reads (found_at e g))
+    at : (us : Forest) (w : Place) → Walk (Whole so_far) (steady v) items_row x us w → Shallow fault (deepest us) → ⊥
+    at us w (next {y = z} (tree {t = u} q) (next (sign e g) (done h))) a = async_none d (head_at items n st (λ k. of_ends y f) over_items (λ o. o.items) u q.reads (found_at e g))
 
-    none_at : (us : Forest) (w : Place) → Walk (Whole so_far) (steady v) keys_row x us w → ⊥
-    none_at us w (next {y = z} (tree {t = u} q) (next (sign e g) (done h))) =
+    none_at : (us : Forest) (w : Place) → Walk (Whole so_far) (steady v) keys_row x us w → Shallow fault (deepest us) → ⊥
+    none_at us w (next {y = z} (tree {t = u} q) (next (sign e g) (done h))) s =
         let same = place_as (head_at keys n st (λ k. of_ends y f) over_keys (λ o. o.keys) u q.reads (found_at e g)) in
         two_words y (subst (λ b. IsTrue (is_found (forth (key "in") b))) (sym same) (found_at e g)) f
 
-pub stem_no_items : {v : Surroundings} {x y y' : Place} {c : Cover} → Stuck (pun ";") x → NoDeclaring x → IsStem v x c y → forth (key "in") y ≡ Lost → Moves (key "of") y y' → ((p : Tree) → IsTurned c p → ⊥) → NoHeads v x
-stem_no_items {v} {x} {y} {y'} {c} k n st l m d = record { initial = stem_initial_of k n st (lost_there (key "in") y l) f; over = record { keys = record { no = none_at }; items = record { no = at } } }
+pub stem_no_items : {v : Surroundings} {x y y' : Place} {c : Cover} {fault : Fault} → Stuck (pun ";") x → NoDeclaring x → IsStem v x c y → forth (key "in") y ≡ Lost → Moves (key "of") y y' → ((p : Tree) → IsTurned c p → ⊥) → NoHeads v x fault
+stem_no_items {v} {x} {y} {y'} {c} {fault = fault} k n st l m d = record { initial = stem_initial_of k n st (lost_there (key "in") y l) f; over = record { keys = record { no = none_at }; items = record { no = at } } }
   where
     f : IsTrue (is_found (forth (key "of") y))
     f = found_at (sym m.is) m.found
 
-    at : (us : Forest) (w : Place) → Walk (Whole so_far) (steady v) items_row x us w → ⊥
-    at us w (next {y = z} (tree {t = u} q) (next (sign e g) (done h))) = turns_none st d (head_at items n st (λ k. of_ends y f) over_items (λ o. o.items) u q.reads (found_at e g))
+    at : (us : Forest) (w : Place) → Walk (Whole so_far) (steady v) items_row x us w → Shallow fault (deepest us) → ⊥
+    at us w (next {y = z} (tree {t = u} q) (next (sign e g) (done h))) a = turns_none st d (head_at items n st (λ k. of_ends y f) over_items (λ o. o.items) u q.reads (found_at e g))
 
-    none_at : (us : Forest) (w : Place) → Walk (Whole so_far) (steady v) keys_row x us w → ⊥
-    none_at us w (next {y = z} (tree {t = u} q) (next (sign e g) (done h))) =
+    none_at : (us : Forest) (w : Place) → Walk (Whole so_far) (steady v) keys_row x us w → Shallow fault (deepest us) → ⊥
+    none_at us w (next {y = z} (tree {t = u} q) (next (sign e g) (done h))) s =
         let same = place_as (head_at keys n st (λ k. of_ends y f) over_keys (λ o. o.keys) u q.reads (found_at e g)) in
         two_words y (subst (λ b. IsTrue (is_found (forth (key "in") b))) (sym same) (found_at e g)) f
 
 -- ---- neither of them
 
-stem_over : {v : Surroundings} {x y : Place} {c : Cover} → NoDeclaring x → IsStem v x c y → forth (key "in") y ≡ Lost → forth (key "of") y ≡ Lost → NotOver v x
-stem_over {v} {x} {y} {c} n st a b = record { keys = record { no = keys_at }; items = record { no = items_at } }
+stem_over : {v : Surroundings} {x y : Place} {c : Cover} {d : Fault} → NoDeclaring x → IsStem v x c y → forth (key "in") y ≡ Lost → forth (key "of") y ≡ Lost → NotOver v x d
+stem_over {v} {x} {y} {c} {d = d} n st a b = record { keys = record { no = keys_at }; items = record { no = items_at } }
   where
     high : c.is_expr ≡ true → ends_so_far (Expr 11) y ≡ true
     high e = stopped_high (st.stopped e) (lost_there (key "in") y a)
 
-    keys_at : (us : Forest) (w : Place) → Walk (Whole so_far) (steady v) keys_row x us w → ⊥
-    keys_at us w (next {y = z} (tree {t = u} q) (next (sign e g) (done h))) =
+    keys_at : (us : Forest) (w : Place) → Walk (Whole so_far) (steady v) keys_row x us w → Shallow d (deepest us) → ⊥
+    keys_at us w (next {y = z} (tree {t = u} q) (next (sign e g) (done h))) s' =
         let same = place_as (head_at keys n st high over_keys (λ o. o.keys) u q.reads (found_at e g)) in
         lost_there (key "in") y a (subst (λ p. IsTrue (is_found (forth (key "in") p))) (sym same) (found_at e g))
 
-    items_at : (us : Forest) (w : Place) → Walk (Whole so_far) (steady v) items_row x us w → ⊥
-    items_at us w (next {y = z} (tree {t = u} q) (next (sign e g) (done h))) =
+    items_at : (us : Forest) (w : Place) → Walk (Whole so_far) (steady v) items_row x us w → Shallow d (deepest us) → ⊥
+    items_at us w (next {y = z} (tree {t = u} q) (next (sign e g) (done h))) s =
         let same = place_as (head_at items n st high over_items (λ o. o.items) u q.reads (found_at e g)) in
         lost_there (key "of") y b (subst (λ p. IsTrue (is_found (forth (key "of") p))) (sym same) (found_at e g))
 
@@ -271,22 +273,22 @@ pub stem_first : {v : Surroundings} {x y : Place} {c : Cover} → IsStem v x c y
 stem_first {y = y} st a e = stem_whole st (lost_there (key "in") y a) e
 
 -- a cover that is no expression
-pub stem_unsettled : {v : Surroundings} {x y : Place} {c : Cover} → Stuck (pun ";") x → NoDeclaring x → IsStem v x c y → forth (key "in") y ≡ Lost → forth (key "of") y ≡ Lost → c.is_expr ≡ false → NoHeads v x
-stem_unsettled k n st a b e = record { initial = none_initial k (no_value_head n (whole_barred (st.none e).whole)); over = stem_over n st a b }
+pub stem_unsettled : {v : Surroundings} {x y : Place} {c : Cover} {o : Fault} → Stuck (pun ";") x → NoDeclaring x → IsStem v x c y → forth (key "in") y ≡ Lost → forth (key "of") y ≡ Lost → c.is_expr ≡ false → NoHeads v x o
+stem_unsettled k n st a b e = record { initial = none_initial k (no_value_head n (whole_barred (any_barred (st.none e).whole))); over = stem_over n st a b }
 
 pub stem_initial : {v : Surroundings} {x y z w : Place} {c : Cover} {u : Tree} → NoDeclaring x → IsStem v x c y → forth (key "in") y ≡ Lost → forth (key "of") y ≡ Lost → Only so_far v (Part (Expr 0)) x (one u) z → opens_whole u ≡ false → Only so_far v (symbol.Fixed (pun ";")) z nothing w → IsInitial v x (list (part u none)) w
 stem_initial {u = u} n st a b o e m = let h = value_head n o e in record { initial = some_initial h m; closed = initial_closed u h.closed; over = stem_over n st a b }
 
-pub stem_no_more : {v : Surroundings} {x y : Place} {c : Cover} → Stuck (pun ";") x → NoDeclaring x → IsStem v x c y → forth (key "in") y ≡ Lost → forth (key "of") y ≡ Lost → c.is_expr ≡ true → NotGathered v (view_cover c) y → NoHeads v x
+pub stem_no_more : {v : Surroundings} {x y : Place} {c : Cover} {o : Fault} → Stuck (pun ";") x → NoDeclaring x → IsStem v x c y → forth (key "in") y ≡ Lost → forth (key "of") y ≡ Lost → c.is_expr ≡ true → NotGathered v (view_cover c) y o → NoHeads v x o
 stem_no_more k n st a b e g = record { initial = none_initial k (no_value_head n (g.no _ (stem_first st a e))); over = stem_over n st a b }
 
-pub stem_open : {v : Surroundings} {x y z : Place} {c : Cover} {u : Tree} → Stuck (pun ";") x → NoDeclaring x → IsStem v x c y → forth (key "in") y ≡ Lost → forth (key "of") y ≡ Lost → Only so_far v (Part (Expr 0)) x (one u) z → opens_whole u ≡ true → NoHeads v x
+pub stem_open : {v : Surroundings} {x y z : Place} {c : Cover} {u : Tree} {d : Fault} → Stuck (pun ";") x → NoDeclaring x → IsStem v x c y → forth (key "in") y ≡ Lost → forth (key "of") y ≡ Lost → Only so_far v (Part (Expr 0)) x (one u) z → opens_whole u ≡ true → NoHeads v x d
 stem_open k n st a b o e = record { initial = none_initial k (open_head n o e); over = stem_over n st a b }
 
-pub stem_unended : {v : Surroundings} {x y z : Place} {c : Cover} {u : Tree} → NoDeclaring x → IsStem v x c y → forth (key "in") y ≡ Lost → forth (key "of") y ≡ Lost → Only so_far v (Part (Expr 0)) x (one u) z → opens_whole u ≡ false → Barred so_far v (symbol.Fixed (pun ";")) z → NoHeads v x
+pub stem_unended : {v : Surroundings} {x y z : Place} {c : Cover} {u : Tree} {d : Fault} → NoDeclaring x → IsStem v x c y → forth (key "in") y ≡ Lost → forth (key "of") y ≡ Lost → Only so_far v (Part (Expr 0)) x (one u) z → opens_whole u ≡ false → Barred so_far v (symbol.Fixed (pun ";")) z d → NoHeads v x d
 stem_unended n st a b o e m = record { initial = unended_initial (value_head n o e) m; over = stem_over n st a b }
 
-pub stem_none : {v : Surroundings} {x : Place} → Stuck (pun ";") x → NoDeclaring x → NoStem v x → NoHeads v x
+pub stem_none : {v : Surroundings} {x : Place} {e : Fault} → Stuck (pun ";") x → NoDeclaring x → NoStem v x e → NoHeads v x e
 stem_none k n s = record { initial = none_initial k (no_value_head n (whole_barred s.barred)); over = s.over }
 
 -- ---- where the lexer stands behind it
@@ -296,5 +298,5 @@ stem_expr {v} {x} {c} {e} {y} {z} is at st a i =
     subst (λ q. Only so_far v (Part (Expr 1)) x (one (view_expr q.value)) (place_of z)) (sym is)
     (subst (λ h. Only so_far v (Part (Expr 1)) x (one (view_cover c)) (place_of h)) (sym at) (stem_first st a i))
 
-pub not_gathered : {v : Surroundings} (c : Cover) {e : Box Code Global} {y z : Here} → e ≡ c.expr → z ≡ y → NotGathered v (view_expr e.value) (place_of z) → NotGathered v (view_cover c) (place_of y)
-not_gathered {v} c {e} {y} {z} is at n = subst (λ q. NotGathered v (view_expr q.value) (place_of y)) is (subst (λ h. NotGathered v (view_expr e.value) (place_of h)) at n)
+pub not_gathered : {v : Surroundings} {o : Fault} (c : Cover) {e : Box Code Global} {y z : Here} → e ≡ c.expr → z ≡ y → NotGathered v (view_expr e.value) (place_of z) o → NotGathered v (view_cover c) (place_of y) o
+not_gathered {v} {o = o} c {e} {y} {z} is at n = subst (λ q. NotGathered v (view_expr q.value) (place_of y) o) is (subst (λ h. NotGathered v (view_expr e.value) (place_of h) o) at n)

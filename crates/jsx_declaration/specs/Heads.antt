@@ -18,6 +18,7 @@ use Rattle.jsx_tree.specs.View.{forest, inside, optional_at_of, view_pat, view_p
 use Rattle.jsx_tree.specs.Told.{tales, told_expr, told_optional, told_pat}
 use Rattle.jsx_tree.specs.declared.text.DeclareWord as code
 use Rattle.jsx_tree.specs.declared.tree.Pat.{Pat}
+use Rattle.jsx_tree.specs.Faults.{Fault, Unread, Shallow, part_depth, deepest}
 use Rattle.jsx_token.specs.declared.lexer.Fixed.{Fixed}
 use Rattle.jsx_token.specs.declared.lexer.Fixed.TheVariants as fixed
 use Rattle.jsx_token.specs.Here.{Here, place_of, sign_of}
@@ -64,9 +65,9 @@ pub record Declares (v : Surroundings) (x : Place) (t : Tree) (y : Place) : Type
   pub marked : Front v marked_row marked_end x t y
   pub ended : ends_so_far (grammar.Expr 0) y ≡ true
 
-pub record NotDeclared (v : Surroundings) (w : DeclareWord) (x : Place) : Type 0 where
-  pub free : NoNode so_far v free_row (statement (Var w)) x
-  pub marked : NoNode so_far v marked_row (statement (ForDeclaration w)) x
+pub record NotDeclared (v : Surroundings) (w : DeclareWord) (x : Place) (e : Fault) : Type 0 where
+  pub free : NoNode so_far v free_row (statement (Var w)) x e
+  pub marked : NoNode so_far v marked_row (statement (ForDeclaration w)) x e
 
 -- a declaration of them with its word, as what a `for` begins with, of which none has an `in` outside of brackets; the place is behind the word
 pub record IsDeclared (v : Surroundings) (w : DeclareWord) (x : Place) (t : Tree) (y : Place) : Type 0 where
@@ -76,15 +77,15 @@ pub record IsDeclared (v : Surroundings) (w : DeclareWord) (x : Place) (t : Tree
   pub keeps : so_far.keeps (statement (ForDeclaration w)) v (part all none) ≡ true
   pub closed : open_in t ≡ false
 
-pub record NotHeaded (v : Surroundings) (w : DeclareWord) (x : Place) : Type 0 where
-  pub no : (ts : Forest) (y : Place) → Walk (Whole so_far) (steady v) marked_row x ts y → so_far.keeps (statement (ForDeclaration w)) v ts ≡ true → open_in (node (statement (ForDeclaration w)) ts) ≡ false → ⊥
+pub record NotHeaded (v : Surroundings) (w : DeclareWord) (x : Place) (e : Fault) : Type 0 where
+  pub no : (ts : Forest) (y : Place) → Walk (Whole so_far) (steady v) marked_row x ts y → so_far.keeps (statement (ForDeclaration w)) v ts ≡ true → open_in (node (statement (ForDeclaration w)) ts) ≡ false → Shallow e (deepest ts) → ⊥
 
 -- a declarator behind its name, wherever that was read from
 pub record Initializes (v : Surroundings) (n : Tree) (y : Place) (t : Tree) (z : Place) : Type 0 where
   pub on : (x : Place) → Only so_far v (Part (grammar.Pat Binds)) x (one n) y → Only so_far v (Part grammar.Declarators) x (one t) z
 
-pub record NotInitialized (v : Surroundings) (n : Tree) (y : Place) : Type 0 where
-  pub no : (x : Place) → Only so_far v (Part (grammar.Pat Binds)) x (one n) y → Barred so_far v (Part grammar.Declarators) x
+pub record NotInitialized (v : Surroundings) (n : Tree) (y : Place) (e : Fault) : Type 0 where
+  pub no : (x : Place) → Only so_far v (Part (grammar.Pat Binds)) x (one n) y → Barred so_far v (Part grammar.Declarators) x e
 
 -- a declarator that was read, and what is declared with it behind it
 pub record IsFirst (v : Surroundings) (p : Pat) (w y : Here) : Type 0 where
@@ -99,8 +100,8 @@ pub record Declared (v : Surroundings) (w : DeclareWord) (ps : List (Box Pat Glo
 pub record AllDeclare (v : Surroundings) (w : DeclareWord) (p : Pat) (y : Here) (ps : List (Box Pat Global)) (z : Here) : Type 0 where
   pub on : (x : Here) → IsFirst v p x y → Declared v w ps x z
 
-pub record NoneDeclare (v : Surroundings) (w : DeclareWord) (p : Pat) (y : Here) : Type 0 where
-  pub no : (x : Here) → IsFirst v p x y → NotDeclared v w (place_of x)
+pub record NoneDeclare (v : Surroundings) (w : DeclareWord) (p : Pat) (y : Here) (e : Fault) : Type 0 where
+  pub no : (x : Here) → IsFirst v p x y → NotDeclared v w (place_of x) e
 
 -- ---- the word of a declaration
 
@@ -127,15 +128,15 @@ pub record IsHead (v : Surroundings) (x : Place) (t : Tree) (y : Place) : Type 0
   pub front : Front v initial_row marked_end x (list (part t none)) y
   pub closed : open_in t ≡ false
 
-pub record NoHead (v : Surroundings) (x : Place) : Type 0 where
-  pub no : (t : Tree) (y : Place) → Whole so_far v false grammar.ForInit x t y → IsTrue (is_found (forth (pun ";") y)) → open_in t ≡ false → ⊥
+pub record NoHead (v : Surroundings) (x : Place) (e : Fault) : Type 0 where
+  pub no : (t : Tree) (y : Place) → Whole so_far v false grammar.ForInit x t y → IsTrue (is_found (forth (pun ";") y)) → open_in t ≡ false → Shallow e (part_depth t) → ⊥
 
 abbrev pub first_opens : Forest → Bool
 first_opens none = false
 first_opens (part t ts) = open_in t
 
-pub record NoInitial (v : Surroundings) (x : Place) : Type 0 where
-  pub no : (ts : Forest) (y : Place) → Walk (Whole so_far) (steady v) initial_row x ts y → first_opens ts ≡ false → ⊥
+pub record NoInitial (v : Surroundings) (x : Place) (e : Fault) : Type 0 where
+  pub no : (ts : Forest) (y : Place) → Walk (Whole so_far) (steady v) initial_row x ts y → first_opens ts ≡ false → Shallow e (deepest ts) → ⊥
 
 -- ---- a target or what is bound, with the `in` or the `of` behind it
 
@@ -149,35 +150,35 @@ abbrev pub items_row : List Piece
 items_row = over_row grammar.ForOfHead (key "of")
 
 -- neither stands there
-pub record NotOver (v : Surroundings) (x : Place) : Type 0 where
-  pub keys : NoRow so_far v keys_row x
-  pub items : NoRow so_far v items_row x
+pub record NotOver (v : Surroundings) (x : Place) (e : Fault) : Type 0 where
+  pub keys : NoRow so_far v keys_row x e
+  pub items : NoRow so_far v items_row x e
 
 -- ---- what stands in the parentheses up to the token that tells what it is, and nothing of the other two kinds
 
 pub record IsInitial (v : Surroundings) (x : Place) (i : Tree) (y : Place) : Type 0 where
   pub initial : OnlyRow so_far v initial_row x (part i none) y
   pub closed : open_in i ≡ false
-  pub over : NotOver v x
+  pub over : NotOver v x Unread
 
 pub record IsKeys (v : Surroundings) (x : Place) (t : Tree) (y : Place) : Type 0 where
   pub keys : OnlyRow so_far v keys_row x (part t none) y
-  pub items : NoRow so_far v items_row x
-  pub initial : NoInitial v x
+  pub items : NoRow so_far v items_row x Unread
+  pub initial : NoInitial v x Unread
 
 pub record IsItems (v : Surroundings) (x : Place) (t : Tree) (y : Place) : Type 0 where
   pub items : OnlyRow so_far v items_row x (part t none) y
-  pub keys : NoRow so_far v keys_row x
-  pub initial : NoInitial v x
+  pub keys : NoRow so_far v keys_row x Unread
+  pub initial : NoInitial v x Unread
 
 abbrev pub Heads : Surroundings → Place → ForHead → Place → Type 0
 Heads v x (head.Initial i) y = IsInitial v x (optional_at_of Assigns view_pattern i) y
 Heads v x (head.Keys p) y = IsKeys v x (view_target p.value) y
 Heads v x (head.Items p) y = IsItems v x (view_target p.value) y
 
-pub record NoHeads (v : Surroundings) (x : Place) : Type 0 where
-  pub initial : NoInitial v x
-  pub over : NotOver v x
+pub record NoHeads (v : Surroundings) (x : Place) (e : Fault) : Type 0 where
+  pub initial : NoInitial v x e
+  pub over : NotOver v x e
 
 abbrev pub keys_symbols : Production
 keys_symbols = Part grammar.ForHead ∷ sp ∷ w "in" ∷ []
@@ -194,8 +195,8 @@ IsPlacedHead (head.Items p) x y = IsPlacedFront items_symbols (told_pat p.value)
 pub record DeclaresHead (v : Surroundings) (d : code.DeclareWord) (y : Place) (h : ForHead) (z : Place) : Type 0 where
   pub on : (x : Place) → Moves (declare_sign d) x y → Heads v x h z
 
-pub record DeclaresNoHead (v : Surroundings) (d : code.DeclareWord) (y : Place) : Type 0 where
-  pub no : (x : Place) → Moves (declare_sign d) x y → NoHeads v x
+pub record DeclaresNoHead (v : Surroundings) (d : code.DeclareWord) (y : Place) (e : Fault) : Type 0 where
+  pub no : (x : Place) → Moves (declare_sign d) x y → NoHeads v x e
 
 pub record IsPlacedHeadBehind (s : Sign) (y : Here) (h : ForHead) (z : Here) : Type 0 where
   pub on : (x : Here) → Takes s x y → begin_of y ≡ next_of x → IsPlacedHead h x z
@@ -204,8 +205,8 @@ pub record IsPlacedHeadBehind (s : Sign) (y : Here) (h : ForHead) (z : Here) : T
 
 -- no expression of operators that bind more tightly than `in` stands there, or no target does with `in` or `of` behind it
 pub data Far (v : Surroundings) (x : Place) : Type 0 where
-  far_value : Barred so_far v (Part (grammar.Expr 11)) x → Far v x
-  far_over : NotOver v x → Far v x
+  far_value : Barred so_far v (Part (grammar.Expr 11)) x Unread → Far v x
+  far_over : NotOver v x Unread → Far v x
 
 -- whether a target may stand there with the word behind it: what is read of those operators begins with the tree, or is it
 pub data Near (v : Surroundings) (x : Place) (t : Tree) (y : Place) : Type 0 where
@@ -224,14 +225,14 @@ pub data Stopped (y : Place) : Type 0 where
   at_block : is_blocked y ≡ true → Stopped y
 
 -- no expression stands there
-pub record NoValue (v : Surroundings) (x : Place) : Type 0 where
-  pub whole : Barred so_far v (Part (grammar.Expr 1)) x
+pub record NoValue (v : Surroundings) (x : Place) (e : Fault) : Type 0 where
+  pub whole : Barred so_far v (Part (grammar.Expr 1)) x e
   pub targets : Far v x
 
 pub record IsStem (v : Surroundings) (x : Place) (c : Cover) (y : Place) : Type 0 where
   pub climbs : c.is_expr ≡ true → is_blocked y ≡ false → Climbs v (rung 1) x (view_cover c) y
   pub blocked : c.is_expr ≡ true → is_blocked y ≡ true → Only so_far v (Part (grammar.Expr 1)) x (one (view_cover c)) y
-  pub none : c.is_expr ≡ false → NoValue v x
+  pub none : c.is_expr ≡ false → NoValue v x Unread
   pub targets : c.is_expr ≡ true → Near v x (view_cover c) y
   pub reads : (p : Tree) → IsTurned c p → Staged v false (grammar.Pat Assigns) x p y
   pub patterns : (p : Tree) (z : Place) → is_bracketed p ≡ true → Staged v false (grammar.Pat Assigns) x p z → Over z → IsTurned c p × (y ≡ z)
@@ -244,9 +245,9 @@ pub record IsPlacedStem (c : Cover) (x y : Here) : Type 0 where
   pub expr : c.is_expr ≡ true → IsPlaced (told_expr c.expr.value) (view_cover c) x y
   pub pattern : (p : Tree) → IsTurned c p → IsPlaced (retold (view_cover c) (told_expr c.expr.value)) p x y
 
-pub record NoStem (v : Surroundings) (x : Place) : Type 0 where
-  pub barred : Barred so_far v (Part (grammar.Expr 1)) x
-  pub over : NotOver v x
+pub record NoStem (v : Surroundings) (x : Place) (e : Fault) : Type 0 where
+  pub barred : Barred so_far v (Part (grammar.Expr 1)) x e
+  pub over : NotOver v x e
 
 -- `async` before `of` would begin an arrow
 abbrev pub is_async : Tree → Bool

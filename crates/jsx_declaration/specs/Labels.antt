@@ -3,7 +3,7 @@ use Rattle.std.specs.Prelude.{◌≡◌, List, [], ◌∷◌, Bool, true, false,
 use Rattle.std.specs.Str.{chars}
 use Rattle.jsx_base.specs.Token.{Text, Operator, IdentifierName}
 use Rattle.jsx_tree.specs.Signs.{Tok, Space, SameLine, AfterWord, Ends}
-use Rattle.jsx_tree.specs.Kinds.{Break, Label, statement, Tree, leaf, list, none, part}
+use Rattle.jsx_tree.specs.Kinds.{Break, statement, Tree, leaf, list, none, part}
 use Rattle.jsx_tree.specs.Nonterminals.{Ident, SubStmt, is_ident}
 use Rattle.jsx_tree.specs.Grammar.{Fixed, Optional, Production, pun}
 use Rattle.jsx_tree.specs.Form.{is_leaf}

@@ -16,7 +16,7 @@ ghost use Rattle.jsx_tree.specs.Grammar.{key};
 ghost use Rattle.jsx_operand.specs.SoFar.{so_far};
 ghost use Rattle.jsx_tree.specs.Reading.{forth};
 ghost use Rattle.jsx_token.specs.Here.{place_of, left};
-ghost use Rattle.jsx_operand.specs.Answers.{Refused};
+ghost use Rattle.jsx_operand.specs.Answers.{PlainRefused, Refused};
 ghost use Rattle.jsx_declaration.specs.Heads.{DeclaresHead, DeclaresNoHead, Heads, IsPlacedHead, IsPlacedHeadBehind, IsPlacedStem, IsStem, AtValue, NoDeclaring, NoHeads, NoStem, clause_row, clause_symbols, declare_sign, is_async, is_closer};
 ghost use Rattle.jsx_operand.specs.Spans.{IsPlacedFront, Spans};
 ghost use Rattle.jsx_token.specs.Places.{Takes, begin_of, end_of, next_of};
@@ -28,6 +28,7 @@ use jsx_expression::expression::{grow, more_items, operand, sequence, tagged};
 use jsx_expression::function::binding;
 use jsx_make::make;
 use jsx_operand::cover::{refuse_arrow, settle};
+use jsx_operand::depth::{behind_expr, leave, measure};
 use jsx_operand::operand::{ASSIGNMENT, fits, level};
 use jsx_operand::pattern::start_of_pattern;
 use jsx_operand::turn::turn;
@@ -80,19 +81,23 @@ where
     ensures read { IfOk result (λ h. DeclaresHead (around_of context.entry.around) word (place_of lexer.old) h (place_of lexer.new)) }
     ensures placed { IfOk result (λ h. IsPlacedHeadBehind (declare_sign word) lexer.old h lexer.new) }
     ensures shorter { OnOk result (left lexer.new < left lexer.old) }
-    ensures refused { Refused result (DeclaresNoHead (around_of context.entry.around) word (place_of lexer.old)) }
+    ensures refused { Refused context.entry.levels result (DeclaresNoHead (around_of context.entry.around) word (place_of lexer.old)) }
 {
     let lo = lexer.last_place();
+    let outer = measure(context);
     let name = binding(context, lexer, body)?;
     let start = start_of_pattern(&name);
     let span = span_to(lo, lexer);
     if lexer.take(Fixed::Word(Word::In)) {
+        leave(context, outer);
         return Ok(ForHead::Keys(make::head(context.alloc, span, word, name)?));
     }
     if lexer.take(Fixed::Word(Word::Of)) {
+        leave(context, outer);
         return Ok(ForHead::Items(make::head(context.alloc, span, word, name)?));
     }
     let first = initialized(context, lexer, start, name, body)?;
+    leave(context, outer);
     let all = more_declarators(context, lexer, word, first, body)?;
     if any_has_open_in(&all) {
         return Err(give_up(lexer));
@@ -103,6 +108,7 @@ where
 }
 
 /// An expression that no comma goes on with, as far as an `in` that is no part of one of its operands: `a.b`, `a = c in d`.
+/// Its caller measures anew where it begins.
 fn stem<'s, B>(context: Context, lexer: &mut Lexer<'s>, body: B) -> Result<Cover<'s>, ParseError>
 where
     B: Copy + for<'c, 't> Fn(Context<'c>, &mut Lexer<'t>) -> Result<Body<'t>, ParseError>,
@@ -112,7 +118,7 @@ where
     ensures span { IfOk result (λ c. Spans (expr_at c.expr.value) (next_of lexer.old) (end_of lexer.new)) }
     ensures placed { IfOk result (λ c. IsPlacedStem c lexer.old lexer.new) }
     ensures shorter { OnOk result (left lexer.new < left lexer.old) }
-    ensures refused { Refused result (NoStem (around_of context.entry.around) (place_of lexer.old)) }
+    ensures refused { Refused context.entry.levels result (NoStem (around_of context.entry.around) (place_of lexer.old)) }
 {
     let first = operand(context, lexer, ASSIGNMENT, body)?;
     if level(&first.expr) < ASSIGNMENT {
@@ -134,7 +140,9 @@ where
             if !fits(growth, &expr) {
                 return Err(give_up(lexer));
             }
-            expr = grow(context, lexer, growth, expr, body)?;
+            let levels = behind_expr(context, lexer, &expr)?;
+            let inside = Context { levels, ..context };
+            expr = grow(inside, lexer, growth, expr, body)?;
         }
         may_turn = true;
     }
@@ -157,7 +165,7 @@ fn aim<'s>(
 ) -> Result<Box<Pat<'s>>, ParseError>
     ensures read { IfOk result (λ p. IsTurned first.entry (view_target p.value)) }
     ensures told { IfOk result (λ p. told_pat p.value ≡ retold (view_expr first.entry.expr.value) (told_expr first.entry.expr.value)) }
-    ensures refused { Refused result ((p : Tree) → IsTurned first.entry p → Prim.⊥) }
+    ensures refused { PlainRefused result ((p : Tree) → IsTurned first.entry p → Prim.⊥) }
 {
     turn(context.alloc, lexer.last_place(), first)
 }
@@ -195,9 +203,11 @@ where
     ensures read { IfOk result (λ h. Heads (around_of context.entry.around) (place_of lexer.old) h (place_of lexer.new)) }
     ensures placed { IfOk result (λ h. IsPlacedHead h lexer.old lexer.new) }
     ensures shorter { OnOk result (left lexer.new < left lexer.old) }
-    ensures refused { Refused result (NoHeads (around_of context.entry.around) (place_of lexer.old)) }
+    ensures refused { Refused context.entry.levels result (NoHeads (around_of context.entry.around) (place_of lexer.old)) }
 {
+    let outer = measure(context);
     let first = stem(context, lexer, body)?;
+    leave(context, outer);
     if lexer.take(Fixed::Word(Word::In)) {
         return Ok(ForHead::Keys(aim(context, lexer, first)?));
     }
@@ -228,7 +238,7 @@ where
     ensures read { IfOk result (λ h. Heads (around_of context.entry.around) (place_of lexer.old) h (place_of lexer.new)) }
     ensures placed { IfOk result (λ h. IsPlacedHead h lexer.old lexer.new) }
     ensures shorter { OnOk result (left lexer.new < left lexer.old) }
-    ensures refused { Refused result (NoHeads (around_of context.entry.around) (place_of lexer.old)) }
+    ensures refused { Refused context.entry.levels result (NoHeads (around_of context.entry.around) (place_of lexer.old)) }
 {
     if lexer.take(Fixed::Semicolon) {
         return Ok(ForHead::Initial(None));
@@ -253,7 +263,7 @@ where
     ensures read { IfOk result (λ o. OnlyRow so_far (around_of context.entry.around) (clause_row closer) (place_of lexer.old) (part (optional_of view_expr o) none) (place_of lexer.new)) }
     ensures placed { IfOk result (λ o. IsPlacedFront (clause_symbols closer) (told_optional told_expr o) (optional_of view_expr o) lexer.old lexer.new) }
     ensures shorter { OnOk result (left lexer.new < left lexer.old) }
-    ensures refused { Refused result (NoRow so_far (around_of context.entry.around) (clause_row closer) (place_of lexer.old)) }
+    ensures refused { Refused context.entry.levels result (NoRow so_far (around_of context.entry.around) (clause_row closer) (place_of lexer.old)) }
 {
     if lexer.take(closer) {
         return Ok(None);

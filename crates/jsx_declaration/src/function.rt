@@ -43,7 +43,7 @@ where
     ensures span { IfOk result (λ s. Spans (stmt_at s.value) (begin_of lexer.old) (end_of lexer.new)) }
     ensures placed { IfOk result (λ s. IsPlacedBehind (opening_sign (statement FunctionDecl)) lexer.old (told_stmt s.value) (view_stmt s.value) lexer.new) }
     ensures within { OnOk result (left lexer.new ≤ left lexer.old) }
-    ensures refused { Refused result (NoNode so_far (around_of context.entry.around) (tail (row_so_far (statement FunctionDecl))) (statement FunctionDecl) (place_of lexer.old)) }
+    ensures refused { Refused context.entry.levels result (NoNode so_far (around_of context.entry.around) (tail (row_so_far (statement FunctionDecl))) (statement FunctionDecl) (place_of lexer.old)) }
 {
     let lo = lexer.last_place();
     let name = bound_name(context, lexer)?;
@@ -69,7 +69,7 @@ where
     ensures span { IfOk result (λ s. Spans (stmt_at s.value) (begin_of lexer.old) (end_of lexer.new)) }
     ensures placed { IfOk result (λ s. IsPlacedBehind (opening_sign (statement ClassDecl)) lexer.old (told_stmt s.value) (view_stmt s.value) lexer.new) }
     ensures within { OnOk result (left lexer.new ≤ left lexer.old) }
-    ensures refused { Refused result (NoParts (around_of context.entry.around) (statement ClassDecl) (place_of lexer.old)) }
+    ensures refused { Refused context.entry.levels result (NoParts (around_of context.entry.around) (statement ClassDecl) (place_of lexer.old)) }
 {
     let lo = lexer.last_place();
     let name = bound_name(context.of_class(), lexer)?;
@@ -90,7 +90,7 @@ where
     ensures read { IfOk result (λ o. OnlyRow so_far (around_of context.entry.around) (tail (row_so_far (statement Return))) (place_of lexer.old) (part (optional_of view_expr o) none) (place_of lexer.new)) }
     ensures placed { IfOk result (λ o. IsPlacedRow returned_symbols (tale (told_optional told_expr o) no_tales) (part (optional_of view_expr o) none) lexer.old lexer.new) }
     ensures within { OnOk result (left lexer.new ≤ left lexer.old) }
-    ensures refused { Refused result (NoRow so_far (around_of context.entry.around) (tail (row_so_far (statement Return))) (place_of lexer.old)) }
+    ensures refused { Refused context.entry.levels result (NoRow so_far (around_of context.entry.around) (tail (row_so_far (statement Return))) (place_of lexer.old)) }
 {
     lexer.ends(Ending::Word);
     if lexer.semicolon() {
@@ -114,7 +114,7 @@ where
     ensures span { IfOk result (λ s. Spans (stmt_at s.value) (begin_of lexer.old) (end_of lexer.new)) }
     ensures placed { IfOk result (λ s. IsPlacedBehind (opening_sign (statement Return)) lexer.old (told_stmt s.value) (view_stmt s.value) lexer.new) }
     ensures within { OnOk result (left lexer.new ≤ left lexer.old) }
-    ensures refused { Refused result (NoNode so_far (around_of context.entry.around) (tail (row_so_far (statement Return))) (statement Return) (place_of lexer.old)) }
+    ensures refused { Refused context.entry.levels result (NoNode so_far (around_of context.entry.around) (tail (row_so_far (statement Return))) (statement Return) (place_of lexer.old)) }
 {
     if !context.around.returns {
         return Err(give_up(lexer));

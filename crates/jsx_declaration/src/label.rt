@@ -19,6 +19,7 @@ ghost use Rattle.jsx_declaration.specs.Heads.{Front, free_end};
 ghost use Rattle.jsx_declaration.specs.Labels.{IsBeforeLoop, IsLabel, NoLabel, TakesLabel, jump_row, jump_symbols, label_text, target_of, told_target};
 
 use jsx_base::BytePos;
+use jsx_operand::depth::counted;
 use jsx_operand::{Context, Labels, ParseError, give_up};
 use jsx_token::{Ending, Fixed, Heading, Leaf, Lexer, is_reserved};
 use jsx_tree::{Ident, Text};
@@ -117,7 +118,7 @@ pub(crate) fn jump_label<'s>(
     ensures read { IfOk result (λ l. Front (around_of context.entry.around) jump_row free_end (place_of lexer.old) (target_of l) (place_of lexer.new)) }
     ensures placed { IfOk result (λ l. IsPlacedFront jump_symbols (told_target l) (target_of l) lexer.old lexer.new) }
     ensures within { OnOk result (left lexer.new ≤ left lexer.old) }
-    ensures refused { Refused result (NoRow so_far (around_of context.entry.around) jump_row (place_of lexer.old)) }
+    ensures refused { Refused context.entry.levels result (NoRow so_far (around_of context.entry.around) jump_row (place_of lexer.old)) }
 {
     lexer.ends(Ending::Word);
     if !lexer.is_on_line() {
@@ -129,6 +130,7 @@ pub(crate) fn jump_label<'s>(
     if is_reserved(name) {
         return Err(give_up(lexer));
     }
+    counted(context, lexer)?;
     let place = lexer.last_place();
     lexer.ends(Ending::Word);
     Ok(Some(Label { name, place }))

@@ -17,7 +17,7 @@ ghost use Rattle.jsx_token.specs.Growths.{opening_sign};
 ghost use Rattle.jsx_declaration.specs.Initials.{has_value, wants_value};
 ghost use Rattle.jsx_token.specs.Headings.{NoHeading};
 ghost use Rattle.jsx_declaration.specs.Heads.{Declares, NotDeclared, AllDeclare, Initializes, NoneDeclare, NotInitialized};
-ghost use Rattle.jsx_operand.specs.Answers.{Refused};
+ghost use Rattle.jsx_operand.specs.Answers.{PlainRefused, Refused};
 ghost use Rattle.jsx_token.specs.Semicolons.{in_list};
 ghost use Rattle.jsx_make.specs.NodeSpans.{pat_at, stmt_at};
 ghost use Rattle.jsx_operand.specs.Spans.{IsPlaced, IsPlacedBehind, IsPlacedList, IsPlacedPast, Spans};
@@ -29,6 +29,7 @@ use jsx_base::BytePos;
 use jsx_expression::expression::{expression, sequence};
 use jsx_expression::function::binding;
 use jsx_make::make;
+use jsx_operand::depth::{behind_pattern, leave, measure};
 use jsx_operand::operand::{ASSIGNMENT, start_of};
 use jsx_operand::pattern::{is_compound, start_of_pattern};
 use jsx_operand::{Body, Context, Labels, ParseError, give_up, semicolon, span_to};
@@ -51,13 +52,15 @@ where
     ensures placed { IfOk result (λ p. IsPlacedPast lo.0 (told_pat name.entry.value) (view_pat name.entry.value) lexer.old (told_pat p.value) (view_pat p.value) lexer.new) }
     ensures within { OnOk result (left lexer.new ≤ left lexer.old) }
     ensures behind { OnOk result (IsTrue (in_list (place_of lexer.new))) }
-    ensures refused { Refused result (NotInitialized (around_of context.entry.around) (view_pat name.entry.value) (place_of lexer.old)) }
+    ensures refused { Refused context.entry.levels result (NotInitialized (around_of context.entry.around) (view_pat name.entry.value) (place_of lexer.old)) }
 {
     lexer.ends(Ending::Binding);
     if !lexer.take(Fixed::Equals) {
         return Ok(make::declarator(context.alloc, span_to(lo, lexer), name, None)?);
     }
-    let value = expression(context, lexer, ASSIGNMENT, body)?;
+    let levels = behind_pattern(context, lexer, &name)?;
+    let inside = Context { levels, ..context };
+    let value = expression(inside, lexer, ASSIGNMENT, body)?;
     Ok(make::declarator(context.alloc, span_to(lo, lexer), name, Some(value))?)
 }
 
@@ -75,11 +78,14 @@ where
     ensures placed { IfOk result (λ p. IsPlaced (told_pat p.value) (view_pat p.value) lexer.old lexer.new) }
     ensures shorter { OnOk result (left lexer.new < left lexer.old) }
     ensures behind { OnOk result (IsTrue (in_list (place_of lexer.new))) }
-    ensures refused { Refused result (Barred so_far (around_of context.entry.around) (Part grammar.Declarators) (place_of lexer.old)) }
+    ensures refused { Refused context.entry.levels result (Barred so_far (around_of context.entry.around) (Part grammar.Declarators) (place_of lexer.old)) }
 {
+    let outer = measure(context);
     let target = binding(context, lexer, body)?;
     let lo = start_of_pattern(&target);
-    Ok(initialized(context, lexer, lo, target, body)?)
+    let whole = initialized(context, lexer, lo, target, body)?;
+    leave(context, outer);
+    Ok(whole)
 }
 
 /// Whether what a variable binds wants an initializer: a pattern in brackets does, and all that `const` binds.
@@ -131,7 +137,7 @@ where
     requires listed { IsTrue (in_list (place_of lexer.old)) }
     ensures read { IfOk result (λ v. AllDeclare (around_of context.entry.around) (word_of word) first.entry.value lexer.old v.items lexer.new) }
     ensures within { OnOk result (left lexer.new ≤ left lexer.old) }
-    ensures refused { Refused result (NoneDeclare (around_of context.entry.around) (word_of word) first.entry.value lexer.old) }
+    ensures refused { Refused context.entry.levels result (NoneDeclare (around_of context.entry.around) (word_of word) first.entry.value lexer.old) }
 {
     let mut all = Vec::with_capacity(context.alloc, 1)?;
     let mut next = first;
@@ -161,7 +167,7 @@ where
     ensures initialized { IfOk result (λ v. IsTrue (all_of (has_init (word_of word)) (forest (map (inside view_pat) v.items)))) }
     ensures placed { IfOk result (λ v. IsPlacedList NoTrailing (tales (map (inside told_pat) v.items)) (forest (map (inside view_pat) v.items)) lexer.old lexer.new) }
     ensures shorter { OnOk result (left lexer.new < left lexer.old) }
-    ensures refused { Refused result (NotDeclared (around_of context.entry.around) (word_of word) (place_of lexer.old)) }
+    ensures refused { Refused context.entry.levels result (NotDeclared (around_of context.entry.around) (word_of word) (place_of lexer.old)) }
 {
     let first = declarator(context, lexer, body)?;
     Ok(more_declarators(context, lexer, word, first, body)?)
@@ -181,7 +187,7 @@ where
     ensures span { IfOk result (λ s. Spans (stmt_at s.value) (begin_of lexer.old) (end_of lexer.new)) }
     ensures placed { IfOk result (λ s. IsPlacedBehind (opening_sign (statement (Var (word_of word)))) lexer.old (told_stmt s.value) (view_stmt s.value) lexer.new) }
     ensures within { OnOk result (left lexer.new ≤ left lexer.old) }
-    ensures refused { Refused result (NoNode so_far (around_of context.entry.around) (tail (row_so_far (statement (Var (word_of word))))) (statement (Var (word_of word))) (place_of lexer.old)) }
+    ensures refused { Refused context.entry.levels result (NoNode so_far (around_of context.entry.around) (tail (row_so_far (statement (Var (word_of word))))) (statement (Var (word_of word))) (place_of lexer.old)) }
 {
     let lo = lexer.last_place();
     let all = declarators(context, lexer, word, body)?;
@@ -203,7 +209,7 @@ where
     ensures span { IfOk result (λ s. Spans (stmt_at s.value) (next_of lexer.old) (end_of lexer.new)) }
     ensures placed { IfOk result (λ s. IsPlaced (told_stmt s.value) (view_stmt s.value) lexer.old lexer.new) }
     ensures shorter { OnOk result (left lexer.new < left lexer.old) }
-    ensures refused { Refused result (NoNode so_far (around_of context.entry.around) (row_so_far (statement ExprStmt)) (statement ExprStmt) (place_of lexer.old)) }
+    ensures refused { Refused context.entry.levels result (NoNode so_far (around_of context.entry.around) (row_so_far (statement ExprStmt)) (statement ExprStmt) (place_of lexer.old)) }
 {
     let expr = sequence(context, lexer, body)?;
     semicolon(context, lexer)?;
@@ -216,7 +222,7 @@ pub fn empty_statement<'s>(context: Context, lexer: &Lexer<'s>) -> Result<Box<St
     ensures read { IfOk result (λ s. BuiltNode so_far (around_of context.entry.around) (tail (row_so_far (statement Empty))) (statement Empty) (view_stmt s.value) (place_of lexer.now) (place_of lexer.now)) }
     ensures span { IfOk result (λ s. Spans (stmt_at s.value) (begin_of lexer.now) (end_of lexer.now)) }
     ensures placed { IfOk result (λ s. IsPlacedBehind (opening_sign (statement Empty)) lexer.now (told_stmt s.value) (view_stmt s.value) lexer.now) }
-    ensures refused { Refused result (NoNode so_far (around_of context.entry.around) (tail (row_so_far (statement Empty))) (statement Empty) (place_of lexer.now)) }
+    ensures refused { Refused context.entry.levels result (NoNode so_far (around_of context.entry.around) (tail (row_so_far (statement Empty))) (statement Empty) (place_of lexer.now)) }
 {
     let lo = lexer.last_place();
     Ok(make::empty_statement(context.alloc, span_to(lo, lexer))?)
@@ -235,7 +241,7 @@ where
     ensures span { IfOk result (λ s. Spans (stmt_at s.value) (begin_of lexer.old) (end_of lexer.new)) }
     ensures placed { IfOk result (λ s. IsPlacedBehind (opening_sign (statement Throw)) lexer.old (told_stmt s.value) (view_stmt s.value) lexer.new) }
     ensures within { OnOk result (left lexer.new ≤ left lexer.old) }
-    ensures refused { Refused result (NoNode so_far (around_of context.entry.around) (tail (row_so_far (statement Throw))) (statement Throw) (place_of lexer.old)) }
+    ensures refused { Refused context.entry.levels result (NoNode so_far (around_of context.entry.around) (tail (row_so_far (statement Throw))) (statement Throw) (place_of lexer.old)) }
 {
     if !lexer.is_on_line() {
         return Err(give_up(lexer));
@@ -256,7 +262,7 @@ pub fn debugger_statement<'s>(
     ensures span { IfOk result (λ s. Spans (stmt_at s.value) (begin_of lexer.old) (end_of lexer.new)) }
     ensures placed { IfOk result (λ s. IsPlacedBehind (opening_sign (statement Debugger)) lexer.old (told_stmt s.value) (view_stmt s.value) lexer.new) }
     ensures within { OnOk result (left lexer.new ≤ left lexer.old) }
-    ensures refused { Refused result (NoNode so_far (around_of context.entry.around) (tail (row_so_far (statement Debugger))) (statement Debugger) (place_of lexer.old)) }
+    ensures refused { Refused context.entry.levels result (NoNode so_far (around_of context.entry.around) (tail (row_so_far (statement Debugger))) (statement Debugger) (place_of lexer.old)) }
 {
     let lo = lexer.last_place();
     lexer.ends(Ending::Word);
@@ -281,7 +287,7 @@ pub fn break_statement<'s>(
     ensures span { IfOk result (λ s. Spans (stmt_at s.value) (begin_of lexer.old) (end_of lexer.new)) }
     ensures placed { IfOk result (λ s. IsPlacedBehind (opening_sign (statement Break)) lexer.old (told_stmt s.value) (view_stmt s.value) lexer.new) }
     ensures within { OnOk result (left lexer.new ≤ left lexer.old) }
-    ensures refused { Refused result (NoNode so_far (around_of context.entry.around) (tail (row_so_far (statement Break))) (statement Break) (place_of lexer.old)) }
+    ensures refused { Refused context.entry.levels result (NoNode so_far (around_of context.entry.around) (tail (row_so_far (statement Break))) (statement Break) (place_of lexer.old)) }
 {
     let lo = lexer.last_place();
     let label = jump_label(context, lexer)?;
@@ -302,7 +308,7 @@ pub fn continue_statement<'s>(
     ensures span { IfOk result (λ s. Spans (stmt_at s.value) (begin_of lexer.old) (end_of lexer.new)) }
     ensures placed { IfOk result (λ s. IsPlacedBehind (opening_sign (statement Continue)) lexer.old (told_stmt s.value) (view_stmt s.value) lexer.new) }
     ensures within { OnOk result (left lexer.new ≤ left lexer.old) }
-    ensures refused { Refused result (NoNode so_far (around_of context.entry.around) (tail (row_so_far (statement Continue))) (statement Continue) (place_of lexer.old)) }
+    ensures refused { Refused context.entry.levels result (NoNode so_far (around_of context.entry.around) (tail (row_so_far (statement Continue))) (statement Continue) (place_of lexer.old)) }
 {
     let lo = lexer.last_place();
     let label = jump_label(context, lexer)?;
@@ -323,7 +329,7 @@ fn is_default(clause: &Control) -> bool
 pub fn one_default(has_default: bool, clause: &Control, lexer: &Lexer) -> Result<bool, ParseError>
     ensures has { IfOk result (λ b. b ≡ (has_default || is_default (view_control clause.now))) }
     ensures one { OnOk result (IsFalse (has_default && is_default (view_control clause.now))) }
-    ensures refused { Refused result (IsTrue (has_default && is_default (view_control clause.now))) }
+    ensures refused { PlainRefused result (IsTrue (has_default && is_default (view_control clause.now))) }
 {
     let is_default = is_default(clause);
     if is_default && has_default {

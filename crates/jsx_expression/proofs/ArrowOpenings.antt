@@ -1,5 +1,5 @@
 -- What begins with a `(`: an expression in parentheses, or an arrow function with a value or with a block, told apart by what stands behind the `)` (ECMA-262 sections 13.2.9 and 15.3).
-use Rattle.std.proofs.Common.{◌≡◌, ℕ, nat_eq, nat_le, Bool, true, false, not, List, [], ◌∷◌, ◌++◌, map, refl, sym, ◌∙◌, ap, subst, Box, Global, None, Some}
+use Rattle.std.proofs.Common.{◌≡◌, ◌≤◌, ℕ, nat_eq, nat_le, Bool, true, false, not, List, [], ◌∷◌, ◌++◌, map, refl, sym, ◌∙◌, ap, subst, arith, Box, Global, None, Some}
 use Rattle.std.specs.Prelude.{IsTrue, codes, ◌&&◌, ◌||◌}
 use Rattle.jsx_base.specs.Token.{Operator, Punctuator, same, is_kind}
 use Rattle.jsx_tree.specs.Signs.{AfterExpr, SameLine, Sign}
@@ -13,12 +13,14 @@ use Rattle.jsx_tree.specs.declared.tree.Pat.{Pat}
 use Rattle.jsx_tree.specs.Walk.{is_found, nothing, one, Piece, Items, nil, last, more, sign, tree, many, Walk, done, next, steady, tail}
 use Rattle.jsx_tree.specs.Language.{Whole}
 use Rattle.jsx_tree.specs.Answers.{Moves, Stuck, Only, Barred, OnlyRow, NoRow, NoNode, Built, BuiltNode}
+use Rattle.jsx_tree.specs.Faults.{Fault, Unread, Shallow, part_depth, deepest}
 use Rattle.jsx_tree.proofs.Apart.{never_both}
 use Rattle.jsx_tree.proofs.Tokens.{and_both, and_left}
 use Rattle.jsx_tree.proofs.Rows.Bridge.{found_at}
 use Rattle.jsx_tree.proofs.Rows.Placing.{no_node}
-use Rattle.jsx_tree.proofs.Rows.Steps.{bar, built_3, no_sign, on, only_sign, then_row}
+use Rattle.jsx_tree.proofs.Rows.Steps.{bar, built_3, no_sign, on, only_sign, then_row, any_barred}
 use Rattle.jsx_tree.proofs.Rows.Stopping.{or_cases, stays}
+use Rattle.jsx_tree.proofs.Depth.Shallow.{shallow_alone, shallow_first, shallow_head, shallow_nothing, shallow_tail, shallow_up}
 use Rattle.jsx_token.specs.Growths.{closed, settled}
 use Rattle.jsx_token.proofs.Ahead.{an_arrow, no_arrow as no_arrow_next}
 use Rattle.jsx_token.specs.Here.{Here, place_of}
@@ -68,14 +70,14 @@ paren_row = tail (row_so_far (expression Parenthesized))
 abbrev arrow_row : Bool → List Piece
 arrow_row b = tail (row_so_far (arrow_kind b))
 
-abbrev NoParen : Surroundings → Place → Type 0
-NoParen v x = NoNode so_far v paren_row (expression Parenthesized) x
+abbrev NoParen : Surroundings → Place → Fault → Type 0
+NoParen v x e = NoNode so_far v paren_row (expression Parenthesized) x e
 
-abbrev NoArrow : Surroundings → Bool → Place → Type 0
-NoArrow v b x = NoNode so_far v (arrow_row b) (arrow_kind b) x
+abbrev NoArrow : Surroundings → Bool → Place → Fault → Type 0
+NoArrow v b x e = NoNode so_far v (arrow_row b) (arrow_kind b) x e
 
-none_of : {v : Surroundings} {x : Place} → NoParen v x → NoArrow v false x → NoArrow v true x → NoneOpened v (pun "(") x
-none_of {v} {x} p q r = record { no = of_paren (λ j. NoParts v j x) (free_none (expression Parenthesized) refl p) (free_none (expression Arrow) refl q) (free_none (expression ArrowBlock) refl r) }
+none_of : {v : Surroundings} {x : Place} {e : Fault} → NoParen v x e → NoArrow v false x e → NoArrow v true x e → NoneOpened v (pun "(") x e
+none_of {v} {x} {e = e} p q r = record { no = of_paren (λ j. NoParts v j x e) (free_none (expression Parenthesized) refl p) (free_none (expression Arrow) refl q) (free_none (expression ArrowBlock) refl r) }
 
 -- ---- parameters are read alike in the function and outside of it
 
@@ -126,11 +128,11 @@ keeps_plain v true us k = and_left (rule (expression ArrowBlock) us) (stands (ex
 keeps_plain v false us k = and_left (rule (expression Arrow) us) (stands (expression Arrow) us v) k
 
 -- none stands there where what is behind any parameters isn't read, or breaks the rule on them
-record Unended (v : Surroundings) (b : Bool) (x : Place) : Type 0 where
-  no : (ps us : Forest) (y z : Place) → Walk (Whole so_far) (steady v) params_row x (part (list ps) none) y → Walk (Whole so_far) (steady v) (end_row b) y us z → has_plain_params (part (list ps) us) ≡ true → ⊥
+record Unended (v : Surroundings) (b : Bool) (x : Place) (e : Fault) : Type 0 where
+  no : (ps us : Forest) (y z : Place) → Walk (Whole so_far) (steady v) params_row x (part (list ps) none) y → Walk (Whole so_far) (steady v) (end_row b) y us z → has_plain_params (part (list ps) us) ≡ true → Shallow e (deepest (part (list ps) us)) → ⊥
 
-no_arrow : {v : Surroundings} {x : Place} (b : Bool) → Unended v b x → NoArrow v b x
-no_arrow {v} b n = record { no = λ us z w k. let s = split b w in n.no s.params s.rest s.place z s.first s.second (ap has_plain_params (sym s.is) ∙ keeps_plain v b us k) }
+no_arrow : {v : Surroundings} {x : Place} {e : Fault} (b : Bool) → Unended v b x e → NoArrow v b x e
+no_arrow {v} {e = e} b n = record { no = λ us z w k h. let s = split b w in n.no s.params s.rest s.place z s.first s.second (ap has_plain_params (sym s.is) ∙ keeps_plain v b us k) (subst (λ ts. Shallow e (deepest ts)) s.is h) }
 
 list_is : {ps qs ts us : Forest} → part (list ps) ts ≡ part (list qs) us → ps ≡ qs
 list_is {ps} e = ap listed_in e
@@ -140,46 +142,46 @@ list_is {ps} e = ap listed_in e
     listed_in us = us
 
 -- the other one, where one is read
-other_arrow : {v : Surroundings} {x y z : Place} {ps : Forest} {e : Tree} (b : Bool) → OnlyRow so_far v params_row x (part (list ps) none) y → OnlyEnd v b e y z → NoArrow v (not b) x
-other_arrow {v} b o e = no_arrow (not b) (record { no = λ qs us p q w r h. e.other.no us q (subst (λ a. Walk (Whole so_far) (steady v) (end_row (not b)) a us q) (sym (o.alone (part (list qs) none) p w).1) r) })
+other_arrow : {v : Surroundings} {x y z : Place} {ps : Forest} {e : Tree} {d : Fault} (b : Bool) → OnlyRow so_far v params_row x (part (list ps) none) y → OnlyEnd v b e y z → NoArrow v (not b) x d
+other_arrow {v} b o e = no_arrow (not b) (record { no = λ qs us p q w r h s. e.other.no us q (subst (λ a. Walk (Whole so_far) (steady v) (end_row (not b)) a us q) (sym (o.alone (part (list qs) none) p w).1) r) tt })
 
-pub arrow_opened : {v : Surroundings} {x y z : Place} {ps : Forest} {t : Tree} → OnlyRow so_far v params_row x (part (list ps) none) y → NoParen v x → ArrowEnds v ps t y z → OnlyOpened v (pun "(") t x z
+pub arrow_opened : {v : Surroundings} {x y z : Place} {ps : Forest} {t : Tree} → OnlyRow so_far v params_row x (part (list ps) none) y → NoParen v x Unread → ArrowEnds v ps t y z → OnlyOpened v (pun "(") t x z
 arrow_opened {v} {x} {y} {z} {ps} {t} o n e = by e.block e.is e.read e.plain
   where
     by : (b : Bool) → t ≡ node (arrow_kind b) (part (list ps) (part e.end' none)) → OnlyEnd v b e.end' y z → has_plain_params (part (list ps) (part e.end' none)) ≡ true → OnlyOpened v (pun "(") t x z
     by true is r h = opened_by (expression ArrowBlock) refl refl (arrow_built true o r h is) (of_paren (Other v x (expression ArrowBlock)) (barred refl n) (barred refl (other_arrow true o r)) itself)
     by false is r h = opened_by (expression Arrow) refl refl (arrow_built false o r h is) (of_paren (Other v x (expression Arrow)) (barred refl n) itself (barred refl (other_arrow false o r)))
 
-unread : {v : Surroundings} {x y : Place} {ps : Forest} (b : Bool) → OnlyRow so_far v params_row x (part (list ps) none) y → NoArrowEnd v ps y → Unended v b x
-unread {v} {ps = ps} b o n = record {
-  no = λ qs us p q w r h.
+unread : {v : Surroundings} {x y : Place} {ps : Forest} {e : Fault} (b : Bool) → OnlyRow so_far v params_row x (part (list ps) none) y → NoArrowEnd v ps y e → Unended v b x e
+unread {v} {ps = ps} {e = e} b o n = record {
+  no = λ qs us p q w r h a.
       let s = o.alone (part (list qs) none) p w in
-      n.no b us q (subst (λ a. Walk (Whole so_far) (steady v) (end_row b) a us q) (sym s.1) r) (subst (λ ws. has_plain_params (part (list ws) us) ≡ true) (sym (list_is s.0)) h);
+      n.no b us q (subst (λ a. Walk (Whole so_far) (steady v) (end_row b) a us q) (sym s.1) r) (subst (λ ws. has_plain_params (part (list ws) us) ≡ true) (sym (list_is s.0)) h) (shallow_tail e (list qs) us a);
 }
 
-pub arrow_unread : {v : Surroundings} {x y : Place} {ps : Forest} → OnlyRow so_far v params_row x (part (list ps) none) y → NoParen v x → NoArrowEnd v ps y → NoneOpened v (pun "(") x
+pub arrow_unread : {v : Surroundings} {x y : Place} {ps : Forest} {d : Fault} → OnlyRow so_far v params_row x (part (list ps) none) y → NoParen v x d → NoArrowEnd v ps y d → NoneOpened v (pun "(") x d
 arrow_unread o n e = none_of n (no_arrow false (unread false o e)) (no_arrow true (unread true o e))
 
-pub params_unread : {v : Surroundings} {x : Place} → NoRow so_far v params_row x → NoParen v x → NoneOpened v (pun "(") x
-params_unread {v} {x} r n = none_of n (no_arrow false (at false)) (no_arrow true (at true))
+pub params_unread : {v : Surroundings} {x : Place} {e : Fault} → NoRow so_far v params_row x e → NoParen v x e → NoneOpened v (pun "(") x e
+params_unread {v} {x} {e = e} r n = none_of n (no_arrow false (at false)) (no_arrow true (at true))
   where
-    at : (b : Bool) → Unended v b x
-    at b = record { no = λ ps us y z w q h. r.no _ y w }
+    at : (b : Bool) → Unended v b x e
+    at b = record { no = λ ps us y z w q h s. r.no (part (list ps) none) y w (shallow_alone e (one (list ps)) (shallow_head e (list ps) us s)) }
 
 -- ---- no parentheses
 
-pub no_paren : {v : Surroundings} {x : Place} → Barred so_far v (Part (Expr 0)) x → NoParen v x
+pub no_paren : {v : Surroundings} {x : Place} {e : Fault} → Barred so_far v (Part (Expr 0)) x e → NoParen v x e
 no_paren b = no_node (bar b)
 
-paren_by : {v : Surroundings} {b : Bool} {t : Tree} {cs : List Cover} {rs : Forest} {x y : Place} → Contents v b t cs rs x y → (Only so_far v (Part (Expr 0)) x (one t) y → NoParen v x) → NoParen v x
-paren_by {v} {b} {x = x} c f = by b refl
+paren_by : {v : Surroundings} {b : Bool} {t : Tree} {cs : List Cover} {rs : Forest} {x y : Place} {o : Fault} → Contents v b t cs rs x y → (Only so_far v (Part (Expr 0)) x (one t) y → NoParen v x o) → NoParen v x o
+paren_by {v} {b} {x = x} {o = o} c f = by b refl
   where
-    by : (a : Bool) → b ≡ a → NoParen v x
+    by : (a : Bool) → b ≡ a → NoParen v x o
     by true e = f (c.expr e)
-    by false e = no_paren (c.barred e)
+    by false e = no_paren (any_barred (c.barred e))
 
 -- before a `=>`
-paren_guarded : {v : Surroundings} {b : Bool} {t : Tree} {cs : List Cover} {rs : Forest} {x y z : Place} → Contents v b t cs rs x y → Moves (pun ")") y z → Stuck unless_arrow z → NoParen v x
+paren_guarded : {v : Surroundings} {b : Bool} {t : Tree} {cs : List Cover} {rs : Forest} {x y z : Place} {e : Fault} → Contents v b t cs rs x y → Moves (pun ")") y z → Stuck unless_arrow z → NoParen v x e
 paren_guarded c m n = paren_by c (λ o. no_node (on o (on (only_sign m) (bar (no_sign n)))))
 
 -- ---- what was read in the parentheses, with what stands behind them
@@ -193,14 +195,14 @@ params_only c k m = record {
 pub turned_opened : {v : Surroundings} {b : Bool} {u t : Tree} {cs : List Cover} {rs ps : Forest} {x y z p : Place} → Contents v b u cs rs x y → Moves (pun ")") y z → Stuck unless_arrow z → TurnCovers cs rs ps → ArrowEnds v ps t z p → OnlyOpened v (pun "(") t x p
 turned_opened c m n k e = arrow_opened (params_only c k m) (paren_guarded c m n) e
 
-pub turned_unread : {v : Surroundings} {b : Bool} {u : Tree} {cs : List Cover} {rs ps : Forest} {x y z : Place} → Contents v b u cs rs x y → Moves (pun ")") y z → Stuck unless_arrow z → TurnCovers cs rs ps → NoArrowEnd v ps z → NoneOpened v (pun "(") x
+pub turned_unread : {v : Surroundings} {b : Bool} {u : Tree} {cs : List Cover} {rs ps : Forest} {x y z : Place} {o : Fault} → Contents v b u cs rs x y → Moves (pun ")") y z → Stuck unless_arrow z → TurnCovers cs rs ps → NoArrowEnd v ps z o → NoneOpened v (pun "(") x o
 turned_unread c m n k e = arrow_unread (params_only c k m) (paren_guarded c m n) e
 
-pub unturned : {v : Surroundings} {b : Bool} {u : Tree} {cs : List Cover} {rs : Forest} {x y z : Place} → Contents v b u cs rs x y → Moves (pun ")") y z → Stuck unless_arrow z → ((ps : Forest) → TurnCovers cs rs ps → ⊥) → NoneOpened v (pun "(") x
-unturned c m n f = params_unread (record { no = λ ts p w. let a = c.alone ts p w in f a.params a.turns }) (paren_guarded c m n)
+pub unturned : {v : Surroundings} {b : Bool} {u : Tree} {cs : List Cover} {rs : Forest} {x y z : Place} {e : Fault} → Contents v b u cs rs x y → Moves (pun ")") y z → Stuck unless_arrow z → ((ps : Forest) → TurnCovers cs rs ps → ⊥) → NoneOpened v (pun "(") x e
+unturned c m n f = params_unread (record { no = λ ts p w _. let a = c.alone ts p w in f a.params a.turns }) (paren_guarded c m n)
 
-pub unclosed : {v : Surroundings} {b : Bool} {u : Tree} {cs : List Cover} {rs : Forest} {x y : Place} → Contents v b u cs rs x y → Barred so_far v (Fixed (pun ")")) y → NoneOpened v (pun "(") x
-unclosed c n = params_unread (record { no = λ ts p w. let a = c.alone ts p w in n.no nothing p (sign (sym a.closes.is) a.closes.found) }) (paren_by c (λ o. no_node (on o (bar n))))
+pub unclosed : {v : Surroundings} {b : Bool} {u : Tree} {cs : List Cover} {rs : Forest} {x y : Place} {e : Fault} → Contents v b u cs rs x y → Barred so_far v (Fixed (pun ")")) y e → NoneOpened v (pun "(") x e
+unclosed {e = e} c n = params_unread (record { no = λ ts p w _. let a = c.alone ts p w in n.no nothing p (sign (sym a.closes.is) a.closes.found) (shallow_nothing e) }) (paren_by c (λ o. no_node (on o (bar n))))
 
 -- no `=>` behind them
 line_arrow : {v : Surroundings} {x z : Place} {us : Forest} (b : Bool) → forth (pun "=>") x ≡ Lost → Walk (Whole so_far) (steady v) (end_row b) x us z → ⊥
@@ -215,9 +217,9 @@ line_arrow {x = x} b n w = at b w
     at true (next (sign e f) (next (sign g h) r)) = lost e f g h
     at false (next (sign e f) (next (sign g h) r)) = lost e f g h
 
-unarrowed : {v : Surroundings} {b : Bool} {u : Tree} {cs : List Cover} {rs : Forest} {x y z : Place} → Contents v b u cs rs x y → Moves (pun ")") y z → forth (pun "=>") z ≡ Lost → (a : Bool) → NoArrow v a x
+unarrowed : {v : Surroundings} {b : Bool} {u : Tree} {cs : List Cover} {rs : Forest} {x y z : Place} {e : Fault} → Contents v b u cs rs x y → Moves (pun ")") y z → forth (pun "=>") z ≡ Lost → (a : Bool) → NoArrow v a x e
 unarrowed {v} {x = x} c m n a = no_arrow a (record {
-  no = λ ps us p q w r h.
+  no = λ ps us p q w r h _.
       let k = c.alone _ p w in
       line_arrow a n (subst (λ o. Walk (Whole so_far) (steady v) (end_row a) o us q) (k.closes.is ∙ sym m.is) r);
 })
@@ -227,8 +229,8 @@ paren_opened {v} {x = x} c h m g n e =
     opened_by (expression Parenthesized) refl refl (kept_behind (expression Parenthesized) (listed (expression Parenthesized) refl refl refl) refl refl (built_3 g.found (c.expr h) (only_sign m) (only_sign g) e))
     (of_paren (Other v x (expression Parenthesized)) itself (barred refl (unarrowed c m n false)) (barred refl (unarrowed c m n true)))
 
-pub paren_unread : {v : Surroundings} {b : Bool} {u : Tree} {cs : List Cover} {rs : Forest} {x y z : Place} → Contents v b u cs rs x y → b ≡ false → Moves (pun ")") y z → forth (pun "=>") z ≡ Lost → NoneOpened v (pun "(") x
-paren_unread c h m n = none_of (no_paren (c.barred h)) (unarrowed c m n false) (unarrowed c m n true)
+pub paren_unread : {v : Surroundings} {b : Bool} {u : Tree} {cs : List Cover} {rs : Forest} {x y z : Place} {e : Fault} → Contents v b u cs rs x y → b ≡ false → Moves (pun ")") y z → forth (pun "=>") z ≡ Lost → NoneOpened v (pun "(") x e
+paren_unread c h m n = none_of (no_paren (any_barred (c.barred h))) (unarrowed c m n false) (unarrowed c m n true)
 
 -- `=>` isn't there where no token is spelled so
 pub no_arrow_sign : (h : Here) → same (next_token Operator h).raw (codes "=>") ≡ false → forth (pun "=>") (place_of h) ≡ Lost
@@ -244,28 +246,35 @@ no_arrow_sign h n =
 -- ---- where nothing is read in the parentheses
 
 -- no first cover, and neither `)` nor `...`
-pub nothing_inside : {v : Surroundings} {x : Place} → NoCover v 1 x → Stuck (pun ")") x → Stuck (pun "...") x → NoneOpened v (pun "(") x
-nothing_inside {v} {x} n k d = params_unread (record { no = at }) (no_paren (whole_barred n.none))
+pub nothing_inside : {v : Surroundings} {x : Place} {o : Fault} → NoCover v 1 x o → Stuck (pun ")") x → Stuck (pun "...") x → NoneOpened v (pun "(") x o
+nothing_inside {v} {x} {o = o} n k d = params_unread (record { no = at }) (no_paren (whole_barred n.none))
   where
-    inner : {y : Place} (ps : Forest) → Items (Whole so_far) v Commas Param x ps y → IsTrue (is_found (forth (pun ")") y)) → ⊥
-    inner ps (nil f) g = stuck_not k g
-    inner ps (last {y = y} {t = u} r e f) g = no_param n d u y r
-    inner ps (more {y = y} {t = u} m r e all) g = no_param n d u y r
+    inner : {y : Place} (ps : Forest) → Items (Whole so_far) v Commas Param x ps y → IsTrue (is_found (forth (pun ")") y)) → Shallow o (deepest ps) → ⊥
+    inner ps (nil f) g h = stuck_not k g
+    inner ps (last {y = y} {t = u} r e f) g h = no_param n d u y r (shallow_head o u none h)
+    inner ps (more {y = y} {t = u} {u = u'} {us = us'} m r e all) g h = no_param n d u y r (shallow_head o u (part u' us') h)
 
-    at : (ts : Forest) (z : Place) → Walk (Whole so_far) (steady v) params_row x ts z → ⊥
-    at ts z (next (many {ts = ps} m items) (next (sign e f) r)) = inner ps items (found_at e f)
+    at : (ts : Forest) (z : Place) → Walk (Whole so_far) (steady v) params_row x ts z → Shallow o (deepest ts) → ⊥
+    at ts z (next {ts = vs} (many {ts = ps} m items) (next (sign e f) r)) s = inner ps items (found_at e f) (shallow_first o (one (list ps)) vs s)
+
+-- what stands behind some of the parameters is no deeper than all
+rest_up : {cs : List Cover} {rs ps : Forest} → TurnCovers cs rs ps → deepest rs ≤ deepest ps
+rest_up covers_none = omega arith
+rest_up (covers_more i t) = let h = rest_up t in omega (arith, h)
 
 -- behind covers with commas nothing more is read, and no `)` comes
-pub nothing_more : {v : Surroundings} {x y : Place} {cs : List Cover} → Passes v x cs y → Barred so_far v (Part (Expr 1)) y → ((u : Tree) (z : Place) → Whole so_far v false Param y u z → ⊥) → Stuck (pun ")") y → NoneOpened v (pun "(") x
-nothing_more {v} {x} {y} p b f k = params_unread (record { no = at }) (no_paren (passes_barred p b))
+pub nothing_more : {v : Surroundings} {x y : Place} {cs : List Cover} {o : Fault} → Passes v x cs y → Barred so_far v (Part (Expr 1)) y o → ((u : Tree) (z : Place) → Whole so_far v false Param y u z → Shallow o (part_depth u) → ⊥) → Stuck (pun ")") y → NoneOpened v (pun "(") x o
+nothing_more {v} {x} {y} {o = o} p b f k = params_unread (record { no = at }) (no_paren (passes_barred p b))
   where
-    inner : {z : Place} (ps : Forest) → Items (Whole so_far) v Commas Param y ps z → IsTrue (is_found (forth (pun ")") z)) → ⊥
-    inner ps (nil e) g = stuck_not k g
-    inner ps (last {y = z} {t = u} r d e) g = f u z r
-    inner ps (more {y = z} {t = u} m r d all) g = f u z r
+    inner : {z : Place} (ps : Forest) → Items (Whole so_far) v Commas Param y ps z → IsTrue (is_found (forth (pun ")") z)) → Shallow o (deepest ps) → ⊥
+    inner ps (nil e) g h = stuck_not k g
+    inner ps (last {y = z} {t = u} r d e) g h = f u z r (shallow_head o u none h)
+    inner ps (more {y = z} {t = u} {u = u'} {us = us'} m r d all) g h = f u z r (shallow_head o u (part u' us') h)
 
-    at : (ts : Forest) (z : Place) → Walk (Whole so_far) (steady v) params_row x ts z → ⊥
-    at ts z (next {y = w} (many {ts = ps} m items) (next (sign e g) r)) = let a = p.params.from ps w items (found_at e g) in inner a.rest a.items (found_at e g)
+    at : (ts : Forest) (z : Place) → Walk (Whole so_far) (steady v) params_row x ts z → Shallow o (deepest ts) → ⊥
+    at ts z (next {y = w} {ts = vs} (many {ts = ps} m items) (next (sign e g) r)) s =
+        let a = p.params.from ps w items (found_at e g) in
+        inner a.rest a.items (found_at e g) (shallow_up o (deepest a.rest) (deepest ps) (rest_up a.turns) (shallow_first o (one (list ps)) vs s))
 
 -- ---- the answers of single functions
 
@@ -340,17 +349,17 @@ moves_to {s} {y} e m = subst (λ h. Moves s y (place_of h)) (sym e) m
 pub moves_from : {s : Sign} {x x' : Here} {y : Place} → x' ≡ x → Moves s (place_of x') y → Moves s (place_of x) y
 moves_from {s} {y = y} e m = subst (λ h. Moves s (place_of h) y) e m
 
-pub barred_from : {v : Surroundings} {p : Symbol} {x x' : Here} → x' ≡ x → Barred so_far v p (place_of x') → Barred so_far v p (place_of x)
-barred_from {v} {p} e b = subst (λ h. Barred so_far v p (place_of h)) e b
+pub barred_from : {v : Surroundings} {p : Symbol} {x x' : Here} {o : Fault} → x' ≡ x → Barred so_far v p (place_of x') o → Barred so_far v p (place_of x) o
+barred_from {v} {p} {o = o} e b = subst (λ h. Barred so_far v p (place_of h) o) e b
 
 pub row_from : {v : Surroundings} {ps : List Piece} {ts : Forest} {x x' : Here} {y : Place} → x' ≡ x → OnlyRow so_far v ps (place_of x') ts y → OnlyRow so_far v ps (place_of x) ts y
 row_from {v} {ps} {ts} {y = y} e o = subst (λ h. OnlyRow so_far v ps (place_of h) ts y) e o
 
-pub no_row_from : {v : Surroundings} {ps : List Piece} {x x' : Here} → x' ≡ x → NoRow so_far v ps (place_of x') → NoRow so_far v ps (place_of x)
-no_row_from {v} {ps} e n = subst (λ h. NoRow so_far v ps (place_of h)) e n
+pub no_row_from : {v : Surroundings} {ps : List Piece} {x x' : Here} {o : Fault} → x' ≡ x → NoRow so_far v ps (place_of x') o → NoRow so_far v ps (place_of x) o
+no_row_from {v} {ps} {o = o} e n = subst (λ h. NoRow so_far v ps (place_of h) o) e n
 
-pub no_cover_from : {v : Surroundings} {x x' : Here} → x' ≡ x → NoCover v 1 (place_of x') → NoCover v 1 (place_of x)
-no_cover_from {v} e n = subst (λ h. NoCover v 1 (place_of h)) e n
+pub no_cover_from : {v : Surroundings} {x x' : Here} {o : Fault} → x' ≡ x → NoCover v 1 (place_of x') o → NoCover v 1 (place_of x) o
+no_cover_from {v} {o = o} e n = subst (λ h. NoCover v 1 (place_of h) o) e n
 
 -- ---- whether `=>` comes next
 
@@ -377,11 +386,11 @@ group_trailing {v} {c} {x} q e p f r t = subst (λ h. OnlyGroup v c q x (place_o
 pub group_rest : {v : Surroundings} {c : Cover} {x a z : Place} {y y' : Here} (q : Group) (t : Box Pat Global) → y' ≡ y → PassesFrom v c x q.all.items (place_of y) → Moves (pun "...") (place_of y') a → Built so_far v (tail rest_row) (function (RestPat Binds)) (λ ts. ts) (view_pat t.value) a z → q.rest ≡ Some t → OnlyGroup v c q x z
 group_rest q t e p m b r = record { on = λ w z i n. rest_contents q t (p.on w z i n) (moves_from e m) b r }
 
-pub group_no_rest : {v : Surroundings} {c : Cover} {cs : List Cover} {x a : Place} {y y' : Here} → y' ≡ y → PassesFrom v c x cs (place_of y) → Moves (pun "...") (place_of y') a → NoRow so_far v (tail rest_row) a → NoGroup v c x
+pub group_no_rest : {v : Surroundings} {c : Cover} {cs : List Cover} {x a : Place} {y y' : Here} {o : Fault} → y' ≡ y → PassesFrom v c x cs (place_of y) → Moves (pun "...") (place_of y') a → NoRow so_far v (tail rest_row) a o → NoGroup v c x o
 group_no_rest {y = y} e p m n =
     let here = moves_from e m in
     let there : IsTrue (is_found (forth (pun "...") (place_of y))) = found_at (sym here.is) here.found in
-    record { no = λ w z i k. nothing_more (p.on w z i k) (dotted_value there) (λ u b q. (no_rest_param here n).no (one u) b (tree q)) (record { is = unfound_by (forth (pun ")") (place_of y)) (λ f. never_both Punctuator Punctuator (codes "...") (codes ")") (place_of y) refl there f) }) }
+    record { no = λ w z i k. nothing_more (p.on w z i k) (dotted_value there) (λ u b q s. (no_rest_param here n).no (one u) b (tree q) s) (record { is = unfound_by (forth (pun ")") (place_of y)) (λ f. never_both Punctuator Punctuator (codes "...") (codes ")") (place_of y) refl there f) }) }
   where
     unfound_by : (b : Place) → (IsTrue (is_found b) → ⊥) → b ≡ Lost
     unfound_by Lost f = refl
@@ -395,9 +404,9 @@ group_inside {v} {c} {z} {y} e d f l i s = record {
   not_rest = record { is = sym (ap (λ h. forth (pun "...") (place_of h)) e) ∙ l };
 }
 
-pub group_unread : {v : Surroundings} {c : Cover} {cs : List Cover} {x : Place} {y y1 y2 : Here} → y1 ≡ y → y2 ≡ y1 → PassesFrom v c x cs (place_of y) → is_found (forth (pun ")") (place_of y)) ≡ false → forth (pun "...") (place_of y1) ≡ Lost → NoCover v 1 (place_of y2) → NoGroup v c x
-group_unread {v} {y = y} e d p f l n =
-    let here : NoCover v 1 (place_of y) = no_cover_from (d ∙ e) n in
+pub group_unread : {v : Surroundings} {c : Cover} {cs : List Cover} {x : Place} {y y1 y2 : Here} {o : Fault} → y1 ≡ y → y2 ≡ y1 → PassesFrom v c x cs (place_of y) → is_found (forth (pun ")") (place_of y)) ≡ false → forth (pun "...") (place_of y1) ≡ Lost → NoCover v 1 (place_of y2) o → NoGroup v c x o
+group_unread {v} {y = y} {o = o} e d p f l n =
+    let here : NoCover v 1 (place_of y) o = no_cover_from (d ∙ e) n in
     let dots : Stuck (pun "...") (place_of y) = record { is = sym (ap (λ h. forth (pun "...") (place_of h)) e) ∙ l } in
     record { no = λ w z i k. nothing_more (p.on w z i k) here.none (no_param here dots) (record { is = unfound (forth (pun ")") (place_of y)) f }) }
 

@@ -1,7 +1,7 @@
 -- An arrow function of one name without parentheses (ECMA-262 section 15.3): all that is read from there at the level of assignments is this function, where `=>` stands behind the name.
-use Rattle.std.proofs.Common.{◌≡◌, ◌≤◌, ℕ, nat_eq, nat_le, Bool, true, false, not, Box, Global, refl, sym, ◌∙◌, ap, subst}
-use Rattle.std.specs.Prelude.{IsTrue, codes, ◌&&◌, ◌||◌}
-use Rattle.jsx_base.specs.Token.{IdentifierName, breaks}
+use Rattle.std.proofs.Common.{◌≡◌, ◌≤◌, ℕ, suc, max, arith, nat_eq, nat_le, Bool, true, false, not, Box, Global, refl, sym, ◌∙◌, ap, subst}
+use Rattle.std.specs.Prelude.{IsTrue, ◌&&◌, ◌||◌}
+use Rattle.jsx_base.specs.Token.{IdentifierName, Text, breaks}
 use Rattle.jsx_tree.specs.Signs.{AfterBlock, Ends, SameLine}
 use Rattle.jsx_tree.specs.Kinds.{Assigns, BareArrow, BareArrowBlock, Kind, expression, Tree, leaf, node, list, Forest, none, part}
 use Rattle.jsx_tree.specs.Nonterminals.{Nonterminal, BindingIdent, Expr, Pat}
@@ -11,17 +11,19 @@ use Rattle.jsx_tree.specs.Reading.{Place, Lost, At, forth, go_if}
 use Rattle.jsx_tree.specs.StaticRules.{Surroundings, count_of, has_plain_params, is_strict_body}
 use Rattle.jsx_tree.specs.Walk.{Given, Past, Relation, is_found, one, around, done, next, sign, steady, tail, tree, Walk}
 use Rattle.jsx_tree.specs.Language.{Whole}
-use Rattle.jsx_tree.specs.Answers.{Only, Barred, Stuck}
+use Rattle.jsx_tree.specs.Answers.{Only, Barred}
 use Rattle.jsx_tree.specs.Grows.{Onward, Steps, seen, stay, step}
 use Rattle.jsx_tree.specs.View.{view_expr}
 use Rattle.jsx_tree.specs.declared.tree.Expr.{Expr as Code}
-use Rattle.jsx_tree.proofs.Tokens.{and_both, and_left, and_right}
+use Rattle.jsx_tree.specs.Faults.{Fault, Unread, Deep, Below, Shallow, deepest, given_depth, outer, part_depth}
+use Rattle.jsx_tree.proofs.Tokens.{and_both}
 use Rattle.jsx_tree.proofs.Apart.{clash}
 use Rattle.jsx_tree.proofs.Rows.Bridge.{found_at}
 use Rattle.jsx_tree.proofs.Rows.Guarded.{loosen, whole_walk}
 use Rattle.jsx_tree.proofs.Rows.Placing.{free_around, moved}
-use Rattle.jsx_tree.proofs.Rows.Stopping.{never_stops}
-use Rattle.jsx_token.specs.Growths.{Rung, rung, asked, closed, is_blocked, is_level, is_rung, level_of_kind, seat, settled}
+use Rattle.jsx_tree.proofs.Depth.Nodes.{counts_as}
+use Rattle.jsx_tree.proofs.Depth.Shallow.{below_shallow}
+use Rattle.jsx_token.specs.Growths.{Rung, rung, asked, closed, is_blocked, is_level, is_rung, level_of_kind, settled}
 use Rattle.jsx_token.specs.Here.{Here, place_of}
 use Rattle.jsx_token.specs.Marks.{ends_so_far, row_so_far}
 use Rattle.jsx_token.proofs.Levels.{edge, is_named}
@@ -37,11 +39,12 @@ use Rattle.jsx_operand.proofs.Homes.{IsName, no_list, value}
 use Rattle.jsx_operand.proofs.Tags.{sign_piece}
 use Rattle.jsx_operand.proofs.Turned.{bracketed_literal, turned_aims}
 use Rattle.jsx_operand.proofs.Values.{leaf_to}
-use Rattle.jsx_expression.specs.Arrows.{BareEnds, NoBareEnd, OnlyEnd, bare_kind, end_row}
-use Rattle.jsx_expression.specs.Covers.{Apart, above, unlike, BeginsAt, BeginsCover, IsMade, IsOperand, LeadsTo, leads, leads_none, NoOperand, before_arrow, as_made, none_made}
+use Rattle.jsx_expression.specs.Arrows.{BareEnds, NoBareEnd, NoEnd, OnlyEnd, bare_kind, end_row}
+use Rattle.jsx_expression.specs.Covers.{above, unlike, BeginsAt, BeginsCover, IsMade, IsOperand, LeadsTo, leads, leads_none, NoOperand, before_arrow, as_made, none_made}
 use Rattle.jsx_function.specs.Covers.{Settles}
 use Rattle.jsx_expression.proofs.Covers.{settled_open}
 use Rattle.jsx_expression.proofs.CoverElements.{no_element}
+use Rattle.jsx_expression.proofs.Depths.{counted_shallow}
 use Rattle.jsx_expression.proofs.Operands.{low_last, no_operand_at, only_begins, operand_at}
 
 one_is : {t u : Tree} → one t ≡ one u → t ≡ u
@@ -54,6 +57,10 @@ bare_listed false = listed (expression BareArrow) refl refl refl
 bare_level : (b : Bool) → nat_le (level_of_kind (bare_kind b)) 2 ≡ true
 bare_level true = refl
 bare_level false = refl
+
+bare_counts : (b : Bool) → counts_as true (bare_kind b) ≡ true
+bare_counts true = refl
+bare_counts false = refl
 
 -- ---- behind the name, the signs of the row are what the function's own are
 
@@ -171,8 +178,8 @@ bare_there {v} {t = t} {e} b h r w = record {
 one_end : {v : Surroundings} {y z q : Place} {e : Tree} {ts : Forest} (b d : Bool) → OnlyEnd v b e y z → Walk (Whole so_far) (steady v) (end_row d) y ts q → (t : Tree) → (node (bare_kind b) (part t (part e none)) ≡ node (bare_kind d) (part t ts)) × (z ≡ q)
 one_end {q = q} {ts = ts} true true n w t = let s = n.only.alone ts q w in (ap (λ us. node (bare_kind true) (part t us)) s.0, s.1)
 one_end {q = q} {ts = ts} false false n w t = let s = n.only.alone ts q w in (ap (λ us. node (bare_kind false) (part t us)) s.0, s.1)
-one_end {q = q} {ts = ts} true false n w t = absurd (n.other.no ts q w)
-one_end {q = q} {ts = ts} false true n w t = absurd (n.other.no ts q w)
+one_end {q = q} {ts = ts} true false n w t = absurd (n.other.no ts q w tt)
+one_end {q = q} {ts = ts} false true n w t = absurd (n.other.no ts q w tt)
 
 pub bare_only : {v : Surroundings} {x y z : Place} {t w : Tree} → Climbs v (rung 1) x t y → is_bound_name t ≡ true → IsTrue (is_found (forth (pun "=>") y)) → BareEnds v t w y z → Only so_far v (Part (Expr 1)) x (one w) z
 bare_only {v} {x} {y} {z} {t} {w} c h f n = record { past = tree (subst (λ u. Whole so_far v false (Expr 1) x u z) (sym n.is) (bare_there n.block h c.reads n.read.only.walk)); alone = at }
@@ -183,14 +190,36 @@ bare_only {v} {x} {y} {z} {t} {w} c h f n = record { past = tree (subst (λ u. W
     at : (g : Given) (q : Place) → Past (Whole so_far) v (Part (Expr 1)) x g q → (one w ≡ g) × (z ≡ q)
     at g q (tree {t = u} r) = by (bare_read c f r)
 
-pub bare_none : {v : Surroundings} {x y : Place} {t : Tree} → Climbs v (rung 1) x t y → IsTrue (is_found (forth (pun "=>") y)) → NoBareEnd v y → Barred so_far v (Part (Expr 1)) x
-bare_none {v} {x} {y} {t} c f n = record { no = at }
+pub bare_none : {v : Surroundings} {x y : Place} {t : Tree} {o : Fault} → Climbs v (rung 1) x t y → IsTrue (is_found (forth (pun "=>") y)) → NoBareEnd v t y o → Barred so_far v (Part (Expr 1)) x o
+bare_none {v} {x} {y} {t} {o = o} c f n = record { no = at }
   where
-    by : {u : Tree} {q : Place} → BareAt v y t u q → ⊥
-    by {q = q} (bare_at d {ts = ts} r e) = (n.no d).no ts q r
+    by : {u : Tree} {q : Place} → BareAt v y t u q → Whole so_far v false (Expr 1) x u q → Shallow o (part_depth u) → ⊥
+    by {q = q} (bare_at d {ts = ts} r e) w s = n.no d ts q r (counted_shallow o (bare_kind d) (bare_counts d) (subst (λ u. Staged v false (Expr 1) x u q) (sym e) w.reads) (subst (λ u. Shallow o (part_depth u)) (sym e) s))
 
-    at : (g : Given) (q : Place) → Past (Whole so_far) v (Part (Expr 1)) x g q → ⊥
-    at g q (tree {t = u} r) = by (bare_read c f r)
+    at : (g : Given) (q : Place) → Past (Whole so_far) v (Part (Expr 1)) x g q → Shallow o (given_depth g) → ⊥
+    at g q (tree {t = u} r) s = by (bare_read c f r) r s
+
+-- no level is left for it, or none for its name
+pub shallow_end : {v : Surroundings} {n : Tree} {x : Place} {e : Fault} → Below 0 e → NoBareEnd v n x e
+shallow_end {n = n} {e = e} b = record { no = λ c ts y w s. none (below_shallow 0 e (suc (max (part_depth n) (deepest ts))) b s) }
+  where
+    none : {m : ℕ} → suc m ≤ 0 → ⊥
+    none h = omega (arith, h)
+
+pub shallow_name : {v : Surroundings} {s : Text} {x : Place} (e : Fault) → Below 0 e → NoBareEnd v (leaf IdentifierName s) x (outer e)
+shallow_name e b = record { no = λ c ts y w h. at e (deepest ts) b h }
+  where
+    at : (d : Fault) (m : ℕ) → Below 0 d → Shallow (outer d) (suc (max 1 m)) → ⊥
+    at Unread m b h = b
+    at (Deep n) m b h = omega (arith, b, h)
+
+-- nor is anything read behind its `=>`
+pub end_unread : {v : Surroundings} {n : Tree} {x : Place} {e : Fault} → NoEnd v x e → NoBareEnd v n x (outer e)
+end_unread {n = n} {e = e} f = record { no = λ b ts y w s. (f.no b).no ts y w (within e (part_depth n) (deepest ts) s) }
+  where
+    within : (d : Fault) (a m : ℕ) → Shallow (outer d) (suc (max a m)) → Shallow d m
+    within Unread a m s = tt
+    within (Deep k) a m s = omega (arith, s)
 
 -- ---- as an operand
 
@@ -260,13 +289,13 @@ operand_bare {v} {x} {y} {z} {c} {d} e same i m b h s f n g = record {
     is : view_cover d ≡ node (bare_kind n.block) parts
     is = ap (λ j. view_expr j.value) same ∙ n.is
 
-pub operand_unbare : {v : Surroundings} {x y : Place} {c : Cover} → BeginsCover v x c y → is_bound_name (view_cover c) ≡ true → settled y ≡ true → IsTrue (is_found (forth (pun "=>") y)) → NoBareEnd v y → NoOperand v 1 x
-operand_unbare {v} {x} {y} {c} b h s f n = record {
-  whole = record { none = barred; element = λ _ p z w. no_element barred (λ p z k r e. no_bracket b h k r) p z w };
+pub operand_unbare : {v : Surroundings} {x y : Place} {c : Cover} {o : Fault} → BeginsCover v x c y → is_bound_name (view_cover c) ≡ true → settled y ≡ true → IsTrue (is_found (forth (pun "=>") y)) → NoBareEnd v (view_cover c) y o → NoOperand v 1 x o
+operand_unbare {v} {x} {y} {c} {o = o} b h s f n = record {
+  whole = record { none = barred; element = λ _ p z w. no_element o barred (λ p z k r e _. no_bracket b h k r) p z w };
   higher = λ _. none_made (bare_made b h s f);
 }
   where
-    barred : Barred so_far v (Part (Expr 1)) x
+    barred : Barred so_far v (Part (Expr 1)) x o
     barred = bare_none (bare_begins b h s) f n
 
 -- ---- whether `=>` stands on the line
@@ -303,6 +332,6 @@ named_operand {v} {x} {z} {y} {w} {c = c} {n = n} m e l h is i t b s bound view 
     operand_at m l h (operand_bare e is i t b bound (s.on (bound_high (view_cover c) bound)) (and_first _ (not (breaks y.rest)) (sym ahead ∙ on))
     (subst (λ k. BareEnds v (view_cover c) (view_expr e.value) (place_of k) z) stays (subst (λ k. BareEnds v k (view_expr e.value) (place_of w) z) (sym view) ends)) g)
 
-pub unnamed_operand : {v : Surroundings} {x : Place} {y w : Here} {c : Cover} {b : Bool} (m : ℕ) → is_level m ≡ true → m ≤ 1 → BeginsCover v x c (place_of y) → Settles (level (view_cover c)) (place_of y) → is_bound_name (view_cover c) ≡ true → b ≡ (is_found (forth (pun "=>") (place_of y)) && not (breaks y.rest)) → b ≡ true → w ≡ y → NoBareEnd v (place_of w) → NoOperand v m x
-unnamed_operand {v} {y = y} {c = c} m l h b s bound ahead on stays n =
-    no_operand_at m l h (operand_unbare b bound (s.on (bound_high (view_cover c) bound)) (and_first _ (not (breaks y.rest)) (sym ahead ∙ on)) (subst (λ k. NoBareEnd v (place_of k)) stays n))
+pub unnamed_operand : {v : Surroundings} {x : Place} {y w : Here} {c : Cover} {n : Tree} {b : Bool} {e : Fault} (m : ℕ) → is_level m ≡ true → m ≤ 1 → BeginsCover v x c (place_of y) → Settles (level (view_cover c)) (place_of y) → is_bound_name (view_cover c) ≡ true → view_cover c ≡ n → b ≡ (is_found (forth (pun "=>") (place_of y)) && not (breaks y.rest)) → b ≡ true → w ≡ y → NoBareEnd v n (place_of w) e → NoOperand v m x e
+unnamed_operand {v} {y = y} {w} {c = c} {e = e} m l h b s bound view ahead on stays n =
+    no_operand_at m l h (operand_unbare b bound (s.on (bound_high (view_cover c) bound)) (and_first _ (not (breaks y.rest)) (sym ahead ∙ on)) (subst (λ k. NoBareEnd v (view_cover c) (place_of k) e) stays (subst (λ k. NoBareEnd v k (place_of w) e) (sym view) n)))

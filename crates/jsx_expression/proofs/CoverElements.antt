@@ -1,17 +1,18 @@
 -- What is read whole where an element of a pattern stands: a pattern in brackets, a target, or one of them with its default. The last two are expressions of the level of assignments; and each of those is an element if it turns into one.
-use Rattle.std.proofs.Common.{◌≡◌, nat_le, Bool, true, false, refl, sym, ◌∙◌, ap, subst}
+use Rattle.std.proofs.Common.{◌≡◌, Bool, true, false, refl, sym, ◌∙◌, ap, subst}
 use Rattle.std.specs.Prelude.{IsTrue, codes}
 use Rattle.jsx_base.specs.Token.{Operator, Punctuator}
 use Rattle.jsx_tree.specs.Signs.{Sign}
-use Rattle.jsx_tree.specs.Kinds.{Array, Object, Assign, Assigns, Binds, ArrayPat, ObjectPat, WithInit, Kind, expression, function, Tree, leaf, node, list, Forest, none, part}
+use Rattle.jsx_tree.specs.Kinds.{Array, Object, Assign, Assigns, Binds, ArrayPat, ObjectPat, WithInit, expression, function, Tree, leaf, node, list, Forest, none, part}
 use Rattle.jsx_tree.specs.Nonterminals.{Nonterminal, Expr, Pat, PatElement}
-use Rattle.jsx_tree.specs.Grammar.{Context, Part, pun}
+use Rattle.jsx_tree.specs.Grammar.{Part, pun}
 use Rattle.jsx_tree.specs.Reading.{Place, Lost, forth}
 use Rattle.jsx_tree.specs.StaticRules.{Surroundings}
 use Rattle.jsx_tree.specs.Walk.{is_found, one, around, done, next, sign, tree, Walk}
 use Rattle.jsx_tree.specs.Language.{Whole}
 use Rattle.jsx_tree.specs.Answers.{Only, Barred, Stuck}
 use Rattle.jsx_tree.specs.Grows.{as_target}
+use Rattle.jsx_tree.specs.Faults.{Fault, Unread, Shallow, part_depth}
 use Rattle.jsx_tree.proofs.Apart.{clash}
 use Rattle.jsx_tree.proofs.Rows.Firsts.{kind_home}
 use Rattle.jsx_tree.proofs.Rows.Targets.{Target, as_value, left_pattern, level_17, target_back, value_aims}
@@ -27,11 +28,12 @@ use Rattle.jsx_operand.specs.declared.cover.Cover.{Cover}
 use Rattle.jsx_operand.proofs.OfSoFar.{of_so_far}
 use Rattle.jsx_operand.proofs.Aims.{aim_is, aim_of, staged_target, staged_value, target_reads}
 use Rattle.jsx_operand.proofs.Climbing.{mark_goes}
-use Rattle.jsx_operand.proofs.Homes.{bound_word, home_of, in_brackets, no_list, value}
+use Rattle.jsx_operand.proofs.Homes.{bound_word, home_of, in_brackets, value}
 use Rattle.jsx_operand.proofs.Turned.{ends_alike, element_pat, has_default, pat_element, plain_element, target_unlike, turned_aims, turned_target}
 use Rattle.jsx_operand.proofs.Values.{at_one, move, settled_token}
 use Rattle.jsx_function.specs.Covers.{IsElementCover}
 use Rattle.jsx_expression.proofs.Covers.{IsBracket, bracket_is, bracket_of}
+use Rattle.jsx_expression.proofs.Depths.{filled_shallow, value_shallow}
 use Rattle.jsx_operand.proofs.Values.{in_array, in_object}
 
 one_is : {t u : Tree} → one t ≡ one u → t ≡ u
@@ -163,7 +165,7 @@ literal_unassigned (list ts) l = cc
 
 -- ---- of a literal that is no expression
 
-pub element_unsettled : {v : Surroundings} {x y : Place} {c : Cover} → Barred so_far v (Part (Expr 1)) x → is_literal (view_cover c) ≡ true → Bracketing v x c y → IsElementCover v x c y
+pub element_unsettled : {v : Surroundings} {x y : Place} {c : Cover} → Barred so_far v (Part (Expr 1)) x Unread → is_literal (view_cover c) ≡ true → Bracketing v x c y → IsElementCover v x c y
 element_unsettled {v} {x} {y} {c} o l b = record {
   reads = λ p d. pat_element p (b.reads p l (record { may = d.may; turns = plain_element d.turns (literal_unassigned (view_cover c) l) }));
   alone = λ p z w. at p z (element_at p w) (sym (element_ends z) ∙ w.ends_there);
@@ -171,15 +173,15 @@ element_unsettled {v} {x} {y} {c} o l b = record {
   where
     at : (p : Tree) (z : Place) → ElementAt v x z p → ends_so_far (Expr 1) z ≡ true → IsTurnedElement c p × (y ≡ z)
     at p z (as_brackets h r) e = let s = b.alone p z h r e in (record { may = s.0.may; turns = turn_plain s.0.turns }, s.1)
-    at p z (as_aim t w) e = absurd (o.no (one (as_value p)) z (tree w))
-    at p z (as_filled w) e = absurd (o.no _ z (tree w))
+    at p z (as_aim t w) e = absurd (o.no (one (as_value p)) z (tree w) tt)
+    at p z (as_filled w) e = absurd (o.no _ z (tree w) tt)
 
 -- ---- where no expression is read, and no pattern in brackets that has ended
 
-pub no_element : {v : Surroundings} {x : Place} → Barred so_far v (Part (Expr 1)) x → ((p : Tree) (z : Place) → is_bracketed p ≡ true → Staged v false (Pat Assigns) x p z → ends_so_far (Expr 1) z ≡ true → ⊥) → (p : Tree) (z : Place) → Whole so_far v false (PatElement Assigns) x p z → ⊥
-no_element {v} {x} o n p z w = at p z (element_at p w) (sym (element_ends z) ∙ w.ends_there)
+pub no_element : {v : Surroundings} {x : Place} (d : Fault) → Barred so_far v (Part (Expr 1)) x d → ((p : Tree) (z : Place) → is_bracketed p ≡ true → Staged v false (Pat Assigns) x p z → ends_so_far (Expr 1) z ≡ true → Shallow d (part_depth p) → ⊥) → (p : Tree) (z : Place) → Whole so_far v false (PatElement Assigns) x p z → Shallow d (part_depth p) → ⊥
+no_element {v} {x} d o n p z w = at p z (element_at p w) (sym (element_ends z) ∙ w.ends_there) w.reads
   where
-    at : (p : Tree) (z : Place) → ElementAt v x z p → ends_so_far (Expr 1) z ≡ true → ⊥
-    at p z (as_brackets h r) e = n p z h r e
-    at p z (as_aim t w) e = o.no (one (as_value p)) z (tree w)
-    at p z (as_filled w) e = o.no _ z (tree w)
+    at : (p : Tree) (z : Place) → ElementAt v x z p → ends_so_far (Expr 1) z ≡ true → Staged v false (PatElement Assigns) x p z → Shallow d (part_depth p) → ⊥
+    at p z (as_brackets h r) e q s = n p z h r e s
+    at p z (as_aim t w) e q s = o.no (one (as_value p)) z (tree w) (value_shallow d (target_back t) w.reads q s)
+    at p z (as_filled w) e q s = o.no _ z (tree w) (filled_shallow d w.reads q s)

@@ -12,11 +12,15 @@ use Rattle.jsx_tree.specs.StaticRules.{Surroundings, is_word}
 use Rattle.jsx_tree.specs.Walk.{is_found, Items, nil, last, more, sign, many, Walk, done, next, steady}
 use Rattle.jsx_tree.specs.Language.{Whole}
 use Rattle.jsx_tree.specs.Answers.{Moves, Stuck}
+use Rattle.jsx_tree.specs.Faults.{Fault, Shallow, part_depth}
 use Rattle.jsx_tree.proofs.Apart.{never_both}
 use Rattle.jsx_tree.proofs.Rows.Bridge.{found_first, found_at}
 use Rattle.jsx_tree.proofs.Rows.Guarded.{whole_items_found}
 use Rattle.jsx_tree.proofs.Rows.Laws.{end_found}
 use Rattle.jsx_tree.proofs.Rows.Turns.{comma_trails, nothing_trails}
+use Rattle.jsx_tree.specs.Form.{admits, fits_below}
+use Rattle.jsx_tree.proofs.Tokens.{and_right}
+use Rattle.jsx_operand.proofs.Reaching.{suits_depth}
 use Rattle.jsx_operand.specs.Covers.{IsParameter}
 use Rattle.jsx_operand.specs.Patterns.{is_compound, is_rest}
 use Rattle.jsx_operand.specs.SoFar.{Staged, so_far}
@@ -75,11 +79,12 @@ cover_param {v} {x} {y} {c} i = record {
         (record { pattern = a.pattern; turned = s.0; suits = a.suits }, s.1)
 
 -- where no cover is read no parameter is, but a rest
-pub no_param : {v : Surroundings} {x : Place} → NoCover v 1 x → Stuck (pun "...") x → (u : Tree) (z : Place) → Whole so_far v false Param x u z → ⊥
-no_param n d u z w =
+pub no_param : {v : Surroundings} {x : Place} {e : Fault} → NoCover v 1 x e → Stuck (pun "...") x → (u : Tree) (z : Place) → Whole so_far v false Param x u z → Shallow e (part_depth u) → ⊥
+no_param {e = o} n d u z w s =
     let r = param_element u (unspread u d w.reads) w.reads in
     let a = element_assigns u r in
-    n.element refl a.pattern z (record { reads = suits_unstaged at_element a.suits r; ends_there = ends_alike (PatElement Assigns) Param z refl ∙ w.ends_there })
+    let q = suits_unstaged at_element a.suits r in
+    n.element refl a.pattern z (record { reads = q; ends_there = ends_alike (PatElement Assigns) Param z refl ∙ w.ends_there }) (subst (λ m. Shallow o m) (sym (suits_depth (PatElement Assigns) Param a.suits (and_right (admits (PatElement Assigns) a.pattern) (fits_below (PatElement Assigns) a.pattern) q.reads.is) (and_right (admits Param u) (fits_below Param u) w.reads.reads.is))) s)
 
 -- it is one parameter
 pub parameter_once : {c : Cover} {p q : Tree} → IsParameter c p → IsParameter c q → p ≡ q

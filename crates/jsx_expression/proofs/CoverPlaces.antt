@@ -1,9 +1,9 @@
 -- What a cover tells of places, as an expression and as the element that it turns into.
-use Rattle.std.proofs.Common.{◌≡◌, ℕ, Bool, true, false, Box, Global, Option, List, [], ◌∷◌, refl, sym, ◌∙◌, ap, subst}
-use Rattle.jsx_base.specs.Token.{TokenKind, IdentifierName}
+use Rattle.std.proofs.Common.{◌≡◌, ℕ, Bool, true, false, Box, Global, Option, refl, sym, ◌∙◌, ap, subst}
+use Rattle.jsx_base.specs.Token.{TokenKind}
 use Rattle.jsx_base.specs.declared.place.Span.{Span}
 use Rattle.jsx_tree.specs.Signs.{Sign}
-use Rattle.jsx_tree.specs.Kinds.{Assign, Assigns, Index, Member, Parenthesized, SuperIndex, SuperMember, WithInit, Kind, expression, function, Tree, leaf, node, list, Forest, none, part}
+use Rattle.jsx_tree.specs.Kinds.{Assign, Assigns, Index, Member, Parenthesized, SuperIndex, SuperMember, WithInit, expression, function, Tree, leaf, node, list, Forest, none, part}
 use Rattle.jsx_tree.specs.Spans.{Told, tells}
 use Rattle.jsx_tree.specs.Told.{told_expr, told_leaf, told_text}
 use Rattle.jsx_tree.specs.Grows.{as_target}
@@ -16,11 +16,11 @@ use Rattle.jsx_make.specs.NodeSpans.{expr_at}
 use Rattle.jsx_tree.specs.View.{name_of, view_expr}
 use Rattle.jsx_tree.specs.declared.text.Text.{Text}
 use Rattle.jsx_token.specs.Here.{Here}
-use Rattle.jsx_token.specs.Places.{Takes, begin_of, end_of, next_of}
+use Rattle.jsx_token.specs.Places.{Takes, end_of, next_of}
 use Rattle.jsx_operand.specs.Climbing.{is_target}
-use Rattle.jsx_operand.specs.Covers.{IsTurnedElement, view_cover}
+use Rattle.jsx_operand.specs.Covers.{view_cover}
 use Rattle.jsx_operand.specs.Spans.{IsPlaced, IsPlacedBehind, IsPlacedPast, Spans, pairs_formed}
-use Rattle.jsx_operand.specs.Turning.{Turns, TurnsElement, turn_filled, turn_plain, is_literal, retold}
+use Rattle.jsx_operand.specs.Turning.{TurnsElement, turn_filled, turn_plain, is_literal, retold}
 use Rattle.jsx_operand.specs.declared.cover.Cover.{Cover}
 use Rattle.jsx_operand.proofs.Placing.{placed_as}
 use Rattle.jsx_operand.proofs.PlacedTargets.{placed_target}

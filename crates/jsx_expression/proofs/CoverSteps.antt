@@ -16,8 +16,10 @@ use Rattle.jsx_tree.specs.Answers.{Moves, Only, Barred, Built}
 use Rattle.jsx_tree.specs.Grows.{Onward, Steps, seen, stay, step}
 use Rattle.jsx_tree.specs.View.{view_expr}
 use Rattle.jsx_tree.specs.declared.tree.Expr.{Expr as Code}
+use Rattle.jsx_tree.specs.Faults.{Fault, Unread, Shallow, given_depth}
 use Rattle.jsx_tree.proofs.Tokens.{and_left}
 use Rattle.jsx_tree.proofs.Apart.{clash}
+use Rattle.jsx_tree.proofs.Rows.Steps.{any_barred}
 use Rattle.jsx_token.specs.declared.growth.Growth.{Growth}
 use Rattle.jsx_token.specs.Growths.{OnLine, growth_kind, rung, closed, is_blocked, is_level, level_of_kind, mark, reaches, settled}
 use Rattle.jsx_token.specs.Marks.{ends_so_far, is_sign, row_so_far, unarrowed}
@@ -64,7 +66,7 @@ ongoing {v} {x} {y} {c} n e m i same may h o = subst (λ d. IsOngoing v n x d y)
 
 -- what isn't settled is the whole cover
 pub unsettled_whole : {v : Surroundings} {x y : Place} {c : Cover} (n : ℕ) → c.is_expr ≡ false → IsOperand v n x c y → IsCover v n x c y
-unsettled_whole {v} {x} {y} {c} n i o = record { expr = λ e. absurd (clash c.is_expr e i); none = o.none; element = λ e. element_unsettled (subst (λ k. Barred so_far v (Part (Expr k)) x) e (o.none i)) (o.unsettled i) (operand_brackets e o); unsettled = o.unsettled }
+unsettled_whole {v} {x} {y} {c} n i o = record { expr = λ e. absurd (clash c.is_expr e i); none = o.none; element = λ e. element_unsettled (subst (λ k. Barred so_far v (Part (Expr k)) x Unread) e (o.none i)) (o.unsettled i) (operand_brackets e o); unsettled = o.unsettled }
 
 literal_high : (n : ℕ) (t : Tree) → n ≡ 1 → is_literal t ≡ true → rises (rung n) t ≡ true
 literal_high n (node (expression Array) ts) e l = ap (λ k. nat_le k 18) e
@@ -74,14 +76,14 @@ literal_high n (leaf k t) e l = cc
 literal_high n (list ts) e l = cc
 
 -- an operand of a lower level
-pub operand_low : {v : Surroundings} {x y : Place} {c : Cover} (n : ℕ) → rises (rung n) (view_cover c) ≡ false → IsOperand v n x c y → NoCover v n x
-operand_low {v} {x} {y} {c} n h o = record { none = barred; element = λ e p z w. no_element (subst (λ k. Barred so_far v (Part (Expr k)) x) e barred) (λ p z b r s. clash (rises (rung n) (view_cover c)) (literal_high n (view_cover c) e (bracketed_literal ((operand_brackets e o).alone p z b r s).0.turns b)) h) p z w }
+pub operand_low : {v : Surroundings} {x y : Place} {c : Cover} {d : Fault} (n : ℕ) → rises (rung n) (view_cover c) ≡ false → IsOperand v n x c y → NoCover v n x d
+operand_low {v} {x} {y} {c} {d = d} n h o = record { none = barred; element = λ e p z w. no_element d (subst (λ k. Barred so_far v (Part (Expr k)) x d) e barred) (λ p z b r s a. clash (rises (rung n) (view_cover c)) (literal_high n (view_cover c) e (bracketed_literal ((operand_brackets e o).alone p z b r s).0.turns b)) h) p z w }
   where
-    by : (b : Bool) → c.is_expr ≡ b → Barred so_far v (Part (Expr n)) x
-    by true e = (o.expr e).low h
-    by false e = o.none e
+    by : (b : Bool) → c.is_expr ≡ b → Barred so_far v (Part (Expr n)) x d
+    by true e = any_barred ((o.expr e).low h)
+    by false e = any_barred (o.none e)
 
-    barred : Barred so_far v (Part (Expr n)) x
+    barred : Barred so_far v (Part (Expr n)) x d
     barred = by c.is_expr refl
 
 -- ---- where it has come to its end
@@ -102,8 +104,8 @@ ongoing_ended n l i f e g = settled_cover n i g (climb_only (rung n) l (g.climbs
 
 -- ---- where nothing is read
 
-pub ongoing_none : {v : Surroundings} {x y : Place} {c : Cover} (n : ℕ) → IsOngoing v n x c y → (n ≡ 1 → ends_so_far (Expr 1) y ≡ false) → Barred so_far v (Part (Expr n)) x → NoCover v n x
-ongoing_none {v} {x} {y} {c} n g e b = record { none = b; element = λ j p z w. no_element (subst (λ k. Barred so_far v (Part (Expr k)) x) j b) (λ p z h r s. clash _ (subst (λ q. ends_so_far (Expr 1) q ≡ true) (sym ((g.brackets j).alone p z h r s).1) s) (e j)) p z w }
+pub ongoing_none : {v : Surroundings} {x y : Place} {c : Cover} {o : Fault} (n : ℕ) → IsOngoing v n x c y → (n ≡ 1 → ends_so_far (Expr 1) y ≡ false) → Barred so_far v (Part (Expr n)) x o → NoCover v n x o
+ongoing_none {v} {x} {y} {c} {o = o} n g e b = record { none = b; element = λ j p z w. no_element o (subst (λ k. Barred so_far v (Part (Expr k)) x o) j b) (λ p z h r s _. clash _ (subst (λ q. ends_so_far (Expr 1) q ≡ true) (sym ((g.brackets j).alone p z h r s).1) s) (e j)) p z w }
 
 -- ---- a step
 
@@ -167,14 +169,14 @@ no_arrow {v} {x} {y} {z} {t} {u} c f n (step {z = q} l s d {ts = ts} b i r o h o
     by (by_piece g k) = sign_piece (pun "=>") y refl refl f k
     by (by_arrow g k j) = let bad : IsTrue (is_found Lost) = subst (λ a. IsTrue (is_found a)) (ap (forth (pun "=>")) (sym k) ∙ n (named_bound l g p)) j in cc
 
-pub ongoing_arrow : {v : Surroundings} {x y : Place} {c : Cover} (n : ℕ) → n ≡ 1 → is_blocked y ≡ false → IsOngoing v n x c y → IsTrue (is_found (forth (pun "=>") y)) → NoCover v n x
-ongoing_arrow {v} {x} {y} {c} n e f g h = ongoing_none n g (λ j. arrow_goes (rung 1) y (g.climbs f).ended refl h) (subst (λ k. Barred so_far v (Part (Expr k)) x) (sym e) (record { no = at }))
+pub ongoing_arrow : {v : Surroundings} {x y : Place} {c : Cover} {o : Fault} (n : ℕ) → n ≡ 1 → is_blocked y ≡ false → IsOngoing v n x c y → IsTrue (is_found (forth (pun "=>") y)) → NoCover v n x o
+ongoing_arrow {v} {x} {y} {c} {o = o} n e f g h = ongoing_none n g (λ j. arrow_goes (rung 1) y (g.climbs f).ended refl h) (subst (λ k. Barred so_far v (Part (Expr k)) x o) (sym e) (record { no = at }))
   where
     here : Climbs v (rung 1) x (view_cover c) y
     here = subst (λ k. Climbs v (rung k) x (view_cover c) y) e (g.climbs f)
 
-    at : (q : Given) (z : Place) → Past (Whole so_far) v (Part (Expr 1)) x q z → ⊥
-    at q z (tree {t = u} w) = no_arrow here h (g.unnamed e) (here.follows.all u z w) w
+    at : (q : Given) (z : Place) → Past (Whole so_far) v (Part (Expr 1)) x q z → Shallow o (given_depth q) → ⊥
+    at q z (tree {t = u} w) s = no_arrow here h (g.unnamed e) (here.follows.all u z w) w
 
 -- ---- where the lexer stands
 

@@ -1,9 +1,8 @@
 -- What begins with a cover: an array or an object, and all else that begins with a sign, a template or a token.
-use Rattle.std.proofs.Common.{◌≡◌, ℕ, zero, suc, nat_eq, nat_le, Bool, true, false, not, Box, Global, refl, sym, ◌∙◌, ap, subst, arith}
+use Rattle.std.proofs.Common.{◌≡◌, ◌≤◌, ℕ, zero, suc, nat_le, Bool, true, false, not, Box, Global, refl, sym, ◌∙◌, ap, subst, arith}
 use Rattle.std.proofs.lemmas.Bool.{le-leb, leb-true}
-use Rattle.std.specs.Prelude.{IsTrue, codes, ◌&&◌, ◌||◌}
-use Rattle.jsx_base.specs.Token.{Text, Operator, Punctuator}
-use Rattle.jsx_tree.specs.Signs.{AfterBlock, AfterExpr, Sign, Tok}
+use Rattle.std.specs.Prelude.{IsTrue, ◌&&◌, ◌||◌}
+use Rattle.jsx_tree.specs.Signs.{AfterBlock, AfterExpr, Sign}
 use Rattle.jsx_tree.specs.Kinds.{Array, Object, Assign, Assigns, Binds, ArrayPat, ObjectPat, Kind, expression, function, Tree, leaf, node, list, Forest}
 use Rattle.jsx_tree.specs.Nonterminals.{Nonterminal, Expr, NewCallee, Pat, homes, in_homes}
 use Rattle.jsx_tree.specs.Grammar.{Part, pun}
@@ -11,37 +10,41 @@ use Rattle.jsx_tree.specs.Reading.{Place, Lost, At, forth}
 use Rattle.jsx_tree.specs.StaticRules.{Surroundings}
 use Rattle.jsx_tree.specs.Walk.{is_found}
 use Rattle.jsx_tree.specs.Language.{Whole}
-use Rattle.jsx_tree.specs.Answers.{Moves, Stuck, Barred}
+use Rattle.jsx_tree.specs.Answers.{Moves, Barred}
 use Rattle.jsx_tree.specs.Grows.{Onward, Steps, seen, starts, stay, step}
 use Rattle.std.specs.Prelude.{Some}
 use Rattle.jsx_tree.specs.declared.tree.Expr.{Expr as Code}
 use Rattle.jsx_tree.specs.View.{view_expr}
+use Rattle.jsx_tree.specs.Faults.{Fault, Unread, Below, Shallow, deepest, outer, part_depth}
 use Rattle.jsx_tree.proofs.Tokens.{and_left, and_right}
 use Rattle.jsx_tree.proofs.Apart.{clash}
 use Rattle.jsx_tree.proofs.Rows.Bridge.{found_at}
 use Rattle.jsx_tree.proofs.Rows.Firsts.{kind_home}
 use Rattle.jsx_tree.proofs.Rows.Targets.{Target, value_aims}
+use Rattle.jsx_tree.proofs.Rows.Steps.{any_barred}
+use Rattle.jsx_tree.proofs.Depth.Shallow.{below_shallow}
 use Rattle.jsx_token.specs.Growths.{NoOpening, Rung, rung, callee, closed, opening_signs, is_blocked, is_rung, level_of_kind, on_line, opening_sign, reaches, same_sign, seat, settled}
 use Rattle.jsx_token.specs.Marks.{row_so_far}
 use Rattle.jsx_token.specs.Stage.{has_kind}
 use Rattle.jsx_token.proofs.Listed.{Listed, listed}
 use Rattle.jsx_token.proofs.Levels.{grows_on, side_of}
 use Rattle.jsx_operand.specs.SoFar.{Staged, so_far}
-use Rattle.jsx_operand.specs.Climbing.{Begins, Climbs, NoneBegins, is_target, level, rises}
-use Rattle.jsx_operand.specs.Openings.{NoneOpened, OnlyOpened, opens_with}
-use Rattle.jsx_operand.specs.Covers.{IsTurned, view_cover}
-use Rattle.jsx_operand.specs.Turning.{Turns, is_bracketed, is_literal}
+use Rattle.jsx_operand.specs.Climbing.{Begins, Climbs, NoneBegins, level, rises}
+use Rattle.jsx_operand.specs.Openings.{NoneOpened, OnlyOpened}
+use Rattle.jsx_operand.specs.Covers.{view_cover}
+use Rattle.jsx_operand.specs.Turning.{is_bracketed, is_literal}
 use Rattle.jsx_operand.specs.declared.cover.Cover.{Cover}
 use Rattle.jsx_operand.proofs.Aims.{aim_is, is_pair, seen_plain, target_reads, value_open}
 use Rattle.jsx_operand.proofs.BracketSteps.{no_bracket_high, no_bracket_stuck}
 use Rattle.jsx_operand.proofs.Climbing.{mark_goes, step_kind}
 use Rattle.jsx_operand.proofs.Homes.{Value, made, home_of}
-use Rattle.jsx_operand.proofs.Openings.{BegunSo, so_bracketed, so_opened, NoBracket, bracket_rises, opened_begun, signed_blocked, signed_follows, unopened_begun, unread_bracket, unread_opening}
+use Rattle.jsx_operand.proofs.Openings.{BegunSo, so_bracketed, so_opened, DeepBracket, NoBracket, bracket_rises, deep_begins, deep_bracket, opened_begun, signed_blocked, signed_follows, unopened_begun, unread_bracket, unread_opening}
 use Rattle.jsx_operand.proofs.Turned.{bracketed_literal}
 use Rattle.jsx_operand.proofs.Values.{Bracketed, Quote, in_array, in_object, bracket_none, bracket_opener, bracket_sign, node_to, opened_sign, opener_of, opener_piece, unbracketed}
 use Rattle.jsx_member.specs.Covers.{IsPatternCover, NoCoverOpened, NoPatternCover, OpensCover, is_bracket_sign}
 use Rattle.jsx_expression.specs.Covers.{Apart, above, unlike, unassigned, BeginsAt, BeginsCover, NoCoverBegins, PatternFirst}
 use Rattle.jsx_function.specs.Covers.{Settles}
+use Rattle.jsx_expression.proofs.Depths.{counted_shallow, onward_shallow}
 
 -- ---- where it ended
 
@@ -96,11 +99,11 @@ no_sign_there : {x : Place} {k : Kind} (b : Bracketed k) → NoBrackets x → {v
 no_sign_there in_array n r = n.array (bracket_sign in_array r)
 no_sign_there in_object n r = n.object (bracket_sign in_object r)
 
-pub no_pattern_there : {v : Surroundings} {x : Place} → NoBrackets x → NoPatternCover v x
-no_pattern_there {v} {x} n = record { no = λ p z h r. at p (bracket_of p h r) r }
+pub no_pattern_there : {v : Surroundings} {x : Place} {e : Fault} → NoBrackets x → NoPatternCover v x e
+no_pattern_there {v} {x} {e = e} n = record { no = λ p z h r a. at p (bracket_of p h r) r a }
   where
-    at : (p : Tree) → IsBracket p → {z : Place} → Staged v false (Pat Assigns) x p z → ⊥
-    at p (bracket_is b) r = no_sign_there b n r
+    at : (p : Tree) → IsBracket p → {z : Place} → Staged v false (Pat Assigns) x p z → Shallow e (part_depth p) → ⊥
+    at p (bracket_is b) r s = no_sign_there b n r
 
 lost_there : (s : Sign) (x : Place) → forth s x ≡ Lost → IsTrue (is_found (forth s x)) → ⊥
 lost_there s x e f = let bad : IsTrue (is_found Lost) = subst (λ p. IsTrue (is_found p)) e f in cc
@@ -113,12 +116,12 @@ pub brackets_quoted : {x : Place} → Quote x → NoBrackets x
 brackets_quoted {x} q = record { array = λ f. opener_piece x (bracket_opener in_array) f q; object = λ f. opener_piece x (bracket_opener in_object) f q }
 
 -- what turns into no pattern in brackets, where none stands
-pub pattern_none : {v : Surroundings} {x y : Place} {c : Cover} → is_literal (view_cover c) ≡ false → NoPatternCover v x → IsPatternCover v x c y
-pattern_none {c = c} l n = record { reads = λ p d b. absurd (clash (is_literal (view_cover c)) (bracketed_literal d.turns b) l); alone = λ p z b r. absurd (n.no p z b r) }
+pub pattern_none : {v : Surroundings} {x y : Place} {c : Cover} → is_literal (view_cover c) ≡ false → NoPatternCover v x Unread → IsPatternCover v x c y
+pattern_none {c = c} l n = record { reads = λ p d b. absurd (clash (is_literal (view_cover c)) (bracketed_literal d.turns b) l); alone = λ p z b r. absurd (n.no p z b r tt) }
 
 -- nor what is read there begins with one
-pub no_bracket_at : {v : Surroundings} {x : Place} → NoPatternCover v x → (r : Rung) → NoBracket v r x
-no_bracket_at n r = record { on = λ {p = p} {ts = ts} b s o w. n.no (node _ ts) p (kind_bracketed ts b) (pattern_at b s) }
+pub no_bracket_at : {v : Surroundings} {x : Place} (e : Fault) → NoPatternCover v x e → (r : Rung) → DeepBracket v r x e
+no_bracket_at e n r = record { on = λ {p = p} {ts = ts} b s o w h. n.no (node _ ts) p (kind_bracketed ts b) (pattern_at b s) (onward_shallow e s o w.reads h) }
 
 -- ---- a literal
 
@@ -197,12 +200,12 @@ literal_begins {v} {x} {a} {y} {c} k l g m q s o = record { expr = at; none = no
         let b = bracket_rises r i k l g (apart_bracket r i t (o.pattern x m) n) m (o.expr e) s in
         record { climbs = λ f h. b.climbs h; blocked = λ f h. absurd (clash (is_blocked y) f (settled_open y s)); low = λ h. b.low h }
 
-    none_at : c.is_expr ≡ false → (r : Rung) → is_rung r ≡ true → Apart r (view_cover c) y → Barred so_far v (Part (seat r)) x
-    none_at e r i n = unread_bracket r i k l g (apart_bracket r i t (o.pattern x m) n) m (o.none e)
+    none_at : c.is_expr ≡ false → (r : Rung) → is_rung r ≡ true → Apart r (view_cover c) y → Barred so_far v (Part (seat r)) x Unread
+    none_at e r i n = unread_bracket r i k l g (deep_bracket (apart_bracket r i t (o.pattern x m) n)) m (o.none e)
 
     begun_by : (b : Bool) → c.is_expr ≡ b → {u : Tree} {z : Place} → Whole so_far v false (Expr 1) x u z → BegunSo v x (view_cover c) y u z
     begun_by true e w = opened_begun k l g m (o.expr e) (rung 1) refl w
-    begun_by false e w = unopened_begun (view_cover c) y k l g m (o.none e) (rung 1) refl w
+    begun_by false e w = unopened_begun (view_cover c) y k l g m (o.none e) (rung 1) refl w tt
 
     assigned : is_literal (view_cover c) ≡ true → IsTrue (is_found (forth (pun "=") y)) → (u : Tree) (z : Place) → Whole so_far v false (Expr 1) x u z → PatternFirst v x c y u z
     assigned h f u z w = first_pattern (o.pattern x m) t s f (begun_by c.is_expr refl w) w
@@ -233,11 +236,11 @@ kind_other _ ts s e n = refl
 pub opened_other : {v : Surroundings} {x y : Place} {t : Tree} (s : Sign) → OnlyOpened v s t x y → is_bracket_sign s ≡ false → is_literal t ≡ false
 opened_other s o n = ap is_literal o.built.is ∙ kind_other o.kind o.built.parts s (and_right (in_homes (Expr 0) (homes o.kind)) _ (and_right (has_kind o.kind) _ o.begins)) n
 
-no_pattern_by : {v : Surroundings} {x w : Place} (k : Kind) → Listed k → grows_on k ≡ false → is_bracket_sign (opening_sign k) ≡ false → Moves (opening_sign k) w x → NoPatternCover v w
-no_pattern_by {v} {x} {w} k l g n m = record { no = λ p z h r. at p (bracket_of p h r) r }
+no_pattern_by : {v : Surroundings} {x w : Place} {e : Fault} (k : Kind) → Listed k → grows_on k ≡ false → is_bracket_sign (opening_sign k) ≡ false → Moves (opening_sign k) w x → NoPatternCover v w e
+no_pattern_by {v} {x} {w} {e = e} k l g n m = record { no = λ p z h r a. at p (bracket_of p h r) r a }
   where
-    at : (p : Tree) → IsBracket p → {z : Place} → Staged v false (Pat Assigns) w p z → ⊥
-    at p (bracket_is b) r = bracket_none (opener_of k l g) (other_sign (opening_sign k) n) (found_at (sym m.is) m.found) b r
+    at : (p : Tree) → IsBracket p → {z : Place} → Staged v false (Pat Assigns) w p z → Shallow e (part_depth p) → ⊥
+    at p (bracket_is b) r s = bracket_none (opener_of k l g) (other_sign (opening_sign k) n) (found_at (sym m.is) m.found) b r
 
 -- behind its sign
 pub opened_cover : {v : Surroundings} {x y : Place} (k : Kind) (c : Cover) (e : Box Code Global) → Listed k → grows_on k ≡ false → is_bracket_sign (opening_sign k) ≡ false → c.expr ≡ e → c.is_expr ≡ true → c.may_turn ≡ true → OnlyOpened v (opening_sign k) (view_expr e.value) x y → OpensCover v (opening_sign k) c x y
@@ -254,7 +257,7 @@ opened_cover {v} {x} {y} k c e l g n is i m o = record {
     here : OnlyOpened v (opening_sign k) (view_cover c) x y
     here = subst (λ b. OnlyOpened v (opening_sign k) (view_expr b.value) x y) (sym is) o
 
-pub unopened_cover : {v : Surroundings} {x : Place} (k : Kind) → Listed k → grows_on k ≡ false → is_bracket_sign (opening_sign k) ≡ false → NoneOpened v (opening_sign k) x → NoCoverOpened v (opening_sign k) x
+pub unopened_cover : {v : Surroundings} {x : Place} {e : Fault} (k : Kind) → Listed k → grows_on k ≡ false → is_bracket_sign (opening_sign k) ≡ false → NoneOpened v (opening_sign k) x e → NoCoverOpened v (opening_sign k) x e
 unopened_cover k l g n b = record { none = b; pattern = λ w m. no_pattern_by k l g n m }
 
 -- with it
@@ -298,8 +301,19 @@ literal_high (list ts) l = cc
 pub cover_begins : {v : Surroundings} {x a y : Place} {c : Cover} (k : Kind) → Listed k → grows_on k ≡ false → Moves (opening_sign k) x a → closed y ≡ true → Settles (level (view_cover c)) y → OpensCover v (opening_sign k) c a y → BeginsCover v x c y
 cover_begins {c = c} k l g m s low o = bracket_cases (opening_sign k) (λ q. literal_begins k l g m q (low.on (literal_high (view_cover c) (o.literal q))) o) (λ n. opening_begins k l g m n s low o)
 
-pub no_cover_begins : {v : Surroundings} {x a : Place} (k : Kind) → Listed k → grows_on k ≡ false → Moves (opening_sign k) x a → NoCoverOpened v (opening_sign k) a → NoCoverBegins v x
-no_cover_begins {x = x} k l g m n = let p = n.pattern x m in record { none = unread_opening k l g (λ r i. no_bracket_at p r) m n.none; pattern = p }
+pub no_cover_begins : {v : Surroundings} {x a : Place} {e : Fault} (k : Kind) → Listed k → grows_on k ≡ false → Moves (opening_sign k) x a → NoCoverOpened v (opening_sign k) a e → NoCoverBegins v x (outer e)
+no_cover_begins {x = x} {e = e} k l g m n = let p = n.pattern x m in record { none = unread_opening k l g (λ r i. no_bracket_at (outer e) p r) m n.none; pattern = p }
+
+-- no level is left for what begins there
+pub deep_cover_begins : {v : Surroundings} {x : Place} {e : Fault} → Below 0 e → NoCoverBegins v x e
+deep_cover_begins {v} {x} {e = e} b = record { none = deep_begins b; pattern = record { no = λ p z h r s. at p (bracket_of p h r) r s } }
+  where
+    none : {n : ℕ} → suc n ≤ 0 → ⊥
+    none h = omega (arith, h)
+
+    at : (p : Tree) → IsBracket p → {z : Place} → Staged v false (Pat Assigns) x p z → Shallow e (part_depth p) → ⊥
+    at p (bracket_is {ts = ts} in_array) r s = none (below_shallow 0 e (suc (deepest ts)) b (counted_shallow e (function (ArrayPat Assigns)) refl r s))
+    at p (bracket_is {ts = ts} in_object) r s = none (below_shallow 0 e (suc (deepest ts)) b (counted_shallow e (function (ObjectPat Assigns)) refl r s))
 
 -- ---- a template, and what is one token or an element
 
@@ -333,7 +347,7 @@ plain_begins {v} {x} {y} c e n is i m q = record {
     unlike' : is_literal (view_cover c) ≡ false
     unlike' = no_literal (view_cover c) n here (is_literal (view_cover c)) refl
 
-pub plain_unbegun : {v : Surroundings} {x : Place} → NoBrackets x → NoneBegins v x → NoCoverBegins v x
+pub plain_unbegun : {v : Surroundings} {x : Place} {e : Fault} → NoBrackets x → NoneBegins v x e → NoCoverBegins v x e
 plain_unbegun n b = record { none = b; pattern = no_pattern_there n }
 
 pub plain_unlike : {v : Surroundings} {x y : Place} (t : Tree) → NoBrackets x → Begins v x t y → is_literal t ≡ false
@@ -353,8 +367,8 @@ at_callee {v} {x} {y} is i b = subst (λ j. BeginsAt v callee x (view_expr j.val
 pub callee_begins : {v : Surroundings} {x y : Place} {c : Cover} {e : Box Code Global} → e ≡ c.expr → c.is_expr ≡ true → rises callee (view_expr e.value) ≡ true → Settles (level (view_cover c)) y → BeginsCover v x c y → Climbs v callee x (view_expr e.value) y
 callee_begins {y = y} {c} {e} is i h s b = (at_callee is i b).climbs (settled_open y (s.on (ap (λ j. nat_le 3 (level (view_expr j.value))) (sym is) ∙ high_of (level (view_expr e.value)) (and_left (nat_le 17 (level (view_expr e.value))) _ h)))) h
 
-pub callee_unfit : {v : Surroundings} {x y : Place} {c : Cover} {e : Box Code Global} → e ≡ c.expr → c.is_expr ≡ true → rises callee (view_expr e.value) ≡ false → BeginsCover v x c y → Barred so_far v (Part NewCallee) x
-callee_unfit is i h b = (at_callee is i b).low h
+pub callee_unfit : {v : Surroundings} {x y : Place} {c : Cover} {e : Box Code Global} {o : Fault} → e ≡ c.expr → c.is_expr ≡ true → rises callee (view_expr e.value) ≡ false → BeginsCover v x c y → Barred so_far v (Part NewCallee) x o
+callee_unfit is i h b = any_barred ((at_callee is i b).low h)
 
-pub callee_unsettled : {v : Surroundings} {x y : Place} {c : Cover} → c.is_expr ≡ false → BeginsCover v x c y → Barred so_far v (Part NewCallee) x
-callee_unsettled i b = b.none i callee refl (above refl)
+pub callee_unsettled : {v : Surroundings} {x y : Place} {c : Cover} {e : Fault} → c.is_expr ≡ false → BeginsCover v x c y → Barred so_far v (Part NewCallee) x e
+callee_unsettled i b = any_barred (b.none i callee refl (above refl))

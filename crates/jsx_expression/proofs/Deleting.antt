@@ -9,6 +9,7 @@ use Rattle.jsx_tree.specs.StaticRules.{Surroundings, is_name}
 use Rattle.jsx_tree.specs.Walk.{is_found, one, tail, tree, Walk, next, done, steady}
 use Rattle.jsx_tree.specs.Language.{Whole}
 use Rattle.jsx_tree.specs.Answers.{Only, NoNode, BuiltNode}
+use Rattle.jsx_tree.specs.Faults.{Fault, Shallow, deepest}
 use Rattle.jsx_tree.proofs.Tokens.{and_left, and_both}
 use Rattle.jsx_tree.proofs.Apart.{clash}
 use Rattle.jsx_tree.proofs.Rows.Stopping.{is_not}
@@ -33,9 +34,9 @@ one_is : {t u : Tree} → one t ≡ one u → t ≡ u
 one_is e = cc
 
 -- a name that is deleted
-pub no_deleted : (o : UnaryOp) {v : Surroundings} {x z : Place} {u : Tree} → deletes_name o u ≡ true → Only so_far v (Part (Expr 15)) x (one u) z → NoNode so_far v (tail (row_so_far (expression (Unary o)))) (expression (Unary o)) x
-no_deleted Delete {v} {x} {z} {u} d o = record { no = at }
+pub no_deleted : {e : Fault} (o : UnaryOp) {v : Surroundings} {x z : Place} {u : Tree} → deletes_name o u ≡ true → Only so_far v (Part (Expr 15)) x (one u) z → NoNode so_far v (tail (row_so_far (expression (Unary o)))) (expression (Unary o)) x e
+no_deleted {e = e} Delete {v} {x} {z} {u} d o = record { no = at }
   where
-    at : (us : Forest) (w : Place) → Walk (Whole so_far) (steady v) (tail (row_so_far (expression (Unary Delete)))) x us w → so_far.keeps (expression (Unary Delete)) v us ≡ true → ⊥
-    at us w (next (tree {t = t} q) (done f)) k = clash (is_name t) (ap is_name (sym (one_is (o.alone _ _ (tree q)).0)) ∙ d) (is_not _ (and_left (not (is_name t)) _ k))
+    at : (us : Forest) (w : Place) → Walk (Whole so_far) (steady v) (tail (row_so_far (expression (Unary Delete)))) x us w → so_far.keeps (expression (Unary Delete)) v us ≡ true → Shallow e (deepest us) → ⊥
+    at us w (next (tree {t = t} q) (done f)) k s = clash (is_name t) (ap is_name (sym (one_is (o.alone _ _ (tree q)).0)) ∙ d) (is_not _ (and_left (not (is_name t)) _ k))
 no_deleted _ d o = cc

@@ -1,3 +1,4 @@
+pub mod Depths
 pub mod Shared
 pub mod Deleting
 pub mod Targets

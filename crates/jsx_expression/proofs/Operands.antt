@@ -1,11 +1,11 @@
 -- What an operand of a level is: what begins so, and at the level of assignments also an assignment to a pattern.
-use Rattle.std.proofs.Common.{◌≡◌, ◌<◌, ◌≤◌, ℕ, zero, suc, nat_le, Bool, true, false, Box, Global, refl, sym, ◌∙◌, ap, subst, arith}
-use Rattle.std.specs.Prelude.{IsTrue, codes}
+use Rattle.std.proofs.Common.{◌≡◌, ◌<◌, ◌≤◌, ℕ, zero, suc, max, nat_le, Bool, true, false, Box, Global, refl, sym, ◌∙◌, ap, subst, arith}
+use Rattle.std.specs.Prelude.{IsTrue}
 use Rattle.std.proofs.lemmas.Bool.{le-leb}
 use Rattle.jsx_tree.specs.Signs.{SameLine}
-use Rattle.jsx_tree.specs.Kinds.{Array, Object, Assign, Assigns, Index, Member, Parenthesized, SuperIndex, SuperMember, Kind, expression, Tree, leaf, node, list, Forest, none, part}
+use Rattle.jsx_tree.specs.Kinds.{Assign, Assigns, Index, Member, Parenthesized, SuperIndex, SuperMember, Kind, expression, Tree, leaf, node, list, Forest, none, part}
 use Rattle.jsx_tree.specs.Nonterminals.{Nonterminal, Expr, Pat}
-use Rattle.jsx_tree.specs.Grammar.{Context, Part, pun}
+use Rattle.jsx_tree.specs.Grammar.{Part, pun}
 use Rattle.jsx_tree.specs.Reading.{Place, Lost, forth}
 use Rattle.jsx_tree.specs.StaticRules.{Surroundings}
 use Rattle.jsx_tree.specs.Walk.{Given, Past, is_found, one, around, done, next, sign, steady, tail, tree, Walk}
@@ -14,6 +14,7 @@ use Rattle.jsx_tree.specs.Answers.{Moves, Only, Barred, Stuck}
 use Rattle.jsx_tree.specs.Grows.{Onward, Steps, seen, stay, step}
 use Rattle.jsx_tree.specs.View.{view_expr}
 use Rattle.jsx_tree.specs.declared.tree.Expr.{Expr as Code}
+use Rattle.jsx_tree.specs.Faults.{Fault, Unread, Deep, Shallow, deepest, given_depth, outer, part_depth}
 use Rattle.jsx_tree.proofs.Tokens.{and_both}
 use Rattle.jsx_tree.proofs.Apart.{clash}
 use Rattle.jsx_tree.proofs.Rows.Bodies.{plain as plain_row}
@@ -22,17 +23,21 @@ use Rattle.jsx_tree.proofs.Rows.Guarded.{loosen, to_grammar}
 use Rattle.jsx_tree.proofs.Rows.Laws.{end_found}
 use Rattle.jsx_tree.proofs.Rows.Stopping.{never_stops}
 use Rattle.jsx_tree.proofs.Rows.Turns.{whole_of}
+use Rattle.jsx_tree.proofs.Rows.Steps.{any_barred}
+use Rattle.jsx_tree.proofs.Depth.Shallow.{shallow_up}
 use Rattle.jsx_token.specs.Growths.{Rung, rung, asked, closed, is_blocked, is_level, is_rung, level_of_kind, seat, settled}
 use Rattle.jsx_token.specs.Here.{Here, place_of}
-use Rattle.jsx_token.specs.Marks.{ends_so_far, row_so_far}
+use Rattle.jsx_token.specs.Marks.{row_so_far}
 use Rattle.jsx_token.proofs.Listed.{Listed, listed}
 use Rattle.jsx_token.proofs.Levels.{steps_on}
 use Rattle.jsx_operand.specs.SoFar.{Staged, so_far}
 use Rattle.jsx_operand.specs.Climbing.{Climbs, is_target, level, rises}
 use Rattle.jsx_operand.specs.Covers.{IsTurned, view_cover}
-use Rattle.jsx_operand.specs.Turning.{Turns, is_bound_name, is_bracketed, is_literal}
+use Rattle.jsx_operand.specs.Turning.{is_bound_name, is_literal}
 use Rattle.jsx_operand.specs.declared.cover.Cover.{Cover}
+use Rattle.jsx_operand.specs.Outgrown.{Outgrown}
 use Rattle.jsx_operand.proofs.OfSoFar.{of_so_far}
+use Rattle.jsx_operand.proofs.Outgrown.{outgrown_deep}
 use Rattle.jsx_operand.proofs.Aims.{is_pair, seen_plain, value_open}
 use Rattle.jsx_operand.proofs.BracketSteps.{left_assigns}
 use Rattle.jsx_operand.proofs.Climbing.{stays_low, step_ends}
@@ -41,10 +46,11 @@ use Rattle.jsx_operand.proofs.Rungs.{rung_operand}
 use Rattle.jsx_operand.proofs.Turned.{bracketed_literal, turned_aims, turned_bracketed}
 use Rattle.jsx_operand.proofs.Turning.{turns_once}
 use Rattle.jsx_operand.proofs.Values.{Bracketed, in_array, in_object, listed_node}
-use Rattle.jsx_expression.specs.Covers.{Apart, above, unlike, unassigned, BeginsAt, BeginsCover, IsAssigned, IsMade, IsOperand, LeadsTo, leads, leads_none, NoCoverBegins, NoOperand, NotAssigned, before_equals, as_begun, as_made, none_begun, none_made}
+use Rattle.jsx_expression.specs.Covers.{Apart, above, unlike, BeginsAt, BeginsCover, IsAssigned, IsMade, IsOperand, LeadsTo, leads, leads_none, NoCoverBegins, NoOperand, NotAssigned, before_equals, as_begun, as_made, none_begun, none_made}
 use Rattle.jsx_function.specs.Covers.{Settles}
 use Rattle.jsx_expression.proofs.Covers.{IsBracket, bracket_is, bracket_of, closed_open, pattern_none, settled_open}
 use Rattle.jsx_expression.proofs.CoverElements.{bracket_unassigned, no_element, target_there}
+use Rattle.jsx_expression.proofs.Depths.{counted_shallow, staged_form}
 
 one_is : {t u : Tree} → one t ≡ one u → t ≡ u
 one_is e = cc
@@ -123,14 +129,32 @@ assigned_only {v} {x} {y} {a} {z} {c} {t} b l m n = record { past = tree (subst 
         let s = n.only.alone (one g.value) q (tree (subst (λ p. Whole so_far v false (Expr 1) p g.value q) (sym m.is) g.whole)) in
         (ap one (n.is ∙ ((λ i. node (expression Assign) (part (sym p i) (part (one_is s.0 i) none))) ∙ sym g.is)), s.1)
 
-pub assigned_none : {v : Surroundings} {x y a : Place} {c : Cover} → BeginsCover v x c y → is_literal (view_cover c) ≡ true → Moves (pun "=") y a → NotAssigned v c a → Barred so_far v (Part (Expr 1)) x
-assigned_none {v} {x} {y} {a} {c} b l m n = record { no = at }
+-- it is one deeper than the pattern and the value
+assigned_shallow : {v : Surroundings} {x z : Place} {p t : Tree} (e : Fault) → Staged v false (Expr 1) x (node (expression Assign) (part p (part t none))) z → Shallow e (part_depth (node (expression Assign) (part p (part t none)))) → Shallow e (suc (max (part_depth p) (part_depth t)))
+assigned_shallow {p = p} {t} e q s = shallow_up e (suc (max (part_depth p) (part_depth t))) (suc (deepest (part p (part t none)))) (omega arith) (counted_shallow e (expression Assign) refl q s)
+
+pub assigned_none : {v : Surroundings} {x y a : Place} {c : Cover} {e : Fault} → BeginsCover v x c y → is_literal (view_cover c) ≡ true → Moves (pun "=") y a → NotAssigned v c a e → Barred so_far v (Part (Expr 1)) x e
+assigned_none {v} {x} {y} {a} {c} {e = e} b l m n = record { no = at }
   where
-    at : (h : Given) (q : Place) → Past (Whole so_far) v (Part (Expr 1)) x h q → ⊥
-    at h q (tree {t = u} w) =
+    at : (h : Given) (q : Place) → Past (Whole so_far) v (Part (Expr 1)) x h q → Shallow e (given_depth h) → ⊥
+    at h q (tree {t = u} w) s =
         let f = b.assigned l (found_at (sym m.is) m.found) u q w in
         let g = pattern_assigned (bracket_of f.pattern f.bracketed f.reads) f.onward w in
-        n.no f.pattern g.value q f.turned (subst (λ p. Whole so_far v false (Expr 1) p g.value q) (sym m.is) g.whole)
+        n.no f.pattern g.value q f.turned (staged_form f.reads) (subst (λ p. Whole so_far v false (Expr 1) p g.value q) (sym m.is) g.whole) (assigned_shallow e (subst (λ t. Staged v false (Expr 1) x t q) g.is w.reads) (subst (λ t. Shallow e (part_depth t)) g.is s))
+
+-- no value stands behind the `=`, or the pattern is too deep for it
+right_shallow : (e : Fault) (a b : ℕ) → Shallow (outer e) (suc (max a b)) → Shallow e b
+right_shallow Unread a b s = tt
+right_shallow (Deep n) a b s = omega (arith, s)
+
+left_shallow : (e : Fault) (a b : ℕ) → Shallow e (suc (max a b)) → Shallow e (suc a)
+left_shallow e a b s = shallow_up e (suc a) (suc (max a b)) (omega arith) s
+
+pub not_assigned_value : {v : Surroundings} {x : Place} {c : Cover} {e : Fault} → Barred so_far v (Part (Expr 1)) x e → NotAssigned v c x (outer e)
+not_assigned_value {e = e} b = record { no = λ p t y d f w s. b.no (one t) y (tree w) (right_shallow e (part_depth p) (part_depth t) s) }
+
+pub not_assigned_deep : {v : Surroundings} {x : Place} {c : Cover} {p : Tree} {e : Fault} → IsTurned c p → Outgrown p e → NotAssigned v c x e
+not_assigned_deep {e = e} d o = record { no = λ q t y g f w s. outgrown_deep (Pat Assigns) e q f (subst (λ u. Outgrown u e) (turns_once d.turns g.turns) o) (left_shallow e (part_depth q) (part_depth t) s) }
 
 -- ---- what alone is read there begins all that is
 
@@ -207,15 +231,15 @@ operand_first {v} {x} {y} {c} b a n = record {
     by_literal p d true l = b.pattern.reads p d (turned_bracketed d.turns l)
     by_literal p d false l = target_there d.turns l (begin_reads (b.expr (settled_is c.is_expr refl l) (rung 1) refl a) (target_rises (view_cover c) (turned_aims d.turns l)))
 
-pub operand_unbegun : {v : Surroundings} {x : Place} (n : ℕ) → is_level n ≡ true → NoCoverBegins v x → NoOperand v n x
-operand_unbegun {v} {x} n l b = record {
-  whole = record { none = b.none.on (rung n) l; element = λ _ p z w. no_element (b.none.on (rung 1) refl) (λ p z h r e. b.pattern.no p z h r) p z w };
+pub operand_unbegun : {v : Surroundings} {x : Place} {o : Fault} (n : ℕ) → is_level n ≡ true → NoCoverBegins v x o → NoOperand v n x o
+operand_unbegun {v} {x} {o = o} n l b = record {
+  whole = record { none = b.none.on (rung n) l; element = λ _ p z w. no_element o (b.none.on (rung 1) refl) (λ p z h r e. b.pattern.no p z h r) p z w };
   higher = λ _. none_begun b;
 }
 
 -- above the level of assignments no cover stands that is no expression
-pub operand_unsettled : {v : Surroundings} {x y : Place} {c : Cover} (n : ℕ) → is_level n ≡ true → 1 < n → c.is_expr ≡ false → BeginsCover v x c y → NoOperand v n x
-operand_unsettled {v} {x} {y} {c} n l h e b = record { whole = record { none = b.none e (rung n) l (above (le-leb 2 n (omega (arith, h)))); element = λ j. absurd (low j) }; higher = λ j. absurd (low j) }
+pub operand_unsettled : {v : Surroundings} {x y : Place} {c : Cover} {o : Fault} (n : ℕ) → is_level n ≡ true → 1 < n → c.is_expr ≡ false → BeginsCover v x c y → NoOperand v n x o
+operand_unsettled {v} {x} {y} {c} n l h e b = record { whole = record { none = any_barred (b.none e (rung n) l (above (le-leb 2 n (omega (arith, h))))); element = λ j. absurd (low j) }; higher = λ j. absurd (low j) }
   where
     low : n ≡ 1 → ⊥
     low j = omega (arith, h, j)
@@ -252,16 +276,16 @@ operand_assigned {v} {x} {y} {a} {z} {c} {d} e same i m b l s q n g = record {
     is : view_cover d ≡ node (expression Assign) (part n.pattern (part n.value none))
     is = ap (λ j. view_expr j.value) same ∙ n.is
 
-pub operand_unassigned : {v : Surroundings} {x y a : Place} {c : Cover} → BeginsCover v x c y → is_literal (view_cover c) ≡ true → settled y ≡ true → Moves (pun "=") y a → NotAssigned v c a → NoOperand v 1 x
-operand_unassigned {v} {x} {y} {a} {c} b l s q n = record {
-  whole = record { none = barred; element = λ _ p z w. no_element barred (λ p z h r e. lost_found (b.pattern.alone p z h r).1 f (bracket_unassigned p h r e)) p z w };
+pub operand_unassigned : {v : Surroundings} {x y a : Place} {c : Cover} {o : Fault} → BeginsCover v x c y → is_literal (view_cover c) ≡ true → settled y ≡ true → Moves (pun "=") y a → NotAssigned v c a o → NoOperand v 1 x o
+operand_unassigned {v} {x} {y} {a} {c} {o = o} b l s q n = record {
+  whole = record { none = barred; element = λ _ p z w. no_element o barred (λ p z h r e _. lost_found (b.pattern.alone p z h r).1 f (bracket_unassigned p h r e)) p z w };
   higher = λ _. none_made (assigned_made b s f);
 }
   where
     f : IsTrue (is_found (forth (pun "=") y))
     f = found_at (sym q.is) q.found
 
-    barred : Barred so_far v (Part (Expr 1)) x
+    barred : Barred so_far v (Part (Expr 1)) x o
     barred = assigned_none b l q n
 
 -- ---- at a level that is no higher
@@ -272,8 +296,8 @@ level_low n l h = one_level n l (λ g. omega (arith, h, g))
 pub operand_at : {v : Surroundings} {x y : Place} {c : Cover} (n : ℕ) → is_level n ≡ true → n ≤ 1 → IsOperand v 1 x c y → IsOperand v n x c y
 operand_at {v} {x} {y} {c} n l h o = subst (λ m. IsOperand v m x c y) (sym (level_low n l h)) o
 
-pub no_operand_at : {v : Surroundings} {x : Place} (n : ℕ) → is_level n ≡ true → n ≤ 1 → NoOperand v 1 x → NoOperand v n x
-no_operand_at {v} {x} n l h o = subst (λ m. NoOperand v m x) (sym (level_low n l h)) o
+pub no_operand_at : {v : Surroundings} {x : Place} {e : Fault} (n : ℕ) → is_level n ≡ true → n ≤ 1 → NoOperand v 1 x e → NoOperand v n x e
+no_operand_at {v} {x} {e = e} n l h o = subst (λ m. NoOperand v m x e) (sym (level_low n l h)) o
 
 -- ---- where the lexer stands
 
@@ -295,7 +319,7 @@ begins_like {v} {x} {y} {c} d same is may l b = record {
   expr = λ e r i a. subst (λ t. BeginsAt v r x t y) (sym same) (b.expr (sym is ∙ e) r i (unlike l));
   none = λ e r i a. b.none (sym is ∙ e) r i (unlike l);
   assigned = λ h. absurd (clash (is_literal (view_cover d)) h (ap is_literal same ∙ l));
-  pattern = pattern_none (ap is_literal same ∙ l) (record { no = λ p z h r. clash (is_literal (view_cover c)) (bracketed_literal (b.pattern.alone p z h r).0.turns h) l });
+  pattern = pattern_none (ap is_literal same ∙ l) (record { no = λ p z h r _. clash (is_literal (view_cover c)) (bracketed_literal (b.pattern.alone p z h r).0.turns h) l });
   may = λ _. may ∙ b.may l;
   unsettled = λ e. absurd (clash (is_literal (view_cover c)) (b.unsettled (sym is ∙ e)) l);
 }

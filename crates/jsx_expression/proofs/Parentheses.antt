@@ -6,18 +6,19 @@ use Rattle.jsx_tree.specs.Nonterminals.{Expr}
 use Rattle.jsx_tree.specs.Grammar.{Part, pun}
 use Rattle.jsx_tree.specs.Reading.{Place, forth}
 use Rattle.jsx_tree.specs.StaticRules.{Surroundings}
-use Rattle.jsx_tree.specs.Walk.{is_found, Given, nil, Past, tree, tail}
+use Rattle.jsx_tree.specs.Walk.{is_found, Given, Past, tree, tail}
 use Rattle.jsx_tree.specs.Language.{Whole}
 use Rattle.jsx_tree.specs.Answers.{Moves, Stuck, Barred, Built}
 use Rattle.jsx_tree.specs.View.{view_pat}
 use Rattle.jsx_tree.specs.declared.tree.Pat.{Pat}
+use Rattle.jsx_tree.specs.Faults.{Fault, Unread, Shallow, given_depth}
 use Rattle.jsx_tree.proofs.Tokens.{and_left, and_right}
 use Rattle.jsx_tree.proofs.Apart.{clash}
 use Rattle.jsx_tree.proofs.Rows.Bridge.{found_at}
 use Rattle.jsx_tree.proofs.Rows.Closers.{closes}
 use Rattle.jsx_tree.proofs.Rows.Laws.{shut_out}
 use Rattle.jsx_tree.proofs.Rows.Lists.{round}
-use Rattle.jsx_tree.proofs.Rows.Steps.{both}
+use Rattle.jsx_tree.proofs.Rows.Steps.{both, any_barred}
 use Rattle.jsx_tree.proofs.Rows.Stopping.{is_not, or_cases}
 use Rattle.jsx_token.specs.Growths.{opening_sign, same_sign}
 use Rattle.jsx_token.proofs.Levels.{grows_on}
@@ -36,7 +37,7 @@ use Rattle.jsx_member.proofs.Sequences.{Listing, listing_more, listing_one, sequ
 
 -- ---- where no expression begins
 
-shut_value : {v : Surroundings} {x : Place} → IsTrue (is_found (forth (pun ")") x)) → Barred so_far v (Part (Expr 1)) x
+shut_value : {v : Surroundings} {x : Place} {e : Fault} → IsTrue (is_found (forth (pun ")") x)) → Barred so_far v (Part (Expr 1)) x e
 shut_value f = shut_out of_so_far refl (closes round f)
 
 abbrev undotted_opening : Kind → Bool
@@ -53,14 +54,14 @@ dotted_first {x = x} there (opened d {k} m g q) =
     clash _ (one_opening (opening_sign k) (pun "...") x (opener_of k m g) (opener (pun "...") refl) (opened_sign k m g q) there)
     (is_not _ (or_cases (grows_on k) _ (of_each undotted_opening all_undotted k m) (λ h. absurd (clash _ h g)) (λ n. n)))
 
-pub dotted_value : {v : Surroundings} {x : Place} → IsTrue (is_found (forth (pun "...") x)) → Barred so_far v (Part (Expr 1)) x
-dotted_value {v} {x} there = record { no = at }
+pub dotted_value : {v : Surroundings} {x : Place} {e : Fault} → IsTrue (is_found (forth (pun "...") x)) → Barred so_far v (Part (Expr 1)) x e
+dotted_value {v} {x} {e = e} there = record { no = at }
   where
-    at : (h : Given) (z : Place) → Past (Whole so_far) v (Part (Expr 1)) x h z → ⊥
-    at h z (tree {t = u} q) = dotted_first there (begun {c = Expr 1} refl u q.reads).first
+    at : (h : Given) (z : Place) → Past (Whole so_far) v (Part (Expr 1)) x h z → Shallow e (given_depth h) → ⊥
+    at h z (tree {t = u} q) s = dotted_first there (begun {c = Expr 1} refl u q.reads).first
 
 -- behind a `(`, where `)` or `...` comes
-pub no_expression : {v : Surroundings} {x : Place} → (is_found (forth (pun ")") x) || is_found (forth (pun "...") x)) ≡ true → Barred so_far v (Part (Expr 0)) x
+pub no_expression : {v : Surroundings} {x : Place} {e : Fault} → (is_found (forth (pun ")") x) || is_found (forth (pun "...") x)) ≡ true → Barred so_far v (Part (Expr 0)) x e
 no_expression {v} {x} h = or_cases (is_found (forth (pun ")") x)) (is_found (forth (pun "...") x)) h (λ f. whole_barred (shut_value f)) (λ f. whole_barred (dotted_value f))
 
 -- ---- covers one behind another, with commas behind them
@@ -87,7 +88,7 @@ pub record Passes (v : Surroundings) (x : Place) (cs : List Cover) (y : Place) :
   pub is : cs ≡ first ∷ others
   pub params : Passing v x cs y
   pub listing : are_exprs cs ≡ true → Listing v x (view_covers cs) y
-  pub barred : are_exprs cs ≡ false → Barred so_far v (Part (Expr 0)) x
+  pub barred : are_exprs cs ≡ false → Barred so_far v (Part (Expr 0)) x Unread
 
 -- the trees of those with one at least
 led_listing : {v : Surroundings} {x y : Place} {cs : List Cover} → (p : Passes v x cs y) → are_exprs cs ≡ true → Listing v x (part (view_cover p.first) (view_covers p.others)) y
@@ -102,8 +103,8 @@ by_exprs {P} cs f g = by (are_exprs cs) refl
     by false e = g e
 
 -- where no expression stands behind them no sequence does
-pub passes_barred : {v : Surroundings} {x y : Place} {cs : List Cover} → Passes v x cs y → Barred so_far v (Part (Expr 1)) y → Barred so_far v (Part (Expr 0)) x
-passes_barred {cs = cs} p b = by_exprs cs (λ h. sequence_barred (led_listing p h) b) p.barred
+pub passes_barred : {v : Surroundings} {x y : Place} {cs : List Cover} {e : Fault} → Passes v x cs y → Barred so_far v (Part (Expr 1)) y e → Barred so_far v (Part (Expr 0)) x e
+passes_barred {cs = cs} p b = by_exprs cs (λ h. sequence_barred (led_listing p h) b) (λ h. any_barred (p.barred h))
 
 alone_true : (b : Bool) → (b && true) ≡ true → b ≡ true
 alone_true true h = refl

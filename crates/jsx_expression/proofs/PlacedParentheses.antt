@@ -7,7 +7,7 @@ use Rattle.jsx_tree.specs.Nonterminals.{Nonterminal, Argument, Expr}
 use Rattle.jsx_tree.specs.Grammar.{pun, production}
 use Rattle.jsx_tree.specs.Spelling.{spelled}
 use Rattle.jsx_tree.specs.Reading.{forth, scan}
-use Rattle.jsx_tree.specs.Spans.{Extent, extent, in_parens, Placed, end, start, placed, within, Told, no_tales, tale, IsTold}
+use Rattle.jsx_tree.specs.Spans.{Extent, extent, in_parens, Placed, start, placed, within, Told, no_tales, tale, IsTold}
 use Rattle.jsx_tree.specs.Walk.{is_found}
 use Rattle.jsx_tree.proofs.Laws.{scan_append}
 use Rattle.jsx_tree.proofs.Tokens.{found_first}

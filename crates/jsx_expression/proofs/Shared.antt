@@ -13,6 +13,7 @@ use Rattle.jsx_tree.specs.StaticRules.{Surroundings, rule}
 use Rattle.jsx_tree.specs.Walk.{is_found, Given, Past, nothing, one, tail, tree}
 use Rattle.jsx_tree.specs.Language.{Whole}
 use Rattle.jsx_tree.specs.Answers.{Moves, Missed, Only, Barred, OnlyRow, NoRow, NoNode, Built, BuiltNode}
+use Rattle.jsx_tree.specs.Faults.{Fault, Shallow, given_depth}
 use Rattle.jsx_tree.proofs.Tokens.{and_right, and_both}
 use Rattle.jsx_tree.proofs.Apart.{clash}
 use Rattle.jsx_tree.proofs.Rows.Bridge.{found_at}
@@ -46,7 +47,7 @@ of_new P p q r j o =
     (λ e. subst P (sym (one_place j (expression NewWithoutArguments) m (listed (expression NewWithoutArguments) refl refl refl) e)) q)
     (λ e. subst P (sym (one_place j (expression NewTarget) m (listed (expression NewTarget) refl refl refl) e)) r))
 
-untargeted : {v : Surroundings} {a : Place} → forth (pun ".") a ≡ Lost → NoRow so_far v (tail (row_so_far (expression NewTarget))) a
+untargeted : {v : Surroundings} {a : Place} {e : Fault} → forth (pun ".") a ≡ Lost → NoRow so_far v (tail (row_so_far (expression NewTarget))) a e
 untargeted n = bar (no_sign (record { is = n }))
 
 -- ---- what stands before `(`, or not
@@ -115,11 +116,11 @@ dotted_first {x = x} there (opened d {k} m g q) =
     clash _ (one_opening (opening_sign k) (pun ".") x (opener_of k m g) (opener (pun ".") refl) (opened_sign k m g q) there)
     (is_not _ (or_cases (grows_on k) _ (of_each undotted_opening all_undotted k m) (λ h. absurd (clash _ h g)) (λ n. n)))
 
-dotted_callee : {v : Surroundings} {a b : Place} → Moves (pun ".") a b → Barred so_far v (Part NewCallee) a
-dotted_callee {v} {a} m = record { no = at }
+dotted_callee : {v : Surroundings} {a b : Place} {e : Fault} → Moves (pun ".") a b → Barred so_far v (Part NewCallee) a e
+dotted_callee {v} {a} {e = e} m = record { no = at }
   where
-    at : (h : Given) (z : Place) → Past (Whole so_far) v (Part NewCallee) a h z → ⊥
-    at h z (tree {t = u} q) = dotted_first (found_at (sym m.is) m.found) (begun {c = NewCallee} refl u q.reads).first
+    at : (h : Given) (z : Place) → Past (Whole so_far) v (Part NewCallee) a h z → Shallow e (given_depth h) → ⊥
+    at h z (tree {t = u} q) s = dotted_first (found_at (sym m.is) m.found) (begun {c = NewCallee} refl u q.reads).first
 
 pub target_opened : {v : Surroundings} {a b y : Place} {t : Tree} → v.target' ≡ true → Moves (pun ".") a b → Only so_far v (Fixed (key "target")) b nothing y → IsTrue (is_found y) → t ≡ node (expression NewTarget) none → OnlyOpened v (key "new") t a y
 target_opened {v} {a} {y = y} {t} h m o f e = opened_by (expression NewTarget) refl refl built (of_new (Other v a (expression NewTarget)) (barred refl (no_node (bar (dotted_callee m)))) (barred refl (no_node (bar (dotted_callee m)))) itself)
@@ -127,17 +128,17 @@ target_opened {v} {a} {y = y} {t} h m o f e = opened_by (expression NewTarget) r
     built : BuiltNode so_far v (tail (row_so_far (expression NewTarget))) (expression NewTarget) t a y
     built = record { parts = none; is = e; row = then' (only_sign m) (then' o (end f)); keeps = h }
 
-none_new : {v : Surroundings} {a : Place} → NoNode so_far v (tail (row_so_far (expression New))) (expression New) a → NoNode so_far v (tail (row_so_far (expression NewWithoutArguments))) (expression NewWithoutArguments) a → NoNode so_far v (tail (row_so_far (expression NewTarget))) (expression NewTarget) a → NoneOpened v (key "new") a
-none_new {v} {a} p q r = record { no = of_new (λ j. NoParts v j a) (free_none (expression New) refl p) (free_none (expression NewWithoutArguments) refl q) (free_none (expression NewTarget) refl r) }
+none_new : {v : Surroundings} {a : Place} {e : Fault} → NoNode so_far v (tail (row_so_far (expression New))) (expression New) a e → NoNode so_far v (tail (row_so_far (expression NewWithoutArguments))) (expression NewWithoutArguments) a e → NoNode so_far v (tail (row_so_far (expression NewTarget))) (expression NewTarget) a e → NoneOpened v (key "new") a e
+none_new {v} {a} {e = e} p q r = record { no = of_new (λ j. NoParts v j a e) (free_none (expression New) refl p) (free_none (expression NewWithoutArguments) refl q) (free_none (expression NewTarget) refl r) }
 
-pub target_unread : {v : Surroundings} {a b : Place} → Moves (pun ".") a b → Barred so_far v (Fixed (key "target")) b → NoneOpened v (key "new") a
+pub target_unread : {v : Surroundings} {a b : Place} {e : Fault} → Moves (pun ".") a b → Barred so_far v (Fixed (key "target")) b e → NoneOpened v (key "new") a e
 target_unread m n = none_new (no_node (bar (dotted_callee m))) (no_node (bar (dotted_callee m))) (no_node (on (only_sign m) (bar n)))
 
-pub target_outside : {v : Surroundings} {a b : Place} → v.target' ≡ false → Moves (pun ".") a b → NoneOpened v (key "new") a
-target_outside h m = none_new (no_node (bar (dotted_callee m))) (no_node (bar (dotted_callee m))) (record { no = λ ts y w k. clash _ (and_right (rule (expression NewTarget) ts) _ k) h })
+pub target_outside : {v : Surroundings} {a b : Place} {e : Fault} → v.target' ≡ false → Moves (pun ".") a b → NoneOpened v (key "new") a e
+target_outside h m = none_new (no_node (bar (dotted_callee m))) (no_node (bar (dotted_callee m))) (record { no = λ ts y w k _. clash _ (and_right (rule (expression NewTarget) ts) _ k) h })
 
-pub callee_unread : {v : Surroundings} {a a' : Place} → Missed (pun ".") a a' → Barred so_far v (Part NewCallee) a' → NoneOpened v (key "new") a
-callee_unread {v} {a} m given = let n : Barred so_far v (Part NewCallee) a = subst (Barred so_far v (Part NewCallee)) (sym m.same) given in none_new (no_node (bar n)) (no_node (bar n)) (no_node (untargeted m.stuck.is))
+pub callee_unread : {v : Surroundings} {a a' : Place} {e : Fault} → Missed (pun ".") a a' → Barred so_far v (Part NewCallee) a' e → NoneOpened v (key "new") a e
+callee_unread {v} {a} {e = e} m given = let n : Barred so_far v (Part NewCallee) a e = subst (λ w. Barred so_far v (Part NewCallee) w e) (sym m.same) given in none_new (no_node (bar n)) (no_node (bar n)) (no_node (untargeted m.stuck.is))
 
 callee_here : {v : Surroundings} {a a' b : Place} {t : Tree} → Missed (pun ".") a a' → Only so_far v (Part NewCallee) a' (one t) b → Only so_far v (Part NewCallee) a (one t) b
 callee_here {v} {b = b} {t} m o = subst (λ p. Only so_far v (Part NewCallee) p (one t) b) (sym m.same) o
@@ -155,7 +156,7 @@ without_opened {v} {a} {b = b} {t = t} {u} m given p e =
     here : IsTrue (is_found b)
     here = end_found of_so_far (whole_of callee.past).reads
 
-unguarded : {v : Surroundings} {a b c : Place} {t : Tree} → Only so_far v (Part NewCallee) a (one t) b → Moves (pun "(") b c → NoRow so_far v (tail (row_so_far (expression NewWithoutArguments))) a
+unguarded : {v : Surroundings} {a b c : Place} {t : Tree} {e : Fault} → Only so_far v (Part NewCallee) a (one t) b → Moves (pun "(") b c → NoRow so_far v (tail (row_so_far (expression NewWithoutArguments))) a e
 unguarded {b = b} o p = on o (bar (no_sign (record { is = paren_unless b (found_at (sym p.is) p.found) })))
 
 -- with its arguments
@@ -170,5 +171,5 @@ with_opened {v} {a} {b = b} {y = y} {t = t} {u} {us} m given p r e =
     built : Built so_far v (tail (row_so_far (expression New))) (expression New) (λ ts. ts) u a y
     built = record { parts = part t us; is = e; row = then' callee (then' (only_sign p) r) }
 
-pub arguments_unread : {v : Surroundings} {a a' b c : Place} {t : Tree} → Missed (pun ".") a a' → Only so_far v (Part NewCallee) a' (one t) b → Moves (pun "(") b c → NoRow so_far v (tail (tail (row_so_far (expression Call)))) c → NoneOpened v (key "new") a
+pub arguments_unread : {v : Surroundings} {a a' b c : Place} {t : Tree} {e : Fault} → Missed (pun ".") a a' → Only so_far v (Part NewCallee) a' (one t) b → Moves (pun "(") b c → NoRow so_far v (tail (tail (row_so_far (expression Call)))) c e → NoneOpened v (key "new") a e
 arguments_unread m given p n = let callee = callee_here m given in none_new (no_node (on callee (on (only_sign p) n))) (no_node (unguarded callee p)) (no_node (untargeted m.stuck.is))

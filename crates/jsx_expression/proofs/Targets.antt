@@ -9,6 +9,7 @@ use Rattle.jsx_tree.specs.Walk.{Given, one, Past, tree}
 use Rattle.jsx_tree.specs.Language.{Whole}
 use Rattle.jsx_tree.specs.Answers.{Only, Barred}
 use Rattle.jsx_tree.specs.Grows.{as_target}
+use Rattle.jsx_tree.specs.Faults.{Fault, Shallow, given_depth}
 use Rattle.jsx_operand.specs.SoFar.{so_far}
 use Rattle.jsx_token.specs.Marks.{ends_so_far}
 use Rattle.jsx_tree.proofs.Apart.{clash}
@@ -16,6 +17,7 @@ use Rattle.jsx_tree.proofs.Rows.Turns.{whole_of}
 use Rattle.jsx_tree.proofs.Rows.Targets.{as_value, value_aims, target_back, left_simple, level_17}
 use Rattle.jsx_operand.specs.Climbing.{is_target}
 use Rattle.jsx_operand.proofs.Homes.{bound_word}
+use Rattle.jsx_expression.proofs.Depths.{value_shallow}
 use Rattle.jsx_operand.proofs.Aims.{aim_of, aim_is, staged_target, staged_value, simple_reads}
 
 same_ends : (y : Place) → ends_so_far SimpleTarget y ≡ ends_so_far (Expr 17) y
@@ -40,15 +42,15 @@ only_target {v} {x} {y} {t} h o = record {
         let q = o.alone (one (as_value u)) z (tree (whole_value w)) in
         (ap (λ s. one (as_target s)) (one_is q.0) ∙ ap one (target_back (simple_reads u w.reads)), q.1)
 
-pub no_target : {v : Surroundings} {x : Place} → Barred so_far v (Part (Expr 17)) x → Barred so_far v (Part SimpleTarget) x
-no_target {v} {x} b = record { no = at }
+pub no_target : {v : Surroundings} {x : Place} {e : Fault} → Barred so_far v (Part (Expr 17)) x e → Barred so_far v (Part SimpleTarget) x e
+no_target {v} {x} {e = e} b = record { no = at }
   where
-    at : (g : Given) (z : Place) → Past (Whole so_far) v (Part SimpleTarget) x g z → ⊥
-    at g z (tree {t = u} w) = b.no (one (as_value u)) z (tree (whole_value w))
+    at : (g : Given) (z : Place) → Past (Whole so_far) v (Part SimpleTarget) x g z → Shallow e (given_depth g) → ⊥
+    at g z (tree {t = u} w) s = b.no (one (as_value u)) z (tree (whole_value w)) (value_shallow e (target_back (simple_reads u w.reads)) (whole_value w).reads w.reads s)
 
 -- what stands there is no target
-pub unfit_target : {v : Surroundings} {x y : Place} {t : Tree} → is_target t ≡ false → Only so_far v (Part (Expr 17)) x (one t) y → Barred so_far v (Part SimpleTarget) x
-unfit_target {v} {x} {y} {t} h o = record { no = at }
+pub unfit_target : {v : Surroundings} {x y : Place} {t : Tree} {e : Fault} → is_target t ≡ false → Only so_far v (Part (Expr 17)) x (one t) y → Barred so_far v (Part SimpleTarget) x e
+unfit_target {v} {x} {y} {t} {e = e} h o = record { no = at }
   where
-    at : (g : Given) (z : Place) → Past (Whole so_far) v (Part SimpleTarget) x g z → ⊥
-    at g z (tree {t = u} w) = clash (is_target t) (ap is_target (one_is (o.alone (one (as_value u)) z (tree (whole_value w))).0) ∙ aim_is (value_aims (simple_reads u w.reads))) h
+    at : (g : Given) (z : Place) → Past (Whole so_far) v (Part SimpleTarget) x g z → Shallow e (given_depth g) → ⊥
+    at g z (tree {t = u} w) s = clash (is_target t) (ap is_target (one_is (o.alone (one (as_value u)) z (tree (whole_value w))).0) ∙ aim_is (value_aims (simple_reads u w.reads))) h

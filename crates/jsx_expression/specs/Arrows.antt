@@ -1,5 +1,5 @@
 -- Arrow functions, and what stands in parentheses (ECMA-262 sections 13.2.9 and 15.3).
-use Rattle.std.specs.Prelude.{◌≡◌, ℕ, List, [], ◌∷◌, ◌++◌, codes, Bool, true, false, not, Box, Option, Some, None, is_some, map, ◌&&◌}
+use Rattle.std.specs.Prelude.{◌≡◌, ℕ, suc, max, List, [], ◌∷◌, ◌++◌, codes, Bool, true, false, not, Box, Option, Some, None, is_some, map, ◌&&◌}
 use Rattle.std.specs.Global.{Global}
 use Rattle.jsx_tree.specs.Signs.{AfterBlock, Ends, SameLine, Sign, Unless}
 use Rattle.jsx_tree.specs.Kinds.{Arrow, ArrowBlock, BareArrow, BareArrowBlock, Kind, Parenthesized, Seq, expression, Tree, node, list, Forest, none, part}
@@ -16,6 +16,7 @@ use Rattle.jsx_tree.specs.Language.{Whole}
 use Rattle.jsx_tree.specs.Answers.{Barred, Moves, NoRow, Only, OnlyRow, Stuck}
 use Rattle.jsx_tree.specs.declared.tree.Expr.{Expr as Code}
 use Rattle.jsx_tree.specs.declared.tree.Pat.{Pat}
+use Rattle.jsx_tree.specs.Faults.{Fault, Unread, Shallow, deepest, part_depth}
 use Rattle.jsx_token.specs.Here.{Here}
 use Rattle.jsx_token.specs.Places.{Takes, end_of, next_of}
 use Rattle.jsx_make.specs.NodeSpans.{expr_at}
@@ -74,13 +75,13 @@ is_block (end.Block b) = true
 -- the text is the one row, in this way alone, and not the other; it is neither
 pub record OnlyEnd (v : Surroundings) (b : Bool) (t : Tree) (x y : Place) : Type 0 where
   pub only : OnlyRow so_far v (end_row b) x (part t none) y
-  pub other : NoRow so_far v (end_row (not b)) x
+  pub other : NoRow so_far v (end_row (not b)) x Unread
 
 abbrev pub OnlyArrowEnd : Surroundings → ArrowBody → Place → Place → Type 0
 OnlyArrowEnd v b x y = OnlyEnd v (is_block b) (view_end b) x y
 
-pub record NoEnd (v : Surroundings) (x : Place) : Type 0 where
-  pub no : (b : Bool) → NoRow so_far v (end_row b) x
+pub record NoEnd (v : Surroundings) (x : Place) (e : Fault) : Type 0 where
+  pub no : (b : Bool) → NoRow so_far v (end_row b) x e
 
 -- the same behind the `=>`, in the surroundings of the function
 abbrev pub inner_row : Bool → List Piece
@@ -89,10 +90,10 @@ inner_row false = pieces [] (unless (codes "{" ∷ []) ∷ Part (Expr 1) ∷ [])
 
 pub record OnlyArrowBody (v : Surroundings) (b : ArrowBody) (x y : Place) : Type 0 where
   pub only : OnlyRow so_far v (inner_row (is_block b)) x (part (view_end b) none) y
-  pub other : NoRow so_far v (inner_row (not (is_block b))) x
+  pub other : NoRow so_far v (inner_row (not (is_block b))) x Unread
 
-pub record NoArrowBody (v : Surroundings) (x : Place) : Type 0 where
-  pub no : (b : Bool) → NoRow so_far v (inner_row b) x
+pub record NoArrowBody (v : Surroundings) (x : Place) (e : Fault) : Type 0 where
+  pub no : (b : Bool) → NoRow so_far v (inner_row b) x e
 
 abbrev pub told_end : ArrowBody → Told
 told_end (end.Value e) = told_expr e.value
@@ -121,8 +122,8 @@ pub record ArrowEnds (v : Surroundings) (ps : Forest) (t : Tree) (x y : Place) :
   pub read : OnlyEnd v block end' x y
   pub plain : has_plain_params (part (list ps) (part end' none)) ≡ true
 
-pub record NoArrowEnd (v : Surroundings) (ps : Forest) (x : Place) : Type 0 where
-  pub no : (b : Bool) (ts : Forest) (y : Place) → Walk (Whole so_far) (steady v) (end_row b) x ts y → has_plain_params (part (list ps) ts) ≡ true → ⊥
+pub record NoArrowEnd (v : Surroundings) (ps : Forest) (x : Place) (e : Fault) : Type 0 where
+  pub no : (b : Bool) (ts : Forest) (y : Place) → Walk (Whole so_far) (steady v) (end_row b) x ts y → has_plain_params (part (list ps) ts) ≡ true → Shallow e (deepest ts) → ⊥
 
 abbrev pub view_params : Parameters → Forest
 view_params q = forest (map (inside view_pat) q.all.items)
@@ -140,8 +141,8 @@ pub record BareEnds (v : Surroundings) (n : Tree) (t : Tree) (x y : Place) : Typ
   pub is : t ≡ node (bare_kind block) (part n (part end' none))
   pub read : OnlyEnd v block end' x y
 
-abbrev pub NoBareEnd : Surroundings → Place → Type 0
-NoBareEnd v x = NoEnd v x
+pub record NoBareEnd (v : Surroundings) (n : Tree) (x : Place) (e : Fault) : Type 0 where
+  pub no : (b : Bool) (ts : Forest) (y : Place) → Walk (Whole so_far) (steady v) (end_row b) x ts y → Shallow e (suc (max (part_depth n) (deepest ts))) → ⊥
 
 -- ---- what begins with a `(`, behind what was read in the parentheses, wherever that was read from
 
@@ -163,15 +164,15 @@ pub record IsInside (v : Surroundings) (w : Place) (c : Cover) (z : Place) : Typ
 pub record OneEnds (v : Surroundings) (c : Cover) (t : Tree) (x y : Place) : Type 0 where
   pub on : (w z : Place) → IsInside v w c z → Moves (pun ")") z x → Stuck unless_arrow x → OnlyOpened v paren_sign t w y
 
-pub record NoOneEnd (v : Surroundings) (c : Cover) (x : Place) : Type 0 where
-  pub no : (w z : Place) → IsInside v w c z → Moves (pun ")") z x → Stuck unless_arrow x → NoneOpened v paren_sign w
+pub record NoOneEnd (v : Surroundings) (c : Cover) (x : Place) (e : Fault) : Type 0 where
+  pub no : (w z : Place) → IsInside v w c z → Moves (pun ")") z x → Stuck unless_arrow x → NoneOpened v paren_sign w e
 
 -- the first of several, with the comma behind it
 pub record SeveralEnd (v : Surroundings) (c : Cover) (t : Tree) (x y : Place) : Type 0 where
   pub on : (w z : Place) → IsInside v w c z → Moves (pun ",") z x → OnlyOpened v paren_sign t w y
 
-pub record NoSeveralEnd (v : Surroundings) (c : Cover) (x : Place) : Type 0 where
-  pub no : (w z : Place) → IsInside v w c z → Moves (pun ",") z x → NoneOpened v paren_sign w
+pub record NoSeveralEnd (v : Surroundings) (c : Cover) (x : Place) (e : Fault) : Type 0 where
+  pub no : (w z : Place) → IsInside v w c z → Moves (pun ",") z x → NoneOpened v paren_sign w e
 
 -- ---- what stands in parentheses, up to the `)`
 
@@ -214,15 +215,15 @@ pub record AreParams (cs : List Cover) (rs ts : Forest) (y z : Place) : Type 0 w
 -- It is read as an expression where it is one, as the parameters that it turns into, with the `)`, and as nothing else of either
 pub record Contents (v : Surroundings) (b : Bool) (t : Tree) (cs : List Cover) (rs : Forest) (x y : Place) : Type 0 where
   pub expr : b ≡ true → Only so_far v (Part (Expr 0)) x (one t) y
-  pub barred : b ≡ false → Barred so_far v (Part (Expr 0)) x
+  pub barred : b ≡ false → Barred so_far v (Part (Expr 0)) x Unread
   pub reads : (ps : Forest) (z : Place) → TurnCovers cs rs ps → Moves (pun ")") y z → Walk (Whole so_far) (steady v) params_row x (part (list ps) none) z
   pub alone : (ts : Forest) (z : Place) → Walk (Whole so_far) (steady v) params_row x ts z → AreParams cs rs ts y z
 
 pub record OnlyGroup (v : Surroundings) (c : Cover) (q : Group) (x y : Place) : Type 0 where
   pub on : (w z : Place) → IsInside v w c z → Moves (pun ",") z x → Contents v (is_sequence q) (sequence_of q) q.all.items (view_rest q.rest) w y
 
-pub record NoGroup (v : Surroundings) (c : Cover) (x : Place) : Type 0 where
-  pub no : (w z : Place) → IsInside v w c z → Moves (pun ",") z x → NoneOpened v paren_sign w
+pub record NoGroup (v : Surroundings) (c : Cover) (x : Place) (e : Fault) : Type 0 where
+  pub no : (w z : Place) → IsInside v w c z → Moves (pun ",") z x → NoneOpened v paren_sign w e
 
 -- the expressions that they are
 pub record AreExprs (cs : List Cover) (es : List (Box Code Global)) : Type 0 where

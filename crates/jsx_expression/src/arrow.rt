@@ -12,7 +12,7 @@ ghost use Rattle.jsx_tree.specs.View.{forest, inside, name_of, view_expr, view_p
 ghost use Rattle.jsx_tree.specs.Told.{told_expr, told_list, told_node, told_pat, told_text};
 ghost use Rattle.jsx_make.specs.NodeSpans.{expr_at};
 ghost use Rattle.jsx_operand.specs.Around.{around_of};
-ghost use Rattle.jsx_operand.specs.Answers.{Refused};
+ghost use Rattle.jsx_operand.specs.Answers.{PlainRefused, Refused};
 ghost use Rattle.jsx_operand.specs.Bodies.{ReadsBodies};
 ghost use Rattle.jsx_operand.specs.Climbing as climbing;
 ghost use Rattle.jsx_operand.specs.Openings.{NoneOpened, OnlyOpened};
@@ -29,6 +29,7 @@ use jsx_base::{BytePos, Span};
 use jsx_function::function::{Parameters, suits};
 use jsx_make::make;
 use jsx_operand::cover::settle;
+use jsx_operand::depth::within_at;
 use jsx_operand::operand::{ASSIGNMENT, start_of};
 use jsx_operand::parser::{expect, give_up, span_to};
 use jsx_operand::pattern::is_compound;
@@ -65,7 +66,7 @@ fn parameters_of<'s>(
     ensures read { IfOk result (λ q. TurnsGroup group.entry (view_params q)) }
     ensures told { IfOk result (λ q. map (inside told_pat) q.all.items ≡ told_group group.entry) }
     ensures simple { IfOk result (λ q. q.are_simple ≡ all_of is_word (view_params q)) }
-    ensures refused { Refused result ((ps : Forest) → TurnsGroup group.entry ps → Prim.⊥) }
+    ensures refused { PlainRefused result ((ps : Forest) → TurnsGroup group.entry ps → Prim.⊥) }
 {
     let Group {
         all: covers,
@@ -97,7 +98,7 @@ fn exprs_of<'s>(
 ) -> Result<Vec<Box<Expr<'s>>>, ParseError>
     ensures read { IfOk result (λ v. AreExprs covers.entry.items v.items) }
     ensures told { IfOk result (λ v. map (inside told_expr) v.items ≡ told_covers covers.entry.items) }
-    ensures refused { Refused result (are_exprs covers.entry.items ≡ false) }
+    ensures refused { PlainRefused result (are_exprs covers.entry.items ≡ false) }
 {
     let mut all = Vec::with_capacity(alloc, covers.len())?;
     'exprs: for cover in covers {
@@ -192,7 +193,7 @@ impl<
         ensures shorter { OnOk result (left lexer.new < left lexer.old) }
         ensures ended { OnOk result (IsTrue (closed (place_of lexer.new))) }
         ensures settles { IfOk result (λ e. Settles (climbing.level (view_expr e.value)) (place_of lexer.new)) }
-        ensures refused { Refused result (NoneOpened (around_of context.entry.around) (opening_sign (expression Parenthesized)) (place_of lexer.old)) }
+        ensures refused { Refused context.entry.levels result (NoneOpened (around_of context.entry.around) (opening_sign (expression Parenthesized)) (place_of lexer.old)) }
     {
         let lo = lexer.last_place();
         if is_before_parameters(lexer) {
@@ -227,7 +228,7 @@ impl<
         ensures shorter { OnOk result (left lexer.new < left lexer.old) }
         ensures ended { OnOk result (IsTrue (closed (place_of lexer.new))) }
         ensures settles { IfOk result (λ e. Settles (climbing.level (view_expr e.value)) (place_of lexer.new)) }
-        ensures refused { Refused result (NoOneEnd (around_of context.entry.around) first.entry (place_of lexer.old)) }
+        ensures refused { Refused context.entry.levels result (NoOneEnd (around_of context.entry.around) first.entry (place_of lexer.old)) }
     {
         let parameter = parameter_of(context.alloc, lexer.failing_place(), first)?;
         let are_simple = !is_compound(&parameter);
@@ -251,7 +252,7 @@ impl<
         ensures placed { IfOk result (λ q. IsPlacedGroup first.entry q lexer.old lexer.new) }
         ensures rest { IfOk result (λ q. IfSome q.rest (λ p. is_word (view_pat p.value) ≡ false)) }
         ensures within { OnOk result (left lexer.new ≤ left lexer.old) }
-        ensures refused { Refused result (NoGroup (around_of context.entry.around) first.entry (place_of lexer.old)) }
+        ensures refused { Refused context.entry.levels result (NoGroup (around_of context.entry.around) first.entry (place_of lexer.old)) }
     {
         let mut all = Vec::with_capacity(context.alloc, 2)?;
         all.push(first)?;
@@ -300,7 +301,7 @@ impl<
         ensures shorter { OnOk result (left lexer.new < left lexer.old) }
         ensures ended { OnOk result (IsTrue (closed (place_of lexer.new))) }
         ensures settles { IfOk result (λ e. Settles (climbing.level (view_expr e.value)) (place_of lexer.new)) }
-        ensures refused { Refused result (NoSeveralEnd (around_of context.entry.around) first.entry (place_of lexer.old)) }
+        ensures refused { Refused context.entry.levels result (NoSeveralEnd (around_of context.entry.around) first.entry (place_of lexer.old)) }
     {
         let begin = start_of(&first.expr);
         let group = self.group(context, lexer, first)?;
@@ -338,7 +339,7 @@ impl<
         ensures placed { IfOk result (λ e. IsPlacedArrow lo.0 params.entry lexer.old (told_expr e.value) (view_expr e.value) lexer.new) }
         ensures shorter { OnOk result (left lexer.new < left lexer.old) }
         ensures ended { OnOk result (IsTrue (closed (place_of lexer.new))) }
-        ensures refused { Refused result (NoArrowEnd (around_of context.entry.around) (view_params params.entry) (place_of lexer.old)) }
+        ensures refused { Refused context.entry.levels result (NoArrowEnd (around_of context.entry.around) (view_params params.entry) (place_of lexer.old)) }
     {
         let Parameters { all, are_simple } = params;
         let body = self.arrow_end(context, lexer)?;
@@ -349,7 +350,8 @@ impl<
         Ok(arrow_of(context.alloc, span, all, body)?)
     }
 
-    /// An arrow function without parentheses behind its parameter, which begins at a place: `=> b`, `=> { b; }` (ECMA-262 section 15.3).
+    /// An arrow function without parentheses behind its parameter, which begins at a place: `=> b`, `=> { b; }` (ECMA-262 section 15.3). It
+    /// counts from the `=>` on, which comes next, and its parameter stands within it.
     #[inline(never)]
     pub(crate) fn bare_arrow<'s>(
         &self,
@@ -365,9 +367,13 @@ impl<
         ensures placed { IfOk result (λ e. IsPlacedPast lo.0 (told_text parameter.entry.text) (name_of parameter.entry) lexer.old (told_expr e.value) (view_expr e.value) lexer.new) }
         ensures shorter { OnOk result (left lexer.new < left lexer.old) }
         ensures ended { OnOk result (IsTrue (closed (place_of lexer.new))) }
-        ensures refused { Refused result (NoBareEnd (around_of context.entry.around) (place_of lexer.old)) }
+        ensures refused { Refused context.entry.levels result (NoBareEnd (around_of context.entry.around) (name_of parameter.entry) (place_of lexer.old)) }
     {
-        let body = self.arrow_end(context, lexer)?;
+        let at = lexer.failing_place();
+        let levels = within_at(context, at)?;
+        let inside = Context { levels, ..context };
+        within_at(inside, at)?;
+        let body = self.arrow_end(inside, lexer)?;
         let span = span_to(lo, lexer);
         Ok(bare_arrow_of(context.alloc, span, parameter, body)?)
     }
@@ -384,7 +390,7 @@ impl<
         ensures placed { IfOk result (λ b. IsPlacedArrowEnd b lexer.old lexer.new) }
         ensures shorter { OnOk result (left lexer.new < left lexer.old) }
         ensures ended { OnOk result (IsTrue (closed (place_of lexer.new))) }
-        ensures refused { Refused result (NoEnd (around_of context.entry.around) (place_of lexer.old)) }
+        ensures refused { Refused context.entry.levels result (NoEnd (around_of context.entry.around) (place_of lexer.old)) }
     {
         if !lexer.is_on_line() {
             return Err(give_up(lexer));
@@ -407,7 +413,7 @@ impl<
         ensures placed { IfOk result (λ b. IsPlacedArrowBody b lexer.old lexer.new) }
         ensures shorter { OnOk result (left lexer.new < left lexer.old) }
         ensures ended { OnOk result (IsTrue (closed (place_of lexer.new))) }
-        ensures refused { Refused result (NoArrowBody (around_of context.entry.around) (place_of lexer.old)) }
+        ensures refused { Refused context.entry.levels result (NoArrowBody (around_of context.entry.around) (place_of lexer.old)) }
     {
         if !lexer.take(Fixed::OpenBrace) {
             let value = self.brackets.within.inner(context, lexer, ASSIGNMENT)?;

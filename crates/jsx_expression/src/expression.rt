@@ -53,7 +53,7 @@ where
     ensures shorter { OnOk result (left lexer.new < left lexer.old) }
     ensures ended { OnOk result (IsTrue (closed (place_of lexer.new))) }
     ensures settles { IfOk result (λ c. Settles (climbing.level (view_cover c)) (place_of lexer.new)) }
-    ensures refused { Refused result (NoOperand (around_of context.entry.around) level (place_of lexer.old)) }
+    ensures refused { Refused context.entry.levels result (NoOperand (around_of context.entry.around) level (place_of lexer.old)) }
 {
     Expressions {
         brackets: Brackets {
@@ -66,7 +66,7 @@ where
     .operand(context, lexer, level)
 }
 
-/// What goes on with an expression, behind its first token.
+/// What goes on with an expression, behind its first token, from which on it counts: its levels are those within it.
 pub fn grow<'s, B>(
     context: Context,
     lexer: &mut Lexer<'s>,
@@ -84,7 +84,7 @@ where
     ensures within { OnOk result (left lexer.new ≤ left lexer.old) }
     ensures ended { OnOk result (IsTrue (closed (place_of lexer.new))) }
     ensures settles { OnOk result (Settles (level_of_kind (growth_kind growth)) (place_of lexer.new)) }
-    ensures refused { Refused result (NotGrown (around_of context.entry.around) (growth_kind growth) (place_of lexer.old)) }
+    ensures refused { Refused context.entry.levels result (NotGrown (around_of context.entry.around) (growth_kind growth) (place_of lexer.old)) }
 {
     Expressions {
         brackets: Brackets {
@@ -113,7 +113,7 @@ where
     ensures placed { IfOk result (λ e. IsPlacedTag tag.entry.value lexer.old e.value lexer.new) }
     ensures shorter { OnOk result (left lexer.new < left lexer.old) }
     ensures ended { OnOk result (IsTrue (settled (place_of lexer.new))) }
-    ensures refused { Refused result (NotTagged (around_of context.entry.around) (view_expr tag.entry.value) (place_of lexer.old)) }
+    ensures refused { Refused context.entry.levels result (NotTagged (around_of context.entry.around) (view_expr tag.entry.value) (place_of lexer.old)) }
 {
     Brackets {
         within: Within {
@@ -141,7 +141,7 @@ where
     ensures shorter { OnOk result (left lexer.new < left lexer.old) }
     ensures ended { OnOk result (IsTrue (closed (place_of lexer.new))) }
     ensures settles { OnOk result (Settles level (place_of lexer.new)) }
-    ensures refused { Refused result (NoCover (around_of context.entry.around) level (place_of lexer.old)) }
+    ensures refused { Refused context.entry.levels result (NoCover (around_of context.entry.around) level (place_of lexer.old)) }
 {
     Expressions {
         brackets: Brackets {
@@ -171,7 +171,7 @@ where
     ensures shorter { OnOk result (left lexer.new < left lexer.old) }
     ensures ended { OnOk result (IsTrue (closed (place_of lexer.new))) }
     ensures settles { OnOk result (Settles level (place_of lexer.new)) }
-    ensures refused { Refused result (Barred so_far (around_of context.entry.around) (Part (grammar.Expr level)) (place_of lexer.old)) }
+    ensures refused { Refused context.entry.levels result (Barred so_far (around_of context.entry.around) (Part (grammar.Expr level)) (place_of lexer.old)) }
 {
     let read = cover(context, lexer, level, body)?;
     Ok(settle(read, lexer)?)
@@ -191,7 +191,7 @@ where
     ensures placed { IfOk result (λ e. IsPlaced (told_expr e.value) (view_expr e.value) lexer.old lexer.new) }
     ensures shorter { OnOk result (left lexer.new < left lexer.old) }
     ensures ended { OnOk result (IsTrue (closed (place_of lexer.new))) }
-    ensures refused { Refused result (Barred so_far (around_of context.entry.around) (Part (grammar.Expr 0)) (place_of lexer.old)) }
+    ensures refused { Refused context.entry.levels result (Barred so_far (around_of context.entry.around) (Part (grammar.Expr 0)) (place_of lexer.old)) }
 {
     Brackets {
         within: Within {
@@ -216,7 +216,7 @@ where
     ensures read { IfOk result (λ e. IsGathered (around_of context.entry.around) first.entry.value lexer.old e.value lexer.new) }
     ensures within { OnOk result (left lexer.new ≤ left lexer.old) }
     ensures ended { OnOk result (IsTrue (closed (place_of lexer.new))) }
-    ensures refused { Refused result (NotGathered (around_of context.entry.around) (view_expr first.entry.value) (place_of lexer.old)) }
+    ensures refused { Refused context.entry.levels result (NotGathered (around_of context.entry.around) (view_expr first.entry.value) (place_of lexer.old)) }
 {
     Brackets {
         within: Within {

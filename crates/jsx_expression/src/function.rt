@@ -43,7 +43,7 @@ where
     ensures span { IfOk result (λ p. Spans (pat_at p.value) (next_of lexer.old) (end_of lexer.new)) }
     ensures placed { IfOk result (λ p. IsPlaced (told_pat p.value) (view_pat p.value) lexer.old lexer.new) }
     ensures shorter { OnOk result (left lexer.new < left lexer.old) }
-    ensures refused { Refused result (Barred so_far (around_of context.entry.around) (Part (grammar.Pat Binds)) (place_of lexer.old)) }
+    ensures refused { Refused context.entry.levels result (Barred so_far (around_of context.entry.around) (Part (grammar.Pat Binds)) (place_of lexer.old)) }
 {
     Within {
         inner: cover::<B>,
@@ -67,7 +67,7 @@ where
     ensures placed { IfOk result (λ f. IsPlacedRow code_symbols (told_parts f) (parts_of f) lexer.old lexer.new) }
     ensures shorter { OnOk result (left lexer.new < left lexer.old) }
     ensures ended { OnOk result (IsTrue (settled (place_of lexer.new))) }
-    ensures refused { Refused result (NoCode (around_of context.entry.around) (place_of lexer.old)) }
+    ensures refused { Refused context.entry.levels result (NoCode (around_of context.entry.around) (place_of lexer.old)) }
 {
     Within {
         inner: cover::<B>,
@@ -90,7 +90,7 @@ where
     ensures placed { IfOk result (λ f. IsPlacedRow named_symbols (told_named f) (named_parts f) lexer.old lexer.new) }
     ensures shorter { OnOk result (left lexer.new < left lexer.old) }
     ensures ended { OnOk result (IsTrue (settled (place_of lexer.new))) }
-    ensures refused { Refused result (NoNamed (around_of context.entry.around) (place_of lexer.old)) }
+    ensures refused { Refused context.entry.levels result (NoNamed (around_of context.entry.around) (place_of lexer.old)) }
 {
     Within {
         inner: cover::<B>,
@@ -113,7 +113,7 @@ where
     ensures placed { IfOk result (λ c. IsPlacedRow class_symbols (told_class c) (class_parts c) lexer.old lexer.new) }
     ensures shorter { OnOk result (left lexer.new < left lexer.old) }
     ensures ended { OnOk result (IsTrue (settled (place_of lexer.new))) }
-    ensures refused { Refused result (NoClass (around_of context.entry.around) (place_of lexer.old)) }
+    ensures refused { Refused context.entry.levels result (NoClass (around_of context.entry.around) (place_of lexer.old)) }
 {
     Within {
         inner: cover::<B>,
@@ -136,7 +136,7 @@ where
     ensures placed { IfOk result (λ e. IsPlacedBehind (opening_sign (function ClassExpr)) lexer.old (told_expr e.value) (view_expr e.value) lexer.new) }
     ensures shorter { OnOk result (left lexer.new < left lexer.old) }
     ensures ended { OnOk result (IsTrue (settled (place_of lexer.new))) }
-    ensures refused { Refused result (NoParts (around_of context.entry.around) (function ClassExpr) (place_of lexer.old)) }
+    ensures refused { Refused context.entry.levels result (NoParts (around_of context.entry.around) (function ClassExpr) (place_of lexer.old)) }
 {
     Within {
         inner: cover::<B>,

@@ -29,6 +29,7 @@ ghost use Rattle.jsx_operand.specs.Bodies.{ReadsBodies};
 use jsx_make::make;
 use jsx_member::Brackets;
 use jsx_operand::cover::{is_before_arrow, is_literal, parameter_name, refuse_arrow, settle};
+use jsx_operand::depth::{behind_expr, leave, measure, within};
 use jsx_operand::operand::{
     ASSIGNMENT, fits, is_callee, member, postfix_update, primary, start_of,
 };
@@ -67,13 +68,15 @@ impl<
         ensures shorter { OnOk result (left lexer.new < left lexer.old) }
         ensures ended { OnOk result (IsTrue (closed (place_of lexer.new))) }
         ensures settles { OnOk result (Settles level (place_of lexer.new)) }
-        ensures refused { Refused result (NoCover (around_of context.entry.around) level (place_of lexer.old)) }
+        ensures refused { Refused context.entry.levels result (NoCover (around_of context.entry.around) level (place_of lexer.old)) }
     {
+        let outer = measure(context);
         let first = self.operand(context, lexer, level)?;
         if operand::level(&first.expr) < level {
             return Err(give_up(lexer));
         }
         if !first.is_expr {
+            leave(context, outer);
             return Ok(first);
         }
         let mut may_turn = first.may_turn;
@@ -84,15 +87,18 @@ impl<
             } else {
                 let Some(growth) = lexer.growth(level) else {
                     refuse_arrow(lexer, level)?;
+                    leave(context, outer);
                     return Ok(Cover::of(expr, may_turn));
                 };
                 if !fits(growth, &expr) {
                     return Err(give_up(lexer));
                 }
-                expr = self.grow(context, lexer, growth, expr)?;
+                let levels = behind_expr(context, lexer, &expr)?;
+                expr = self.grow(Context { levels, ..context }, lexer, growth, expr)?;
             }
             may_turn = true;
         }
+        leave(context, outer);
         Ok(Cover::of(expr, may_turn))
     }
 
@@ -113,7 +119,7 @@ impl<
         ensures shorter { OnOk result (left lexer.new < left lexer.old) }
         ensures ended { OnOk result (IsTrue (closed (place_of lexer.new))) }
         ensures settles { IfOk result (λ c. Settles (climbing.level (view_cover c)) (place_of lexer.new)) }
-        ensures refused { Refused result (NoOperand (around_of context.entry.around) level (place_of lexer.old)) }
+        ensures refused { Refused context.entry.levels result (NoOperand (around_of context.entry.around) level (place_of lexer.old)) }
     {
         let mut first = self.beginning(context, lexer)?;
         if level > ASSIGNMENT {
@@ -140,7 +146,7 @@ impl<
         Ok(Cover::settled(expr))
     }
 
-    /// An expression that begins with no other.
+    /// An expression that begins with no other. One that begins with a sign counts from that on.
     #[cycle(beginning)]
     pub(crate) fn beginning<'s>(
         &self,
@@ -155,10 +161,11 @@ impl<
         ensures shorter { OnOk result (left lexer.new < left lexer.old) }
         ensures ended { OnOk result (IsTrue (closed (place_of lexer.new))) }
         ensures settles { IfOk result (λ c. Settles (climbing.level (view_cover c)) (place_of lexer.new)) }
-        ensures refused { Refused result (NoCoverBegins (around_of context.entry.around) (place_of lexer.old)) }
+        ensures refused { Refused context.entry.levels result (NoCoverBegins (around_of context.entry.around) (place_of lexer.old)) }
     {
         if let Some(opening) = lexer.opening() {
-            return Ok(self.open(context, lexer, opening)?);
+            let levels = within(context, lexer)?;
+            return Ok(self.open(Context { levels, ..context }, lexer, opening)?);
         }
         if lexer.is_before_template() {
             return Ok(Cover::settled(self.brackets.untagged(context, lexer)?));
@@ -166,7 +173,7 @@ impl<
         Ok(Cover::settled(primary(context, lexer)?))
     }
 
-    /// What an expression is, behind its first token. It is kept out of the frame that each level of calls takes.
+    /// What an expression is, behind its first token, with the levels within it. It is kept out of the frame that each level of calls takes.
     #[cycle(beginning)]
     #[inline(never)]
     pub(crate) fn open<'s>(
@@ -183,7 +190,7 @@ impl<
         ensures shorter { OnOk result (left lexer.new < left lexer.old) }
         ensures ended { OnOk result (IsTrue (closed (place_of lexer.new))) }
         ensures settles { IfOk result (λ c. Settles (climbing.level (view_cover c)) (place_of lexer.new)) }
-        ensures refused { Refused result (NoCoverOpened (around_of context.entry.around) (opening_sign (opening_kind opening)) (place_of lexer.old)) }
+        ensures refused { Refused context.entry.levels result (NoCoverOpened (around_of context.entry.around) (opening_sign (opening_kind opening)) (place_of lexer.old)) }
     {
         match opening {
             Opening::Import => Ok(Cover::settled(self.brackets.import(context, lexer)?)),
@@ -223,7 +230,7 @@ impl<
         ensures placed { IfOk result (λ e. IsPlacedBehind (opening_sign (expression New)) lexer.old (told_expr e.value) (view_expr e.value) lexer.new) }
         ensures shorter { OnOk result (left lexer.new < left lexer.old) }
         ensures ended { OnOk result (IsTrue (settled (place_of lexer.new))) }
-        ensures refused { Refused result (NoneOpened (around_of context.entry.around) (opening_sign (expression New)) (place_of lexer.old)) }
+        ensures refused { Refused context.entry.levels result (NoneOpened (around_of context.entry.around) (opening_sign (expression New)) (place_of lexer.old)) }
     {
         let lo = lexer.last_place();
         if lexer.take(Fixed::Dot) {
@@ -254,8 +261,9 @@ impl<
         ensures placed { IfOk result (λ e. IsPlaced (told_expr e.value) (view_expr e.value) lexer.old lexer.new) }
         ensures shorter { OnOk result (left lexer.new < left lexer.old) }
         ensures ended { OnOk result (IsTrue (settled (place_of lexer.new))) }
-        ensures refused { Refused result (Barred so_far (around_of context.entry.around) (Part grammar.NewCallee) (place_of lexer.old)) }
+        ensures refused { Refused context.entry.levels result (Barred so_far (around_of context.entry.around) (Part grammar.NewCallee) (place_of lexer.old)) }
     {
+        let outer = measure(context);
         let first = self.beginning(context, lexer)?;
         let mut expr = settle(first, lexer)?;
         if !is_callee(&expr) {
@@ -266,17 +274,20 @@ impl<
                 expr = self.brackets.tagged(context, lexer, expr)?;
             } else {
                 let Some(growth) = lexer.member_growth() else {
+                    leave(context, outer);
                     return Ok(expr);
                 };
                 if !fits(growth, &expr) {
                     return Err(give_up(lexer));
                 }
-                expr = self.grow(context, lexer, growth, expr)?;
+                let levels = behind_expr(context, lexer, &expr)?;
+                expr = self.grow(Context { levels, ..context }, lexer, growth, expr)?;
             }
         }
     }
 
-    /// What goes on with an expression, behind its first token. It has no frame of its own.
+    /// What goes on with an expression, behind its first token, from which on it counts: its levels are those within it. It has no frame of its
+    /// own.
     #[inline(always)]
     pub(crate) fn grow<'s>(
         &self,
@@ -294,7 +305,7 @@ impl<
         ensures within { OnOk result (left lexer.new ≤ left lexer.old) }
         ensures ended { OnOk result (IsTrue (closed (place_of lexer.new))) }
         ensures settles { OnOk result (Settles (level_of_kind (growth_kind growth)) (place_of lexer.new)) }
-        ensures refused { Refused result (NotGrown (around_of context.entry.around) (growth_kind growth) (place_of lexer.old)) }
+        ensures refused { Refused context.entry.levels result (NotGrown (around_of context.entry.around) (growth_kind growth) (place_of lexer.old)) }
     {
         match growth {
             Growth::Binary(operator) => Ok(self.binary(context, lexer, operator, first)?),

@@ -24,6 +24,7 @@ ghost use Rattle.jsx_operand.specs.Bodies.{ReadsBodies};
 use crate::grammar::Expressions;
 use jsx_function::MEMBER;
 use jsx_make::make;
+use jsx_operand::depth::behind_pattern;
 use jsx_operand::operand::{ASSIGNMENT, deletes_name, is_target, start_of, target_of};
 use jsx_operand::parser::{expect, give_up, span_to};
 use jsx_operand::turn::turn;
@@ -52,7 +53,7 @@ impl<
         ensures placed { IfOk result (λ e. IsPlacedOn (mark (expression Cond)) test.entry.value lexer.old e.value lexer.new) }
         ensures shorter { OnOk result (left lexer.new < left lexer.old) }
         ensures ended { OnOk result (IsTrue (closed (place_of lexer.new))) }
-        ensures refused { Refused result (NoRow so_far (around_of context.entry.around) (tail (tail (row_so_far (expression Cond)))) (place_of lexer.old)) }
+        ensures refused { Refused context.entry.levels result (NoRow so_far (around_of context.entry.around) (tail (tail (row_so_far (expression Cond)))) (place_of lexer.old)) }
     {
         let then = self.brackets.within.inner(context, lexer, ASSIGNMENT)?;
         expect(context, lexer, Fixed::Colon)?;
@@ -76,7 +77,7 @@ impl<
         ensures placed { IfOk result (λ e. IsPlacedOn (mark (expression (Binary (binary_of operator)))) first.entry.value lexer.old e.value lexer.new) }
         ensures shorter { OnOk result (left lexer.new < left lexer.old) }
         ensures ended { OnOk result (IsTrue (settled (place_of lexer.new))) }
-        ensures refused { Refused result (NoRow so_far (around_of context.entry.around) (tail (tail (row_so_far (expression (Binary (binary_of operator)))))) (place_of lexer.old)) }
+        ensures refused { Refused context.entry.levels result (NoRow so_far (around_of context.entry.around) (tail (tail (row_so_far (expression (Binary (binary_of operator)))))) (place_of lexer.old)) }
     {
         let right = self
             .brackets
@@ -100,7 +101,7 @@ impl<
         ensures placed { IfOk result (λ e. IsPlacedOn (mark (expression Assign)) first.entry.value lexer.old e.value lexer.new) }
         ensures shorter { OnOk result (left lexer.new < left lexer.old) }
         ensures ended { OnOk result (IsTrue (closed (place_of lexer.new))) }
-        ensures refused { Refused result (NoRow so_far (around_of context.entry.around) (tail (tail (row_so_far (expression Assign)))) (place_of lexer.old)) }
+        ensures refused { Refused context.entry.levels result (NoRow so_far (around_of context.entry.around) (tail (tail (row_so_far (expression Assign)))) (place_of lexer.old)) }
     {
         let value = self.brackets.within.inner(context, lexer, ASSIGNMENT)?;
         let span = span_to(start_of(&first), lexer);
@@ -109,7 +110,7 @@ impl<
     }
 
     /// An assignment to a pattern behind its `=`: `[a] = b`, of the array or the object that was read before it (ECMA-262 section
-    /// 13.15.5). It is kept out of the frame that each level of nesting takes.
+    /// 13.15.5). It counts from the `=` on. It is kept out of the frame that each level of nesting takes.
     #[inline(never)]
     pub(crate) fn pattern_assignment<'s>(
         &self,
@@ -124,11 +125,13 @@ impl<
         ensures placed { IfOk result (λ e. IsPlacedAssigned first.entry lexer.old e.value lexer.new) }
         ensures shorter { OnOk result (left lexer.new < left lexer.old) }
         ensures ended { OnOk result (IsTrue (closed (place_of lexer.new))) }
-        ensures refused { Refused result (NotAssigned (around_of context.entry.around) first.entry (place_of lexer.old)) }
+        ensures refused { Refused context.entry.levels result (NotAssigned (around_of context.entry.around) first.entry (place_of lexer.old)) }
     {
         let lo = start_of(&first.expr);
         let target = turn(context.alloc, lexer.last_place(), first)?;
-        let value = self.brackets.within.inner(context, lexer, ASSIGNMENT)?;
+        let levels = behind_pattern(context, lexer, &target)?;
+        let inside = Context { levels, ..context };
+        let value = self.brackets.within.inner(inside, lexer, ASSIGNMENT)?;
         Ok(make::assign(context.alloc, span_to(lo, lexer), target, value)?)
     }
 
@@ -147,7 +150,7 @@ impl<
         ensures placed { IfOk result (λ e. IsPlacedOn (mark (expression (OpAssign (assign_of operator)))) first.entry.value lexer.old e.value lexer.new) }
         ensures shorter { OnOk result (left lexer.new < left lexer.old) }
         ensures ended { OnOk result (IsTrue (closed (place_of lexer.new))) }
-        ensures refused { Refused result (NoRow so_far (around_of context.entry.around) (tail (tail (row_so_far (expression (OpAssign (assign_of operator)))))) (place_of lexer.old)) }
+        ensures refused { Refused context.entry.levels result (NoRow so_far (around_of context.entry.around) (tail (tail (row_so_far (expression (OpAssign (assign_of operator)))))) (place_of lexer.old)) }
     {
         let value = self.brackets.within.inner(context, lexer, ASSIGNMENT)?;
         let span = span_to(start_of(&first), lexer);
@@ -169,7 +172,7 @@ impl<
         ensures placed { IfOk result (λ e. IsPlacedBehind (opening_sign (expression (Unary (unary_of operator)))) lexer.old (told_expr e.value) (view_expr e.value) lexer.new) }
         ensures shorter { OnOk result (left lexer.new < left lexer.old) }
         ensures ended { OnOk result (IsTrue (settled (place_of lexer.new))) }
-        ensures refused { Refused result (NoNode so_far (around_of context.entry.around) (tail (row_so_far (expression (Unary (unary_of operator))))) (expression (Unary (unary_of operator))) (place_of lexer.old)) }
+        ensures refused { Refused context.entry.levels result (NoNode so_far (around_of context.entry.around) (tail (row_so_far (expression (Unary (unary_of operator))))) (expression (Unary (unary_of operator))) (place_of lexer.old)) }
     {
         let lo = lexer.last_place();
         let operand = self.brackets.within.inner(context, lexer, UNARY)?;
@@ -193,7 +196,7 @@ impl<
         ensures placed { IfOk result (λ e. IsPlacedBehind (opening_sign (expression (PrefixUpdate (step_of operator)))) lexer.old (told_expr e.value) (view_expr e.value) lexer.new) }
         ensures shorter { OnOk result (left lexer.new < left lexer.old) }
         ensures ended { OnOk result (IsTrue (settled (place_of lexer.new))) }
-        ensures refused { Refused result (NoRow so_far (around_of context.entry.around) (tail (row_so_far (expression (PrefixUpdate (step_of operator))))) (place_of lexer.old)) }
+        ensures refused { Refused context.entry.levels result (NoRow so_far (around_of context.entry.around) (tail (row_so_far (expression (PrefixUpdate (step_of operator))))) (place_of lexer.old)) }
     {
         let lo = lexer.last_place();
         let operand = self.brackets.within.inner(context, lexer, MEMBER)?;

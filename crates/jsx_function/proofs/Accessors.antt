@@ -11,10 +11,12 @@ use Rattle.jsx_tree.specs.Spans.{Told, Tales, tale}
 use Rattle.jsx_tree.specs.Walk.{is_found, Given, nothing, one, Past, sign, tree, Walk, next, steady, tail}
 use Rattle.jsx_tree.specs.Language.{Whole}
 use Rattle.jsx_tree.specs.Answers.{Only, Barred, OnlyRow, NoRow}
+use Rattle.jsx_tree.specs.Faults.{Fault, Shallow, part_depth, deepest, given_depth}
 use Rattle.jsx_tree.proofs.Apart.{clash}
 use Rattle.jsx_tree.proofs.Rows.Bridge.{found_at}
 use Rattle.jsx_tree.proofs.Rows.Stopping.{token_stops}
 use Rattle.jsx_tree.proofs.Rows.Steps.{bar, on, then'}
+use Rattle.jsx_tree.proofs.Depth.Shallow.{shallow_nothing}
 use Rattle.jsx_token.specs.Here.{Here}
 use Rattle.jsx_token.specs.Marks.{ends_so_far}
 use Rattle.jsx_token.specs.Places.{Takes}
@@ -50,17 +52,17 @@ pub setter_element : {v : Surroundings} {x y : Place} {t : Tree} → IsElement v
 setter_element o = let f = o.on SetterParam refl in record { reads = f.reads; alone = λ u z w. f.alone u z (unholed u w.reads) w }
 
 -- no rest is at home there
-pub no_setter_element : {v : Surroundings} {x : Place} → NoElement v x → Barred so_far v (Part SetterParam) x
-no_setter_element {v} {x} n = record { no = at }
+pub no_setter_element : {v : Surroundings} {x : Place} {e : Fault} → NoElement v x e → Barred so_far v (Part SetterParam) x e
+no_setter_element {v} {x} {e = e} n = record { no = at }
   where
-    here : {u : Tree} {z : Place} → AtDefault v x z u → Whole so_far v false SetterParam x u z → ⊥
-    here {u} {z} (pattern r) w = n.no SetterParam refl u z (unholed u w.reads) (unresting u r) w
-    here {u} {z} valued w = n.no SetterParam refl u z refl refl w
-    here rest w = let bad = w.reads.reads.is in cc
-    here hole w = let bad = w.reads.staged in cc
+    here : {u : Tree} {z : Place} → AtDefault v x z u → Whole so_far v false SetterParam x u z → Shallow e (part_depth u) → ⊥
+    here {u} {z} (pattern r) w h = n.no SetterParam refl u z (unholed u w.reads) (unresting u r) w h
+    here {u} {z} valued w h = n.no SetterParam refl u z refl refl w h
+    here rest w h = let bad = w.reads.reads.is in cc
+    here hole w h = let bad = w.reads.staged in cc
 
-    at : (g : Given) (z : Place) → Past (Whole so_far) v (Part SetterParam) x g z → ⊥
-    at g z (tree {t = u} w) = here (at_default SetterParam u refl w.reads) w
+    at : (g : Given) (z : Place) → Past (Whole so_far) v (Part SetterParam) x g z → Shallow e (given_depth g) → ⊥
+    at g z (tree {t = u} w) s = here (at_default SetterParam u refl w.reads) w s
 
 -- before the `)` it has come to its end
 param_ends : (y : Place) → IsTrue (is_found (forth (pun ")") y)) → ends_so_far SetterParam y ≡ true
@@ -75,11 +77,11 @@ param_only {v} {x} {y} {t = t} o close = record { past = tree (record { reads = 
     at : (g : Given) (p : Place) → Past (Whole so_far) v (Part SetterParam) x g p → (one t ≡ g) × (y ≡ p)
     at g p (tree {t = u} w) = let s = o.alone u p w in (ap one s.0, s.1)
 
-unclosed : {v : Surroundings} {x y : Place} {t : Tree} → OnlySetterParam v x t y → Barred so_far v (Fixed (pun ")")) y → NoRow so_far v (tail setter_row) x
-unclosed {v} {x} {y} o b = record { no = λ ts z w. at w }
+unclosed : {v : Surroundings} {x y : Place} {t : Tree} {d : Fault} → OnlySetterParam v x t y → Barred so_far v (Fixed (pun ")")) y d → NoRow so_far v (tail setter_row) x d
+unclosed {v} {x} {y} {d = d} o b = record { no = λ ts z w a. at w a }
   where
-    at : {ts : Forest} {z : Place} → Walk (Whole so_far) (steady v) (tail setter_row) x ts z → ⊥
-    at (next (tree {t = u} w) (next {y = q} (sign e f) r)) = let s = o.alone u _ w in b.no nothing q (sign (ap (forth (pun ")")) s.1 ∙ e) f)
+    at : {ts : Forest} {z : Place} → Walk (Whole so_far) (steady v) (tail setter_row) x ts z → Shallow d (deepest ts) → ⊥
+    at (next (tree {t = u} w) (next {y = q} (sign e f) r)) h = let s = o.alone u _ w in b.no nothing q (sign (ap (forth (pun ")")) s.1 ∙ e) f) (shallow_nothing d)
 
 -- ---- a setter
 
@@ -87,27 +89,27 @@ pub setter_own : {w : Surroundings} {x0 x1 x2 x3 x4 x5 : Place} {q : Tree} {ts :
     → OnlyRow so_far w setter_row x0 (part q ts) x5
 setter_own bracket param close brace body = then' bracket (then' (param_only param close) (then' close (then' brace body)))
 
-no_row : {w : Surroundings} {x : Place} → NoRow so_far w setter_row x → NoSetter w x
-no_row n = record { no = λ ts y walk h. n.no ts y walk }
+no_row : {w : Surroundings} {x : Place} {e : Fault} → NoRow so_far w setter_row x e → NoSetter w x e
+no_row n = record { no = λ ts y walk h s. n.no ts y walk s }
 
-pub setter_no_bracket : {w : Surroundings} {x : Place} → Barred so_far w (Fixed (pun "(")) x → NoSetter w x
+pub setter_no_bracket : {w : Surroundings} {x : Place} {e : Fault} → Barred so_far w (Fixed (pun "(")) x e → NoSetter w x e
 setter_no_bracket b = no_row (bar b)
 
-pub setter_no_param : {w : Surroundings} {x y : Place} → Only so_far w (Fixed (pun "(")) x nothing y → Barred so_far w (Part SetterParam) y → NoSetter w x
+pub setter_no_param : {w : Surroundings} {x y : Place} {e : Fault} → Only so_far w (Fixed (pun "(")) x nothing y → Barred so_far w (Part SetterParam) y e → NoSetter w x e
 setter_no_param bracket b = no_row (on bracket (bar b))
 
-pub setter_no_close : {w : Surroundings} {x y z : Place} {q : Tree} → Only so_far w (Fixed (pun "(")) x nothing y → OnlySetterParam w y q z → Barred so_far w (Fixed (pun ")")) z → NoSetter w x
+pub setter_no_close : {w : Surroundings} {x y z : Place} {q : Tree} {e : Fault} → Only so_far w (Fixed (pun "(")) x nothing y → OnlySetterParam w y q z → Barred so_far w (Fixed (pun ")")) z e → NoSetter w x e
 setter_no_close bracket param b = no_row (on bracket (unclosed param b))
 
-pub setter_no_brace : {w : Surroundings} {x y z a : Place} {q : Tree} → Only so_far w (Fixed (pun "(")) x nothing y → OnlySetterParam w y q z → Only so_far w (Fixed (pun ")")) z nothing a → Barred so_far w (Fixed (pun "{")) a → NoSetter w x
+pub setter_no_brace : {w : Surroundings} {x y z a : Place} {q : Tree} {e : Fault} → Only so_far w (Fixed (pun "(")) x nothing y → OnlySetterParam w y q z → Only so_far w (Fixed (pun ")")) z nothing a → Barred so_far w (Fixed (pun "{")) a e → NoSetter w x e
 setter_no_brace bracket param close b = no_row (on bracket (on (param_only param close) (on close (bar b))))
 
-pub setter_no_body : {w : Surroundings} {x y z a c : Place} {q : Tree} → Only so_far w (Fixed (pun "(")) x nothing y → OnlySetterParam w y q z → Only so_far w (Fixed (pun ")")) z nothing a → Only so_far w (Fixed (pun "{")) a nothing c → NoRow so_far w body_row c → NoSetter w x
+pub setter_no_body : {w : Surroundings} {x y z a c : Place} {q : Tree} {e : Fault} → Only so_far w (Fixed (pun "(")) x nothing y → OnlySetterParam w y q z → Only so_far w (Fixed (pun ")")) z nothing a → Only so_far w (Fixed (pun "{")) a nothing c → NoRow so_far w body_row c e → NoSetter w x e
 setter_no_body bracket param close brace n = no_row (on bracket (on (param_only param close) (on close (on brace n))))
 
 -- one that breaks the rule on parameters
-pub unsuited : {w : Surroundings} {x y : Place} {ts : Forest} → OnlyRow so_far w setter_row x ts y → suits_setter ts ≡ false → NoSetter w x
-unsuited o h = record { no = λ us z walk k. clash _ k (ap suits_setter (sym (o.alone us z walk).0) ∙ h) }
+pub unsuited : {w : Surroundings} {x y : Place} {ts : Forest} {e : Fault} → OnlyRow so_far w setter_row x ts y → suits_setter ts ≡ false → NoSetter w x e
+unsuited o h = record { no = λ us z walk k s. clash _ k (ap suits_setter (sym (o.alone us z walk).0) ∙ h) }
 
 or_swap : (a b : Bool) → (a || b) ≡ (b || a)
 or_swap true true = refl

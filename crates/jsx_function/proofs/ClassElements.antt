@@ -1,5 +1,5 @@
 -- A member of a class behind its `static`, or where there is none: a method, a getter, a setter or a field (ECMA-262 section 15.7).
-use Rattle.std.proofs.Common.{◌≡◌, Bool, true, false, [], ◌∷◌, refl, sym, ◌∙◌, ap, subst}
+use Rattle.std.proofs.Common.{◌≡◌, Bool, true, false, [], ◌∷◌, refl, sym, ◌∙◌, ap, subst, ◌≤◌}
 use Rattle.std.specs.Prelude.{IsTrue, codes, ◌||◌}
 use Rattle.jsx_base.specs.Token.{Text, Operator, IdentifierName, among, same}
 use Rattle.jsx_tree.specs.Signs.{Tok}
@@ -12,7 +12,9 @@ use Rattle.jsx_tree.specs.StaticRules.{Surroundings}
 use Rattle.jsx_tree.specs.Walk.{is_found, one, piece, sign, tree, Walk, next, around}
 use Rattle.jsx_tree.specs.Language.{Whole}
 use Rattle.jsx_tree.specs.Answers.{Moves, Only, Barred}
+use Rattle.jsx_tree.specs.Faults.{Fault, Below, Shallow, deepest, inner, outer}
 use Rattle.jsx_tree.proofs.Rows.Stopping.{or_cases}
+use Rattle.jsx_tree.proofs.Depth.Shallow.{shallow_first, shallow_up, part_up}
 use Rattle.jsx_token.specs.Here.{Here, place_of}
 use Rattle.jsx_operand.specs.SoFar.{so_far}
 use Rattle.jsx_operand.proofs.Values.{or_left, or_right}
@@ -20,6 +22,7 @@ use Rattle.jsx_function.specs.declared.method.Home as code
 use Rattle.jsx_function.specs.declared.method.Home.TheVariants as home
 use Rattle.jsx_function.specs.Methods.{BeginsKey, IsPrefix, NoElement, NoPrefix, NoneFromKey, NoneKeyed, OnlyElement, OnlyFromKey, OnlyKeyed, behind_key, element_row, from_key, holder_at, is_classed, is_element, is_field, is_getter, is_method, is_setter, keyed_in_class, same_holder}
 use Rattle.jsx_function.proofs.Fields.{word_unfielded}
+use Rattle.jsx_function.proofs.Inside.{deep_behind, inner_outer}
 use Rattle.jsx_function.proofs.Keyed.{code_behind, field_behind_in, field_is, method_is, past}
 use Rattle.jsx_function.proofs.Prefixes.{key_before}
 use Rattle.jsx_function.proofs.Worded.{accessor_is, accessor_key, accessor_row, accessor_sign, accessor_word, behind_word, is_accessor, one_accessor, unworded, word_there, worded_led}
@@ -102,15 +105,15 @@ accessor_element {v} {x} {y} {z} {t} h b i d = record {
         let same : b ≡ c = one_accessor b c x (word_there b i) (worded_led r) in
         d.alone k us w (subst (λ a. is_accessor h a k ≡ true) (sym same) e) (behind_word i.word (subst (λ a. Walk (Whole so_far) (around v us) (piece [] (Fixed (accessor_sign a)) ∷ from_key k) x us w) (sym same) r)).walk m
 
-pub no_accessor_element : {v : Surroundings} {x y : Place} (h : Holder) (b : Bool) → IsPrefix (accessor_sign b) x y → NoneFromKey (is_accessor h b) v y → NoElement h v x
-no_accessor_element {v} {x} h b i n = record { no = λ k us w e walk m. at k us w (form_of h k e) walk m }
+pub no_accessor_element : {v : Surroundings} {x y : Place} {o : Fault} (h : Holder) (b : Bool) → IsPrefix (accessor_sign b) x y → NoneFromKey (is_accessor h b) v y o → NoElement h v x o
+no_accessor_element {v} {x} {o = o} h b i n = record { no = λ k us w e walk m s'. at k us w (form_of h k e) walk m s' }
   where
-    at : (k : Kind) (us : Forest) (w : Place) → Form h k → Walk (Whole so_far) (around v us) (element_row h k) x us w → so_far.keeps k v us ≡ true → ⊥
-    at k us w (keyed e) walk m = no_word_key h b k e i (keyed_walk h k e walk)
-    at k us w (worded c e) walk m =
+    at : (k : Kind) (us : Forest) (w : Place) → Form h k → Walk (Whole so_far) (around v us) (element_row h k) x us w → so_far.keeps k v us ≡ true → Shallow o (deepest us) → ⊥
+    at k us w (keyed e) walk m s = no_word_key h b k e i (keyed_walk h k e walk)
+    at k us w (worded c e) walk m s =
         let r = worded_walk h c k e walk in
         let same : b ≡ c = one_accessor b c x (word_there b i) (worded_led r) in
-        n.no k us w (subst (λ a. is_accessor h a k ≡ true) (sym same) e) (behind_word i.word (subst (λ a. Walk (Whole so_far) (around v us) (piece [] (Fixed (accessor_sign a)) ∷ from_key k) x us w) (sym same) r)).walk m
+        n.no k us w (subst (λ a. is_accessor h a k ≡ true) (sym same) e) (behind_word i.word (subst (λ a. Walk (Whole so_far) (around v us) (piece [] (Fixed (accessor_sign a)) ∷ from_key k) x us w) (sym same) r)).walk m s
 
 -- ---- one whose key comes first
 
@@ -144,24 +147,42 @@ keyed_only {v} {x} {y} {z} {c} {t} h n o d = record {
         (ap (node k) (sym r.is) ∙ s.0, s.1)
     at k us w (worded b e) walk m = absurd (unworded k (word_of n b) (worded_walk h b k e walk))
 
-pub keyed_none : {v : Surroundings} {x y : Place} {c : Tree} (h : Holder) → KeyFirst x → Only so_far v (Part Key) x (one c) y → NoneKeyed (keyed_in_class h) v c y → NoElement h v x
-keyed_none {v} {x} h n o d = record { no = λ k us w e walk m. at k us w (form_of h k e) walk m }
+pub keyed_none : {v : Surroundings} {x y : Place} {c : Tree} {q : Fault} (h : Holder) → KeyFirst x → Only so_far v (Part Key) x (one c) y → NoneKeyed (keyed_in_class h) v c y q → NoElement h v x q
+keyed_none {v} {x} {c = c} {q = q} h n o d = record { no = λ k us w e walk m a. at k us w (form_of h k e) walk m a }
   where
-    at : (k : Kind) (us : Forest) (w : Place) → Form h k → Walk (Whole so_far) (around v us) (element_row h k) x us w → so_far.keeps k v us ≡ true → ⊥
-    at k us w (keyed e) walk m =
+    at : (k : Kind) (us : Forest) (w : Place) → Form h k → Walk (Whole so_far) (around v us) (element_row h k) x us w → so_far.keeps k v us ≡ true → Shallow q (deepest us) → ⊥
+    at k us w (keyed e) walk m s =
         let r = past {k = k} o (keyed_walk h k e walk) in
-        d.no k r.parts w e r.walk (subst (λ f. so_far.keeps k v f ≡ true) (sym r.is) m)
-    at k us w (worded b e) walk m = unworded k (word_of n b) (worded_walk h b k e walk)
+        d.no k r.parts w e r.walk (subst (λ f. so_far.keeps k v f ≡ true) (sym r.is) m) (shallow_up q (deepest r.parts) (deepest us) (subst (λ vs. deepest r.parts ≤ deepest vs) r.is (part_up c r.parts)) s)
+    at k us w (worded b e) walk m s = unworded k (word_of n b) (worded_walk h b k e walk)
 
-pub key_none : {v : Surroundings} {x : Place} (h : Holder) → KeyFirst x → Barred so_far v (Part Key) x → NoElement h v x
-key_none {v} {x} h n b = record { no = λ k us w e walk m. at k us w (form_of h k e) walk }
+pub key_none : {v : Surroundings} {x : Place} {o : Fault} (h : Holder) → KeyFirst x → Barred so_far v (Part Key) x o → NoElement h v x o
+key_none {v} {x} {o = o} h n b = record { no = λ k us w e walk m s'. at k us w (form_of h k e) walk s' }
   where
-    first : (k : Kind) {us ts : Forest} {w : Place} → Walk (Whole so_far) (around v us) (from_key k) x ts w → ⊥
-    first k (next q w) = b.no _ _ q
+    first : (k : Kind) {us ts : Forest} {w : Place} → Walk (Whole so_far) (around v us) (from_key k) x ts w → Shallow o (deepest ts) → ⊥
+    first k (next {g = g'} {ts = us'} q w) a = b.no _ _ q (shallow_first o g' us' a)
 
-    at : (k : Kind) (us : Forest) (w : Place) → Form h k → Walk (Whole so_far) (around v us) (element_row h k) x us w → ⊥
-    at k us w (keyed e) walk = first k (keyed_walk h k e walk)
-    at k us w (worded c e) walk = unworded k (word_of n c) (worded_walk h c k e walk)
+    at : (k : Kind) (us : Forest) (w : Place) → Form h k → Walk (Whole so_far) (around v us) (element_row h k) x us w → Shallow o (deepest us) → ⊥
+    at k us w (keyed e) walk s = first k (keyed_walk h k e walk) s
+    at k us w (worded c e) walk s = unworded k (word_of n c) (worded_walk h c k e walk)
+
+-- ---- where no level is left for what stands in it
+
+pub deep_element : {v : Surroundings} {x : Place} (e : Fault) (h : Holder) → Below 1 e → NoElement h v x (inner e)
+deep_element {v} {x} e h b = record { no = λ k us w f walk m s. at k us w (form_of h k f) walk s }
+  where
+    first : (k : Kind) {us ts : Forest} {a w : Place} → Walk (Whole so_far) (around v us) (from_key k) a ts w → Shallow (inner e) (deepest ts) → ⊥
+    first k (next {g = g'} {ts = us'} q w) s = (deep_behind e b).no _ _ q (shallow_first (inner e) g' us' s)
+
+    second : (c : Bool) (k : Kind) {us ts : Forest} {a w : Place} → Walk (Whole so_far) (around v us) (piece [] (Fixed (accessor_sign c)) ∷ from_key k) a ts w → Shallow (inner e) (deepest ts) → ⊥
+    second c k (next (sign f g) w) s = first k w s
+
+    at : (k : Kind) (us : Forest) (w : Place) → Form h k → Walk (Whole so_far) (around v us) (element_row h k) x us w → Shallow (inner e) (deepest us) → ⊥
+    at k us w (keyed f) walk s = first k (keyed_walk h k f walk) s
+    at k us w (worded c f) walk s = second c k (worded_walk h c k f walk) s
+
+pub element_inside : {h : Holder} {v : Surroundings} {x : Place} {e : Fault} → NoElement h v x e → NoElement h v x (inner (outer e))
+element_inside {h} {v} {x} {e} n = subst (λ o. NoElement h v x o) (sym (inner_outer e)) n
 
 -- ---- what it begins with
 
@@ -185,5 +206,5 @@ front_of {v} {x} {z} {us} h k e walk = at (form_of h k e)
 pub element_from : {h : Holder} {v : Surroundings} {x y : Here} {t : Tree} {z : Place} → x ≡ y → OnlyElement h v t (place_of x) z → OnlyElement h v t (place_of y) z
 element_from {h} {v} {t = t} {z} e o = subst (λ k. OnlyElement h v t (place_of k) z) e o
 
-pub no_element_from : {h : Holder} {v : Surroundings} {x y : Here} → x ≡ y → NoElement h v (place_of x) → NoElement h v (place_of y)
-no_element_from {h} {v} e n = subst (λ k. NoElement h v (place_of k)) e n
+pub no_element_from : {h : Holder} {v : Surroundings} {x y : Here} {o : Fault} → x ≡ y → NoElement h v (place_of x) o → NoElement h v (place_of y) o
+no_element_from {h} {v} {o = o} e n = subst (λ k. NoElement h v (place_of k) o) e n

@@ -12,6 +12,7 @@ use Rattle.jsx_tree.specs.StaticRules.{Surroundings}
 use Rattle.jsx_tree.specs.Walk.{is_found, Given, one, Piece, piece, Items, nil, last, more, Past, many, sign, tree, Walk, next, around, steady}
 use Rattle.jsx_tree.specs.Language.{Whole}
 use Rattle.jsx_tree.specs.Answers.{Moves, Stuck, Missed, Only, Barred, OnlyRow, NoRow}
+use Rattle.jsx_tree.specs.Faults.{Fault, Shallow, part_depth, deepest, given_depth, inner, Below, Unread}
 use Rattle.jsx_tree.proofs.Apart.{never_both}
 use Rattle.jsx_tree.proofs.Rows.Bridge.{found_first, found_at}
 use Rattle.jsx_tree.proofs.Rows.Firsts.{kind_home}
@@ -20,6 +21,9 @@ use Rattle.jsx_tree.proofs.Rows.Lists.{closed}
 use Rattle.jsx_tree.proofs.Rows.Steps.{bar, both, no_sign}
 use Rattle.jsx_tree.proofs.Rows.Stopping.{never_stops, or_cases}
 use Rattle.jsx_tree.proofs.Rows.Turns.{Turn, prepend, prepend_cons, turn_as, turn_both, turn_none, turn_only}
+use Rattle.jsx_tree.proofs.Depth.Nodes.{counts_as}
+use Rattle.jsx_tree.proofs.Depth.Shallow.{shallow_first, shallow_rest, shallow_head, shallow_outer}
+use Rattle.jsx_tree.proofs.Rows.Placing.{node_shallow}
 use Rattle.jsx_token.specs.Marks.{row_so_far}
 use Rattle.jsx_token.specs.declared.lexer.Leaf.TheVariants as leaf'
 use Rattle.jsx_operand.specs.SoFar.{Staged, so_far}
@@ -31,7 +35,7 @@ use Rattle.jsx_operand.proofs.Values.{settled_token}
 use Rattle.jsx_token.specs.Growths.{settled}
 use Rattle.jsx_function.specs.Classes.{members_row}
 use Rattle.jsx_function.specs.Methods.{IsPrefix, NoElement, NoKey, NoPrefix, OnlyElement, element_row, is_element, keyed_in_class, from_key}
-use Rattle.jsx_function.proofs.ClassElements.{Front, by_key, by_word, front_of, no_keyed_word}
+use Rattle.jsx_function.proofs.ClassElements.{Front, by_key, by_word, deep_element, front_of, no_keyed_word}
 use Rattle.jsx_function.proofs.Keyed.{past}
 use Rattle.jsx_function.proofs.Lines.{turn_line, turn_none_left}
 use Rattle.jsx_function.proofs.Prefixes.{no_key_there, word_key}
@@ -95,6 +99,22 @@ static_row (function (Field InClass)) e = cc
 static_row (function (Field InObject)) e = cc
 static_row _ e = cc
 
+-- each counts
+member_counts : (k : Kind) → is_member k ≡ true → counts_as true k ≡ true
+member_counts (function (Method InClass)) e = refl
+member_counts (function (Method Static)) e = refl
+member_counts (function (Method InObject)) e = cc
+member_counts (function (Getter InClass)) e = refl
+member_counts (function (Getter Static)) e = refl
+member_counts (function (Getter InObject)) e = cc
+member_counts (function (Setter InClass)) e = refl
+member_counts (function (Setter Static)) e = refl
+member_counts (function (Setter InObject)) e = cc
+member_counts (function (Field InClass)) e = refl
+member_counts (function (Field Static)) e = refl
+member_counts (function (Field InObject)) e = cc
+member_counts _ e = cc
+
 or_left : (a b : Bool) → a ≡ true → (a || b) ≡ true
 or_left true b e = refl
 or_left false b e = cc
@@ -106,6 +126,9 @@ or_right false b e = e
 member_kind : {k : Kind} → AtClass k → is_member k ≡ true
 member_kind {k} (own e) = or_left (is_element InClass k) (is_element Static k) e
 member_kind {k} (static' e) = or_right (is_element InClass k) (is_element Static k) e
+
+member_parts : {v : Surroundings} {x z : Place} {ts : Forest} (e : Fault) (k : Kind) → is_member k ≡ true → Staged v false ClassMember x (node k ts) z → Shallow e (part_depth (node k ts)) → Shallow (inner e) (deepest ts)
+member_parts {ts = ts} e k m r s = node_shallow (inner e) true (member_counts k m) of_so_far r (shallow_outer e (part_depth (node k ts)) s)
 
 member_walk : {v : Surroundings} {x z : Place} {ts : Forest} (k : Kind) → is_member k ≡ true → Staged v false ClassMember x (node k ts) z → Walk (Whole so_far) (around v ts) (row_so_far k) x ts z
 member_walk {z = z} k e r = whole_walk of_so_far ClassMember (row_so_far k) (member_guarded k e) (of_so_far.ends_there ClassMember z (never_stops ClassMember z refl)) (of_so_far.from_node k r).walk
@@ -123,16 +146,16 @@ member_staged {ts = ts} k e w m = of_so_far.to_node k (member_home k ts e) (reco
 whole_member : {v : Surroundings} {x z : Place} {t : Tree} → Staged v false ClassMember x t z → Whole so_far v false ClassMember x t z
 whole_member {z = z} r = record { reads = r; ends_there = of_so_far.ends_there ClassMember z (never_stops ClassMember z refl) }
 
-barred_by : {v : Surroundings} {x : Place} → ((k : Kind) (ts : Forest) (z : Place) → AtClass k → Staged v false ClassMember x (node k ts) z → ⊥) → Barred so_far v (Part ClassMember) x
-barred_by {v} {x} f = record { no = at }
+barred_by : {v : Surroundings} {x : Place} {e : Fault} → ((k : Kind) (ts : Forest) (z : Place) → AtClass k → Staged v false ClassMember x (node k ts) z → Shallow e (part_depth (node k ts)) → ⊥) → Barred so_far v (Part ClassMember) x e
+barred_by {v} {x} {e = e} f = record { no = at }
   where
-    here : (u : Tree) (z : Place) → Staged v false ClassMember x u z → ⊥
-    here (leaf k t) z r = let bad = r.staged in cc
-    here (node k ts) z r = f k ts z (at_class k ts r) r
-    here (list ts) z r = no_list r
+    here : (u : Tree) (z : Place) → Staged v false ClassMember x u z → Shallow e (part_depth u) → ⊥
+    here (leaf k t) z r h = let bad = r.staged in cc
+    here (node k ts) z r h = f k ts z (at_class k ts r) r h
+    here (list ts) z r h = no_list r
 
-    at : (g : Given) (z : Place) → Past (Whole so_far) v (Part ClassMember) x g z → ⊥
-    at g z (tree {t = u} w) = here u z w.reads
+    at : (g : Given) (z : Place) → Past (Whole so_far) v (Part ClassMember) x g z → Shallow e (given_depth g) → ⊥
+    at g z (tree {t = u} w) s = here u z w.reads s
 
 only_by : {v : Surroundings} {x y : Place} {t : Tree} → Staged v false ClassMember x t y → ((k : Kind) (ts : Forest) (z : Place) → AtClass k → Staged v false ClassMember x (node k ts) z → (node k ts ≡ t) × (z ≡ y)) → Only so_far v (Part ClassMember) x (one t) y
 only_by {v} {x} {y} {t} s f = record { past = tree (whole_member s); alone = at }
@@ -201,12 +224,16 @@ static_member {v} {x} {y} {z} {t} i o = only_by staged at
     at k ts w (own e) r = absurd (no_own k e i (own_walk k e r))
     at k ts w (static' e) r = o.alone k ts w e (past_static {k = k} i.word (static_walk k e r)).walk (of_so_far.from_node k r).keeps
 
-pub no_static_member : {v : Surroundings} {x y : Place} → IsPrefix (symbol.key "static") x y → NoElement Static v y → Barred so_far v (Part ClassMember) x
-no_static_member {v} {x} i n = barred_by at
+pub no_static_member : {v : Surroundings} {x y : Place} {o : Fault} → IsPrefix (symbol.key "static") x y → NoElement Static v y (inner o) → Barred so_far v (Part ClassMember) x o
+no_static_member {v} {x} {o = o} i n = barred_by at
   where
-    at : (k : Kind) (ts : Forest) (w : Place) → AtClass k → Staged v false ClassMember x (node k ts) w → ⊥
-    at k ts w (own e) r = no_own k e i (own_walk k e r)
-    at k ts w (static' e) r = n.no k ts w e (past_static {k = k} i.word (static_walk k e r)).walk (of_so_far.from_node k r).keeps
+    at : (k : Kind) (ts : Forest) (w : Place) → AtClass k → Staged v false ClassMember x (node k ts) w → Shallow o (part_depth (node k ts)) → ⊥
+    at k ts w (own e) r s = no_own k e i (own_walk k e r)
+    at k ts w (static' e) r s = n.no k ts w e (past_static {k = k} i.word (static_walk k e r)).walk (of_so_far.from_node k r).keeps (member_parts o k (member_kind (static' e)) r s)
+
+-- where no level is left for the word in it
+pub deep_static : {v : Surroundings} {x y : Place} {e : Fault} → IsPrefix (symbol.key "static") x y → Below 1 e → Barred so_far v (Part ClassMember) x e
+deep_static {e = e} i b = no_static_member i (deep_element e Static b)
 
 -- ---- without it
 
@@ -214,7 +241,7 @@ accessor_key : (b : Bool) {x : Place} → NoKey x → IsTrue (is_found (forth (a
 accessor_key b n f = let bad : IsTrue (is_found Lost) = subst (λ p. IsTrue (is_found p)) (n.leaves leaf'.Name (accessor_word b) refl) f in cc
 
 no_front : {v : Surroundings} {x : Place} → NoKey x → Front v x → ⊥
-no_front {v} n (by_key q) = (no_key_there n).no _ _ (tree q)
+no_front {v} n (by_key q) = (no_key_there {e = Unread} n).no _ _ (tree q) tt
 no_front n (by_word b f) = accessor_key b n f
 
 no_static : {v : Surroundings} {x z : Place} {ts : Forest} (k : Kind) → is_element Static k ≡ true → NoPrefix (symbol.key "static") x → Walk (Whole so_far) (around v ts) (piece [] (Fixed (symbol.key "static")) ∷ element_row Static k) x ts z → ⊥
@@ -230,19 +257,19 @@ own_member {v} {x} {z} {t} n o = only_by staged at
     at k ts w (own e) r = o.alone k ts w e (own_walk k e r) (of_so_far.from_node k r).keeps
     at k ts w (static' e) r = absurd (no_static k e n (static_walk k e r))
 
-pub no_own_member : {v : Surroundings} {x : Place} → NoPrefix (symbol.key "static") x → NoElement InClass v x → Barred so_far v (Part ClassMember) x
-no_own_member {v} {x} n o = barred_by at
+pub no_own_member : {v : Surroundings} {x : Place} {d : Fault} → NoPrefix (symbol.key "static") x → NoElement InClass v x (inner d) → Barred so_far v (Part ClassMember) x d
+no_own_member {v} {x} {d = d} n o = barred_by at
   where
-    at : (k : Kind) (ts : Forest) (w : Place) → AtClass k → Staged v false ClassMember x (node k ts) w → ⊥
-    at k ts w (own e) r = o.no k ts w e (own_walk k e r) (of_so_far.from_node k r).keeps
-    at k ts w (static' e) r = no_static k e n (static_walk k e r)
+    at : (k : Kind) (ts : Forest) (w : Place) → AtClass k → Staged v false ClassMember x (node k ts) w → Shallow d (part_depth (node k ts)) → ⊥
+    at k ts w (own e) r s = o.no k ts w e (own_walk k e r) (of_so_far.from_node k r).keeps (member_parts d k (member_kind (own e)) r s)
+    at k ts w (static' e) r s = no_static k e n (static_walk k e r)
 
 -- ---- the list, and the brace behind it
 
 abbrev closing : List Piece
 closing = piece [] (Fixed (pun "}")) ∷ []
 
-unbraced : {v : Surroundings} {x : Place} → Stuck (pun "}") x → NoRow so_far v closing x
+unbraced : {v : Surroundings} {x : Place} {e : Fault} → Stuck (pun "}") x → NoRow so_far v closing x e
 unbraced n = bar (no_sign n)
 
 -- no member begins with the brace
@@ -250,15 +277,15 @@ front_unbraced : {v : Surroundings} {x : Place} → IsTrue (is_found (forth (pun
 front_unbraced f (by_key q) = key_unmarked (codes "}") refl q.reads f
 front_unbraced {x = x} f (by_word b g) = mark_none IsName (accessor_word b) (codes "}") x refl g f
 
-no_member : {v : Surroundings} {x : Place} → IsTrue (is_found (forth (pun "}") x)) → Barred so_far v (Part ClassMember) x
-no_member {v} {x} f = barred_by at
+no_member : {v : Surroundings} {x : Place} {o : Fault} → IsTrue (is_found (forth (pun "}") x)) → Barred so_far v (Part ClassMember) x o
+no_member {v} {x} {o = o} f = barred_by at
   where
     worded : (k : Kind) {us ts : Forest} {w : Place} → Walk (Whole so_far) (around v us) (piece [] (Fixed (symbol.key "static")) ∷ element_row Static k) x ts w → ⊥
     worded k (next (sign e g) w) = mark_none IsName (codes "static") (codes "}") x refl (found_at e g) f
 
-    at : (k : Kind) (ts : Forest) (w : Place) → AtClass k → Staged v false ClassMember x (node k ts) w → ⊥
-    at k ts w (own e) r = front_unbraced f (front_of InClass k e (own_walk k e r))
-    at k ts w (static' e) r = worded k (static_walk k e r)
+    at : (k : Kind) (ts : Forest) (w : Place) → AtClass k → Staged v false ClassMember x (node k ts) w → Shallow o (part_depth (node k ts)) → ⊥
+    at k ts w (own e) r s = front_unbraced f (front_of InClass k e (own_walk k e r))
+    at k ts w (static' e) r s = worded k (static_walk k e r)
 
 -- ---- the steps of the loop
 
@@ -266,19 +293,19 @@ pub member_more : {v : Surroundings} {x y y' z : Place} {t : Tree} (ts us : Fore
 member_more {v} {z = z} {t = t} ts us so n o e =
     turn_as (λ vs. prepend_cons ts t vs ∙ (λ i. prepend (sym e i) vs)) (turn_both so (turn_line of_so_far refl (subst (λ p. Only so_far v (Part ClassMember) p (one t) z) (sym n.same) o) (unbraced n.stuck)))
 
-none_left : {v : Surroundings} {x : Place} → Barred so_far v (Part ClassMember) x → Stuck (pun "}") x → NoRow so_far v members_row x
-none_left {v} {x} b n = record { no = back }
+none_left : {v : Surroundings} {x : Place} {o : Fault} → Barred so_far v (Part ClassMember) x o → Stuck (pun "}") x → NoRow so_far v members_row x o
+none_left {v} {x} {o = o} b n = record { no = back }
   where
-    inner : (ts : Forest) (y : Place) → Items (Whole so_far) v Lines ClassMember x ts y → (us : Forest) (w : Place) → Walk (Whole so_far) (steady v) closing y us w → ⊥
-    inner ts y (nil f) us w walk = (unbraced n).no us w walk
-    inner ts y (last r e f) us w walk = b.no _ _ (tree r)
-    inner ts y (more m r e all) us w walk = b.no _ _ (tree r)
+    inner : (ts : Forest) (y : Place) → Items (Whole so_far) v Lines ClassMember x ts y → (us : Forest) (w : Place) → Walk (Whole so_far) (steady v) closing y us w → Shallow o (deepest ts) → Shallow o (deepest us) → ⊥
+    inner ts y (nil f) us w walk h q' = (unbraced n).no us w walk q'
+    inner ts y (last {t = t'} r e f) us w walk h q' = b.no _ _ (tree r) (shallow_head o t' none h)
+    inner ts y (more {t = t'} {u = u'} {us = vs'} m r e all) us w walk h q' = b.no _ _ (tree r) (shallow_head o t' (part u' vs') h)
 
-    back : (us : Forest) (w : Place) → Walk (Whole so_far) (steady v) members_row x us w → ⊥
-    back us w (next {ts = vs} (many {ts = ts} e all) walk) = inner ts _ all vs w walk
+    back : (us : Forest) (w : Place) → Walk (Whole so_far) (steady v) members_row x us w → Shallow o (deepest us) → ⊥
+    back us w (next {ts = vs} (many {ts = ts} e all) walk) s = inner ts _ all vs w walk (shallow_first o (one (list ts)) vs s) (shallow_rest o (one (list ts)) vs s)
 
-pub member_barred : {v : Surroundings} {x y y' : Place} (ts : Forest) → Turn so_far v members_row members_row x y (prepend ts) → Missed (pun "}") y y' → Barred so_far v (Part ClassMember) y' → NoRow so_far v members_row x
-member_barred {v} ts so n b = turn_none so (none_left (subst (Barred so_far v (Part ClassMember)) (sym n.same) b) n.stuck)
+pub member_barred : {v : Surroundings} {x y y' : Place} {e : Fault} (ts : Forest) → Turn so_far v members_row members_row x y (prepend ts) → Missed (pun "}") y y' → Barred so_far v (Part ClassMember) y' e → NoRow so_far v members_row x e
+member_barred {v} {e = e} ts so n b = turn_none so (none_left (subst (λ w. Barred so_far v (Part ClassMember) w e) (sym n.same) b) n.stuck)
 
 both_none : (ts : Forest) → both ts none ≡ ts
 both_none none = refl

@@ -18,6 +18,7 @@ use Rattle.jsx_tree.specs.View.{optional_name, optional_of, view_expr}
 use Rattle.jsx_tree.specs.Walk.{is_found, Given, nothing, one, Piece, piece, Past, sign, tree, absent, present, Walk, next, steady, tail}
 use Rattle.jsx_tree.specs.Language.{Whole}
 use Rattle.jsx_tree.specs.Answers.{Moves, Only, Barred, OnlyRow, NoRow}
+use Rattle.jsx_tree.specs.Faults.{Fault, Shallow, deepest}
 use Rattle.jsx_tree.proofs.Tokens.{and_both, and_left, same_is}
 use Rattle.jsx_tree.proofs.Apart.{clash, one_token}
 use Rattle.jsx_tree.proofs.Rows.Bridge.{found_first, found_at}
@@ -25,6 +26,8 @@ use Rattle.jsx_tree.proofs.Rows.Firsts.{kind_home}
 use Rattle.jsx_tree.proofs.Rows.Laws.{end_found, start_found}
 use Rattle.jsx_tree.proofs.Rows.Steps.{bar, on, then'}
 use Rattle.jsx_tree.proofs.Rows.Turns.{item_of, whole_of}
+use Rattle.jsx_tree.proofs.Depth.Shallow.{shallow_first, shallow_head}
+use Rattle.jsx_function.proofs.Functions.{shallow_behind}
 use Rattle.jsx_token.specs.Here.{Here}
 use Rattle.jsx_token.specs.Places.{Takes}
 use Rattle.jsx_operand.specs.Around.{in_members}
@@ -55,8 +58,8 @@ lost_found e f = let bad : IsTrue (is_found Lost) = subst (λ p. IsTrue (is_foun
 pub only_in : {u v : Surroundings} {p : Symbol} {x y : Place} {g : Given} → u ≡ v → Only so_far u p x g y → Only so_far v p x g y
 only_in {p = p} {x} {y} {g} e o = subst (λ w. Only so_far w p x g y) e o
 
-pub barred_in : {u v : Surroundings} {p : Symbol} {x : Place} → u ≡ v → Barred so_far u p x → Barred so_far v p x
-barred_in {p = p} {x} e b = subst (λ w. Barred so_far w p x) e b
+pub barred_in : {u v : Surroundings} {p : Symbol} {x : Place} {o : Fault} → u ≡ v → Barred so_far u p x o → Barred so_far v p x o
+barred_in {p = p} {x} {o = o} e b = subst (λ w. Barred so_far w p x o) e b
 
 -- ---- what is extended
 
@@ -104,14 +107,14 @@ heritage_present {v} {x} {a} {b} {t} m o = record { to = forward; from = back }
           walk = subst (λ p. Walk (Whole so_far) (class_in v (part (list (part t none)) ts)) (tail class_row) p ts w) (sym (e.1 ∙ f)) (subst (λ r. Walk (Whole so_far) (class_in v (part (list (part r none)) ts)) (tail class_row) b' ts w) (sym same) walk);
         }
 
-pub heritage_none : {v : Surroundings} {x a : Place} → Moves (key "extends") x a → Barred so_far (enter none InClassCode v) (Part (Expr 17)) a → NoClass v x
-heritage_none {v} {x} {a} m b = record { no = λ us w walk k. at walk }
+pub heritage_none : {v : Surroundings} {x a : Place} {e : Fault} → Moves (key "extends") x a → Barred so_far (enter none InClassCode v) (Part (Expr 17)) a e → NoClass v x e
+heritage_none {v} {x} {a} {e = e} m b = record { no = λ us w walk k h. at walk h }
   where
-    at : {us ts : Forest} {w : Place} → Walk (Whole so_far) (class_in v us) class_row x ts w → ⊥
-    at (next (absent f g) walk) =
+    at : {us ts : Forest} {w : Place} → Walk (Whole so_far) (class_in v us) class_row x ts w → Shallow e (deepest ts) → ⊥
+    at (next (absent f g) walk) s =
         let here : IsTrue (is_found x) = found_first (Unless [] ∷ []) x (found_at f g) in
         word_braced (codes "extends") x (found_at (sym m.is) m.found) (subst (λ p. IsTrue (is_found (forth (pun "{") p))) (sym f ∙ unless_none x here) (braced walk))
-    at (next (present {y = y} {z = z} {t = u} d q f g) walk) = b.no (one u) z (tree (subst (λ p. Whole so_far (enter none InClassCode v) false (Expr 17) p u z) (sym (m.is ∙ d)) q))
+    at (next {ts = us'} (present {y = y} {z = z} {t = u} d q f g) walk) s = b.no (one u) z (tree (subst (λ p. Whole so_far (enter none InClassCode v) false (Expr 17) p u z) (sym (m.is ∙ d)) q)) (shallow_head e u none (shallow_first e (one (list (part u none))) us' s))
 
 -- ---- no expression is a member
 
@@ -162,8 +165,8 @@ brace_in {v} {w} {x} {y} o = record { past = over o.past; alone = λ g z p. o.al
     back : {g : Given} {z : Place} → Past (Whole so_far) w (Fixed (pun "{")) x g z → Past (Whole so_far) v (Fixed (pun "{")) x g z
     back (sign e f) = sign e f
 
-no_brace_in : {v w : Surroundings} {x : Place} → Barred so_far v (Fixed (pun "{")) x → Barred so_far w (Fixed (pun "{")) x
-no_brace_in {v} {w} {x} b = record { no = λ g z p. b.no g z (back p) }
+no_brace_in : {v w : Surroundings} {x : Place} {o : Fault} → Barred so_far v (Fixed (pun "{")) x o → Barred so_far w (Fixed (pun "{")) x o
+no_brace_in {v} {w} {x} b = record { no = λ g z p s. b.no g z (back p) s }
   where
     back : {g : Given} {z : Place} → Past (Whole so_far) w (Fixed (pun "{")) x g z → Past (Whole so_far) v (Fixed (pun "{")) x g z
     back (sign e f) = sign e f
@@ -183,18 +186,18 @@ class_only {v} {x} {y} {z = z} {h} {ms} {b} i e brace given = record { walk = i.
         let s = row.alone r.parts w (inner_in {us = part h r.parts} r.walk) in
         (ap (part h) s.0 ∙ r.is, s.1)
 
-class_none : {v : Surroundings} {x y : Place} {h : Tree} → IsHeritage v x h y → NoRow so_far (in_members (is_here h) v) inner_row y → NoClass v x
-class_none {h = h} i n = record { no = λ us w walk k. let r = i.from us w walk in n.no r.parts w (inner_in {us = part h r.parts} r.walk) }
+class_none : {v : Surroundings} {x y : Place} {h : Tree} {e : Fault} → IsHeritage v x h y → NoRow so_far (in_members (is_here h) v) inner_row y e → NoClass v x e
+class_none {h = h} {e = e} i n = record { no = λ us w walk k s. let r = i.from us w walk in n.no r.parts w (inner_in {us = part h r.parts} r.walk) (shallow_behind e h r.parts us r.is s) }
 
-pub class_no_brace : {v : Surroundings} {x y : Place} {h : Tree} → IsHeritage v x h y → Barred so_far v (Fixed (pun "{")) y → NoClass v x
+pub class_no_brace : {v : Surroundings} {x y : Place} {h : Tree} {e : Fault} → IsHeritage v x h y → Barred so_far v (Fixed (pun "{")) y e → NoClass v x e
 class_no_brace i b = class_none i (bar (no_brace_in b))
 
-pub class_no_members : {v : Surroundings} {x y y' : Place} {h : Tree} {b : Bool} → IsHeritage v x h y → b ≡ is_here h → Only so_far v (Fixed (pun "{")) y nothing y' → NoRow so_far (in_members b v) members_row y' → NoClass v x
-class_no_members {v} {y = y} i e brace n = class_none i (subst (λ a. NoRow so_far (in_members a v) inner_row y) e (on (brace_in brace) n))
+pub class_no_members : {v : Surroundings} {x y y' : Place} {h : Tree} {b : Bool} {o : Fault} → IsHeritage v x h y → b ≡ is_here h → Only so_far v (Fixed (pun "{")) y nothing y' → NoRow so_far (in_members b v) members_row y' o → NoClass v x o
+class_no_members {v} {y = y} {o = o} i e brace n = class_none i (subst (λ a. NoRow so_far (in_members a v) inner_row y o) e (on (brace_in brace) n))
 
 -- members that break the rules
-pub class_misruled : {v : Surroundings} {x z : Place} {h : Tree} {ms : Forest} → OnlyClass v x (part h (part (list ms) none)) z → members_rule ms ≡ false → NoClass v x
-class_misruled {h = h} {ms} o m = record { no = λ us w walk k. clash _ k (ap (all_of (list_rule members_rule)) (sym (o.alone us w walk).0) ∙ ((λ i. list_rule members_rule h && (m i && true)) ∙ and_false (list_rule members_rule h))) }
+pub class_misruled : {v : Surroundings} {x z : Place} {h : Tree} {ms : Forest} {e : Fault} → OnlyClass v x (part h (part (list ms) none)) z → members_rule ms ≡ false → NoClass v x e
+class_misruled {h = h} {ms} o m = record { no = λ us w walk k s. clash _ k (ap (all_of (list_rule members_rule)) (sym (o.alone us w walk).0) ∙ ((λ i. list_rule members_rule h && (m i && true)) ∙ and_false (list_rule members_rule h))) }
   where
     and_false : (a : Bool) → (a && false) ≡ false
     and_false true = refl
@@ -278,17 +281,17 @@ named {v} {x} {x'} {y} {t} e n m given = record { to = forward; from = back }
           walk = subst (λ p. Walk (Whole so_far) (class_in v ts) class_row p ts w) (sym (r.1 ∙ f)) (renamed (list (part u none)) (list none) ts refl walk);
         }
 
-pub not_named : {v : Surroundings} {x x' : Place} → x' ≡ x → is_found (forth (pun "{") x) ≡ false → is_found (forth (key "extends") x) ≡ false → Barred so_far (enter none InClassCode v) (Part BindingIdent) x' → NoNamedClass v x
-not_named {v} {x} e n m b = record { no = λ us w walk k. at walk }
+pub not_named : {v : Surroundings} {x x' : Place} {o : Fault} → x' ≡ x → is_found (forth (pun "{") x) ≡ false → is_found (forth (key "extends") x) ≡ false → Barred so_far (enter none InClassCode v) (Part BindingIdent) x' o → NoNamedClass v x o
+not_named {v} {x} {o = o} e n m b = record { no = λ us w walk k h. at walk h }
   where
-    here : Barred so_far (enter none InClassCode v) (Part BindingIdent) x
-    here = subst (Barred so_far (enter none InClassCode v) (Part BindingIdent)) e b
+    here : Barred so_far (enter none InClassCode v) (Part BindingIdent) x o
+    here = subst (λ w. Barred so_far (enter none InClassCode v) (Part BindingIdent) w o) e b
 
-    at : {us : Forest} {w : Place} → Walk (Whole so_far) (named_class_in v us) named_class_row x us w → ⊥
-    at {w = w} (next {ts = ts} (absent f g) walk) =
+    at : {us : Forest} {w : Place} → Walk (Whole so_far) (named_class_in v us) named_class_row x us w → Shallow o (deepest us) → ⊥
+    at {w = w} (next {ts = ts} (absent f g) walk) s =
         let there : IsTrue (is_found x) = found_first (Unless [] ∷ []) x (found_at f g) in
         unnamed_front {us = ts} (subst (λ p. Walk (Whole so_far) (class_in v ts) class_row p ts w) (sym f ∙ unless_none x there) walk) (not_found (forth (pun "{") x) n) (not_found (forth (key "extends") x) m)
-    at (next (present {y = a} {z = z} {t = u} d q f g) walk) = here.no (one u) z (tree (subst (λ p. Whole so_far (enter none InClassCode v) false BindingIdent p u z) (sym d) q))
+    at (next {ts = us'} (present {y = a} {z = z} {t = u} d q f g) walk) s = here.no (one u) z (tree (subst (λ p. Whole so_far (enter none InClassCode v) false BindingIdent p u z) (sym d) q)) (shallow_head o u none (shallow_first o (one (list (part u none))) us' s))
 
 -- ---- with what stands behind it
 
@@ -306,16 +309,16 @@ name_rule (Some a) = refl
 pub named_kept : (n : Option Ident) (ts : Forest) → keep_members ts → keep_members (part (optional_name n) ts)
 named_kept n ts k = and_both _ _ (name_rule n) k
 
-pub named_none : {v : Surroundings} {x y : Place} (n : Option Ident) → IsClassName v x (optional_name n) y → NoClass v y → NoNamedClass v x
-named_none n i c = record { no = λ us w walk k. let r = i.from us w walk in c.no r.parts w r.walk (ap (λ b. b && all_of (list_rule members_rule) r.parts) (sym (name_rule n)) ∙ (ap (all_of (list_rule members_rule)) r.is ∙ k)) }
+pub named_none : {v : Surroundings} {x y : Place} {e : Fault} (n : Option Ident) → IsClassName v x (optional_name n) y → NoClass v y e → NoNamedClass v x e
+named_none {e = e} n i c = record { no = λ us w walk k s. let r = i.from us w walk in c.no r.parts w r.walk (ap (λ b. b && all_of (list_rule members_rule) r.parts) (sym (name_rule n)) ∙ (ap (all_of (list_rule members_rule)) r.is ∙ k)) (shallow_behind e (optional_name n) r.parts us r.is s) }
 
 -- ---- a class behind its word
 
 pub class_parts_only : {v : Surroundings} {x y : Place} {t : Tree} {ts : Forest} → OnlyNamedClass v x ts y → keep_members ts → t ≡ node (function ClassExpr) ts → OnlyParts v (function ClassExpr) t x y
 class_parts_only {ts = ts} o k e = record { parts = ts; is = e; walk = o.walk; keeps = and_both _ _ k refl; alone = λ us z w h. o.alone us z w }
 
-pub no_class_parts : {v : Surroundings} {x : Place} → NoNamedClass v x → NoParts v (function ClassExpr) x
-no_class_parts {v} n = record { no = λ us z w h. n.no us z w (and_left (rule (function ClassExpr) us) (stands (function ClassExpr) us v) h) }
+pub no_class_parts : {v : Surroundings} {x : Place} {e : Fault} → NoNamedClass v x e → NoParts v (function ClassExpr) x e
+no_class_parts {v} n = record { no = λ us z w h s. n.no us z w (and_left (rule (function ClassExpr) us) (stands (function ClassExpr) us v) h) s }
 
 -- ---- places
 

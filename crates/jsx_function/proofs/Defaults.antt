@@ -1,27 +1,32 @@
 -- A pattern with a default or without one, where both may stand: among parameters, in an array's pattern, and as the value of a property (ECMA-262 sections 14.3.3 and 15.1). One without a default is read too before what goes on with an expression, so it is what stands behind that tells.
-use Rattle.std.proofs.Common.{◌≡◌, Bool, List, [], ◌∷◌, true, false, refl, sym, ◌∙◌, ap, subst}
+use Rattle.std.proofs.Common.{◌≡◌, Bool, List, [], ◌∷◌, true, false, refl, sym, ◌∙◌, ap, subst, ◌≤◌, suc, arith}
 use Rattle.std.specs.Prelude.{IsTrue, codes}
 use Rattle.jsx_base.specs.Token.{Text, TokenKind, Operator, Punctuator, IdentifierName, Elision, same}
 use Rattle.jsx_tree.specs.Signs.{Sign, Tok}
 use Rattle.jsx_tree.specs.Kinds.{ArrayPat, Assign, Binds, Kind, ObjectPat, RestPat, WithInit, expression, function, Tree, leaf, node, list, Forest, none, part}
 use Rattle.jsx_tree.specs.Nonterminals.{Nonterminal, Expr, Param, Pat, PatElement, SetterParam, Slot, leaf_in}
 use Rattle.jsx_tree.specs.Grammar.{Part, pun}
-use Rattle.jsx_tree.specs.Form.{admits, is_leaf}
+use Rattle.jsx_tree.specs.Form.{admits, is_leaf, fits_below}
 use Rattle.jsx_tree.specs.Reading.{Place, Lost, At, forth}
 use Rattle.jsx_tree.specs.StaticRules.{Surroundings}
 use Rattle.jsx_tree.specs.Walk.{is_found, one, Piece, sign, tree, Walk, next, steady}
 use Rattle.jsx_tree.specs.Language.{Whole}
 use Rattle.jsx_tree.specs.Answers.{Moves, Stuck, Missed, Only, Barred, OnlyRow}
-use Rattle.jsx_tree.proofs.Tokens.{and_both, and_left}
+use Rattle.jsx_tree.specs.Faults.{Fault, Shallow, part_depth, deepest, outer}
+use Rattle.jsx_tree.proofs.Tokens.{and_both, and_left, and_right}
 use Rattle.jsx_tree.proofs.Apart.{clash}
 use Rattle.jsx_tree.proofs.Rows.Bridge.{found_at}
 use Rattle.jsx_tree.proofs.Rows.Firsts.{kind_home}
 use Rattle.jsx_tree.proofs.Rows.Guarded.{whole_walk, loosen, to_grammar}
 use Rattle.jsx_tree.proofs.Rows.Bodies.{plain as plain_row}
 use Rattle.jsx_tree.proofs.Rows.Laws.{end_found}
-use Rattle.jsx_tree.proofs.Rows.Placing.{free_around, moved}
+use Rattle.jsx_tree.proofs.Rows.Placing.{free_around, moved, flat_shallow, node_shallow}
 use Rattle.jsx_tree.proofs.Rows.Steps.{end, only_sign, then'}
 use Rattle.jsx_tree.proofs.Rows.Turns.{item_of, whole_of}
+use Rattle.jsx_tree.proofs.Depth.Shallow.{shallow_first, shallow_rest, shallow_up}
+use Rattle.jsx_tree.proofs.Depth.Nodes.{depth_told}
+use Rattle.jsx_operand.proofs.Outgrown.{outgrown_deep}
+use Rattle.jsx_operand.specs.Outgrown.{Outgrown}
 use Rattle.jsx_operand.specs.Patterns.{is_rest}
 use Rattle.jsx_operand.specs.SoFar.{Staged, so_far}
 use Rattle.jsx_token.specs.Growths.{on_line, rung, settled}
@@ -188,17 +193,17 @@ bare_element {v} {x} {y} {y'} {t} o k = record {
     at c h f rest w = absurd (pattern_unmarked t (codes "...") refl refl (whole_of o.past).reads (rest_led w.reads))
     at c h f hole w = cc
 
-pub no_pattern : {v : Surroundings} {x : Place} → Barred so_far v (Part (Pat Binds)) x → NoElement v x
-no_pattern {v} {x} b = record { no = λ c h u z f g w. at c h f g (at_default c u h w.reads) w }
+pub no_pattern : {v : Surroundings} {x : Place} {e : Fault} → Barred so_far v (Part (Pat Binds)) x e → NoElement v x e
+no_pattern {v} {x} {e = e} b = record { no = λ c h u z f g w s'. at c h f g (at_default c u h w.reads) w s' }
   where
-    unvalued : {us : Forest} {z : Place} → Walk (Whole so_far) (steady v) value_row x us z → ⊥
-    unvalued (next q w) = b.no _ _ q
+    unvalued : {us : Forest} {z : Place} → Walk (Whole so_far) (steady v) value_row x us z → Shallow e (deepest us) → ⊥
+    unvalued (next {g = g'} {ts = us'} q w) a = b.no _ _ q (shallow_first e g' us' a)
 
-    at : (c : Nonterminal) → takes_default c ≡ true → {u : Tree} {z : Place} → is_hole u ≡ false → is_rest u ≡ false → AtDefault v x z u → Whole so_far v false c x u z → ⊥
-    at c h {u} {z} f g (pattern r) w = b.no (one u) z (tree (pattern_whole r))
-    at c h f g valued w = unvalued (value_whole c h w)
-    at c h f g rest w = cc
-    at c h f g hole w = cc
+    at : (c : Nonterminal) → takes_default c ≡ true → {u : Tree} {z : Place} → is_hole u ≡ false → is_rest u ≡ false → AtDefault v x z u → Whole so_far v false c x u z → Shallow e (part_depth u) → ⊥
+    at c h {u} {z} f g (pattern r) w s = b.no (one u) z (tree (pattern_whole r)) s
+    at c h f g valued w s = unvalued (value_whole c h w) (flat_shallow e of_so_far w.reads s)
+    at c h f g rest w s = cc
+    at c h f g hole w s = cc
 
 -- ---- one with its default
 
@@ -222,18 +227,41 @@ valued_element {v} {x} {y} {a} {z} {t} {e} {w} o k value is = record {
     at c h f rest q = absurd (pattern_unmarked t (codes "...") refl refl (whole_of o.past).reads (rest_led q.reads))
     at c h f hole q = cc
 
-pub no_default : {v : Surroundings} {x y a : Place} {t : Tree} → Only so_far v (Part (Pat Binds)) x (one t) y → Moves (pun "=") y a → Barred so_far v (Part (Expr 1)) a → NoElement v x
-no_default {v} {x} {y} {a} {t} o k b = record { no = λ c h u p f g q. at c h f g (at_default c u h q.reads) q }
+pub no_default : {v : Surroundings} {x y a : Place} {t : Tree} {d : Fault} → Only so_far v (Part (Pat Binds)) x (one t) y → Moves (pun "=") y a → Barred so_far v (Part (Expr 1)) a d → NoElement v x (outer d)
+no_default {v} {x} {y} {a} {t} {d = d} o k b = record { no = λ c h u p f g q h'. at c h f g (at_default c u h q.reads) q h' }
   where
-    unvalued : {us : Forest} {z : Place} → Walk (Whole so_far) (steady v) value_row x us z → ⊥
-    unvalued (next q (next (sign e f) (next r w))) =
+    unvalued : {us : Forest} {z : Place} → Walk (Whole so_far) (steady v) value_row x us z → Shallow d (deepest us) → ⊥
+    unvalued (next {g = g'} {ts = us'} q (next (sign e f) (next {g = h''} {ts = vs'} r w))) s' =
         let s = o.alone _ _ q in
-        (subst (Barred so_far v (Part (Expr 1))) (k.is ∙ (ap (forth (pun "=")) s.1 ∙ e)) b).no _ _ r
+        (subst (λ w. Barred so_far v (Part (Expr 1)) w d) (k.is ∙ (ap (forth (pun "=")) s.1 ∙ e)) b).no _ _ r (shallow_first d h'' vs' (shallow_rest d g' us' s'))
 
-    at : (c : Nonterminal) → takes_default c ≡ true → {u : Tree} {p : Place} → is_hole u ≡ false → is_rest u ≡ false → AtDefault v x p u → Whole so_far v false c x u p → ⊥
-    at c h {u} {p} f g (pattern r) q =
+    at : (c : Nonterminal) → takes_default c ≡ true → {u : Tree} {p : Place} → is_hole u ≡ false → is_rest u ≡ false → AtDefault v x p u → Whole so_far v false c x u p → Shallow (outer d) (part_depth u) → ⊥
+    at c h {u} {p} f g (pattern r) q a =
         let s = o.alone (one u) p (tree (pattern_whole r)) in
         clash _ (subst (λ b. ends_so_far c b ≡ true) (sym s.1) q.ends_there) (value_on c y h (pattern_settled t (whole_of o.past).reads) (found_at (sym k.is) k.found))
-    at c h f g valued q = unvalued (value_whole c h q)
-    at c h f g rest q = cc
-    at c h f g hole q = cc
+    at c h f g valued q a = unvalued (value_whole c h q) (node_shallow d true refl of_so_far q.reads a)
+    at c h f g rest q a = cc
+    at c h f g hole q a = cc
+
+-- with a default behind it a pattern is one deeper, which is too deep
+pub outgrown_element : {v : Surroundings} {x y a : Place} {t : Tree} {e : Fault} → Only so_far v (Part (Pat Binds)) x (one t) y → Moves (pun "=") y a → Outgrown t e → NoElement v x e
+outgrown_element {v} {x} {y} {t = t} {e} o k b = record { no = λ c h u p f g q s. at c h f g (at_default c u h q.reads) q s }
+  where
+    formed : fits_below (Pat Binds) t ≡ true
+    formed = and_right (admits (Pat Binds) t) (fits_below (Pat Binds) t) (whole_of o.past).reads.reads.is
+
+    deeper : {us : Forest} {z : Place} → Walk (Whole so_far) (steady v) value_row x us z → part_depth t ≤ deepest us
+    deeper (next (tree {t = w} q) r) =
+        let s = o.alone (one w) _ (tree q) in
+        let same : part_depth t ≡ part_depth w = ap part_depth (ap item_of s.0) in
+        omega (arith, same)
+
+    at : (c : Nonterminal) → takes_default c ≡ true → {u : Tree} {p : Place} → is_hole u ≡ false → is_rest u ≡ false → AtDefault v x p u → Whole so_far v false c x u p → Shallow e (part_depth u) → ⊥
+    at c h {u} {p} f g (pattern r) q s =
+        let w = o.alone (one u) p (tree (pattern_whole r)) in
+        clash _ (subst (λ b. ends_so_far c b ≡ true) (sym w.1) q.ends_there) (value_on c y h (pattern_settled t (whole_of o.past).reads) (found_at (sym k.is) k.found))
+    at c h f g (valued {ts}) q s =
+        let d = depth_told true c (function (WithInit Binds)) ts refl (and_right (admits c (node (function (WithInit Binds)) ts)) (fits_below c (node (function (WithInit Binds)) ts)) q.reads.reads.is) in
+        outgrown_deep (Pat Binds) e t formed b (shallow_up e (suc (part_depth t)) (part_depth (node (function (WithInit Binds)) ts)) (omega (arith, d, deeper (value_whole c h q))) s)
+    at c h f g rest q s = cc
+    at c h f g hole q s = cc

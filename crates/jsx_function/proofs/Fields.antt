@@ -15,6 +15,7 @@ use Rattle.jsx_tree.specs.Told.{told_list}
 use Rattle.jsx_tree.specs.Walk.{is_found, nothing, one, piece, tail, sign, tree, absent, present, Walk, next, steady}
 use Rattle.jsx_tree.specs.Language.{Whole}
 use Rattle.jsx_tree.specs.Answers.{Moves, Missed, Only, Barred, OnlyRow, NoRow}
+use Rattle.jsx_tree.specs.Faults.{Fault, Shallow, deepest}
 use Rattle.jsx_tree.proofs.Apart.{clash, never_both}
 use Rattle.jsx_tree.proofs.Tokens.{and_both, and_left, same_is}
 use Rattle.jsx_tree.proofs.Rows.Bridge.{found_at}
@@ -24,6 +25,7 @@ use Rattle.jsx_tree.proofs.Rows.Optionals.{end_shut, turn_absent, turn_present}
 use Rattle.jsx_tree.proofs.Rows.Steps.{bar, no_sign, on, only_sign, then'}
 use Rattle.jsx_tree.proofs.Rows.Stopping.{found_if, raw_there}
 use Rattle.jsx_tree.proofs.Rows.Turns.{turn_none, turn_only, whole_of}
+use Rattle.jsx_tree.proofs.Depth.Shallow.{shallow_first, shallow_rest, shallow_head}
 use Rattle.jsx_token.specs.Here.{Here, leaf_kind, leaf_sign}
 use Rattle.jsx_token.specs.Places.{Takes}
 use Rattle.jsx_token.specs.Stage.{key_leaf}
@@ -162,49 +164,49 @@ field_bare {v} {y = y} {z = z} m n given = then' (only_sign m) (turn_only (turn_
     here : Only so_far v semi y nothing z
     here = subst (λ p. Only so_far v semi p nothing z) (sym n.same) given
 
-pub field_unended : {v : Surroundings} {x y y' : Place} → Moves (Ends AfterKey) x y → Missed (pun "=") y y' → Barred so_far v semi y' → NoRow so_far v field_row x
-field_unended {v} {y = y} m n given = on (only_sign m) (turn_none (turn_absent (unless_none y m.found) m.found (lost_barred of_so_far n.stuck.is)) (bar (subst (Barred so_far v semi) (sym n.same) given)))
+pub field_unended : {v : Surroundings} {x y y' : Place} {e : Fault} → Moves (Ends AfterKey) x y → Missed (pun "=") y y' → Barred so_far v semi y' e → NoRow so_far v field_row x e
+field_unended {v} {y = y} {e = e} m n given = on (only_sign m) (turn_none (turn_absent (unless_none y m.found) m.found (lost_barred of_so_far n.stuck.is)) (bar (subst (λ w. Barred so_far v semi w e) (sym n.same) given)))
 
 -- with one
 no_end : {x y a : Place} → Moves (Ends AfterKey) x y → Moves (pun "=") y a → forth Semicolon y ≡ Lost
 no_end {x = x} {y} m n = subst (λ p. forth Semicolon p ≡ Lost) (sym m.is) (equals_on x (subst (λ p. IsTrue (is_found (forth (pun "=") p))) m.is (found_at (sym n.is) n.found)))
 
-unended : {v : Surroundings} {x y a : Place} → Moves (Ends AfterKey) x y → Moves (pun "=") y a → NoRow so_far v (piece [] semi ∷ []) (forth (Unless []) y)
-unended {v} {y = y} m n = subst (λ p. NoRow so_far v (piece [] semi ∷ []) p) (sym (unless_none y m.found)) (bar (no_sign (record { is = no_end m n })))
+unended : {v : Surroundings} {x y a : Place} {e : Fault} → Moves (Ends AfterKey) x y → Moves (pun "=") y a → NoRow so_far v (piece [] semi ∷ []) (forth (Unless []) y) e
+unended {v} {y = y} {e = e} m n = subst (λ p. NoRow so_far v (piece [] semi ∷ []) p e) (sym (unless_none y m.found)) (bar (no_sign (record { is = no_end m n })))
 
 pub field_valued : {v : Surroundings} {x y a b z : Place} {t : Tree} → Moves (Ends AfterKey) x y → Moves (pun "=") y a → Only so_far v (Part (Expr 1)) a (one t) b → Only so_far v semi b nothing z → OnlyRow so_far v field_row x (part (list (part t none)) none) z
 field_valued m n o e = then' (only_sign m) (turn_only (turn_present (sym n.is) o refl (end_found of_so_far (whole_of o.past).reads) (unended m n)) (ended_sign e))
 
-pub field_unread : {v : Surroundings} {x y a : Place} → Moves (Ends AfterKey) x y → Moves (pun "=") y a → Barred so_far v (Part (Expr 1)) a → NoRow so_far v field_row x
-field_unread {v} {y = y} {a} m n b = on (only_sign m) (record { no = λ ts z w. at w })
+pub field_unread : {v : Surroundings} {x y a : Place} {o : Fault} → Moves (Ends AfterKey) x y → Moves (pun "=") y a → Barred so_far v (Part (Expr 1)) a o → NoRow so_far v field_row x o
+field_unread {v} {y = y} {a} {o = o} m n b = on (only_sign m) (record { no = λ ts z w h. at w h })
   where
-    at : {ts : Forest} {z : Place} → Walk (Whole so_far) (steady v) (tail field_row) y ts z → ⊥
-    at {z = z} (next {ts = us} (absent e f) w) = (unended m n).no us z (subst (λ p. Walk (Whole so_far) (steady v) (piece [] semi ∷ []) p us z) (sym e) w)
-    at (next (present {z = c} {t = t} d q e f) w) = b.no (one t) c (tree (subst (λ p. Whole so_far v false (Expr 1) p t c) (sym (n.is ∙ d)) q))
+    at : {ts : Forest} {z : Place} → Walk (Whole so_far) (steady v) (tail field_row) y ts z → Shallow o (deepest ts) → ⊥
+    at {z = z} (next {ts = us} (absent e f) w) s = (unended m n).no us z (subst (λ p. Walk (Whole so_far) (steady v) (piece [] semi ∷ []) p us z) (sym e) w) (shallow_rest o (one (list none)) us s)
+    at (next {ts = us'} (present {z = c} {t = t} d q e f) w) s = b.no (one t) c (tree (subst (λ p. Whole so_far v false (Expr 1) p t c) (sym (n.is ∙ d)) q)) (shallow_head o t none (shallow_first o (one (list (part t none))) us' s))
 
-pub field_value_unended : {v : Surroundings} {x y a b : Place} {t : Tree} → Moves (Ends AfterKey) x y → Moves (pun "=") y a → Only so_far v (Part (Expr 1)) a (one t) b → Barred so_far v semi b → NoRow so_far v field_row x
+pub field_value_unended : {v : Surroundings} {x y a b : Place} {t : Tree} {e : Fault} → Moves (Ends AfterKey) x y → Moves (pun "=") y a → Only so_far v (Part (Expr 1)) a (one t) b → Barred so_far v semi b e → NoRow so_far v field_row x e
 field_value_unended m n o b = on (only_sign m) (turn_none (turn_present (sym n.is) o refl (end_found of_so_far (whole_of o.past).reads) (unended m n)) (bar b))
 
 -- ---- where none stands
 
 -- neither `=` nor a semicolon behind the key
-pub no_field_row : {v : Surroundings} {x : Place} → (IsTrue (is_found (forth (pun "=") (forth (Ends AfterKey) x))) → ⊥) → forth Semicolon (forth (Ends AfterKey) x) ≡ Lost → NoRow so_far v field_row x
-no_field_row {v} {x} n l = record { no = λ ts z w. at w }
+pub no_field_row : {v : Surroundings} {x : Place} {o : Fault} → (IsTrue (is_found (forth (pun "=") (forth (Ends AfterKey) x))) → ⊥) → forth Semicolon (forth (Ends AfterKey) x) ≡ Lost → NoRow so_far v field_row x o
+no_field_row {v} {x} {o = o} n l = record { no = λ ts z w a. at w a }
   where
-    at : {ts : Forest} {z : Place} → Walk (Whole so_far) (steady v) field_row x ts z → ⊥
-    at (next (sign {y = y} e f) (next (absent g h) (next (sign i j) w))) =
+    at : {ts : Forest} {z : Place} → Walk (Whole so_far) (steady v) field_row x ts z → Shallow o (deepest ts) → ⊥
+    at (next (sign {y = y} e f) (next (absent g h) (next (sign i j) w))) s =
         let bad : IsTrue (is_found Lost) = subst (λ p. IsTrue (is_found p)) (sym i ∙ (ap (forth Semicolon) (sym g ∙ (unless_none y f ∙ sym e)) ∙ l)) j in cc
-    at (next (sign e f) (next (present d q g h) w)) = n (found_at (ap (forth (pun "=")) e ∙ d) (start_found of_so_far q.reads))
+    at (next (sign e f) (next (present d q g h) w)) s = n (found_at (ap (forth (pun "=")) e ∙ d) (start_found of_so_far q.reads))
 
 -- the same token, whatever a semicolon would stand behind
 ends_same : (d : Text) (x : Place) → IsTrue (is_found (forth (Tok Operator Punctuator d) (forth (Ends AfterKey) x))) → IsTrue (is_found (forth (Tok Operator Punctuator d) x))
 ends_same d Lost f = f
 ends_same d (At q e text) f = f
 
-pub unfielded : {v : Surroundings} {x : Place} → IsTrue (is_found (forth (pun "(") x)) → NoRow so_far v field_row x
+pub unfielded : {v : Surroundings} {x : Place} {e : Fault} → IsTrue (is_found (forth (pun "(") x)) → NoRow so_far v field_row x e
 unfielded {x = x} f = no_field_row (λ g. never_both Punctuator Punctuator (codes "(") (codes "=") x refl f (ends_same (codes "=") x g)) (bracket_on x f)
 
-pub word_unfielded : {v : Surroundings} {x y : Place} (t : Text) → among t prefix_words ≡ true → Moves (Tok Operator IdentifierName t) x y → BeginsKey y → NoRow so_far v field_row y
+pub word_unfielded : {v : Surroundings} {x y : Place} {e : Fault} (t : Text) → among t prefix_words ≡ true → Moves (Tok Operator IdentifierName t) x y → BeginsKey y → NoRow so_far v field_row y e
 word_unfielded {y = y} t w m k = no_field_row (λ g. key_before (codes "=") refl k (ends_same (codes "=") y g)) (key_on t w m k)
 
 -- ---- places

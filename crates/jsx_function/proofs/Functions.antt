@@ -16,6 +16,7 @@ use Rattle.jsx_tree.specs.View.{forest, optional_name}
 use Rattle.jsx_tree.specs.Walk.{is_found, nothing, one, Piece, piece, Past, sign, tree, absent, present, Walk, done, next, steady, tail}
 use Rattle.jsx_tree.specs.Language.{Whole}
 use Rattle.jsx_tree.specs.Answers.{Only, Barred, OnlyRow, NoRow, BuiltNode, NoNode}
+use Rattle.jsx_tree.specs.Faults.{Fault, Unread, Shallow, part_depth, deepest, given_depth}
 use Rattle.jsx_token.specs.Here.{Here}
 use Rattle.jsx_token.specs.Growths.{opening_sign}
 use Rattle.jsx_token.specs.Marks.{row_so_far}
@@ -27,6 +28,7 @@ use Rattle.jsx_tree.proofs.Rows.Laws.{end_found}
 use Rattle.jsx_tree.proofs.Rows.Optionals.{turn_absent, turn_present}
 use Rattle.jsx_tree.proofs.Rows.Steps.{bar, no_sign, on, on_row, then', then_row}
 use Rattle.jsx_tree.proofs.Rows.Turns.{Turn, whole_of}
+use Rattle.jsx_tree.proofs.Depth.Shallow.{shallow_first, shallow_rest, shallow_head, shallow_alone, shallow_tail}
 use Rattle.jsx_operand.specs.SoFar.{Staged, so_far}
 use Rattle.jsx_operand.specs.declared.body.Body.{Body}
 use Rattle.jsx_operand.specs.Bodies.{body_row, body_symbols, view_body}
@@ -47,41 +49,41 @@ pub own_only : {w : Surroundings} {x0 x1 x2 x3 x4 : Place} {ps b : Tree} → Onl
     → OnlyRow so_far w own_row x0 (part ps (part b none)) x4
 own_only bracket params brace body = then' bracket (then_row of_so_far params_row params (then' brace body))
 
-no_own : {w : Surroundings} {x : Place} → NoRow so_far w own_row x → NoOwnCode w x
-no_own n = record { no = λ ts y walk h. n.no ts y walk }
+no_own : {w : Surroundings} {x : Place} {e : Fault} → NoRow so_far w own_row x e → NoOwnCode w x e
+no_own n = record { no = λ ts y walk h s. n.no ts y walk s }
 
-pub no_bracket : {w : Surroundings} {x : Place} → Barred so_far w (Fixed (pun "(")) x → NoOwnCode w x
+pub no_bracket : {w : Surroundings} {x : Place} {e : Fault} → Barred so_far w (Fixed (pun "(")) x e → NoOwnCode w x e
 no_bracket b = no_own (bar b)
 
-behind_no_params : {w : Surroundings} {y z : Place} {us : Forest} → NoRow so_far w params_row y → Walk (Whole so_far) (steady w) behind_open y us z → ⊥
-behind_no_params n (next q (next (sign e f) r)) = n.no _ _ (next q (next (sign e f) (done f)))
+behind_no_params : {w : Surroundings} {y z : Place} {us : Forest} {o : Fault} → NoRow so_far w params_row y o → Walk (Whole so_far) (steady w) behind_open y us z → Shallow o (deepest us) → ⊥
+behind_no_params {o = o} n (next {g = g'} {ts = vs} q (next (sign e f) r)) s = n.no _ _ (next q (next (sign e f) (done f))) (shallow_alone o g' (shallow_first o g' vs s))
 
-pub no_params : {w : Surroundings} {x y : Place} → Only so_far w (Fixed (pun "(")) x nothing y → NoRow so_far w params_row y → NoOwnCode w x
-no_params {w} {y = y} bracket n = no_own (on bracket unread)
+pub no_params : {w : Surroundings} {x y : Place} {e : Fault} → Only so_far w (Fixed (pun "(")) x nothing y → NoRow so_far w params_row y e → NoOwnCode w x e
+no_params {w} {y = y} {e = e} bracket n = no_own (on bracket unread)
   where
-    unread : NoRow so_far w behind_open y
-    unread = record { no = λ us z walk. behind_no_params n walk }
+    unread : NoRow so_far w behind_open y e
+    unread = record { no = λ us z walk s. behind_no_params n walk s }
 
-pub no_brace : {w : Surroundings} {x y z : Place} {ts : Forest} → Only so_far w (Fixed (pun "(")) x nothing y → OnlyRow so_far w params_row y ts z → Barred so_far w (Fixed (pun "{")) z → NoOwnCode w x
+pub no_brace : {w : Surroundings} {x y z : Place} {ts : Forest} {e : Fault} → Only so_far w (Fixed (pun "(")) x nothing y → OnlyRow so_far w params_row y ts z → Barred so_far w (Fixed (pun "{")) z e → NoOwnCode w x e
 no_brace bracket params b = no_own (on bracket (on_row of_so_far params_row params (bar b)))
 
-pub no_body : {w : Surroundings} {x y z a : Place} {ts : Forest} → Only so_far w (Fixed (pun "(")) x nothing y → OnlyRow so_far w params_row y ts z → Only so_far w (Fixed (pun "{")) z nothing a → NoRow so_far w body_row a → NoOwnCode w x
+pub no_body : {w : Surroundings} {x y z a : Place} {ts : Forest} {e : Fault} → Only so_far w (Fixed (pun "(")) x nothing y → OnlyRow so_far w params_row y ts z → Only so_far w (Fixed (pun "{")) z nothing a → NoRow so_far w body_row a e → NoOwnCode w x e
 no_body bracket params brace n = no_own (on bracket (on_row of_so_far params_row params (on brace n)))
 
 -- a row that breaks the rule on parameters
-pub unplain : {w : Surroundings} {x y : Place} {ts : Forest} → OnlyRow so_far w own_row x ts y → has_plain_params ts ≡ false → NoOwnCode w x
-unplain o h = record { no = λ us z walk k. clash _ k (ap has_plain_params (sym (o.alone us z walk).0) ∙ h) }
+pub unplain : {w : Surroundings} {x y : Place} {ts : Forest} {e : Fault} → OnlyRow so_far w own_row x ts y → has_plain_params ts ≡ false → NoOwnCode w x e
+unplain o h = record { no = λ us z walk k s. clash _ k (ap has_plain_params (sym (o.alone us z walk).0) ∙ h) }
 
 -- ---- and in those outside
 
 pub code_only : {v w : Surroundings} {x y : Place} {ts : Forest} → w ≡ enter none InFunction v → OnlyRow so_far w own_row x ts y → OnlyRow so_far v code_row x ts y
 code_only {v} {w} {x} {y} {ts} e o = row_out (InFunction ∷ []) v own_row (subst (λ u. OnlyRow so_far u own_row x ts y) e o)
 
-pub no_code : {v w : Surroundings} {x : Place} → w ≡ enter none InFunction v → NoOwnCode w x → NoCode v x
-no_code {v} {w} {x} e n = record { no = λ ts y walk h. inner.no ts y (walk_in {V = steady v} {W = steady (enters none (InFunction ∷ []) v)} (InFunction ∷ []) (λ a. enters_deeper none a (InFunction ∷ []) v) own_row walk) h }
+pub no_code : {v w : Surroundings} {x : Place} {o : Fault} → w ≡ enter none InFunction v → NoOwnCode w x o → NoCode v x o
+no_code {v} {w} {x} {o = o} e n = record { no = λ ts y walk h s. inner.no ts y (walk_in {V = steady v} {W = steady (enters none (InFunction ∷ []) v)} (InFunction ∷ []) (λ a. enters_deeper none a (InFunction ∷ []) v) own_row walk) h s }
   where
-    inner : NoOwnCode (enter none InFunction v) x
-    inner = subst (λ u. NoOwnCode u x) e n
+    inner : NoOwnCode (enter none InFunction v) x o
+    inner = subst (λ u. NoOwnCode u x o) e n
 
 -- ---- the rule on parameters
 
@@ -111,6 +113,10 @@ all_more f ts t e = ap (λ us. all_of f (forest us)) e ∙ at ts
     at [] = last (f t)
     at (u ∷ us) = and_more (f u) (all_of f (forest us)) (f t) _ (at us)
 
+-- what stands behind the first part is no deeper
+pub shallow_behind : (e : Fault) (t : Tree) (ts us : Forest) → part t ts ≡ us → Shallow e (deepest us) → Shallow e (deepest ts)
+shallow_behind e t ts us is s = shallow_tail e t ts (subst (λ vs. Shallow e (deepest vs)) (sym is) s)
+
 -- a name before them makes no matter
 pub plain_named : (n : Option Ident) (ts : Forest) → has_plain_params (part (optional_name n) ts) ≡ has_plain_params ts
 plain_named None ts = refl
@@ -130,24 +136,24 @@ lost_by Lost e = refl
 lost_by (At q e text) h = cc
 
 -- no name stands before a mark
-no_name_at : {v : Surroundings} {x : Place} → IsTrue (is_found (forth (pun "(") x)) → Barred so_far v (Part BindingIdent) x
-no_name_at {v} {x} f = record { no = λ g y p. at p }
+no_name_at : {v : Surroundings} {x : Place} {e : Fault} → IsTrue (is_found (forth (pun "(") x)) → Barred so_far v (Part BindingIdent) x e
+no_name_at {v} {x} {e = e} f = record { no = λ g y p a. at p a }
   where
-    marked : {y : Place} (t : Tree) → Staged v false BindingIdent x t y → ⊥
-    marked (leaf IdentifierName t) r = mark_none IsName t (codes "(") x refl (found_at r.reads.scans r.reads.found) f
-    marked (leaf _ t) r = let bad = r.staged in cc
-    marked (node k ts) r = bindings.node k ts (taken_by r) (home_of r)
-    marked (list ts) r = no_list r
+    marked : {y : Place} (t : Tree) → Staged v false BindingIdent x t y → Shallow e (part_depth t) → ⊥
+    marked (leaf IdentifierName t) r h = mark_none IsName t (codes "(") x refl (found_at r.reads.scans r.reads.found) f
+    marked (leaf _ t) r h = let bad = r.staged in cc
+    marked (node k ts) r h = bindings.node k ts (taken_by r) (home_of r)
+    marked (list ts) r h = no_list r
 
-    at : {g : _} {y : Place} → Past (Whole so_far) v (Part BindingIdent) x g y → ⊥
-    at (tree {t = t} q) = marked t q.reads
+    at : {g : _} {y : Place} → Past (Whole so_far) v (Part BindingIdent) x g y → Shallow e (given_depth g) → ⊥
+    at (tree {t = t} q) s = marked t q.reads s
 
 pub unnamed : {v : Surroundings} {x x' : Place} → x' ≡ x → is_found (forth (pun "(") x) ≡ true → IsNamed v x (list none) x'
 unnamed {v} {x} {x'} e f =
     let there : IsTrue (is_found x) = found_first (pun "(" ∷ []) x f in
     subst (λ p. IsNamed v x (list none) p) (sym e) (named_by (turn_absent (unless_none x there) there (no_name_at f)))
 
-no_bracket_row : {v : Surroundings} {x : Place} → is_found (forth (pun "(") x) ≡ false → NoRow so_far v code_row x
+no_bracket_row : {v : Surroundings} {x : Place} {e : Fault} → is_found (forth (pun "(") x) ≡ false → NoRow so_far v code_row x e
 no_bracket_row {x = x} n = bar (no_sign (record { is = lost_by (forth (pun "(") x) n }))
 
 named_there : {v : Surroundings} {x y : Place} {t : Tree} → is_found (forth (pun "(") x) ≡ false → Only so_far v (Part BindingIdent) x (one t) y → IsNamed v x (list (part t none)) y
@@ -165,15 +171,15 @@ named_there {v} {x} n o =
 pub named : {v : Surroundings} {x x' y : Place} {t : Tree} → x' ≡ x → is_found (forth (pun "(") x) ≡ false → Only so_far v (Part BindingIdent) x' (one t) y → IsNamed v x (list (part t none)) y
 named {v} {x} {x'} {y} {t} e n o = named_there n (subst (λ p. Only so_far v (Part BindingIdent) p (one t) y) e o)
 
-pub not_named : {v : Surroundings} {x x' : Place} → x' ≡ x → is_found (forth (pun "(") x) ≡ false → Barred so_far v (Part BindingIdent) x' → NoRow so_far v named_row x
-not_named {v} {x} e n b = record { no = at }
+pub not_named : {v : Surroundings} {x x' : Place} {o : Fault} → x' ≡ x → is_found (forth (pun "(") x) ≡ false → Barred so_far v (Part BindingIdent) x' o → NoRow so_far v named_row x o
+not_named {v} {x} {o = o} e n b = record { no = at }
   where
-    here : Barred so_far v (Part BindingIdent) x
-    here = subst (Barred so_far v (Part BindingIdent)) e b
+    here : Barred so_far v (Part BindingIdent) x o
+    here = subst (λ w. Barred so_far v (Part BindingIdent) w o) e b
 
-    at : (us : Forest) (w : Place) → Walk (Whole so_far) (steady v) named_row x us w → ⊥
-    at us w (next {ts = vs} (absent f g) walk) = (no_bracket_row n).no vs w (subst (λ p. Walk (Whole so_far) (steady v) code_row p vs w) (sym f ∙ unless_none x (found_first (Unless [] ∷ []) x (found_at f g))) walk)
-    at us w (next (present {z = z} {t = t} d q f g) walk) = here.no (one t) z (tree (subst (λ p. Whole so_far v false BindingIdent p t z) (sym d) q))
+    at : (us : Forest) (w : Place) → Walk (Whole so_far) (steady v) named_row x us w → Shallow o (deepest us) → ⊥
+    at us w (next {ts = vs} (absent f g) walk) s = (no_bracket_row n).no vs w (subst (λ p. Walk (Whole so_far) (steady v) code_row p vs w) (sym f ∙ unless_none x (found_first (Unless [] ∷ []) x (found_at f g))) walk) (shallow_rest o (one (list none)) vs s)
+    at us w (next {ts = us'} (present {z = z} {t = t} d q f g) walk) s = here.no (one t) z (tree (subst (λ p. Whole so_far v false BindingIdent p t z) (sym d) q)) (shallow_head o t none (shallow_first o (one (list (part t none))) us' s))
 
 -- ---- with what stands behind it
 
@@ -183,19 +189,19 @@ named_only {v} {x} {z = z} {t} {ts} n o = record { walk = n.to ts z o.walk; alon
     at : (us : Forest) (w : Place) → Walk (Whole so_far) (steady v) named_row x us w → (part t ts ≡ us) × (z ≡ w)
     at us w walk = let r = n.from us w walk in let s = o.alone r.parts w r.walk in (ap (part t) s.0 ∙ r.is, s.1)
 
-pub no_named : {v : Surroundings} {x : Place} → NoRow so_far v named_row x → NoNamed v x
-no_named n = record { no = λ ts y w h. n.no ts y w }
+pub no_named : {v : Surroundings} {x : Place} {e : Fault} → NoRow so_far v named_row x e → NoNamed v x e
+no_named n = record { no = λ ts y w h s. n.no ts y w s }
 
-pub no_named_code : {v : Surroundings} {x y : Place} (n : Option Ident) → IsNamed v x (optional_name n) y → NoCode v y → NoNamed v x
-no_named_code n i c = record { no = λ us w walk h. let r = i.from us w walk in c.no r.parts w r.walk (sym (plain_named n r.parts) ∙ (ap has_plain_params r.is ∙ h)) }
+pub no_named_code : {v : Surroundings} {x y : Place} {e : Fault} (n : Option Ident) → IsNamed v x (optional_name n) y → NoCode v y e → NoNamed v x e
+no_named_code {e = e} n i c = record { no = λ us w walk h s. let r = i.from us w walk in c.no r.parts w r.walk (sym (plain_named n r.parts) ∙ (ap has_plain_params r.is ∙ h)) (shallow_behind e (optional_name n) r.parts us r.is s) }
 
 -- ---- a function behind its word
 
 pub function_built : {v : Surroundings} {x y : Place} {t : Tree} {ts : Forest} → OnlyRow so_far v named_row x ts y → has_plain_params ts ≡ true → t ≡ node (function FunctionExpr) ts → BuiltNode so_far v (tail (row_so_far (function FunctionExpr))) (function FunctionExpr) t x y
 function_built o h e = record { parts = _; is = e; row = o; keeps = and_both _ _ h refl }
 
-pub no_function : {v : Surroundings} {x : Place} → NoNamed v x → NoNode so_far v (tail (row_so_far (function FunctionExpr))) (function FunctionExpr) x
-no_function {v} n = record { no = λ ts y w k. n.no ts y w (and_left (rule (function FunctionExpr) ts) (stands (function FunctionExpr) ts v) k) }
+pub no_function : {v : Surroundings} {x : Place} {e : Fault} → NoNamed v x e → NoNode so_far v (tail (row_so_far (function FunctionExpr))) (function FunctionExpr) x e
+no_function {v} n = record { no = λ ts y w k s. n.no ts y w (and_left (rule (function FunctionExpr) ts) (stands (function FunctionExpr) ts v) k) s }
 
 -- ---- places
 

@@ -14,12 +14,15 @@ use Rattle.jsx_tree.specs.View.{Owner, access_step, control_step, expr_step, jsx
 use Rattle.jsx_tree.specs.Walk.{is_found, Relation, Piece, one, sign, tree, Walk, done, next, around, steady}
 use Rattle.jsx_tree.specs.Language.{Whole}
 use Rattle.jsx_tree.specs.Answers.{Only, Barred, OnlyRow, NoRow}
+use Rattle.jsx_tree.specs.Faults.{Fault, Unread, Shallow, deepest}
 use Rattle.jsx_tree.proofs.Tokens.{and_both, and_left}
 use Rattle.jsx_tree.proofs.Apart.{clash}
 use Rattle.jsx_tree.proofs.Rows.Bridge.{found_at}
 use Rattle.jsx_tree.proofs.Rows.Placing.{free, free_around, moved}
 use Rattle.jsx_tree.proofs.Rows.Stopping.{or_cases}
 use Rattle.jsx_tree.proofs.Rows.Turns.{item_of}
+use Rattle.jsx_tree.proofs.Depth.Shallow.{shallow_first}
+use Rattle.jsx_function.proofs.Functions.{shallow_behind}
 use Rattle.jsx_token.specs.Here.{Here, place_of}
 use Rattle.jsx_operand.specs.Around.{in_field, in_method}
 use Rattle.jsx_operand.specs.Bodies.{view_body}
@@ -66,15 +69,15 @@ keyed_only {p} {k} {c} {ps} {v} {w} {x} {y} {key} {t} {ts} b e o h is = record {
         let s = o.alone us z (behind_in b (e us) (subst (λ i. Walk (Whole so_far) (around v (part key us)) (behind_key i) x us z) (sym q) r)) in
         ((λ i. node (sym q i) (part key (sym s.0 i))) ∙ sym is, sym s.1)
 
-pub keyed_none : {p : Kind → Bool} {k : Kind} {c : List Context} {ps : List Piece} {v w : Surroundings} {x : Place} {key : Tree} → Behind p k c ps → ((us : Forest) → enters (part key us) c v ≡ w) → ((us : Forest) (z : Place) → Walk (Whole so_far) (steady w) ps x us z → so_far.keeps k v (part key us) ≡ true → ⊥) → NoneKeyed p v key x
-keyed_none {p} {k} {c} {ps} {v} {w} {x} {key} b e n = record { no = λ j us z q r m. at j us z (b.alone j q) r m }
+pub keyed_none : {p : Kind → Bool} {k : Kind} {c : List Context} {ps : List Piece} {v w : Surroundings} {x : Place} {key : Tree} {o : Fault} → Behind p k c ps → ((us : Forest) → enters (part key us) c v ≡ w) → ((us : Forest) (z : Place) → Walk (Whole so_far) (steady w) ps x us z → so_far.keeps k v (part key us) ≡ true → Shallow o (deepest us) → ⊥) → NoneKeyed p v key x o
+keyed_none {p} {k} {c} {ps} {v} {w} {x} {key} {o = o} b e n = record { no = λ j us z q r m h. at j us z (b.alone j q) r m h }
   where
-    at : (j : Kind) (us : Forest) (z : Place) → k ≡ j → Walk (Whole so_far) (around v (part key us)) (behind_key j) x us z → so_far.keeps j v (part key us) ≡ true → ⊥
-    at j us z q = subst (λ i. Walk (Whole so_far) (around v (part key us)) (behind_key i) x us z → so_far.keeps i v (part key us) ≡ true → ⊥) q (λ r m. n us z (behind_in b (e us) r) m)
+    at : (j : Kind) (us : Forest) (z : Place) → k ≡ j → Walk (Whole so_far) (around v (part key us)) (behind_key j) x us z → so_far.keeps j v (part key us) ≡ true → Shallow o (deepest us) → ⊥
+    at j us z q r m h = subst (λ i. Walk (Whole so_far) (around v (part key us)) (behind_key i) x us z → so_far.keeps i v (part key us) ≡ true → ⊥) q (λ w l. n us z (behind_in b (e us) w) l h) r m
 
 -- ---- of two kinds
 
-pub keyed_first : {p q : Kind → Bool} {v : Surroundings} {key t : Tree} {x y : Place} → OnlyKeyed p v key t x y → NoneKeyed q v key x → OnlyKeyed (λ k. p k || q k) v key t x y
+pub keyed_first : {p q : Kind → Bool} {v : Surroundings} {key t : Tree} {x y : Place} → OnlyKeyed p v key t x y → NoneKeyed q v key x Unread → OnlyKeyed (λ k. p k || q k) v key t x y
 keyed_first {p} {q} o n = record {
   kind = o.kind;
   keyed = or_left (p o.kind) (q o.kind) o.keyed;
@@ -82,10 +85,10 @@ keyed_first {p} {q} o n = record {
   is = o.is;
   walk = o.walk;
   keeps = o.keeps;
-  alone = λ k us z h w m. or_cases (p k) (q k) h (λ i. o.alone k us z i w m) (λ i. absurd (n.no k us z i w m));
+  alone = λ k us z h w m. or_cases (p k) (q k) h (λ i. o.alone k us z i w m) (λ i. absurd (n.no k us z i w m tt));
 }
 
-pub keyed_second : {p q : Kind → Bool} {v : Surroundings} {key t : Tree} {x y : Place} → NoneKeyed p v key x → OnlyKeyed q v key t x y → OnlyKeyed (λ k. p k || q k) v key t x y
+pub keyed_second : {p q : Kind → Bool} {v : Surroundings} {key t : Tree} {x y : Place} → NoneKeyed p v key x Unread → OnlyKeyed q v key t x y → OnlyKeyed (λ k. p k || q k) v key t x y
 keyed_second {p} {q} n o = record {
   kind = o.kind;
   keyed = or_right (p o.kind) (q o.kind) o.keyed;
@@ -93,11 +96,11 @@ keyed_second {p} {q} n o = record {
   is = o.is;
   walk = o.walk;
   keeps = o.keeps;
-  alone = λ k us z h w m. or_cases (p k) (q k) h (λ i. absurd (n.no k us z i w m)) (λ i. o.alone k us z i w m);
+  alone = λ k us z h w m. or_cases (p k) (q k) h (λ i. absurd (n.no k us z i w m tt)) (λ i. o.alone k us z i w m);
 }
 
-pub keyed_neither : {p q : Kind → Bool} {v : Surroundings} {key : Tree} {x : Place} → NoneKeyed p v key x → NoneKeyed q v key x → NoneKeyed (λ k. p k || q k) v key x
-keyed_neither {p} {q} n m = record { no = λ k us z h w r. or_cases (p k) (q k) h (λ i. n.no k us z i w r) (λ i. m.no k us z i w r) }
+pub keyed_neither : {p q : Kind → Bool} {v : Surroundings} {key : Tree} {x : Place} {e : Fault} → NoneKeyed p v key x e → NoneKeyed q v key x e → NoneKeyed (λ k. p k || q k) v key x e
+keyed_neither {p} {q} n m = record { no = λ k us z h w r s. or_cases (p k) (q k) h (λ i. n.no k us z i w r s) (λ i. m.no k us z i w r s) }
 
 -- ---- with the key before it
 
@@ -125,14 +128,14 @@ from_only {p} {v} {key} {t} {x} {y} {z} o k = record { kind = k.kind; keyed = k.
         let s = k.alone j r.parts w h r.walk (subst (λ f. so_far.keeps j v f ≡ true) (sym r.is) m) in
         (ap (node j) (sym r.is) ∙ s.0, s.1)
 
-pub from_none : {p : Kind → Bool} {v : Surroundings} {key : Tree} {x y : Place} → Only so_far v (Part KeyPlace) x (one key) y → NoneKeyed p v key y → NoneFromKey p v x
-from_none {v = v} o n = record { no = λ j us z h w m. let r = past o w in n.no j r.parts z h r.walk (subst (λ f. so_far.keeps j v f ≡ true) (sym r.is) m) }
+pub from_none : {p : Kind → Bool} {v : Surroundings} {key : Tree} {x y : Place} {e : Fault} → Only so_far v (Part KeyPlace) x (one key) y → NoneKeyed p v key y e → NoneFromKey p v x e
+from_none {v = v} {key = key} {e = e} o n = record { no = λ j us z h w m s. let r = past o w in n.no j r.parts z h r.walk (subst (λ f. so_far.keeps j v f ≡ true) (sym r.is) m) (shallow_behind e key r.parts us r.is s) }
 
-pub from_barred : {p : Kind → Bool} {v : Surroundings} {x : Place} → Barred so_far v (Part KeyPlace) x → NoneFromKey p v x
-from_barred {v = v} {x} b = record { no = λ j us z h w m. at j w }
+pub from_barred : {p : Kind → Bool} {v : Surroundings} {x : Place} {e : Fault} → Barred so_far v (Part KeyPlace) x e → NoneFromKey p v x e
+from_barred {v = v} {x} {e = e} b = record { no = λ j us z h w m a. at j w a }
   where
-    at : (k : Kind) {us ts : Forest} {z : Place} → Walk (Whole so_far) (around v us) (from_key k) x ts z → ⊥
-    at k (next q w) = b.no _ _ q
+    at : (k : Kind) {us ts : Forest} {z : Place} → Walk (Whole so_far) (around v us) (from_key k) x ts z → Shallow e (deepest ts) → ⊥
+    at k (next {g = g'} {ts = us'} q w) s = b.no _ _ q (shallow_first e g' us' s)
 
 -- ---- the key of the code's tree is neither a body nor a list
 
@@ -197,12 +200,12 @@ method_behind h = record { passes = same_self h; alone = λ j e. method_is h j e
 pub method_only : {v : Surroundings} {x y : Place} {t : Tree} {ts : Forest} {b : Bool} (h : Holder) (k : Key) → b ≡ first_is_constructor h (part (view_key k) none) → OnlyRow so_far (in_method b v) own_row x ts y → has_plain_params ts ≡ true → t ≡ node (function (Method h)) (part (view_key k) ts) → OnlyKeyed (is_method h) v (view_key k) t x y
 method_only {v} {ts = ts} h k e o p is = keyed_only (method_behind h) (λ us. in_code h (view_key k) v us e) o (and_both _ _ (plain_keyed k ts ∙ p) refl) is
 
-pub no_method : {v : Surroundings} {x : Place} {b : Bool} (h : Holder) (k : Key) → b ≡ first_is_constructor h (part (view_key k) none) → NoOwnCode (in_method b v) x → NoneKeyed (is_method h) v (view_key k) x
-no_method {v} h k e n = keyed_none (method_behind h) (λ us. in_code h (view_key k) v us e) (λ us z w m. n.no us z w (sym (plain_keyed k us) ∙ and_left (has_plain_params (part (view_key k) us)) true m))
+pub no_method : {v : Surroundings} {x : Place} {b : Bool} {o : Fault} (h : Holder) (k : Key) → b ≡ first_is_constructor h (part (view_key k) none) → NoOwnCode (in_method b v) x o → NoneKeyed (is_method h) v (view_key k) x o
+no_method {v} h k e n = keyed_none (method_behind h) (λ us. in_code h (view_key k) v us e) (λ us z w m s. n.no us z w (sym (plain_keyed k us) ∙ and_left (has_plain_params (part (view_key k) us)) true m) s)
 
 -- no `(` stands there
-pub uncalled : {v : Surroundings} {x : Place} (h : Holder) (k : Key) → ((w : Surroundings) → NoRow so_far w own_row x) → NoneKeyed (is_method h) v (view_key k) x
-uncalled h k n = no_method h k refl (record { no = λ ts y w p. (n _).no ts y w })
+pub uncalled : {v : Surroundings} {x : Place} {e : Fault} (h : Holder) (k : Key) → ((w : Surroundings) → NoRow so_far w own_row x e) → NoneKeyed (is_method h) v (view_key k) x e
+uncalled h k n = no_method h k refl (record { no = λ ts y w p s. (n _).no ts y w s })
 
 -- ---- getters
 
@@ -221,8 +224,8 @@ getter_behind h = record { passes = same_self h; alone = λ j e. getter_is h j e
 pub getter_only : {v : Surroundings} {x y : Place} {t : Tree} {b : Bool} (h : Holder) (k : Key) (d : Body) → b ≡ first_is_constructor h (part (view_key k) none) → OnlyRow so_far (in_method b v) getter_row x (part (view_body d) none) y → t ≡ node (function (Getter h)) (part (view_key k) (part (view_body d) none)) → OnlyKeyed (is_getter h) v (view_key k) t x y
 getter_only {v} h k d e o is = keyed_only (getter_behind h) (λ us. in_code h (view_key k) v us e) o (and_both _ _ (or_right _ _ (and_both _ _ (key_plain k) refl)) refl) is
 
-pub no_getter : {v : Surroundings} {x : Place} {b : Bool} (h : Holder) (k : Key) → b ≡ first_is_constructor h (part (view_key k) none) → NoRow so_far (in_method b v) getter_row x → NoneKeyed (is_getter h) v (view_key k) x
-no_getter {v} h k e n = keyed_none (getter_behind h) (λ us. in_code h (view_key k) v us e) (λ us z w m. n.no us z w)
+pub no_getter : {v : Surroundings} {x : Place} {b : Bool} {o : Fault} (h : Holder) (k : Key) → b ≡ first_is_constructor h (part (view_key k) none) → NoRow so_far (in_method b v) getter_row x o → NoneKeyed (is_getter h) v (view_key k) x o
+no_getter {v} h k e n = keyed_none (getter_behind h) (λ us. in_code h (view_key k) v us e) (λ us z w m s. n.no us z w s)
 
 -- ---- setters
 
@@ -246,8 +249,8 @@ setter_only {v} h k d e o s is = keyed_only (setter_behind h) (λ us. in_code h 
 setter_suits : {V : List Context → Surroundings} {x z : Place} {us : Forest} (v : Surroundings) (h : Holder) (key : Tree) → Walk (Whole so_far) V setter_row x us z → so_far.keeps (function (Setter h)) v (part key us) ≡ true → suits_setter us ≡ true
 setter_suits v h key (next (sign a b) (next (tree {t = q} r) (next (sign c d) (next (sign e f) (next (tree {t = s} g) (next (sign i j) (done l))))))) m = and_left (not (is_strict_body s) || is_word q) true m
 
-pub no_setter : {v : Surroundings} {x : Place} {b : Bool} (h : Holder) (k : Key) → b ≡ first_is_constructor h (part (view_key k) none) → NoSetter (in_method b v) x → NoneKeyed (is_setter h) v (view_key k) x
-no_setter {v} h k e n = keyed_none (setter_behind h) (λ us. in_code h (view_key k) v us e) (λ us z w m. n.no us z w (setter_suits v h (view_key k) w m))
+pub no_setter : {v : Surroundings} {x : Place} {b : Bool} {o : Fault} (h : Holder) (k : Key) → b ≡ first_is_constructor h (part (view_key k) none) → NoSetter (in_method b v) x o → NoneKeyed (is_setter h) v (view_key k) x o
+no_setter {v} h k e n = keyed_none (setter_behind h) (λ us. in_code h (view_key k) v us e) (λ us z w m s. n.no us z w (setter_suits v h (view_key k) w m) s)
 
 -- ---- fields
 
@@ -276,36 +279,36 @@ field_keeps InObject v ts n p = cc
 pub field_only : {v : Surroundings} {x y : Place} {t : Tree} (h : Holder) (k : Key) (o : Option (Box Expr Global)) → same_holder h InObject ≡ false → OnlyRow so_far (in_field v) field_row x (part (optional_of view_expr o) none) y → t ≡ node (function (Field h)) (part (view_key k) (part (optional_of view_expr o) none)) → OnlyKeyed (is_field h) v (view_key k) t x y
 field_only {v} h k o n r is = keyed_only (field_behind h) (λ us. refl) r (field_keeps h v (part (view_key k) (part (optional_of view_expr o) none)) n (plain_keyed k (part (optional_of view_expr o) none) ∙ bodiless o)) is
 
-pub no_field : {v : Surroundings} {x : Place} (h : Holder) (k : Key) → NoRow so_far (in_field v) field_row x → NoneKeyed (is_field h) v (view_key k) x
-no_field {v} h k n = keyed_none (field_behind h) (λ us. refl) (λ us z w m. n.no us z w)
+pub no_field : {v : Surroundings} {x : Place} {e : Fault} (h : Holder) (k : Key) → NoRow so_far (in_field v) field_row x e → NoneKeyed (is_field h) v (view_key k) x e
+no_field {v} h k n = keyed_none (field_behind h) (λ us. refl) (λ us z w m s. n.no us z w s)
 
 -- ---- from a place that is another, and in surroundings that are others
 
 pub keyed_at : {p : Kind → Bool} {v : Surroundings} {c t : Tree} {x y : Here} {z : Place} → x ≡ y → OnlyKeyed p v c t (place_of x) z → OnlyKeyed p v c t (place_of y) z
 keyed_at {p} {v} {c} {t} {z = z} e o = subst (λ h. OnlyKeyed p v c t (place_of h) z) e o
 
-pub no_keyed_at : {p : Kind → Bool} {v : Surroundings} {c : Tree} {x y : Here} → x ≡ y → NoneKeyed p v c (place_of x) → NoneKeyed p v c (place_of y)
-no_keyed_at {p} {v} {c} e n = subst (λ h. NoneKeyed p v c (place_of h)) e n
+pub no_keyed_at : {p : Kind → Bool} {v : Surroundings} {c : Tree} {x y : Here} {o : Fault} → x ≡ y → NoneKeyed p v c (place_of x) o → NoneKeyed p v c (place_of y) o
+no_keyed_at {p} {v} {c} {o = o} e n = subst (λ h. NoneKeyed p v c (place_of h) o) e n
 
 pub row_in : {v w : Surroundings} {ps : List Piece} {x y : Place} {ts : Forest} → v ≡ w → OnlyRow so_far v ps x ts y → OnlyRow so_far w ps x ts y
 row_in {ps = ps} {x} {y} {ts} e o = subst (λ u. OnlyRow so_far u ps x ts y) e o
 
-pub no_row_in : {v w : Surroundings} {ps : List Piece} {x : Place} → v ≡ w → NoRow so_far v ps x → NoRow so_far w ps x
-no_row_in {ps = ps} {x} e n = subst (λ u. NoRow so_far u ps x) e n
+pub no_row_in : {v w : Surroundings} {ps : List Piece} {x : Place} {o : Fault} → v ≡ w → NoRow so_far v ps x o → NoRow so_far w ps x o
+no_row_in {ps = ps} {x} {o = o} e n = subst (λ u. NoRow so_far u ps x o) e n
 
-pub no_code_in : {v w : Surroundings} {x : Place} → v ≡ w → NoOwnCode v x → NoOwnCode w x
-no_code_in {x = x} e n = subst (λ u. NoOwnCode u x) e n
+pub no_code_in : {v w : Surroundings} {x : Place} {o : Fault} → v ≡ w → NoOwnCode v x o → NoOwnCode w x o
+no_code_in {x = x} {o = o} e n = subst (λ u. NoOwnCode u x o) e n
 
-pub no_setter_in : {v w : Surroundings} {x : Place} → v ≡ w → NoSetter v x → NoSetter w x
-no_setter_in {x = x} e n = subst (λ u. NoSetter u x) e n
+pub no_setter_in : {v w : Surroundings} {x : Place} {o : Fault} → v ≡ w → NoSetter v x o → NoSetter w x o
+no_setter_in {x = x} {o = o} e n = subst (λ u. NoSetter u x o) e n
 
 -- ---- no `(` behind a key
 
-pub unbracketed : {w : Surroundings} {x : Place} → is_found (forth (pun "(") x) ≡ false → NoRow so_far w own_row x
-unbracketed {w} {x} n = record { no = λ ts z k. at k }
+pub unbracketed : {w : Surroundings} {x : Place} {o : Fault} → is_found (forth (pun "(") x) ≡ false → NoRow so_far w own_row x o
+unbracketed {w} {x} {o = o} n = record { no = λ ts z k h. at k h }
   where
-    at : {ts : Forest} {z : Place} → Walk (Whole so_far) (steady w) own_row x ts z → ⊥
-    at (next (sign e g) k) = clash _ (found_at e g) n
+    at : {ts : Forest} {z : Place} → Walk (Whole so_far) (steady w) own_row x ts z → Shallow o (deepest ts) → ⊥
+    at (next (sign e g) k) s = clash _ (found_at e g) n
 
 -- ---- what isn't behind a key, whatever the key
 
@@ -315,5 +318,5 @@ code_behind {x = x} {z} h n r = at (behind_in (method_behind h) refl r)
     at : {u : Surroundings} {ts : Forest} → Walk (Whole so_far) (steady u) own_row x ts z → ⊥
     at (next (sign e f) w) = n (found_at e f)
 
-pub field_behind_in : {v : Surroundings} {c : Tree} {us : Forest} {x z : Place} (h : Holder) → ((w : Surroundings) → NoRow so_far w field_row x) → Walk (Whole so_far) (around v (part c us)) (behind_key (function (Field h))) x us z → ⊥
-field_behind_in {us = us} {z = z} h n r = (n _).no us z (behind_in (field_behind h) refl r)
+pub field_behind_in : {v : Surroundings} {c : Tree} {us : Forest} {x z : Place} (h : Holder) → ((w : Surroundings) → NoRow so_far w field_row x Unread) → Walk (Whole so_far) (around v (part c us)) (behind_key (function (Field h))) x us z → ⊥
+field_behind_in {us = us} {z = z} h n r = (n _).no us z (behind_in (field_behind h) refl r) tt

@@ -1,5 +1,6 @@
 pub mod Settled
 pub mod Prefixes
+pub mod Inside
 pub mod Keyed
 pub mod PlacedMembers
 pub mod Worded

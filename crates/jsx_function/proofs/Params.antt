@@ -14,6 +14,7 @@ use Rattle.jsx_tree.specs.StaticRules.{Surroundings, is_word}
 use Rattle.jsx_tree.specs.Walk.{is_found, Given, nothing, one, Piece, piece, Items, nil, last, more, Past, sign, tree, many, Walk, done, next, around, steady, tail}
 use Rattle.jsx_tree.specs.Language.{Whole}
 use Rattle.jsx_tree.specs.Answers.{Moves, Stuck, Missed, Only, Barred, OnlyRow, NoRow, Built}
+use Rattle.jsx_tree.specs.Faults.{Fault, Shallow, part_depth, deepest, given_depth}
 use Rattle.jsx_tree.proofs.Tokens.{and_both, and_left, and_right}
 use Rattle.jsx_tree.proofs.Apart.{clash, never_both}
 use Rattle.jsx_tree.proofs.Rows.Bridge.{found_first, found_at}
@@ -22,9 +23,11 @@ use Rattle.jsx_tree.proofs.Rows.Guarded.{whole_walk, whole_items_found, loosen, 
 use Rattle.jsx_tree.proofs.Rows.Bodies.{plain as plain_row}
 use Rattle.jsx_tree.proofs.Rows.Laws.{end_found}
 use Rattle.jsx_tree.proofs.Rows.Lists.{closed, ended_sign}
-use Rattle.jsx_tree.proofs.Rows.Placing.{free_around, moved}
+use Rattle.jsx_tree.proofs.Rows.Placing.{free_around, moved, node_shallow}
 use Rattle.jsx_tree.proofs.Rows.Steps.{bar, both}
-use Rattle.jsx_tree.proofs.Rows.Turns.{From, Turn, turn_only, turn_none, turn_as, turn_both, cons, item_of, whole_of, comma_trails, nothing_trails, prepend, prepend_cons}
+use Rattle.jsx_tree.proofs.Rows.Turns.{From, Turn, turn_only, turn_none, turn_as, turn_both, cons, item_of, whole_of, comma_trails, nothing_trails, prepend, prepend_cons, cons_up}
+use Rattle.jsx_tree.proofs.Depth.Shallow.{shallow_first, shallow_rest, shallow_head, part_up}
+use Rattle.jsx_function.proofs.Functions.{shallow_behind}
 use Rattle.jsx_operand.specs.SoFar.{Staged, so_far}
 use Rattle.jsx_token.specs.Marks.{ends_so_far, row_so_far}
 use Rattle.jsx_operand.proofs.OfSoFar.{of_so_far}
@@ -97,11 +100,11 @@ unholed (leaf _ t) r = refl
 unholed (node k ts) r = refl
 unholed (list ts) r = refl
 
-barred_by : {v : Surroundings} {x : Place} → ((u : Tree) (z : Place) → AtDefault v x z u → Whole so_far v false Param x u z → ⊥) → Barred so_far v (Part Param) x
-barred_by {v} {x} f = record { no = at }
+barred_by : {v : Surroundings} {x : Place} {e : Fault} → ((u : Tree) (z : Place) → AtDefault v x z u → Whole so_far v false Param x u z → Shallow e (part_depth u) → ⊥) → Barred so_far v (Part Param) x e
+barred_by {v} {x} {e = e} f = record { no = at }
   where
-    at : (g : Given) (z : Place) → Past (Whole so_far) v (Part Param) x g z → ⊥
-    at g z (tree {t = u} w) = f u z (at_default Param u refl w.reads) w
+    at : (g : Given) (z : Place) → Past (Whole so_far) v (Part Param) x g z → Shallow e (given_depth g) → ⊥
+    at g z (tree {t = u} w) s = f u z (at_default Param u refl w.reads) w s
 
 pub pattern_found : {v : Surroundings} {x y : Place} {t : Tree} → Only so_far v (Part (Pat Binds)) x (one t) y → IsTrue (is_found y)
 pattern_found o = end_found of_so_far (whole_of o.past).reads
@@ -117,17 +120,17 @@ element_param {v} {x} {y = y} {t} m given = record { reads = o.reads; alone = λ
     o : OnlyFilled v Param x t y
     o = subst (λ p. OnlyFilled v Param p t y) (sym m.same) (given.on Param refl)
 
-pub no_element : {v : Surroundings} {x x' : Place} → Missed (pun "...") x x' → NoElement v x' → Barred so_far v (Part Param) x
-no_element {v} {x} m given = barred_by (λ u z p w. at p w)
+pub no_element : {v : Surroundings} {x x' : Place} {e : Fault} → Missed (pun "...") x x' → NoElement v x' e → Barred so_far v (Part Param) x e
+no_element {v} {x} {e = e} m given = barred_by (λ u z p w s. at p w s)
   where
-    n : NoElement v x
-    n = subst (NoElement v) (sym m.same) given
+    n : NoElement v x e
+    n = subst (λ w. NoElement v w e) (sym m.same) given
 
-    at : {u : Tree} {z : Place} → AtDefault v x z u → Whole so_far v false Param x u z → ⊥
-    at {u} {z} (pattern r) w = n.no Param refl u z (unholed u w.reads) (unresting u r) w
-    at {z = z} (valued {ts}) w = n.no Param refl (node (function (WithInit Binds)) ts) z refl refl w
-    at rest w = stuck_not m.stuck (rest_led w.reads)
-    at hole w = let bad = w.reads.staged in cc
+    at : {u : Tree} {z : Place} → AtDefault v x z u → Whole so_far v false Param x u z → Shallow e (part_depth u) → ⊥
+    at {u} {z} (pattern r) w s = n.no Param refl u z (unholed u w.reads) (unresting u r) w s
+    at {z = z} (valued {ts}) w s = n.no Param refl (node (function (WithInit Binds)) ts) z refl refl w s
+    at rest w s = stuck_not m.stuck (rest_led w.reads)
+    at hole w s = let bad = w.reads.staged in cc
 
 -- whether it is a name alone
 pub element_word : {v : Surroundings} {x y : Place} {t : Tree} → IsElement v x t y → is_word t ≡ not (is_compound t)
@@ -159,17 +162,17 @@ rest_param {v} {x} {a} {y} {t} m b = record {
     at {p = p} (rest {ts}) q = let e = w.row.alone ts p (rest_whole q) in (w.is ∙ ap (node (function (RestPat Binds))) e.0, e.1)
     at hole q = let bad = q.reads.staged in cc
 
-pub no_rest_param : {v : Surroundings} {x a : Place} → Moves (pun "...") x a → NoRow so_far v (tail rest_row) a → Barred so_far v (Part Param) x
-no_rest_param {v} {x} m n = barred_by (λ u z p w. at p w)
+pub no_rest_param : {v : Surroundings} {x a : Place} {e : Fault} → Moves (pun "...") x a → NoRow so_far v (tail rest_row) a e → Barred so_far v (Part Param) x e
+no_rest_param {v} {x} {e = e} m n = barred_by (λ u z p w s. at p w s)
   where
     there : IsTrue (is_found (forth (pun "...") x))
     there = found_at (sym m.is) m.found
 
-    at : {u : Tree} {p : Place} → AtDefault v x p u → Whole so_far v false Param x u p → ⊥
-    at {u} (pattern r) q = pattern_unmarked u (codes "...") refl refl r there
-    at valued q = unled (codes "...") refl refl (value_whole Param refl q) there
-    at {p = p} (rest {ts}) q = (signed_none rest_row refl m n).no ts p (rest_whole q)
-    at hole q = let bad = q.reads.staged in cc
+    at : {u : Tree} {p : Place} → AtDefault v x p u → Whole so_far v false Param x u p → Shallow e (part_depth u) → ⊥
+    at {u} (pattern r) q s = pattern_unmarked u (codes "...") refl refl r there
+    at valued q s = unled (codes "...") refl refl (value_whole Param refl q) there
+    at {p = p} (rest {ts}) q s = (signed_none rest_row refl m n).no ts p (rest_whole q) (node_shallow e false refl of_so_far q.reads s)
+    at hole q s = let bad = q.reads.staged in cc
 
 -- ---- the list, and what closes it
 
@@ -220,7 +223,7 @@ not_last {v} {x} {y} {t} r c = at (at_default Param t refl r) r
 -- ---- a parameter and a comma
 
 turn_param : {v : Surroundings} {x y z : Place} {t : Tree} → OnlyParam v x t y → Stuck (pun ")") x → Moves (pun ",") y z → Turn so_far v inside inside x z (cons t)
-turn_param {v} {x} {y} {z} {t} o c m = record { to = forward; from = back }
+turn_param {v} {x} {y} {z} {t} o c m = record { to = forward; from = back; rises = cons_up t }
   where
     there : IsTrue (is_found (forth (pun ",") y))
     there = found_at (sym m.is) m.found
@@ -267,12 +270,12 @@ last_from {v} {x} {y} {t} o c n us w (next {ts = vs} (many {ts = ts} e all) walk
         absurd (stuck_not n (subst (λ q. IsTrue (is_found (forth (pun ",") q))) (sym s.1) (found_at e (whole_items_found of_so_far all))))
 
 turn_end : {v : Surroundings} {x y : Place} {t : Tree} → OnlyParam v x t y → Stuck (pun ")") x → Stuck (pun ",") y → IsTrue (is_found (forth (pun ")") y)) → Turn so_far v inside closing x y (part (list (part t none)))
-turn_end {y = y} o c n f = record { to = λ ts w walk. next (many refl (last (whole_before o (close_ends y f)) (nothing_trails y n) (end_found of_so_far o.reads))) walk; from = last_from o c n }
+turn_end {y = y} {t = t} o c n f = record { to = λ ts w walk. next (many refl (last (whole_before o (close_ends y f)) (nothing_trails y n) (end_found of_so_far o.reads))) walk; from = last_from o c n; rises = part_up (list (part t none)) }
 
 -- ---- where nothing more stands
 
 turn_shut : {v : Surroundings} {x z : Place} → Moves (pun ")") x z → Turn so_far v inside closing x x (part (list none))
-turn_shut {v} {x} {z} m = record { to = λ ts w walk. next (many refl (nil (found_first (pun ")" ∷ []) x there))) walk; from = back }
+turn_shut {v} {x} {z} m = record { to = λ ts w walk. next (many refl (nil (found_first (pun ")" ∷ []) x there))) walk; from = back; rises = part_up (list none) }
   where
     there : IsTrue (is_found (forth (pun ")") x))
     there = found_at (sym m.is) m.found
@@ -294,19 +297,19 @@ both_none (part t ts) = ap (part t) (both_none ts)
 pub shut : {v : Surroundings} {x y z : Place} (ts : Forest) → Turn so_far v inside inside x y (prepend ts) → Moves (pun ")") y z → OnlyRow so_far v inside x (part (list ts) none) z
 shut {v} {x} {z = z} ts so m = subst (λ us. OnlyRow so_far v inside x (part (list us) none) z) (both_none ts) (turn_only so (turn_only (turn_shut m) (closed m)))
 
-pub none_more : {v : Surroundings} {x y y' : Place} (ts : Forest) → Turn so_far v inside inside x y (prepend ts) → Missed (pun ")") y y' → Barred so_far v (Part Param) y' → NoRow so_far v inside x
-none_more {v} {y = y} ts so m n = turn_none so (record { no = back })
+pub none_more : {v : Surroundings} {x y y' : Place} {o : Fault} (ts : Forest) → Turn so_far v inside inside x y (prepend ts) → Missed (pun ")") y y' → Barred so_far v (Part Param) y' o → NoRow so_far v inside x o
+none_more {v} {y = y} {o = o} ts so m n = turn_none so (record { no = back })
   where
-    here : Barred so_far v (Part Param) y
-    here = subst (Barred so_far v (Part Param)) (sym m.same) n
+    here : Barred so_far v (Part Param) y o
+    here = subst (λ w. Barred so_far v (Part Param) w o) (sym m.same) n
 
-    inner : (ts : Forest) (p : Place) → Items (Whole so_far) v Commas Param y ts p → (us : Forest) (w : Place) → Walk (Whole so_far) (steady v) closing p us w → ⊥
-    inner ts p (nil f) us w walk = stuck_not m.stuck (closing_found walk)
-    inner ts p (last r e f) us w walk = here.no _ _ (tree r)
-    inner ts p (more k r e all) us w walk = here.no _ _ (tree r)
+    inner : (ts : Forest) (p : Place) → Items (Whole so_far) v Commas Param y ts p → (us : Forest) (w : Place) → Walk (Whole so_far) (steady v) closing p us w → Shallow o (deepest ts) → Shallow o (deepest us) → ⊥
+    inner ts p (nil f) us w walk h q' = stuck_not m.stuck (closing_found walk)
+    inner ts p (last {t = t'} r e f) us w walk h q' = here.no _ _ (tree r) (shallow_head o t' none h)
+    inner ts p (more {t = t'} {u = u'} {us = vs'} k r e all) us w walk h q' = here.no _ _ (tree r) (shallow_head o t' (part u' vs') h)
 
-    back : (us : Forest) (w : Place) → Walk (Whole so_far) (steady v) inside y us w → ⊥
-    back us w (next {ts = vs} (many {ts = ts} e all) walk) = inner ts _ all vs w walk
+    back : (us : Forest) (w : Place) → Walk (Whole so_far) (steady v) inside y us w → Shallow o (deepest us) → ⊥
+    back us w (next {ts = vs} (many {ts = ts} e all) walk) s = inner ts _ all vs w walk (shallow_first o (one (list ts)) vs s) (shallow_rest o (one (list ts)) vs s)
 
 param_at : {v : Surroundings} {y y' z : Place} {t : Tree} → Missed (pun ")") y y' → OnlyParam v y' t z → OnlyParam v y t z
 param_at {v} {z = z} {t} n o = subst (λ p. OnlyParam v p t z) (sym n.same) o
@@ -325,8 +328,8 @@ shut_behind {v} {x} {z = z} {z'} {w} {t} ts us so n o m k e =
     at : Past (Whole so_far) v (Fixed (pun ")")) z nothing w → IsTrue (is_found (forth (pun ")") z))
     at (sign e f) = found_at e f
 
-pub unshut : {v : Surroundings} {x y y' z z' : Place} {t : Tree} (ts : Forest) → Turn so_far v inside inside x y (prepend ts) → Missed (pun ")") y y' → OnlyParam v y' t z → Missed (pun ",") z z' → Barred so_far v (Fixed (pun ")")) z' → NoRow so_far v inside x
-unshut {v} {y = y} {z = z} ts so n o m b = turn_none so (record { no = λ us w walk. let f = last_from (param_at n o) n.stuck m.stuck us w walk in here.no f.parts w f.walk })
+pub unshut : {v : Surroundings} {x y y' z z' : Place} {t : Tree} {e : Fault} (ts : Forest) → Turn so_far v inside inside x y (prepend ts) → Missed (pun ")") y y' → OnlyParam v y' t z → Missed (pun ",") z z' → Barred so_far v (Fixed (pun ")")) z' e → NoRow so_far v inside x e
+unshut {v} {y = y} {z = z} {t = t} {e = e} ts so n o m b = turn_none so (record { no = λ us w walk s. let f = last_from (param_at n o) n.stuck m.stuck us w walk in here.no f.parts w f.walk (shallow_behind e (list (part t none)) f.parts us f.is s) })
   where
-    here : NoRow so_far v closing z
-    here = bar (subst (λ p. Barred so_far v (Fixed (pun ")")) p) (sym m.same) b)
+    here : NoRow so_far v closing z e
+    here = bar (subst (λ p. Barred so_far v (Fixed (pun ")")) p e) (sym m.same) b)

@@ -1,5 +1,5 @@
 -- What stands in an object's pattern, up to its `}`: as a loop of the parser reads it (ECMA-262 section 14.3.3). A name alone, one with its default and the key of a property may be read from one place, so it is what stands behind that tells.
-use Rattle.std.proofs.Common.{◌≡◌, Bool, List, [], ◌∷◌, true, false, not, refl, sym, ◌∙◌, ap, subst}
+use Rattle.std.proofs.Common.{◌≡◌, Bool, List, [], ◌∷◌, true, false, not, refl, sym, ◌∙◌, ap, subst, ◌≤◌, ℕ, suc, arith}
 use Rattle.std.specs.Prelude.{IsTrue, codes, ◌||◌}
 use Rattle.jsx_base.specs.Token.{Text, Operator, Punctuator, IdentifierName, Elision, same}
 use Rattle.jsx_tree.specs.Signs.{Sign, Tok, TrailingComma, Unless}
@@ -12,6 +12,7 @@ use Rattle.jsx_tree.specs.StaticRules.{Surroundings}
 use Rattle.jsx_tree.specs.Walk.{is_found, IsRead, nothing, one, Piece, piece, Items, nil, last, more, Past, sign, tree, many, Walk, done, next, around, steady, tail}
 use Rattle.jsx_tree.specs.Language.{Whole}
 use Rattle.jsx_tree.specs.Answers.{Moves, Stuck, Missed, Only, Barred, OnlyRow, NoRow, Built}
+use Rattle.jsx_tree.specs.Faults.{Fault, Shallow, part_depth, deepest, outer, Unread, Deep, Below}
 use Rattle.jsx_tree.proofs.Tokens.{and_left, and_both, and_right}
 use Rattle.jsx_tree.proofs.Apart.{clash, never_both}
 use Rattle.jsx_tree.proofs.Rows.Bridge.{found_first, found_at}
@@ -20,9 +21,9 @@ use Rattle.jsx_tree.proofs.Rows.Guarded.{whole_walk, whole_items_found, loosen, 
 use Rattle.jsx_tree.proofs.Rows.Bodies.{plain as plain_row}
 use Rattle.jsx_tree.proofs.Rows.Laws.{end_found}
 use Rattle.jsx_tree.proofs.Rows.Lists.{closed, ended_sign}
-use Rattle.jsx_tree.proofs.Rows.Placing.{free_around, moved}
+use Rattle.jsx_tree.proofs.Rows.Placing.{free_around, moved, node_shallow, nested_shallow}
 use Rattle.jsx_tree.proofs.Rows.Steps.{bar, both, end, only_sign, then'}
-use Rattle.jsx_tree.proofs.Rows.Turns.{From, Turn, turn_symbol, turn_only, turn_none, turn_as, turn_both, cons, item_of, whole_of, comma_trails, nothing_trails, prepend, prepend_cons}
+use Rattle.jsx_tree.proofs.Rows.Turns.{From, Turn, turn_symbol, turn_only, turn_none, turn_as, turn_both, cons, item_of, whole_of, comma_trails, nothing_trails, prepend, prepend_cons, turn_shallow, cons_up}
 use Rattle.jsx_operand.specs.SoFar.{Staged, so_far}
 use Rattle.jsx_operand.specs.Members.{is_word}
 use Rattle.jsx_function.specs.Patterns.{NoElement, NoPart, NoShort, OnlyFilled, OnlyPair, OnlyPart, OnlyShort}
@@ -31,8 +32,12 @@ use Rattle.jsx_token.specs.Marks.{ends_so_far, row_so_far}
 use Rattle.jsx_token.proofs.Listed.{listed}
 use Rattle.jsx_operand.proofs.OfSoFar.{of_so_far}
 use Rattle.jsx_tree.proofs.Rows.Firsts.{kind_home}
+use Rattle.jsx_tree.proofs.Depth.Shallow.{below_shallow, shallow_first, shallow_rest, shallow_head, part_up}
+use Rattle.jsx_token.specs.Here.{Here, place_of}
+use Rattle.jsx_function.proofs.Functions.{shallow_behind}
+use Rattle.jsx_operand.proofs.Patterns.{deep_counted, deep_nested}
 use Rattle.jsx_operand.proofs.Standing.{standing}
-use Rattle.jsx_operand.proofs.Homes.{IsName, Taken, taken_by, home_of, no_list, bindings}
+use Rattle.jsx_operand.proofs.Homes.{IsName, Taken, taken_by, home_of, no_list, bindings, told, leaf_one}
 use Rattle.jsx_operand.proofs.Values.{leaf_full, leaf_to, led_sign, settled_token}
 use Rattle.jsx_operand.proofs.Climbing.{mark_goes, signed_built, signed_none}
 use Rattle.jsx_function.proofs.Params.{comma_unless}
@@ -185,6 +190,18 @@ colon_moves {v} {x} {a} o = at o.past
     at : Past (Whole so_far) v (Fixed (pun ":")) x nothing a → Moves (pun ":") x a
     at (sign e f) = record { is = sym e; found = f }
 
+-- one level more, as of what is round a node
+shallow_outwards : (e : Fault) (d : ℕ) → Shallow e d → Shallow (outer e) d
+shallow_outwards Unread d s = tt
+shallow_outwards (Deep n) d s = omega (arith, s)
+
+below_more : (k : ℕ) (e : Fault) → Below k e → Below (suc k) e
+below_more k Unread b = b
+below_more k (Deep n) b = omega (arith, b)
+
+one_below : (k : ℕ) → k ≤ k
+one_below k = omega arith
+
 unholed : {v : Surroundings} {x y : Place} (t : Tree) → Staged v false (PatElement Binds) x t y → is_hole t ≡ false
 unholed (leaf Elision t) r = let bad = r.staged in cc
 unholed (leaf _ t) r = refl
@@ -198,14 +215,14 @@ unrested (node _ ts) q = refl
 unrested (leaf k t) q = refl
 unrested (list ts) q = refl
 
-pub no_pair_value : {v : Surroundings} {a : Place} → NoElement v a → NoRow so_far v (tail (tail pair_row)) a
-no_pair_value {v} {a} n = record { no = at }
+pub no_pair_value : {v : Surroundings} {a : Place} {e : Fault} → NoElement v a e → NoRow so_far v (tail (tail pair_row)) a e
+no_pair_value {v} {a} {e = e} n = record { no = at }
   where
-    unfilled : {u : Tree} {z : Place} → Whole so_far v false (PatElement Binds) a u z → ⊥
-    unfilled {u} {z} w = n.no (PatElement Binds) refl u z (unholed u w.reads) (unrested u w.reads) w
+    unfilled : {u : Tree} {z : Place} → Whole so_far v false (PatElement Binds) a u z → Shallow e (part_depth u) → ⊥
+    unfilled {u} {z} w h = n.no (PatElement Binds) refl u z (unholed u w.reads) (unrested u w.reads) w h
 
-    at : (us : Forest) (z : Place) → Walk (Whole so_far) (steady v) (tail (tail pair_row)) a us z → ⊥
-    at us z (next (tree q) w) = unfilled q
+    at : (us : Forest) (z : Place) → Walk (Whole so_far) (steady v) (tail (tail pair_row)) a us z → Shallow e (deepest us) → ⊥
+    at us z (next {ts = vs} (tree {t = u} q) w) s = unfilled q (shallow_first e (one u) vs s)
 
 pub pair_part : {v : Surroundings} {x y z : Place} {t u : Tree} → Only so_far v (Part Key) x (one t) y → OnlyPair v y t u z → OnlyPart v x u z
 pair_part {v} {x} {y} {z} {t} {u} o b = record {
@@ -239,8 +256,8 @@ pair_part {v} {x} {y} {z} {t} {u} o b = record {
     at s rest q = absurd (key_unmarked (codes "...") refl (whole_of o.past).reads (rest_led q.reads))
 
 -- none that begins with the key, which is no name that may be bound, or before a `:`
-pub no_pair_part : {v : Surroundings} {x y : Place} {t : Tree} → Only so_far v (Part Key) x (one t) y → ((s : Text) → t ≡ leaf IdentifierName s → is_bound s ≡ true → IsTrue (is_found (forth (pun ":") y))) → NoRow so_far v (tail pair_row) y → NoPart v x
-no_pair_part {v} {x} {y} {t} o c n = record { no = λ w p s q. at s (at_part w q.reads) q }
+pub no_pair_part : {v : Surroundings} {x y : Place} {t : Tree} {d : Fault} → Only so_far v (Part Key) x (one t) y → ((s : Text) → t ≡ leaf IdentifierName s → is_bound s ≡ true → IsTrue (is_found (forth (pun ":") y))) → NoRow so_far v (tail pair_row) y d → NoPart v x (outer d)
+no_pair_part {v} {x} {y} {t} {d = d} o c n = record { no = λ w p s q shallow. at s (at_part w q.reads) q shallow }
   where
     tree_is : {u : Tree} → one t ≡ one u → t ≡ u
     tree_is e = ap item_of e
@@ -257,14 +274,14 @@ no_pair_part {v} {x} {y} {t} o c n = record { no = λ w p s q. at s (at_part w q
     default_none : {ts : Forest} {p : Place} → Walk (Whole so_far) (steady v) default_row x ts p → ⊥
     default_none (next (tree q) (next {x = a} (sign e g) w)) = never_both Punctuator Punctuator (codes ":") (codes "=") a refl (subst (λ a. IsTrue (is_found (forth (pun ":") a))) (key_end o q) (colon q)) (found_at e g)
 
-    at : {w : Tree} {p : Place} → Stuck (pun ":") p → AtPart w → Whole so_far v false (PatProp Binds) x w p → ⊥
-    at {p = p} s (paired {ts}) q = let f = (turn_symbol o).from ts p (pair_whole q) in n.no f.parts p f.walk
-    at s short q = short_none s (short_whole q)
-    at s valued q = default_none (default_whole q)
-    at s rest q = key_unmarked (codes "...") refl (whole_of o.past).reads (rest_led q.reads)
+    at : {w : Tree} {p : Place} → Stuck (pun ":") p → AtPart w → Whole so_far v false (PatProp Binds) x w p → Shallow (outer d) (part_depth w) → ⊥
+    at {p = p} s (paired {ts}) q h = let f = (turn_symbol o).from ts p (pair_whole q) in n.no f.parts p f.walk (turn_shallow d (turn_symbol o) ts p (pair_whole q) (node_shallow d true refl of_so_far q.reads h))
+    at s short q h = short_none s (short_whole q)
+    at s valued q h = default_none (default_whole q)
+    at s rest q h = key_unmarked (codes "...") refl (whole_of o.past).reads (rest_led q.reads)
 
 -- the same of a key that is no name
-pub no_wordless_part : {v : Surroundings} {x y : Place} {t : Tree} → Only so_far v (Part Key) x (one t) y → is_word t ≡ false → NoRow so_far v (tail pair_row) y → NoPart v x
+pub no_wordless_part : {v : Surroundings} {x y : Place} {t : Tree} {d : Fault} → Only so_far v (Part Key) x (one t) y → is_word t ≡ false → NoRow so_far v (tail pair_row) y d → NoPart v x (outer d)
 no_wordless_part o w n = no_pair_part o (λ s e i. let bad : true ≡ false = ap is_word (sym e) ∙ w in cc) n
 
 -- one that is a name can't be bound, or stands before a `:`; or neither
@@ -286,23 +303,23 @@ unkeyed {y} {p} t same h = let n = neither _ _ h in (held (is_bound t) n.0, reco
     held false e = cc
 
 -- no key stands there, and no dots
-pub no_key_part : {v : Surroundings} {x : Place} → Stuck (pun "...") x → Barred so_far v (Part Key) x → NoPart v x
-no_key_part {v} {x} k b = record { no = λ w p s q. at (at_part w q.reads) q }
+pub no_key_part : {v : Surroundings} {x : Place} {e : Fault} → Stuck (pun "...") x → Barred so_far v (Part Key) x e → NoPart v x (outer e)
+no_key_part {v} {x} {e = e} k b = record { no = λ w p s q h'. at (at_part w q.reads) q h' }
   where
-    pair_none : {ts : Forest} {p : Place} → Walk (Whole so_far) (steady v) pair_row x ts p → ⊥
-    pair_none (next q w) = b.no _ _ q
+    pair_none : {ts : Forest} {p : Place} → Walk (Whole so_far) (steady v) pair_row x ts p → Shallow e (deepest ts) → ⊥
+    pair_none (next {g = g'} {ts = us'} q w) s' = b.no _ _ q (shallow_first e g' us' s')
 
-    short_none : {ts : Forest} {p : Place} → Walk (Whole so_far) (steady v) short_row x ts p → ⊥
-    short_none (next (tree {t = n} q) w) = b.no (one n) _ (tree (as_key n q.reads))
+    short_none : {ts : Forest} {p : Place} → Walk (Whole so_far) (steady v) short_row x ts p → Shallow e (deepest ts) → ⊥
+    short_none (next {ts = us'} (tree {t = n} q) w) a = b.no (one n) _ (tree (as_key n q.reads)) (shallow_first e (one n) us' a)
 
-    default_none : {ts : Forest} {p : Place} → Walk (Whole so_far) (steady v) default_row x ts p → ⊥
-    default_none (next (tree {t = n} q) w) = b.no (one n) _ (tree (as_key n q.reads))
+    default_none : {ts : Forest} {p : Place} → Walk (Whole so_far) (steady v) default_row x ts p → Shallow e (deepest ts) → ⊥
+    default_none (next {ts = us'} (tree {t = n} q) w) h = b.no (one n) _ (tree (as_key n q.reads)) (shallow_first e (one n) us' h)
 
-    at : {w : Tree} {p : Place} → AtPart w → Whole so_far v false (PatProp Binds) x w p → ⊥
-    at paired q = pair_none (pair_whole q)
-    at short q = short_none (short_whole q)
-    at valued q = default_none (default_whole q)
-    at rest q = stuck_not k (rest_led q.reads)
+    at : {w : Tree} {p : Place} → AtPart w → Whole so_far v false (PatProp Binds) x w p → Shallow (outer e) (part_depth w) → ⊥
+    at paired q s = pair_none (pair_whole q) (node_shallow e true refl of_so_far q.reads s)
+    at short q s = short_none (short_whole q) (node_shallow e true refl of_so_far q.reads s)
+    at (valued {ts}) q s = default_none (default_whole q) (nested_shallow e of_so_far q.reads (shallow_outwards (outer e) (part_depth (node (function (ShorthandInit Binds)) ts)) s))
+    at rest q s = stuck_not k (rest_led q.reads)
 
 -- ---- a name alone, or with its default
 
@@ -376,22 +393,88 @@ filled_part {v} {x} {y} {a} {z} {n} {e} {t} k value is o c = record {
 pub valued_part : {v : Surroundings} {y a z : Place} {n e t : Tree} → Moves (pun "=") y a → Only so_far v (Part (Expr 1)) a (one e) z → t ≡ node (function (ShorthandInit Binds)) (part n (part e none)) → OnlyShort v n y t z
 valued_part k value is = record { on = λ x o c. filled_part k value is o c }
 
-unfilled_part : {v : Surroundings} {x y a : Place} {n : Tree} → Moves (pun "=") y a → Barred so_far v (Part (Expr 1)) a → Only so_far v (Part BindingIdent) x (one n) y → Stuck (pun ":") y → NoPart v x
-unfilled_part {v} {x} {y} {a} {n} k b o c = record { no = λ w p s q. at (at_part w q.reads) q }
+unfilled_part : {v : Surroundings} {x y a : Place} {n : Tree} {d : Fault} → Moves (pun "=") y a → Barred so_far v (Part (Expr 1)) a d → Only so_far v (Part BindingIdent) x (one n) y → Stuck (pun ":") y → NoPart v x (outer (outer d))
+unfilled_part {v} {x} {y} {a} {n} {d = d} k b o c = record { no = λ w p s q s'. at (at_part w q.reads) q s' }
   where
-    unvalued : {ts : Forest} {p : Place} → Walk (Whole so_far) (steady v) default_row x ts p → ⊥
-    unvalued (next (tree {t = w} q) (next (sign e f) (next r walk))) =
+    unvalued : {ts : Forest} {p : Place} → Walk (Whole so_far) (steady v) default_row x ts p → Shallow d (deepest ts) → ⊥
+    unvalued (next {ts = us'} (tree {t = w} q) (next (sign e f) (next {g = g'} {ts = vs'} r walk))) h =
         let s = o.alone (one w) _ (tree q) in
-        (subst (Barred so_far v (Part (Expr 1))) (k.is ∙ (ap (forth (pun "=")) s.1 ∙ e)) b).no _ _ r
+        (subst (λ w. Barred so_far v (Part (Expr 1)) w d) (k.is ∙ (ap (forth (pun "=")) s.1 ∙ e)) b).no _ _ r (shallow_first d g' vs' (shallow_rest d (one w) us' h))
 
-    at : {w : Tree} {p : Place} → AtPart w → Whole so_far v false (PatProp Binds) x w p → ⊥
-    at paired q = unpaired o c (pair_whole q)
-    at short q = unshort o (found_at (sym k.is) k.found) q.ends_there (short_whole q)
-    at valued q = unvalued (default_whole q)
-    at rest q = unresting o q.reads
+    at : {w : Tree} {p : Place} → AtPart w → Whole so_far v false (PatProp Binds) x w p → Shallow (outer (outer d)) (part_depth w) → ⊥
+    at paired q s = unpaired o c (pair_whole q)
+    at short q s = unshort o (found_at (sym k.is) k.found) q.ends_there (short_whole q)
+    at valued q s = unvalued (default_whole q) (nested_shallow d of_so_far q.reads s)
+    at rest q s = unresting o q.reads
 
-pub no_valued_part : {v : Surroundings} {y a : Place} {n : Tree} → Moves (pun "=") y a → Barred so_far v (Part (Expr 1)) a → NoShort v n y
+pub no_valued_part : {v : Surroundings} {y a : Place} {n : Tree} {e : Fault} → Moves (pun "=") y a → Barred so_far v (Part (Expr 1)) a e → NoShort v n y (outer e)
 no_valued_part k b = record { no = λ x o c. unfilled_part k b o c }
+
+-- ---- what is too deep
+
+-- at a level less than a property's
+outer_part : {v : Surroundings} {x : Place} {e : Fault} → NoPart v x (outer e) → NoPart v x e
+outer_part {e = e} n = record { no = λ u z s q h. n.no u z s q (shallow_outwards e (part_depth u) h) }
+
+pub no_literal_part : {v : Surroundings} {x : Place} {e : Fault} → Stuck (pun "...") x → Barred so_far v (Part Key) x e → NoPart v x e
+no_literal_part k b = outer_part (no_key_part k b)
+
+-- from a place that is another
+pub no_part_from : {v : Surroundings} {x y : Here} {e : Fault} → x ≡ y → NoPart v (place_of x) e → NoPart v (place_of y) e
+no_part_from {v} {e = e} q n = subst (λ h. NoPart v (place_of h) e) q n
+
+-- where no dots stand, whatever stands there counts
+pub deep_bracket : {v : Surroundings} {x : Place} {e : Fault} → Stuck (pun "...") x → Below 0 e → NoPart v x e
+deep_bracket {v} {x} {e} k b = record { no = λ u p s q h. at (at_part u q.reads) q h }
+  where
+    at : {u : Tree} {p : Place} → AtPart u → Whole so_far v false (PatProp Binds) x u p → Shallow e (part_depth u) → ⊥
+    at paired q h = deep_counted e refl q.reads b h
+    at short q h = deep_counted e refl q.reads b h
+    at valued q h = deep_nested e q.reads (below_more 0 e b) h
+    at rest q h = stuck_not k (rest_led q.reads)
+
+-- and so does its key
+pub deep_part : {v : Surroundings} {x y : Place} {t : Tree} {e : Fault} → Only so_far v (Part Key) x (one t) y → part_depth t ≡ 1 → Below 1 e → NoPart v x e
+deep_part {v} {x} {y} {t} {e} o d b = record { no = λ u p s q h. at (at_part u q.reads) q (below_shallow 1 e (part_depth u) b h) }
+  where
+    none_key : {k : Tree} {a : Place} → Whole so_far v false Key x k a → part_depth k ≤ 0 → ⊥
+    none_key {k} {a} q h =
+        let s : t ≡ k = ap item_of (o.alone (one k) a (tree q)).0 in
+        let same : part_depth t ≡ part_depth k = ap part_depth s in
+        omega (arith, d, same, h)
+
+    paired_none : {ts : Forest} {p : Place} → Walk (Whole so_far) (steady v) pair_row x ts p → deepest ts ≤ 0 → ⊥
+    paired_none (next {ts = us'} (tree {t = k} q) w) h = none_key q (shallow_first (Deep 0) (one k) us' h)
+
+    short_none : {ts : Forest} {p : Place} → Walk (Whole so_far) (steady v) short_row x ts p → deepest ts ≤ 0 → ⊥
+    short_none (next {ts = us'} (tree {t = k} q) w) h = none_key (as_key k q.reads) (shallow_first (Deep 0) (one k) us' h)
+
+    at : {u : Tree} {p : Place} → AtPart u → Whole so_far v false (PatProp Binds) x u p → part_depth u ≤ 1 → ⊥
+    at paired q h = paired_none (pair_whole q) (node_shallow (Deep 0) true refl of_so_far q.reads h)
+    at short q h = short_none (short_whole q) (node_shallow (Deep 0) true refl of_so_far q.reads h)
+    at valued q h = deep_nested (Deep 1) q.reads (one_below 1) h
+    at rest q h = key_unmarked (codes "...") refl (whole_of o.past).reads (rest_led q.reads)
+
+-- a name with its default is deeper by two levels than the name
+pub deep_default : {v : Surroundings} {y a : Place} {n : Tree} {e : Fault} → Moves (pun "=") y a → Below 1 e → NoShort v n y e
+deep_default {v} {y} {n = n} {e} k b = record { no = λ x o c. record { no = λ u p s q h. at o c (at_part u q.reads) q h } }
+  where
+    lower : (d : Fault) (m : ℕ) → Below 1 d → Shallow (outer d) m → m ≤ 2
+    lower Unread m w s = absurd w
+    lower (Deep i) m w s = omega (arith, w, s)
+
+    none_name : {x p : Place} {ts : Forest} → Walk (Whole so_far) (steady v) default_row x ts p → deepest ts ≤ 0 → ⊥
+    none_name (next {ts = us'} (tree {t = u} q) w) h =
+        let m = told bindings u q.reads in
+        let d = ap part_depth m.is ∙ leaf_one IdentifierName m.text refl in
+        let low : part_depth u ≤ 0 = shallow_first (Deep 0) (one u) us' h in
+        omega (arith, d, low)
+
+    at : {x : Place} → Only so_far v (Part BindingIdent) x (one n) y → Stuck (pun ":") y → {u : Tree} {p : Place} → AtPart u → Whole so_far v false (PatProp Binds) x u p → Shallow (outer e) (part_depth u) → ⊥
+    at o c paired q s = unpaired o c (pair_whole q)
+    at o c short q s = unshort o (found_at (sym k.is) k.found) q.ends_there (short_whole q)
+    at o c {u} valued q s = none_name (default_whole q) (nested_shallow (Deep 0) of_so_far q.reads (lower e (part_depth u) b s))
+    at o c rest q s = unresting o q.reads
 
 -- ---- a rest
 
@@ -413,17 +496,17 @@ rest_property_read {v} {x} {a} {y} {t} m b = record {
     at valued q = absurd (default_marked (codes "...") (default_whole q) there)
     at {p = p} (rest {ts}) q = let e = w.row.alone ts p (rest_whole q) in (w.is ∙ ap (node (function (RestProperty Binds))) e.0, e.1)
 
-pub no_rest_property : {v : Surroundings} {x a : Place} → Moves (pun "...") x a → NoRow so_far v (tail rest_row) a → NoPart v x
-no_rest_property {v} {x} m n = record { no = λ u p s q. at (at_part u q.reads) q }
+pub no_rest_property : {v : Surroundings} {x a : Place} {e : Fault} → Moves (pun "...") x a → NoRow so_far v (tail rest_row) a e → NoPart v x e
+no_rest_property {v} {x} {e = e} m n = record { no = λ u p s q h. at (at_part u q.reads) q h }
   where
     there : IsTrue (is_found (forth (pun "...") x))
     there = found_at (sym m.is) m.found
 
-    at : {u : Tree} {p : Place} → AtPart u → Whole so_far v false (PatProp Binds) x u p → ⊥
-    at paired q = key_marked (codes "...") refl (pair_whole q) there
-    at short q = short_marked (codes "...") (short_whole q) there
-    at valued q = default_marked (codes "...") (default_whole q) there
-    at {p = p} (rest {ts}) q = (signed_none rest_row refl m n).no ts p (rest_whole q)
+    at : {u : Tree} {p : Place} → AtPart u → Whole so_far v false (PatProp Binds) x u p → Shallow e (part_depth u) → ⊥
+    at paired q s = key_marked (codes "...") refl (pair_whole q) there
+    at short q s = short_marked (codes "...") (short_whole q) there
+    at valued q s = default_marked (codes "...") (default_whole q) there
+    at {p = p} (rest {ts}) q s = (signed_none rest_row refl m n).no ts p (rest_whole q) (node_shallow e false refl of_so_far q.reads s)
 
 -- no comma stands behind one
 rest_guard : {v : Surroundings} {x y : Place} {ts us : Forest} → Walk Staged (around v us) rest_row x ts y → IsTrue (is_found (forth (pun ",") y)) → ⊥
@@ -482,7 +565,7 @@ close_ends y f = of_so_far.ends_there (PatProp Binds) y (token_stops (PatProp Bi
 -- ---- a part and a comma
 
 turn_part : {v : Surroundings} {x y z : Place} {t : Tree} → OnlyPart v x t y → Stuck (pun "}") x → Moves (pun ",") y z → Turn so_far v inside inside x z (cons t)
-turn_part {v} {x} {y} {z} {t} o c m = record { to = forward; from = back }
+turn_part {v} {x} {y} {z} {t} o c m = record { to = forward; from = back; rises = cons_up t }
   where
     there : IsTrue (is_found (forth (pun ",") y))
     there = found_at (sym m.is) m.found
@@ -529,12 +612,12 @@ last_from {v} {x} {y} {t} o c n us w (next {ts = vs} (many {ts = ts} e all) walk
         absurd (stuck_not n (subst (λ q. IsTrue (is_found (forth (pun ",") q))) (sym s.1) (found_at e (whole_items_found of_so_far all))))
 
 turn_end : {v : Surroundings} {x y : Place} {t : Tree} → OnlyPart v x t y → Stuck (pun "}") x → Stuck (pun ",") y → IsTrue (is_found (forth (pun "}") y)) → Turn so_far v inside closing x y (part (list (part t none)))
-turn_end {y = y} o c n f = record { to = λ ts w walk. next (many refl (last (whole_before o (close_ends y f)) (nothing_trails y n) (end_found of_so_far o.reads))) walk; from = last_from o c n }
+turn_end {y = y} {t = t} o c n f = record { to = λ ts w walk. next (many refl (last (whole_before o (close_ends y f)) (nothing_trails y n) (end_found of_so_far o.reads))) walk; from = last_from o c n; rises = part_up (list (part t none)) }
 
 -- ---- where nothing more stands
 
 turn_shut : {v : Surroundings} {x z : Place} → Moves (pun "}") x z → Turn so_far v inside closing x x (part (list none))
-turn_shut {v} {x} {z} m = record { to = λ ts w walk. next (many refl (nil (found_first (pun "}" ∷ []) x there))) walk; from = back }
+turn_shut {v} {x} {z} m = record { to = λ ts w walk. next (many refl (nil (found_first (pun "}" ∷ []) x there))) walk; from = back; rises = part_up (list none) }
   where
     there : IsTrue (is_found (forth (pun "}") x))
     there = found_at (sym m.is) m.found
@@ -556,19 +639,19 @@ both_none (part t ts) = ap (part t) (both_none ts)
 pub shut : {v : Surroundings} {x y z : Place} (ts : Forest) → Turn so_far v inside inside x y (prepend ts) → Moves (pun "}") y z → OnlyRow so_far v inside x (part (list ts) none) z
 shut {v} {x} {z = z} ts so m = subst (λ us. OnlyRow so_far v inside x (part (list us) none) z) (both_none ts) (turn_only so (turn_only (turn_shut m) (closed m)))
 
-pub none_more : {v : Surroundings} {x y y' : Place} (ts : Forest) → Turn so_far v inside inside x y (prepend ts) → Missed (pun "}") y y' → NoPart v y' → NoRow so_far v inside x
-none_more {v} {y = y} ts so m n = turn_none so (record { no = back })
+pub none_more : {v : Surroundings} {x y y' : Place} {o : Fault} (ts : Forest) → Turn so_far v inside inside x y (prepend ts) → Missed (pun "}") y y' → NoPart v y' o → NoRow so_far v inside x o
+none_more {v} {y = y} {o = o} ts so m n = turn_none so (record { no = back })
   where
-    here : NoPart v y
-    here = subst (NoPart v) (sym m.same) n
+    here : NoPart v y o
+    here = subst (λ w. NoPart v w o) (sym m.same) n
 
-    inner : (ts : Forest) (p : Place) → Items (Whole so_far) v Commas (PatProp Binds) y ts p → (us : Forest) (w : Place) → Walk (Whole so_far) (steady v) closing p us w → ⊥
-    inner ts p (nil f) us w walk = stuck_not m.stuck (closing_found walk)
-    inner ts p (last {y = y'} {t = t'} r e f) us w walk = here.no t' y' (before_close e (closing_found walk)) r
-    inner ts p (more {y = y'} {t = t'} k r e all) us w walk = here.no t' y' (before_comma e (whole_items_found of_so_far all)) r
+    inner : (ts : Forest) (p : Place) → Items (Whole so_far) v Commas (PatProp Binds) y ts p → (us : Forest) (w : Place) → Walk (Whole so_far) (steady v) closing p us w → Shallow o (deepest ts) → Shallow o (deepest us) → ⊥
+    inner ts p (nil f) us w walk h q' = stuck_not m.stuck (closing_found walk)
+    inner ts p (last {y = y'} {t = t'} r e f) us w walk h q' = here.no t' y' (before_close e (closing_found walk)) r (shallow_head o t' none h)
+    inner ts p (more {y = y'} {t = t'} {u = u'} {us = vs'} k r e all) us w walk h q' = here.no t' y' (before_comma e (whole_items_found of_so_far all)) r (shallow_head o t' (part u' vs') h)
 
-    back : (us : Forest) (w : Place) → Walk (Whole so_far) (steady v) inside y us w → ⊥
-    back us w (next {ts = vs} (many {ts = ts} e all) walk) = inner ts _ all vs w walk
+    back : (us : Forest) (w : Place) → Walk (Whole so_far) (steady v) inside y us w → Shallow o (deepest us) → ⊥
+    back us w (next {ts = vs} (many {ts = ts} e all) walk) s = inner ts _ all vs w walk (shallow_first o (one (list ts)) vs s) (shallow_rest o (one (list ts)) vs s)
 
 part_at : {v : Surroundings} {y y' z : Place} {t : Tree} → Missed (pun "}") y y' → OnlyPart v y' t z → OnlyPart v y t z
 part_at {v} {z = z} {t} n o = subst (λ p. OnlyPart v p t z) (sym n.same) o
@@ -587,8 +670,8 @@ shut_behind {v} {x} {z = z} {z'} {w} {t} ts us so n o m k e =
     at : Past (Whole so_far) v (Fixed (pun "}")) z nothing w → IsTrue (is_found (forth (pun "}") z))
     at (sign e f) = found_at e f
 
-pub unshut : {v : Surroundings} {x y y' z z' : Place} {t : Tree} (ts : Forest) → Turn so_far v inside inside x y (prepend ts) → Missed (pun "}") y y' → OnlyPart v y' t z → Missed (pun ",") z z' → Barred so_far v (Fixed (pun "}")) z' → NoRow so_far v inside x
-unshut {v} {y = y} {z = z} ts so n o m b = turn_none so (record { no = λ us w walk. let f = last_from (part_at n o) n.stuck m.stuck us w walk in here.no f.parts w f.walk })
+pub unshut : {v : Surroundings} {x y y' z z' : Place} {t : Tree} {e : Fault} (ts : Forest) → Turn so_far v inside inside x y (prepend ts) → Missed (pun "}") y y' → OnlyPart v y' t z → Missed (pun ",") z z' → Barred so_far v (Fixed (pun "}")) z' e → NoRow so_far v inside x e
+unshut {v} {y = y} {z = z} {t = t} {e = e} ts so n o m b = turn_none so (record { no = λ us w walk s. let f = last_from (part_at n o) n.stuck m.stuck us w walk in here.no f.parts w f.walk (shallow_behind e (list (part t none)) f.parts us f.is s) })
   where
-    here : NoRow so_far v closing z
-    here = bar (subst (λ p. Barred so_far v (Fixed (pun "}")) p) (sym m.same) b)
+    here : NoRow so_far v closing z e
+    here = bar (subst (λ p. Barred so_far v (Fixed (pun "}")) p e) (sym m.same) b)

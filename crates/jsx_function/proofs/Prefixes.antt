@@ -11,6 +11,7 @@ use Rattle.jsx_tree.specs.Reading.{Place, Lost, At, forth}
 use Rattle.jsx_tree.specs.StaticRules.{Surroundings}
 use Rattle.jsx_tree.specs.Walk.{is_found, Given, one}
 use Rattle.jsx_tree.specs.Answers.{Moves, Only, Barred}
+use Rattle.jsx_tree.specs.Faults.{Fault}
 use Rattle.jsx_tree.proofs.Apart.{never_both}
 use Rattle.jsx_tree.proofs.Rows.Bridge.{found_at}
 use Rattle.jsx_token.specs.Here.{Here, leaf_kind, leaf_sign, place_of}
@@ -25,7 +26,7 @@ use Rattle.jsx_function.specs.Methods.{BeginsKey, IsPrefix, NoKey, NoPrefix, by_
 -- ---- whether a key comes next
 
 -- no key can be read there
-pub no_key_there : {v : Surroundings} {x : Place} → NoKey x → Barred so_far v (Part Key) x
+pub no_key_there : {v : Surroundings} {x : Place} {e : Fault} → NoKey x → Barred so_far v (Part Key) x e
 no_key_there n = no_literal_key (record { name = λ t. n.leaves leaf'.Name t refl; bracket = n.bracket }) (λ t. n.leaves leaf'.Str t refl) (λ t. n.leaves leaf'.Num t refl) (λ t. n.leaves leaf'.BigInt t refl)
 
 -- of the tokens one by one
@@ -94,5 +95,5 @@ lost_to s e n t = ap (λ k. forth (s t) (place_of k)) (sym e) ∙ n t
 pub key_from : {v : Surroundings} {x y : Here} {g : Given} {z : Place} → x ≡ y → Only so_far v (Part Key) (place_of x) g z → Only so_far v (Part Key) (place_of y) g z
 key_from {v} {g = g} {z} e o = subst (λ h. Only so_far v (Part Key) (place_of h) g z) e o
 
-pub no_key_from : {v : Surroundings} {x y : Here} → x ≡ y → Barred so_far v (Part Key) (place_of x) → Barred so_far v (Part Key) (place_of y)
-no_key_from {v} e b = subst (λ h. Barred so_far v (Part Key) (place_of h)) e b
+pub no_key_from : {v : Surroundings} {x y : Here} {o : Fault} → x ≡ y → Barred so_far v (Part Key) (place_of x) o → Barred so_far v (Part Key) (place_of y) o
+no_key_from {v} {o = o} e b = subst (λ h. Barred so_far v (Part Key) (place_of h) o) e b

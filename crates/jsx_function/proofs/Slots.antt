@@ -10,20 +10,23 @@ use Rattle.jsx_tree.specs.Form.{admits, is_last}
 use Rattle.jsx_tree.specs.Spelling.{behind, between, spelled}
 use Rattle.jsx_tree.specs.Reading.{Place, Lost, forth, scan}
 use Rattle.jsx_tree.specs.StaticRules.{Surroundings}
-use Rattle.jsx_tree.specs.Walk.{is_found, nothing, Piece, piece, Items, nil, last, more, sign, many, Walk, next, steady, tail, Past}
+use Rattle.jsx_tree.specs.Walk.{is_found, nothing, Piece, piece, Items, nil, last, more, sign, many, Walk, next, steady, tail, Past, one}
 use Rattle.jsx_tree.specs.Language.{Whole}
 use Rattle.jsx_tree.specs.Answers.{Moves, Stuck, Missed, Only, Barred, OnlyRow, NoRow, Built}
+use Rattle.jsx_tree.specs.Faults.{Fault, Shallow, part_depth, deepest, Unread}
 use Rattle.jsx_tree.proofs.Tokens.{and_both, and_right, same_is}
 use Rattle.jsx_tree.proofs.Apart.{never_both}
 use Rattle.jsx_tree.proofs.Rows.Bridge.{found_first, found_at}
 use Rattle.jsx_tree.proofs.Rows.Guarded.{whole_walk, whole_items_found, loosen, to_grammar}
 use Rattle.jsx_tree.proofs.Rows.Bodies.{plain as plain_row}
-use Rattle.jsx_tree.proofs.Rows.Placing.{free_around, moved}
+use Rattle.jsx_tree.proofs.Rows.Placing.{free_around, moved, node_shallow}
 use Rattle.jsx_tree.proofs.Rows.Laws.{end_found}
 use Rattle.jsx_tree.proofs.Rows.Lists.{closed, ended_sign}
 use Rattle.jsx_tree.proofs.Rows.Steps.{bar, both}
 use Rattle.jsx_tree.proofs.Rows.Stopping.{token_stops}
-use Rattle.jsx_tree.proofs.Rows.Turns.{From, Turn, turn_only, turn_none, turn_as, turn_both, cons, comma_trails, nothing_trails, prepend, prepend_cons}
+use Rattle.jsx_tree.proofs.Rows.Turns.{From, Turn, turn_only, turn_none, turn_as, turn_both, cons, comma_trails, nothing_trails, prepend, prepend_cons, cons_up}
+use Rattle.jsx_tree.proofs.Depth.Shallow.{shallow_first, shallow_rest, part_up, shallow_head}
+use Rattle.jsx_function.proofs.Functions.{shallow_behind}
 use Rattle.jsx_operand.specs.SoFar.{Staged, so_far}
 use Rattle.jsx_function.specs.Elements.{NoItem, is_hole}
 use Rattle.jsx_operand.proofs.OfSoFar.{of_so_far}
@@ -111,11 +114,11 @@ unmarked {v} {x} {z} {u} d m k l f h w = at h (at_default (Slot Binds) u refl w.
     at h rest q = never_both Punctuator Punctuator (codes "...") d x m (rest_led q.reads) f
     at h gap q = cc
 
-comma_no_item : {v : Surroundings} {x : Place} → IsTrue (is_found (forth (pun ",") x)) → NoItem v (Slot Binds) x
-comma_no_item f = record { no = λ u z h w. unmarked (codes ",") refl refl refl f h w }
+comma_no_item : {v : Surroundings} {x : Place} {e : Fault} → IsTrue (is_found (forth (pun ",") x)) → NoItem v (Slot Binds) x e
+comma_no_item f = record { no = λ u z h w s. unmarked (codes ",") refl refl refl f h w }
 
-close_no_item : {v : Surroundings} {x : Place} → IsTrue (is_found (forth (pun "]") x)) → NoItem v (Slot Binds) x
-close_no_item f = record { no = λ u z h w. unmarked (codes "]") refl refl refl f h w }
+close_no_item : {v : Surroundings} {x : Place} {e : Fault} → IsTrue (is_found (forth (pun "]") x)) → NoItem v (Slot Binds) x e
+close_no_item f = record { no = λ u z h w s. unmarked (codes "]") refl refl refl f h w }
 
 -- ---- a slot that was read
 
@@ -125,17 +128,17 @@ rest_whole {v} {ts = ts} w = moved (λ a h. free_around a ts v h) refl (whole_wa
 pub element_slot : {v : Surroundings} {x x' y : Place} {t : Tree} → Missed (pun "...") x x' → IsElement v x' t y → OnlySlot v x t y
 element_slot {v} {y = y} {t} m o = subst (λ p. OnlySlot v p t y) (sym m.same) (o.on (Slot Binds) refl)
 
-pub no_slot : {v : Surroundings} {x x' : Place} → Missed (pun "...") x x' → NoElement v x' → NoItem v (Slot Binds) x
-no_slot {v} {x} m given = record { no = λ u z h w. at h (at_default (Slot Binds) u refl w.reads) w }
+pub no_slot : {v : Surroundings} {x x' : Place} {e : Fault} → Missed (pun "...") x x' → NoElement v x' e → NoItem v (Slot Binds) x e
+no_slot {v} {x} {e = e} m given = record { no = λ u z h w a. at h (at_default (Slot Binds) u refl w.reads) w a }
   where
-    n : NoElement v x
-    n = subst (NoElement v) (sym m.same) given
+    n : NoElement v x e
+    n = subst (λ w. NoElement v w e) (sym m.same) given
 
-    at : {u : Tree} {z : Place} → is_hole u ≡ false → AtDefault v x z u → Whole so_far v false (Slot Binds) x u z → ⊥
-    at {u} {z} h (pattern r) w = n.no (Slot Binds) refl u z h (unresting u r) w
-    at {z = z} h (valued {ts}) w = n.no (Slot Binds) refl (node (function (WithInit Binds)) ts) z refl refl w
-    at h rest w = stuck_not m.stuck (rest_led w.reads)
-    at h gap w = cc
+    at : {u : Tree} {z : Place} → is_hole u ≡ false → AtDefault v x z u → Whole so_far v false (Slot Binds) x u z → Shallow e (part_depth u) → ⊥
+    at {u} {z} h (pattern r) w s = n.no (Slot Binds) refl u z h (unresting u r) w s
+    at {z = z} h (valued {ts}) w s = n.no (Slot Binds) refl (node (function (WithInit Binds)) ts) z refl refl w s
+    at h rest w s = stuck_not m.stuck (rest_led w.reads)
+    at h gap w s = cc
 
 pub rest_slot : {v : Surroundings} {x a y : Place} {t : Tree} → Moves (pun "...") x a → Built so_far v (tail rest_row) (function (RestPat Binds)) (λ ts. ts) t a y → OnlySlot v x t y
 rest_slot {v} {x} {a} {y} {t} m b = record {
@@ -156,22 +159,22 @@ rest_slot {v} {x} {a} {y} {t} m b = record {
     at {p = p} h (rest {ts}) q = let e = w.row.alone ts p (rest_whole q) in (w.is ∙ ap (node (function (RestPat Binds))) e.0, e.1)
     at h gap q = cc
 
-pub no_rest_slot : {v : Surroundings} {x a : Place} → Moves (pun "...") x a → NoRow so_far v (tail rest_row) a → NoItem v (Slot Binds) x
-no_rest_slot {v} {x} m n = record { no = λ u z h w. at h (at_default (Slot Binds) u refl w.reads) w }
+pub no_rest_slot : {v : Surroundings} {x a : Place} {e : Fault} → Moves (pun "...") x a → NoRow so_far v (tail rest_row) a e → NoItem v (Slot Binds) x e
+no_rest_slot {v} {x} {e = e} m n = record { no = λ u z h w a. at h (at_default (Slot Binds) u refl w.reads) w a }
   where
     there : IsTrue (is_found (forth (pun "...") x))
     there = found_at (sym m.is) m.found
 
-    at : {u : Tree} {p : Place} → is_hole u ≡ false → AtDefault v x p u → Whole so_far v false (Slot Binds) x u p → ⊥
-    at {u} h (pattern r) q = pattern_unmarked u (codes "...") refl refl r there
-    at h valued q = unled (codes "...") refl refl (value_whole (Slot Binds) refl q) there
-    at {p = p} h (rest {ts}) q = (signed_none rest_row refl m n).no ts p (rest_whole q)
-    at h gap q = cc
+    at : {u : Tree} {p : Place} → is_hole u ≡ false → AtDefault v x p u → Whole so_far v false (Slot Binds) x u p → Shallow e (part_depth u) → ⊥
+    at {u} h (pattern r) q s = pattern_unmarked u (codes "...") refl refl r there
+    at h valued q s = unled (codes "...") refl refl (value_whole (Slot Binds) refl q) there
+    at {p = p} h (rest {ts}) q s = (signed_none rest_row refl m n).no ts p (rest_whole q) (node_shallow e false refl of_so_far q.reads s)
+    at h gap q s = cc
 
 -- ---- a hole and its comma: what stands behind it is such a list again
 
 turn_hole : {v : Surroundings} {x z : Place} → Moves (pun ",") x z → Turn so_far v inside inside x z (cons hole)
-turn_hole {v} {x} {z} m = record { to = forward; from = back }
+turn_hole {v} {x} {z} m = record { to = forward; from = back; rises = cons_up hole }
   where
     there : IsTrue (is_found (forth (pun ",") x))
     there = found_at (sym m.is) m.found
@@ -189,7 +192,7 @@ turn_hole {v} {x} {z} m = record { to = forward; from = back }
         let q = hole_is t h r in
         let is : z ≡ p = m.is ∙ ((λ i. scan (q.place i) (behind Elisions (spelled (q.tree i)))) ∙ e) in
         record { parts = part (list none) us; is = λ i. part (list (part (q.tree i) none)) us; walk = next (many refl (nil m.found)) (subst (λ p. Walk (Whole so_far) (steady v) closing p us w) (sym is) walk) }
-    by_last false {y} {t = t} h r e us w walk = absurd ((comma_no_item there).no t y h r)
+    by_last false {y} {t = t} h r e us w walk = absurd ((comma_no_item {e = Unread} there).no t y h r tt)
 
     by_more : (b : Bool) {y z' p : Place} {t u : Tree} {vs : Forest} → is_hole t ≡ b → Whole so_far v false (Slot Binds) x t y → scan y (between Elisions) ≡ z' → Items (Whole so_far) v Elisions (Slot Binds) z' (part u vs) p → (us : Forest) (w : Place) → Walk (Whole so_far) (steady v) closing p us w
         → From so_far v inside z (cons hole) (part (list (part t (part u vs))) us) w
@@ -197,7 +200,7 @@ turn_hole {v} {x} {z} m = record { to = forward; from = back }
         let q = hole_is t h r in
         let is : z ≡ z' = m.is ∙ ((λ i. scan (q.place i) (between Elisions)) ∙ e) in
         record { parts = part (list (part u vs)) us; is = λ i. part (list (part (q.tree i) (part u vs))) us; walk = next (many refl (subst (λ q. Items (Whole so_far) v Elisions (Slot Binds) q (part u vs) p) (sym is) all)) walk }
-    by_more false {y} {t = t} h r e all us w walk = absurd ((comma_no_item there).no t y h r)
+    by_more false {y} {t = t} h r e all us w walk = absurd ((comma_no_item {e = Unread} there).no t y h r tt)
 
     inner : (ts : Forest) (p : Place) → Items (Whole so_far) v Elisions (Slot Binds) x ts p → (us : Forest) (w : Place) → Walk (Whole so_far) (steady v) closing p us w → From so_far v inside z (cons hole) (part (list ts) us) w
     inner ts p (nil f) us w walk = absurd (never_comma x there (closing_found walk))
@@ -210,7 +213,7 @@ turn_hole {v} {x} {z} m = record { to = forward; from = back }
 -- ---- an item and a comma
 
 turn_filled : {v : Surroundings} {x y z : Place} {t : Tree} → OnlySlot v x t y → Stuck (pun ",") x → Stuck (pun "]") x → Moves (pun ",") y z → Turn so_far v inside inside x z (cons t)
-turn_filled {v} {x} {y} {z} {t} o k c m = record { to = forward; from = back }
+turn_filled {v} {x} {y} {z} {t} o k c m = record { to = forward; from = back; rises = cons_up t }
   where
     there : IsTrue (is_found (forth (pun ",") y))
     there = found_at (sym m.is) m.found
@@ -290,13 +293,13 @@ last_from {v} {x} {y} {t} o k c n = back
     back us w (next {ts = vs} (many {ts = ts} e all) walk) = inner ts _ all vs w walk
 
 turn_end : {v : Surroundings} {x y : Place} {t : Tree} → OnlySlot v x t y → Stuck (pun ",") x → Stuck (pun "]") x → Stuck (pun ",") y → IsTrue (is_found (forth (pun "]") y)) → Turn so_far v inside closing x y (part (list (part t none)))
-turn_end {v} {x} {y} {t} o k c n f = record { to = λ ts w walk. next (many refl (last (whole_before o (close_ends y f)) (trails y o (nothing_trails y n)) (end_found of_so_far o.reads))) walk; from = last_from o k c n }
+turn_end {v} {x} {y} {t} o k c n f = record { to = λ ts w walk. next (many refl (last (whole_before o (close_ends y f)) (trails y o (nothing_trails y n)) (end_found of_so_far o.reads))) walk; from = last_from o k c n; rises = part_up (list (part t none)) }
 
 -- ---- where nothing more stands
 
 -- what is left, before the `]`
 turn_shut : {v : Surroundings} {x z : Place} → Moves (pun "]") x z → Turn so_far v inside closing x x (part (list none))
-turn_shut {v} {x} {z} m = record { to = λ ts w walk. next (many refl (nil (found_first (pun "]" ∷ []) x there))) walk; from = back }
+turn_shut {v} {x} {z} m = record { to = λ ts w walk. next (many refl (nil (found_first (pun "]" ∷ []) x there))) walk; from = back; rises = part_up (list none) }
   where
     there : IsTrue (is_found (forth (pun "]") x))
     there = found_at (sym m.is) m.found
@@ -306,14 +309,14 @@ turn_shut {v} {x} {z} m = record { to = λ ts w walk. next (many refl (nil (foun
         let q = hole_is t h r in
         let is : forth (pun ",") x ≡ p = (λ i. scan (q.place i) (behind Elisions (spelled (q.tree i)))) ∙ e in
         absurd (never_comma x (found_at is f) there)
-    by_last false {y} {t = t} h r e f = absurd ((close_no_item there).no t y h r)
+    by_last false {y} {t = t} h r e f = absurd ((close_no_item {e = Unread} there).no t y h r tt)
 
     by_more : (b : Bool) {y z' p : Place} {t u : Tree} {vs : Forest} {A : Type 0} → is_hole t ≡ b → Whole so_far v false (Slot Binds) x t y → scan y (between Elisions) ≡ z' → Items (Whole so_far) v Elisions (Slot Binds) z' (part u vs) p → A
     by_more true {y} {z'} {t = t} h r e all =
         let q = hole_is t h r in
         let is : forth (pun ",") x ≡ z' = (λ i. scan (q.place i) (between Elisions)) ∙ e in
         absurd (never_comma x (found_at is (whole_items_found of_so_far all)) there)
-    by_more false {y} {t = t} h r e all = absurd ((close_no_item there).no t y h r)
+    by_more false {y} {t = t} h r e all = absurd ((close_no_item {e = Unread} there).no t y h r tt)
 
     inner : (ts : Forest) (p : Place) → Items (Whole so_far) v Elisions (Slot Binds) x ts p → (us : Forest) (w : Place) → Walk (Whole so_far) (steady v) closing p us w → From so_far v closing x (part (list none)) (part (list ts) us) w
     inner ts p (nil f) us w walk = record { parts = us; is = refl; walk = walk }
@@ -324,30 +327,30 @@ turn_shut {v} {x} {z} m = record { to = λ ts w walk. next (many refl (nil (foun
     back us w (next {ts = vs} (many {ts = ts} e all) walk) = inner ts _ all vs w walk
 
 -- what doesn't belong there
-no_inside : {v : Surroundings} {x : Place} → NoItem v (Slot Binds) x → Stuck (pun ",") x → Stuck (pun "]") x → NoRow so_far v inside x
-no_inside {v} {x} b k c = record { no = back }
+no_inside : {v : Surroundings} {x : Place} {o : Fault} → NoItem v (Slot Binds) x o → Stuck (pun ",") x → Stuck (pun "]") x → NoRow so_far v inside x o
+no_inside {v} {x} {o = o} b k c = record { no = back }
   where
-    by_last : (h : Bool) {y p : Place} {t : Tree} → is_hole t ≡ h → Whole so_far v false (Slot Binds) x t y → scan y (behind Elisions (spelled t)) ≡ p → IsTrue (is_found p) → ⊥
-    by_last true {y} {p} {t} h r e f =
+    by_last : (h : Bool) {y p : Place} {t : Tree} → is_hole t ≡ h → Whole so_far v false (Slot Binds) x t y → scan y (behind Elisions (spelled t)) ≡ p → IsTrue (is_found p) → Shallow o (part_depth t) → ⊥
+    by_last true {y} {p} {t} h r e f s' =
         let q = hole_is t h r in
         let is : forth (pun ",") x ≡ p = (λ i. scan (q.place i) (behind Elisions (spelled (q.tree i)))) ∙ e in
         stuck_not k (found_at is f)
-    by_last false {y} {t = t} h r e f = b.no t y h r
+    by_last false {y} {t = t} h r e f s' = b.no t y h r s'
 
-    by_more : (h : Bool) {y z' p : Place} {t u : Tree} {vs : Forest} → is_hole t ≡ h → Whole so_far v false (Slot Binds) x t y → scan y (between Elisions) ≡ z' → Items (Whole so_far) v Elisions (Slot Binds) z' (part u vs) p → ⊥
-    by_more true {y} {z'} {t = t} h r e all =
+    by_more : (h : Bool) {y z' p : Place} {t u : Tree} {vs : Forest} → is_hole t ≡ h → Whole so_far v false (Slot Binds) x t y → scan y (between Elisions) ≡ z' → Items (Whole so_far) v Elisions (Slot Binds) z' (part u vs) p → Shallow o (deepest (part t (part u vs))) → ⊥
+    by_more true {y} {z'} {t = t} h r e all a =
         let q = hole_is t h r in
         let is : forth (pun ",") x ≡ z' = (λ i. scan (q.place i) (between Elisions)) ∙ e in
         stuck_not k (found_at is (whole_items_found of_so_far all))
-    by_more false {y} {t = t} h r e all = b.no t y h r
+    by_more false {y} {t = t} {u = u} {vs = vs} h r e all a = b.no t y h r (shallow_head o t (part u vs) a)
 
-    inner : (ts : Forest) (p : Place) → Items (Whole so_far) v Elisions (Slot Binds) x ts p → (us : Forest) (w : Place) → Walk (Whole so_far) (steady v) closing p us w → ⊥
-    inner ts p (nil f) us w walk = stuck_not c (closing_found walk)
-    inner ts p (last {t = t} r e f) us w walk = by_last (is_hole t) refl r e f
-    inner ts p (more {t = t} n r e all) us w walk = by_more (is_hole t) refl r e all
+    inner : (ts : Forest) (p : Place) → Items (Whole so_far) v Elisions (Slot Binds) x ts p → (us : Forest) (w : Place) → Walk (Whole so_far) (steady v) closing p us w → Shallow o (deepest ts) → Shallow o (deepest us) → ⊥
+    inner ts p (nil f) us w walk h q' = stuck_not c (closing_found walk)
+    inner ts p (last {t = t} r e f) us w walk h q' = by_last (is_hole t) refl r e f (shallow_head o t none h)
+    inner ts p (more {t = t} n r e all) us w walk h q' = by_more (is_hole t) refl r e all h
 
-    back : (us : Forest) (w : Place) → Walk (Whole so_far) (steady v) inside x us w → ⊥
-    back us w (next {ts = vs} (many {ts = ts} e all) walk) = inner ts _ all vs w walk
+    back : (us : Forest) (w : Place) → Walk (Whole so_far) (steady v) inside x us w → Shallow o (deepest us) → ⊥
+    back us w (next {ts = vs} (many {ts = ts} e all) walk) s = inner ts _ all vs w walk (shallow_first o (one (list ts)) vs s) (shallow_rest o (one (list ts)) vs s)
 
 -- ---- the steps of the loop
 
@@ -377,8 +380,8 @@ filled_more {t = t} ts us so b m e = turn_as (λ vs. prepend_cons ts t vs ∙ (�
 pub shut : {v : Surroundings} {x y z : Place} (ts : Forest) → Turn so_far v inside inside x y (prepend ts) → Moves (pun "]") y z → OnlyRow so_far v inside x (part (list ts) none) z
 shut {v} {x} {z = z} ts so m = subst (λ us. OnlyRow so_far v inside x (part (list us) none) z) (both_none ts) (turn_only so (turn_only (turn_shut m) (closed m)))
 
-pub none_here : {v : Surroundings} {x y y' y'' : Place} (ts : Forest) → Turn so_far v inside inside x y (prepend ts) → Missed (pun "]") y y' → Missed (pun ",") y' y'' → NoItem v (Slot Binds) y'' → NoRow so_far v inside x
-none_here {v} ts so m n b = turn_none so (no_inside (subst (NoItem v (Slot Binds)) (sym (m.same ∙ n.same)) b) (subst (Stuck (pun ",")) (sym m.same) n.stuck) m.stuck)
+pub none_here : {v : Surroundings} {x y y' y'' : Place} {e : Fault} (ts : Forest) → Turn so_far v inside inside x y (prepend ts) → Missed (pun "]") y y' → Missed (pun ",") y' y'' → NoItem v (Slot Binds) y'' e → NoRow so_far v inside x e
+none_here {v} {e = e} ts so m n b = turn_none so (no_inside (subst (λ w. NoItem v (Slot Binds) w e) (sym (m.same ∙ n.same)) b) (subst (Stuck (pun ",")) (sym m.same) n.stuck) m.stuck)
 
 last_filled : {v : Surroundings} {y z z' : Place} {t : Tree} → Before v y z t → Missed (pun ",") z z' → IsTrue (is_found (forth (pun "]") z)) → Turn so_far v inside closing y z' (part (list (part t none)))
 last_filled {v} {y} {t = t} b m f = subst (λ p. Turn so_far v inside closing y p (part (list (part t none)))) m.same (turn_end b.item b.no_comma b.no_close m.stuck f)
@@ -389,8 +392,8 @@ shut_behind {v} {x} {w = w} ts us so b m k e = subst (λ vs. OnlyRow so_far v in
     at : {p q : Place} → Past (Whole so_far) v (Fixed (pun "]")) p nothing q → IsTrue (is_found (forth (pun "]") p))
     at (sign e f) = found_at e f
 
-pub unshut : {v : Surroundings} {x y z z' : Place} {t : Tree} (ts : Forest) → Turn so_far v inside inside x y (prepend ts) → Before v y z t → Missed (pun ",") z z' → Barred so_far v (Fixed (pun "]")) z' → NoRow so_far v inside x
-unshut {v} {z = z} ts so b m k = turn_none so (record { no = λ us w walk. let f = last_from b.item b.no_comma b.no_close m.stuck us w walk in here.no f.parts w f.walk })
+pub unshut : {v : Surroundings} {x y z z' : Place} {t : Tree} {e : Fault} (ts : Forest) → Turn so_far v inside inside x y (prepend ts) → Before v y z t → Missed (pun ",") z z' → Barred so_far v (Fixed (pun "]")) z' e → NoRow so_far v inside x e
+unshut {v} {z = z} {t = t} {e = e} ts so b m k = turn_none so (record { no = λ us w walk s. let f = last_from b.item b.no_comma b.no_close m.stuck us w walk in here.no f.parts w f.walk (shallow_behind e (list (part t none)) f.parts us f.is s) })
   where
-    here : NoRow so_far v closing z
-    here = bar (subst (λ p. Barred so_far v (Fixed (pun "]")) p) (sym m.same) k)
+    here : NoRow so_far v closing z e
+    here = bar (subst (λ p. Barred so_far v (Fixed (pun "]")) p e) (sym m.same) k)

@@ -14,6 +14,7 @@ use Rattle.jsx_tree.specs.Language.{Whole}
 use Rattle.jsx_tree.specs.Answers.{Moves, Only}
 use Rattle.jsx_tree.proofs.Apart.{never_both}
 use Rattle.jsx_tree.proofs.Rows.Bridge.{found_at}
+use Rattle.jsx_tree.specs.Faults.{Unread}
 use Rattle.jsx_operand.specs.SoFar.{so_far}
 use Rattle.jsx_function.specs.Methods.{IsPrefix, NoKey, NoPrefix, element_row, from_key, is_getter, is_setter}
 use Rattle.jsx_function.proofs.Keyed.{getter_is, setter_is}
@@ -59,7 +60,7 @@ worded_led (next (sign e f) w) = found_at e f
 
 -- where the word stands as a key, or doesn't
 pub unworded : {v : Surroundings} {s : Sign} {x z : Place} {us ts : Forest} (k : Kind) → NoPrefix s x → Walk (Whole so_far) (around v us) (piece [] (Fixed s) ∷ from_key k) x ts z → ⊥
-unworded k n (next (sign e f) (next q w)) = (no_key_there (subst NoKey e (n.behind (found_at e f)))).no _ _ q
+unworded k n (next (sign e f) (next q w)) = (no_key_there {e = Unread} (subst NoKey e (n.behind (found_at e f)))).no _ _ q tt
 
 -- behind the word
 pub record Behind (V : List Context → Surroundings) (ps : List Piece) (y : Place) (ts : Forest) (z : Place) : Type 0 where

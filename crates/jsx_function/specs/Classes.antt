@@ -11,6 +11,7 @@ use Rattle.jsx_tree.specs.Told.{told_expr, told_list, told_name, told_optional, 
 use Rattle.jsx_tree.specs.View.{forest, inside, optional_name, optional_of, view_expr}
 use Rattle.jsx_tree.specs.Walk.{Piece, Walk, around, pieces, tail}
 use Rattle.jsx_tree.specs.Language.{Whole}
+use Rattle.jsx_tree.specs.Faults.{Fault, Shallow, deepest}
 use Rattle.jsx_make.specs.Members.{view_class_member}
 use Rattle.jsx_operand.specs.SoFar.{so_far}
 use Rattle.jsx_function.specs.declared.class.ClassCode.{ClassCode}
@@ -48,8 +49,8 @@ pub record OnlyClass (v : Surroundings) (x : Place) (ts : Forest) (y : Place) : 
   pub walk : Walk (Whole so_far) (class_in v ts) class_row x ts y
   pub alone : (us : Forest) (z : Place) → Walk (Whole so_far) (class_in v us) class_row x us z → (ts ≡ us) × (y ≡ z)
 
-pub record NoClass (v : Surroundings) (x : Place) : Type 0 where
-  pub no : (ts : Forest) (y : Place) → Walk (Whole so_far) (class_in v ts) class_row x ts y → keep_members ts → ⊥
+pub record NoClass (v : Surroundings) (x : Place) (e : Fault) : Type 0 where
+  pub no : (ts : Forest) (y : Place) → Walk (Whole so_far) (class_in v ts) class_row x ts y → keep_members ts → Shallow e (deepest ts) → ⊥
 
 abbrev pub class_parts : ClassCode → Forest
 class_parts c = part (optional_of view_expr c.heritage) (part (list (forest (map (inside view_class_member) c.members.items))) none)
@@ -75,8 +76,8 @@ pub record OnlyNamedClass (v : Surroundings) (x : Place) (ts : Forest) (y : Plac
   pub walk : Walk (Whole so_far) (named_class_in v ts) named_class_row x ts y
   pub alone : (us : Forest) (z : Place) → Walk (Whole so_far) (named_class_in v us) named_class_row x us z → (ts ≡ us) × (y ≡ z)
 
-pub record NoNamedClass (v : Surroundings) (x : Place) : Type 0 where
-  pub no : (ts : Forest) (y : Place) → Walk (Whole so_far) (named_class_in v ts) named_class_row x ts y → keep_members ts → ⊥
+pub record NoNamedClass (v : Surroundings) (x : Place) (e : Fault) : Type 0 where
+  pub no : (ts : Forest) (y : Place) → Walk (Whole so_far) (named_class_in v ts) named_class_row x ts y → keep_members ts → Shallow e (deepest ts) → ⊥
 
 -- the row from a name, or none, and the place behind it on
 pub record ClassRest (v : Surroundings) (t : Tree) (y : Place) (us : Forest) (w : Place) : Type 0 where

@@ -12,6 +12,7 @@ use Rattle.jsx_tree.specs.Told.{told_expr}
 use Rattle.jsx_tree.specs.Walk.{one}
 use Rattle.jsx_tree.specs.Language.{Whole}
 use Rattle.jsx_tree.specs.Answers.{Barred, Only}
+use Rattle.jsx_tree.specs.Faults.{Fault, Unread, Shallow, part_depth}
 use Rattle.jsx_token.specs.Here.{Here}
 use Rattle.jsx_token.specs.Growths.{settled}
 use Rattle.jsx_operand.specs.SoFar.{Staged, so_far}
@@ -32,13 +33,13 @@ pub record IsElementCover (v : Surroundings) (x : Place) (c : Cover) (y : Place)
 
 pub record IsCover (v : Surroundings) (level : ℕ) (x : Place) (c : Cover) (y : Place) : Type 0 where
   pub expr : c.is_expr ≡ true → Only so_far v (Part (Expr level)) x (one (view_cover c)) y
-  pub none : c.is_expr ≡ false → Barred so_far v (Part (Expr level)) x
+  pub none : c.is_expr ≡ false → Barred so_far v (Part (Expr level)) x Unread
   pub element : level ≡ 1 → IsElementCover v x c y
   pub unsettled : c.is_expr ≡ false → is_literal (view_cover c) ≡ true
 
-pub record NoCover (v : Surroundings) (level : ℕ) (x : Place) : Type 0 where
-  pub none : Barred so_far v (Part (Expr level)) x
-  pub element : level ≡ 1 → (p : Tree) (z : Place) → Whole so_far v false (PatElement Assigns) x p z → ⊥
+pub record NoCover (v : Surroundings) (level : ℕ) (x : Place) (e : Fault) : Type 0 where
+  pub none : Barred so_far v (Part (Expr level)) x e
+  pub element : level ≡ 1 → (p : Tree) (z : Place) → Whole so_far v false (PatElement Assigns) x p z → Shallow e (part_depth p) → ⊥
 
 -- ---- the places of what it tells, as an expression and as the pattern
 

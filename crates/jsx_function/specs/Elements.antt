@@ -6,6 +6,7 @@ use Rattle.jsx_tree.specs.Nonterminals.{Nonterminal}
 use Rattle.jsx_tree.specs.Reading.{Place}
 use Rattle.jsx_tree.specs.StaticRules.{Surroundings}
 use Rattle.jsx_tree.specs.Language.{Whole}
+use Rattle.jsx_tree.specs.Faults.{Fault, Shallow, part_depth}
 use Rattle.jsx_operand.specs.SoFar.{so_far}
 
 abbrev pub is_hole : Tree → Bool
@@ -13,5 +14,5 @@ is_hole (leaf Elision t) = true
 is_hole t = false
 
 -- nothing that may stand there is the text, but a hole
-pub record NoItem (v : Surroundings) (c : Nonterminal) (x : Place) : Type 0 where
-  pub no : (u : Tree) (z : Place) → is_hole u ≡ false → Whole so_far v false c x u z → ⊥
+pub record NoItem (v : Surroundings) (c : Nonterminal) (x : Place) (e : Fault) : Type 0 where
+  pub no : (u : Tree) (z : Place) → is_hole u ≡ false → Whole so_far v false c x u z → Shallow e (part_depth u) → ⊥

@@ -10,6 +10,7 @@ use Rattle.jsx_tree.specs.Told.{told_list, told_name, told_pat}
 use Rattle.jsx_tree.specs.View.{forest, inside, optional_name, view_pat}
 use Rattle.jsx_tree.specs.Walk.{Piece, Walk, piece, pieces, steady}
 use Rattle.jsx_tree.specs.Language.{Whole}
+use Rattle.jsx_tree.specs.Faults.{Fault, Shallow, deepest}
 use Rattle.jsx_operand.specs.SoFar.{Staged, so_far}
 use Rattle.jsx_operand.specs.Bodies.{told_of, view_body}
 use Rattle.jsx_function.specs.declared.function.FunctionCode.{FunctionCode}
@@ -50,11 +51,11 @@ abbrev pub told_parts : FunctionCode → Tales
 told_parts f = tale (told_list (map (inside told_pat) f.params.items)) (tale (told_of f.body) no_tales)
 
 -- nothing stands there that keeps the rule on parameters
-pub record NoCode (v : Surroundings) (x : Place) : Type 0 where
-  pub no : (ts : Forest) (y : Place) → Walk (Whole so_far) (steady v) code_row x ts y → has_plain_params ts ≡ true → ⊥
+pub record NoCode (v : Surroundings) (x : Place) (e : Fault) : Type 0 where
+  pub no : (ts : Forest) (y : Place) → Walk (Whole so_far) (steady v) code_row x ts y → has_plain_params ts ≡ true → Shallow e (deepest ts) → ⊥
 
-pub record NoOwnCode (v : Surroundings) (x : Place) : Type 0 where
-  pub no : (ts : Forest) (y : Place) → Walk (Whole so_far) (steady v) own_row x ts y → has_plain_params ts ≡ true → ⊥
+pub record NoOwnCode (v : Surroundings) (x : Place) (e : Fault) : Type 0 where
+  pub no : (ts : Forest) (y : Place) → Walk (Whole so_far) (steady v) own_row x ts y → has_plain_params ts ≡ true → Shallow e (deepest ts) → ⊥
 
 -- ---- the same with a name before it, or none
 
@@ -83,5 +84,5 @@ named_parts f = part (optional_name f.name) (parts_of f.code)
 abbrev pub told_named : NamedFunction → Tales
 told_named f = tale (told_name f.name) (told_parts f.code)
 
-pub record NoNamed (v : Surroundings) (x : Place) : Type 0 where
-  pub no : (ts : Forest) (y : Place) → Walk (Whole so_far) (steady v) named_row x ts y → has_plain_params ts ≡ true → ⊥
+pub record NoNamed (v : Surroundings) (x : Place) (e : Fault) : Type 0 where
+  pub no : (ts : Forest) (y : Place) → Walk (Whole so_far) (steady v) named_row x ts y → has_plain_params ts ≡ true → Shallow e (deepest ts) → ⊥

@@ -15,6 +15,7 @@ use Rattle.jsx_tree.specs.View.{OfClass, OfObject, Owner, view_pat}
 use Rattle.jsx_tree.specs.Walk.{Piece, Walk, around, is_found, piece, pieces, steady, tail}
 use Rattle.jsx_tree.specs.Language.{Whole}
 use Rattle.jsx_tree.specs.Answers.{Moves}
+use Rattle.jsx_tree.specs.Faults.{Fault, Shallow, deepest}
 use Rattle.jsx_token.specs.Here.{Here, leaf_kind, leaf_sign}
 use Rattle.jsx_token.specs.Marks.{row_so_far}
 use Rattle.jsx_token.specs.Places.{Takes, next_of}
@@ -93,8 +94,8 @@ abbrev pub suits_setter : Forest → Bool
 suits_setter (part q (part b none)) = not (is_strict_body b) || is_word q
 suits_setter ts = false
 
-pub record NoSetter (v : Surroundings) (x : Place) : Type 0 where
-  pub no : (ts : Forest) (y : Place) → Walk (Whole so_far) (steady v) setter_row x ts y → suits_setter ts ≡ true → ⊥
+pub record NoSetter (v : Surroundings) (x : Place) (e : Fault) : Type 0 where
+  pub no : (ts : Forest) (y : Place) → Walk (Whole so_far) (steady v) setter_row x ts y → suits_setter ts ≡ true → Shallow e (deepest ts) → ⊥
 
 -- ---- fields behind their keys, in what their values stand in
 
@@ -128,8 +129,8 @@ pub record OnlyKeyed (p : Kind → Bool) (v : Surroundings) (key t : Tree) (x y 
   pub keeps : so_far.keeps kind v (part key parts) ≡ true
   pub alone : (k : Kind) (us : Forest) (z : Place) → p k ≡ true → Walk (Whole so_far) (around v (part key us)) (behind_key k) x us z → so_far.keeps k v (part key us) ≡ true → (node k (part key us) ≡ t) × (z ≡ y)
 
-pub record NoneKeyed (p : Kind → Bool) (v : Surroundings) (key : Tree) (x : Place) : Type 0 where
-  pub no : (k : Kind) (us : Forest) (z : Place) → p k ≡ true → Walk (Whole so_far) (around v (part key us)) (behind_key k) x us z → so_far.keeps k v (part key us) ≡ true → ⊥
+pub record NoneKeyed (p : Kind → Bool) (v : Surroundings) (key : Tree) (x : Place) (e : Fault) : Type 0 where
+  pub no : (k : Kind) (us : Forest) (z : Place) → p k ≡ true → Walk (Whole so_far) (around v (part key us)) (behind_key k) x us z → so_far.keeps k v (part key us) ≡ true → Shallow e (deepest us) → ⊥
 
 -- the same from the key on
 pub record OnlyFromKey (p : Kind → Bool) (v : Surroundings) (t : Tree) (x y : Place) : Type 0 where
@@ -141,8 +142,8 @@ pub record OnlyFromKey (p : Kind → Bool) (v : Surroundings) (t : Tree) (x y : 
   pub keeps : so_far.keeps kind v parts ≡ true
   pub alone : (k : Kind) (us : Forest) (z : Place) → p k ≡ true → Walk (Whole so_far) (around v us) (from_key k) x us z → so_far.keeps k v us ≡ true → (node k us ≡ t) × (z ≡ y)
 
-pub record NoneFromKey (p : Kind → Bool) (v : Surroundings) (x : Place) : Type 0 where
-  pub no : (k : Kind) (us : Forest) (z : Place) → p k ≡ true → Walk (Whole so_far) (around v us) (from_key k) x us z → so_far.keeps k v us ≡ true → ⊥
+pub record NoneFromKey (p : Kind → Bool) (v : Surroundings) (x : Place) (e : Fault) : Type 0 where
+  pub no : (k : Kind) (us : Forest) (z : Place) → p k ≡ true → Walk (Whole so_far) (around v us) (from_key k) x us z → so_far.keeps k v us ≡ true → Shallow e (deepest us) → ⊥
 
 -- by holders
 abbrev pub same_holder : Holder → Holder → Bool
@@ -192,8 +193,8 @@ pub record OnlyElement (h : Holder) (v : Surroundings) (t : Tree) (x y : Place) 
   pub keeps : so_far.keeps kind v parts ≡ true
   pub alone : (k : Kind) (us : Forest) (z : Place) → is_element h k ≡ true → Walk (Whole so_far) (around v us) (element_row h k) x us z → so_far.keeps k v us ≡ true → (node k us ≡ t) × (z ≡ y)
 
-pub record NoElement (h : Holder) (v : Surroundings) (x : Place) : Type 0 where
-  pub no : (k : Kind) (us : Forest) (z : Place) → is_element h k ≡ true → Walk (Whole so_far) (around v us) (element_row h k) x us z → so_far.keeps k v us ≡ true → ⊥
+pub record NoElement (h : Holder) (v : Surroundings) (x : Place) (e : Fault) : Type 0 where
+  pub no : (k : Kind) (us : Forest) (z : Place) → is_element h k ≡ true → Walk (Whole so_far) (around v us) (element_row h k) x us z → so_far.keeps k v us ≡ true → Shallow e (deepest us) → ⊥
 
 -- ---- places
 

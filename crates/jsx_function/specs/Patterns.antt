@@ -9,6 +9,7 @@ use Rattle.jsx_tree.specs.StaticRules.{Surroundings}
 use Rattle.jsx_tree.specs.Walk.{one}
 use Rattle.jsx_tree.specs.Language.{Whole}
 use Rattle.jsx_tree.specs.Answers.{Moves, Only, Stuck}
+use Rattle.jsx_tree.specs.Faults.{Fault, Shallow, part_depth, outer}
 use Rattle.jsx_operand.specs.SoFar.{Staged, so_far}
 use Rattle.jsx_function.specs.Elements.{is_hole}
 use Rattle.jsx_operand.specs.Patterns.{is_rest}
@@ -40,8 +41,8 @@ pub record OnlyFilled (v : Surroundings) (c : Nonterminal) (x : Place) (t : Tree
 pub record IsElement (v : Surroundings) (x : Place) (t : Tree) (y : Place) : Type 0 where
   pub on : (c : Nonterminal) → takes_default c ≡ true → OnlyFilled v c x t y
 
-pub record NoElement (v : Surroundings) (x : Place) : Type 0 where
-  pub no : (c : Nonterminal) → takes_default c ≡ true → (u : Tree) (z : Place) → is_hole u ≡ false → is_rest u ≡ false → Whole so_far v false c x u z → ⊥
+pub record NoElement (v : Surroundings) (x : Place) (e : Fault) : Type 0 where
+  pub no : (c : Nonterminal) → takes_default c ≡ true → (u : Tree) (z : Place) → is_hole u ≡ false → is_rest u ≡ false → Whole so_far v false c x u z → Shallow e (part_depth u) → ⊥
 
 -- in an array's pattern
 abbrev pub OnlySlot : Surroundings → Place → Tree → Place → Type 0
@@ -54,8 +55,8 @@ pub record OnlyPart (v : Surroundings) (x : Place) (t : Tree) (y : Place) : Type
   pub reads : Staged v false (PatProp Binds) x t y
   pub alone : (u : Tree) (z : Place) → Stuck (pun ":") z → Whole so_far v false (PatProp Binds) x u z → (t ≡ u) × (y ≡ z)
 
-pub record NoPart (v : Surroundings) (x : Place) : Type 0 where
-  pub no : (u : Tree) (z : Place) → Stuck (pun ":") z → Whole so_far v false (PatProp Binds) x u z → ⊥
+pub record NoPart (v : Surroundings) (x : Place) (e : Fault) : Type 0 where
+  pub no : (u : Tree) (z : Place) → Stuck (pun ":") z → Whole so_far v false (PatProp Binds) x u z → Shallow e (part_depth u) → ⊥
 
 -- a property behind its key, whose value may be read too before what goes on with an expression
 pub record OnlyPair (v : Surroundings) (x : Place) (key : Tree) (t : Tree) (y : Place) : Type 0 where
@@ -69,5 +70,5 @@ pub record OnlyPair (v : Surroundings) (x : Place) (key : Tree) (t : Tree) (y : 
 pub record OnlyShort (v : Surroundings) (name : Tree) (y : Place) (t : Tree) (z : Place) : Type 0 where
   pub on : (x : Place) → Only so_far v (Part BindingIdent) x (one name) y → Stuck (pun ":") y → OnlyPart v x t z
 
-pub record NoShort (v : Surroundings) (name : Tree) (y : Place) : Type 0 where
-  pub no : (x : Place) → Only so_far v (Part BindingIdent) x (one name) y → Stuck (pun ":") y → NoPart v x
+pub record NoShort (v : Surroundings) (name : Tree) (y : Place) (e : Fault) : Type 0 where
+  pub no : (x : Place) → Only so_far v (Part BindingIdent) x (one name) y → Stuck (pun ":") y → NoPart v x (outer e)

@@ -29,4 +29,4 @@ pub record ReadsWithin {B : Type 0} (bound : ℕ) (pre : Context → MutBor Here
   pub settles : (c : Context) (x y : MutBor Here) (level : ℕ) (r : Result Cover ParseError) → post c x level body r y
       → OnOk r (Settles level (place_of y.now))
   pub refused : (c : Context) (x y : MutBor Here) (level : ℕ) (r : Result Cover ParseError) → post c x level body r y
-      → Refused r (NoCover (around_of c.around) level (place_of x.now))
+      → Refused c.levels r (NoCover (around_of c.around) level (place_of x.now))

@@ -10,6 +10,7 @@ ghost use Rattle.jsx_tree.specs.Told.{told_expr, told_list, told_name, told_opti
 ghost use Rattle.jsx_tree.specs.View.{forest, inside, optional_name, optional_of, view_expr, view_member};
 ghost use Rattle.jsx_tree.specs.Walk.{one};
 ghost use Rattle.jsx_tree.specs.Answers.{Barred, NoRow, Only, OnlyRow};
+ghost use Rattle.jsx_tree.specs.Faults.{inner};
 ghost use Rattle.jsx_make.specs.Members.{view_class_member};
 ghost use Rattle.jsx_make.specs.NodeSpans.{expr_at};
 ghost use Rattle.jsx_operand.specs.Around.{around_of};
@@ -30,6 +31,7 @@ use crate::grammar::{MEMBER, Within};
 use crate::method::{Home, PlacedKey, take_prefix};
 use jsx_base::BytePos;
 use jsx_make::make;
+use jsx_operand::depth::within_leaf;
 use jsx_operand::member::are_members;
 use jsx_operand::parser::{bound_name, expect, give_up, span_to};
 use jsx_operand::{Body, Context, Cover, ParseError};
@@ -65,7 +67,7 @@ fn class_name<'s>(context: Context, lexer: &mut Lexer<'s>) -> Result<Option<Iden
     ensures read { IfOk result (λ n. IsClassName (around_of context.entry.around) (place_of lexer.old) (optional_name n) (place_of lexer.new)) }
     ensures placed { IfOk result (λ n. IsPlacedFront class_name (told_name n) (optional_name n) lexer.old lexer.new) }
     ensures within { OnOk result (left lexer.new ≤ left lexer.old) }
-    ensures refused { Refused result (NoNamedClass (around_of context.entry.around) (place_of lexer.old)) }
+    ensures refused { Refused context.entry.levels result (NoNamedClass (around_of context.entry.around) (place_of lexer.old)) }
 {
     if lexer.is_before(Fixed::OpenBrace) {
         return Ok(None);
@@ -95,7 +97,7 @@ impl<
         ensures read { IfOk result (λ m. OnlyElement (holder_at home) (around_of context.entry.around) (view_member m.value (owner_at home)) (place_of lexer.old) (place_of lexer.new)) }
         ensures placed { IfOk result (λ m. IsPlacedElement (holder_at home) start lexer.old (told_prop m.value) (view_member m.value (owner_at home)) lexer.new) }
         ensures shorter { OnOk result (left lexer.new < left lexer.old) }
-        ensures refused { Refused result (NoElement (holder_at home) (around_of context.entry.around) (place_of lexer.old)) }
+        ensures refused { Refused context.entry.levels result (λ e. NoElement (holder_at home) (around_of context.entry.around) (place_of lexer.old) (inner e)) }
     {
         if take_prefix(lexer, Word::Get) {
             let lo = begin(start, lexer.last_place());
@@ -105,8 +107,14 @@ impl<
             let lo = begin(start, lexer.last_place());
             return Ok(self.setter_member(context, lexer, lo, home)?);
         }
-        let PlacedKey { key, place } = self.key(context, lexer)?;
-        Ok(self.class_keyed(context, lexer, begin(start, place), home, key)?)
+        let PlacedKey { key, place, levels } = self.key(context, lexer)?;
+        Ok(self.class_keyed(
+            Context { levels, ..context },
+            lexer,
+            begin(start, place),
+            home,
+            key,
+        )?)
     }
 
     /// A member of a class: a method, a getter, a setter or a field, each `static` or not (ECMA-262 section 15.7).
@@ -120,10 +128,11 @@ impl<
         ensures read { IfOk result (λ m. Only so_far (around_of context.entry.around) (Part grammar.ClassMember) (place_of lexer.old) (one (view_class_member m.value)) (place_of lexer.new)) }
         ensures placed { IfOk result (λ m. IsPlaced (told_prop m.value) (view_class_member m.value) lexer.old lexer.new) }
         ensures shorter { OnOk result (left lexer.new < left lexer.old) }
-        ensures refused { Refused result (Barred so_far (around_of context.entry.around) (Part grammar.ClassMember) (place_of lexer.old)) }
+        ensures refused { Refused context.entry.levels result (Barred so_far (around_of context.entry.around) (Part grammar.ClassMember) (place_of lexer.old)) }
     {
         if take_prefix(lexer, Word::Static) {
             let start = Some(lexer.last_place());
+            within_leaf(context, lexer)?;
             return Ok(self.class_element(context, lexer, start, Home::Static)?);
         }
         Ok(self.class_element(context, lexer, None, Home::Instance)?)
@@ -141,7 +150,7 @@ impl<
         ensures placed { IfOk result (λ v. IsPlacedRow members_symbols (tale (told_list (map (inside told_prop) v.items)) no_tales) (part (list (forest (map (inside view_class_member) v.items))) none) lexer.old lexer.new) }
         ensures shorter { OnOk result (left lexer.new < left lexer.old) }
         ensures ended { OnOk result (IsTrue (settled (place_of lexer.new))) }
-        ensures refused { Refused result (NoRow so_far (around_of context.entry.around) members_row (place_of lexer.old)) }
+        ensures refused { Refused context.entry.levels result (NoRow so_far (around_of context.entry.around) members_row (place_of lexer.old)) }
     {
         let mut all = Vec::new(context.alloc);
         'members: while !lexer.take(Fixed::CloseBrace) {
@@ -163,7 +172,7 @@ impl<
         ensures plain { IfOk result (λ h. list_rule members_rule (optional_of view_expr h) ≡ true) }
         ensures placed { IfOk result (λ h. IsPlacedFront heritage (told_optional told_expr h) (optional_of view_expr h) lexer.old lexer.new) }
         ensures within { OnOk result (left lexer.new ≤ left lexer.old) }
-        ensures refused { Refused result (NoClass (around_of context.entry.around) (place_of lexer.old)) }
+        ensures refused { Refused context.entry.levels result (NoClass (around_of context.entry.around) (place_of lexer.old)) }
     {
         if !lexer.take(Fixed::Word(Word::Extends)) {
             return Ok(None);
@@ -185,7 +194,7 @@ impl<
         ensures placed { IfOk result (λ c. IsPlacedRow class_symbols (told_class c) (class_parts c) lexer.old lexer.new) }
         ensures shorter { OnOk result (left lexer.new < left lexer.old) }
         ensures ended { OnOk result (IsTrue (settled (place_of lexer.new))) }
-        ensures refused { Refused result (NoClass (around_of context.entry.around) (place_of lexer.old)) }
+        ensures refused { Refused context.entry.levels result (NoClass (around_of context.entry.around) (place_of lexer.old)) }
     {
         let heritage = self.heritage(context, lexer)?;
         expect(context, lexer, Fixed::OpenBrace)?;
@@ -209,7 +218,7 @@ impl<
         ensures placed { IfOk result (λ c. IsPlacedRow named_class_symbols (told_named_class c) (named_class_parts c) lexer.old lexer.new) }
         ensures shorter { OnOk result (left lexer.new < left lexer.old) }
         ensures ended { OnOk result (IsTrue (settled (place_of lexer.new))) }
-        ensures refused { Refused result (NoNamedClass (around_of context.entry.around) (place_of lexer.old)) }
+        ensures refused { Refused context.entry.levels result (NoNamedClass (around_of context.entry.around) (place_of lexer.old)) }
     {
         let name = class_name(context, lexer)?;
         let code = self.class_code(context, lexer)?;
@@ -231,7 +240,7 @@ impl<
         ensures placed { IfOk result (λ e. IsPlacedBehind (opening_sign (function ClassExpr)) lexer.old (told_expr e.value) (view_expr e.value) lexer.new) }
         ensures shorter { OnOk result (left lexer.new < left lexer.old) }
         ensures ended { OnOk result (IsTrue (settled (place_of lexer.new))) }
-        ensures refused { Refused result (NoParts (around_of context.entry.around) (function ClassExpr) (place_of lexer.old)) }
+        ensures refused { Refused context.entry.levels result (NoParts (around_of context.entry.around) (function ClassExpr) (place_of lexer.old)) }
     {
         let lo = lexer.last_place();
         let read = self.named_class(context, lexer)?;

@@ -74,7 +74,7 @@ pub(crate) fn function_name<'s>(
     ensures read { IfOk result (λ n. IsNamed (around_of context.entry.around) (place_of lexer.old) (optional_name n) (place_of lexer.new)) }
     ensures placed { IfOk result (λ n. IsPlacedFront name_symbols (told_name n) (optional_name n) lexer.old lexer.new) }
     ensures within { OnOk result (left lexer.new ≤ left lexer.old) }
-    ensures refused { Refused result (NoRow so_far (around_of context.entry.around) named_row (place_of lexer.old)) }
+    ensures refused { Refused context.entry.levels result (NoRow so_far (around_of context.entry.around) named_row (place_of lexer.old)) }
 {
     if lexer.is_before(Fixed::Open) {
         return Ok(None);
@@ -117,7 +117,7 @@ impl<
         ensures simple { IfOk result (λ p. p.is_simple ≡ is_word (view_pat p.pattern.value)) }
         ensures placed { IfOk result (λ p. IsPlaced (told_pat p.pattern.value) (view_pat p.pattern.value) lexer.old lexer.new) }
         ensures shorter { OnOk result (left lexer.new < left lexer.old) }
-        ensures refused { Refused result (Barred so_far (around_of context.entry.around) (Part grammar.Param) (place_of lexer.old)) }
+        ensures refused { Refused context.entry.levels result (Barred so_far (around_of context.entry.around) (Part grammar.Param) (place_of lexer.old)) }
     {
         if lexer.take(Fixed::Dots) {
             let pattern = self.rest_pattern(context, lexer)?;
@@ -143,7 +143,7 @@ impl<
         ensures simple { IfOk result (λ q. q.are_simple ≡ all_of is_word (forest (map (inside view_pat) q.all.items))) }
         ensures placed { IfOk result (λ q. IsPlacedFront params_symbols (told_list (map (inside told_pat) q.all.items)) (list (forest (map (inside view_pat) q.all.items))) lexer.old lexer.new) }
         ensures shorter { OnOk result (left lexer.new < left lexer.old) }
-        ensures refused { Refused result (NoRow so_far (around_of context.entry.around) params_row (place_of lexer.old)) }
+        ensures refused { Refused context.entry.levels result (NoRow so_far (around_of context.entry.around) params_row (place_of lexer.old)) }
     {
         let mut all = Vec::new(context.alloc);
         let mut are_simple = true;
@@ -172,7 +172,7 @@ impl<
         ensures placed { IfOk result (λ f. IsPlacedRow code_symbols (told_parts f) (parts_of f) lexer.old lexer.new) }
         ensures shorter { OnOk result (left lexer.new < left lexer.old) }
         ensures ended { OnOk result (IsTrue (settled (place_of lexer.new))) }
-        ensures refused { Refused result (NoOwnCode (around_of context.entry.around) (place_of lexer.old)) }
+        ensures refused { Refused context.entry.levels result (NoOwnCode (around_of context.entry.around) (place_of lexer.old)) }
     {
         expect(context, lexer, Fixed::Open)?;
         let Parameters {
@@ -200,7 +200,7 @@ impl<
         ensures placed { IfOk result (λ f. IsPlacedRow code_symbols (told_parts f) (parts_of f) lexer.old lexer.new) }
         ensures shorter { OnOk result (left lexer.new < left lexer.old) }
         ensures ended { OnOk result (IsTrue (settled (place_of lexer.new))) }
-        ensures refused { Refused result (NoCode (around_of context.entry.around) (place_of lexer.old)) }
+        ensures refused { Refused context.entry.levels result (NoCode (around_of context.entry.around) (place_of lexer.old)) }
     {
         let labels = Labels::None;
         let code = self.own_code(context.of_function(&labels), lexer)?;
@@ -220,7 +220,7 @@ impl<
         ensures placed { IfOk result (λ f. IsPlacedRow named_symbols (told_named f) (named_parts f) lexer.old lexer.new) }
         ensures shorter { OnOk result (left lexer.new < left lexer.old) }
         ensures ended { OnOk result (IsTrue (settled (place_of lexer.new))) }
-        ensures refused { Refused result (NoNamed (around_of context.entry.around) (place_of lexer.old)) }
+        ensures refused { Refused context.entry.levels result (NoNamed (around_of context.entry.around) (place_of lexer.old)) }
     {
         let name = function_name(context, lexer)?;
         let code = self.function_code(context, lexer)?;
@@ -242,7 +242,7 @@ impl<
         ensures placed { IfOk result (λ e. IsPlacedBehind (opening_sign (function FunctionExpr)) lexer.old (told_expr e.value) (view_expr e.value) lexer.new) }
         ensures shorter { OnOk result (left lexer.new < left lexer.old) }
         ensures ended { OnOk result (IsTrue (settled (place_of lexer.new))) }
-        ensures refused { Refused result (NoNode so_far (around_of context.entry.around) (tail (row_so_far (function FunctionExpr))) (function FunctionExpr) (place_of lexer.old)) }
+        ensures refused { Refused context.entry.levels result (NoNode so_far (around_of context.entry.around) (tail (row_so_far (function FunctionExpr))) (function FunctionExpr) (place_of lexer.old)) }
     {
         let lo = lexer.last_place();
         let read = self.named_function(context, lexer)?;

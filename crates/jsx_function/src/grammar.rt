@@ -58,7 +58,7 @@ impl<
         ensures shorter { OnOk result (left lexer.new < left lexer.old) }
         ensures ended { OnOk result (IsTrue (closed (place_of lexer.new))) }
         ensures settles { OnOk result (Settles level (place_of lexer.new)) }
-        ensures refused { Refused result (NoCover (around_of context.entry.around) level (place_of lexer.old)) }
+        ensures refused { Refused context.entry.levels result (NoCover (around_of context.entry.around) level (place_of lexer.old)) }
     {
         (self.inner)(context, lexer, level, self.body)
     }
@@ -79,7 +79,7 @@ impl<
         ensures shorter { OnOk result (left lexer.new < left lexer.old) }
         ensures ended { OnOk result (IsTrue (closed (place_of lexer.new))) }
         ensures settles { OnOk result (Settles level (place_of lexer.new)) }
-        ensures refused { Refused result (Barred so_far (around_of context.entry.around) (Part (grammar.Expr level)) (place_of lexer.old)) }
+        ensures refused { Refused context.entry.levels result (Barred so_far (around_of context.entry.around) (Part (grammar.Expr level)) (place_of lexer.old)) }
     {
         let read = self.covered(context, lexer, level)?;
         Ok(settle(read, lexer)?)
@@ -91,7 +91,7 @@ impl<
         ensures read { IfOk result (λ b. OnlyRow so_far (around_of context.entry.around) body_row (place_of lexer.old) (part (view_body b) none) (place_of lexer.new)) }
         ensures placed { IfOk result (λ b. IsPlacedRow body_symbols (tale (told_of b) no_tales) (part (view_body b) none) lexer.old lexer.new) }
         ensures within { OnOk result (left lexer.new ≤ left lexer.old) }
-        ensures refused { Refused result (NoRow so_far (around_of context.entry.around) body_row (place_of lexer.old)) }
+        ensures refused { Refused context.entry.levels result (NoRow so_far (around_of context.entry.around) body_row (place_of lexer.old)) }
     {
         (self.body)(context, lexer)
     }

@@ -10,6 +10,7 @@ ghost use Rattle.jsx_tree.specs.Told.{told_expr, told_key, told_optional, told_p
 ghost use Rattle.jsx_tree.specs.View.{holder_of, optional_of, view_expr, view_key, view_member, view_pat};
 ghost use Rattle.jsx_tree.specs.Walk.{one, tail};
 ghost use Rattle.jsx_tree.specs.Answers.{Barred, Built, NoRow, Only, OnlyRow};
+ghost use Rattle.jsx_tree.specs.Faults.{inner};
 ghost use Rattle.jsx_operand.specs.Around.{around_of, in_field, in_method};
 ghost use Rattle.jsx_operand.specs.Answers.{Refused};
 ghost use Rattle.jsx_operand.specs.Bodies.{ReadsBodies, told_of, view_body};
@@ -27,6 +28,7 @@ use crate::function::{FunctionCode, Parameter, suits};
 use crate::grammar::Within;
 use jsx_base::BytePos;
 use jsx_make::make;
+use jsx_operand::depth::{within, within_leaf};
 use jsx_operand::member::is_constructor_key;
 use jsx_operand::operand::{ASSIGNMENT, literal_key};
 use jsx_operand::parser::{expect, give_up, semicolon, span_to};
@@ -67,11 +69,12 @@ impl Home {
     }
 }
 
-/// A key, and where it begins.
+/// A key, where it begins, and how deep what stands in its member may be.
 #[derive(Drop)]
 pub(crate) struct PlacedKey<'s> {
     pub(crate) key: Key<'s>,
     pub(crate) place: BytePos,
+    pub(crate) levels: u32,
 }
 
 /// What stands behind the key of a setter.
@@ -140,7 +143,7 @@ impl<
         ensures read { IfOk result (λ k. Built so_far (around_of context.entry.around) (tail (row_so_far (function ComputedKey))) (function ComputedKey) (λ ts. ts) (view_key k) (place_of lexer.old) (place_of lexer.new)) }
         ensures placed { IfOk result (λ k. IsPlacedBehind (sign_of fixed.OpenBracket) lexer.old (told_key k) (view_key k) lexer.new) }
         ensures shorter { OnOk result (left lexer.new < left lexer.old) }
-        ensures refused { Refused result (NoRow so_far (around_of context.entry.around) (tail (row_so_far (function ComputedKey))) (place_of lexer.old)) }
+        ensures refused { Refused context.entry.levels result (NoRow so_far (around_of context.entry.around) (tail (row_so_far (function ComputedKey))) (place_of lexer.old)) }
     {
         let lo = lexer.last_place();
         let inner = self.inner(context, lexer, ASSIGNMENT)?;
@@ -148,7 +151,7 @@ impl<
         Ok(make::computed_key(span_to(lo, lexer), inner))
     }
 
-    /// The key of a member: a name, a string, a number, or an expression in brackets.
+    /// The key of a member, which counts from its first token on: a name, a string, a number, or an expression in brackets.
     pub(crate) fn key<'s>(
         &self,
         context: Context,
@@ -158,23 +161,27 @@ impl<
         requires bodies { ReadsBodies (left lexer.old) (B.pre self.now.body) (B.post self.now.body) }
         ensures read { IfOk result (λ k. Only so_far (around_of context.entry.around) (Part grammar.Key) (place_of lexer.old) (one (view_key k.key)) (place_of lexer.new)) }
         ensures place { IfOk result (λ k. k.place.0 ≡ next_of lexer.old) }
+        ensures levels { IfOk result (λ k. suc k.levels ≡ context.entry.levels) }
         ensures placed { IfOk result (λ k. IsPlaced (told_key k.key) (view_key k.key) lexer.old lexer.new) }
         ensures shorter { OnOk result (left lexer.new < left lexer.old) }
-        ensures refused { Refused result (Barred so_far (around_of context.entry.around) (Part grammar.Key) (place_of lexer.old)) }
+        ensures refused { Refused context.entry.levels result (λ e. Barred so_far (around_of context.entry.around) (Part grammar.Key) (place_of lexer.old) (inner e)) }
     {
         if lexer.take(Fixed::OpenBracket) {
             let place = lexer.last_place();
-            let key = self.computed_key(context, lexer)?;
-            return Ok(PlacedKey { key, place });
+            let levels = within(context, lexer)?;
+            let key = self.computed_key(Context { levels, ..context }, lexer)?;
+            return Ok(PlacedKey { key, place, levels });
         }
         if let Some(raw) = lexer.leaf(Leaf::Name) {
             let place = lexer.last_place();
+            let levels = within_leaf(context, lexer)?;
             let key = make::name_key(Text::Read(raw, place));
-            return Ok(PlacedKey { key, place });
+            return Ok(PlacedKey { key, place, levels });
         }
         let key = literal_key(context, lexer)?;
         let place = lexer.last_place();
-        Ok(PlacedKey { key, place })
+        let levels = within_leaf(context, lexer)?;
+        Ok(PlacedKey { key, place, levels })
     }
 
     /// What stands behind the key of a method, in what a method does, which may be the constructor of its class.
@@ -190,7 +197,7 @@ impl<
         ensures plain { IfOk result (λ f. has_plain_params (parts_of f) ≡ true) }
         ensures placed { IfOk result (λ f. IsPlacedRow code_symbols (told_parts f) (parts_of f) lexer.old lexer.new) }
         ensures shorter { OnOk result (left lexer.new < left lexer.old) }
-        ensures refused { Refused result (NoOwnCode (in_method is_constructor (around_of context.entry.around)) (place_of lexer.old)) }
+        ensures refused { Refused context.entry.levels result (NoOwnCode (in_method is_constructor (around_of context.entry.around)) (place_of lexer.old)) }
     {
         let labels = Labels::None;
         let code = self.own_code(context.of_method(&labels, is_constructor), lexer)?;
@@ -208,7 +215,7 @@ impl<
         ensures read { IfOk result (λ b. OnlyRow so_far (around_of context.entry.around) getter_row (place_of lexer.old) (part (view_body b) none) (place_of lexer.new)) }
         ensures placed { IfOk result (λ b. IsPlacedRow getter_symbols (tale (told_of b) no_tales) (part (view_body b) none) lexer.old lexer.new) }
         ensures shorter { OnOk result (left lexer.new < left lexer.old) }
-        ensures refused { Refused result (NoRow so_far (around_of context.entry.around) getter_row (place_of lexer.old)) }
+        ensures refused { Refused context.entry.levels result (NoRow so_far (around_of context.entry.around) getter_row (place_of lexer.old)) }
     {
         expect(context, lexer, Fixed::Open)?;
         expect(context, lexer, Fixed::Close)?;
@@ -228,7 +235,7 @@ impl<
         ensures read { IfOk result (λ b. OnlyRow so_far (in_method is_constructor (around_of context.entry.around)) getter_row (place_of lexer.old) (part (view_body b) none) (place_of lexer.new)) }
         ensures placed { IfOk result (λ b. IsPlacedRow getter_symbols (tale (told_of b) no_tales) (part (view_body b) none) lexer.old lexer.new) }
         ensures shorter { OnOk result (left lexer.new < left lexer.old) }
-        ensures refused { Refused result (NoRow so_far (in_method is_constructor (around_of context.entry.around)) getter_row (place_of lexer.old)) }
+        ensures refused { Refused context.entry.levels result (NoRow so_far (in_method is_constructor (around_of context.entry.around)) getter_row (place_of lexer.old)) }
     {
         let labels = Labels::None;
         let body = self.own_getter(context.of_method(&labels, is_constructor), lexer)?;
@@ -247,7 +254,7 @@ impl<
         ensures simple { IfOk result (λ p. p.is_simple ≡ is_word (view_pat p.pattern.value)) }
         ensures placed { IfOk result (λ p. IsPlaced (told_pat p.pattern.value) (view_pat p.pattern.value) lexer.old lexer.new) }
         ensures shorter { OnOk result (left lexer.new < left lexer.old) }
-        ensures refused { Refused result (Barred so_far (around_of context.entry.around) (Part grammar.SetterParam) (place_of lexer.old)) }
+        ensures refused { Refused context.entry.levels result (Barred so_far (around_of context.entry.around) (Part grammar.SetterParam) (place_of lexer.old)) }
     {
         let pattern = self.element(context, lexer)?;
         let is_simple = !is_compound(&pattern);
@@ -266,7 +273,7 @@ impl<
         ensures suits { IfOk result (λ s. suits_setter (setter_parts s) ≡ true) }
         ensures placed { IfOk result (λ s. IsPlacedRow setter_symbols (told_setter s) (setter_parts s) lexer.old lexer.new) }
         ensures shorter { OnOk result (left lexer.new < left lexer.old) }
-        ensures refused { Refused result (NoSetter (around_of context.entry.around) (place_of lexer.old)) }
+        ensures refused { Refused context.entry.levels result (NoSetter (around_of context.entry.around) (place_of lexer.old)) }
     {
         expect(context, lexer, Fixed::Open)?;
         let Parameter {
@@ -295,7 +302,7 @@ impl<
         ensures suits { IfOk result (λ s. suits_setter (setter_parts s) ≡ true) }
         ensures placed { IfOk result (λ s. IsPlacedRow setter_symbols (told_setter s) (setter_parts s) lexer.old lexer.new) }
         ensures shorter { OnOk result (left lexer.new < left lexer.old) }
-        ensures refused { Refused result (NoSetter (in_method is_constructor (around_of context.entry.around)) (place_of lexer.old)) }
+        ensures refused { Refused context.entry.levels result (NoSetter (in_method is_constructor (around_of context.entry.around)) (place_of lexer.old)) }
     {
         let labels = Labels::None;
         let code = self.own_setter(context.of_method(&labels, is_constructor), lexer)?;
@@ -316,7 +323,7 @@ impl<
         ensures read { IfOk result (λ m. OnlyKeyed (is_method (holder_at home)) (around_of context.entry.around) (view_key key.entry) (view_member m.value (owner_at home)) (place_of lexer.old) (place_of lexer.new)) }
         ensures placed { IfOk result (λ m. IsPlacedMember (holder_words (holder_at home)) lo.0 (told_key key.entry) (view_key key.entry) lexer.old (told_prop m.value) (view_member m.value (owner_at home)) lexer.new) }
         ensures shorter { OnOk result (left lexer.new < left lexer.old) }
-        ensures refused { Refused result (NoneKeyed (is_method (holder_at home)) (around_of context.entry.around) (view_key key.entry) (place_of lexer.old)) }
+        ensures refused { Refused context.entry.levels result (NoneKeyed (is_method (holder_at home)) (around_of context.entry.around) (view_key key.entry) (place_of lexer.old)) }
     {
         let FunctionCode { params, body } = self.method_code(
             context,
@@ -353,7 +360,7 @@ impl<
         ensures read { IfOk result (λ m. OnlyKeyed (is_getter (holder_at home)) (around_of context.entry.around) (view_key key.entry) (view_member m.value (owner_at home)) (place_of lexer.old) (place_of lexer.new)) }
         ensures placed { IfOk result (λ m. IsPlacedMember (getter_words (holder_at home)) lo.0 (told_key key.entry) (view_key key.entry) lexer.old (told_prop m.value) (view_member m.value (owner_at home)) lexer.new) }
         ensures shorter { OnOk result (left lexer.new < left lexer.old) }
-        ensures refused { Refused result (NoneKeyed (is_getter (holder_at home)) (around_of context.entry.around) (view_key key.entry) (place_of lexer.old)) }
+        ensures refused { Refused context.entry.levels result (NoneKeyed (is_getter (holder_at home)) (around_of context.entry.around) (view_key key.entry) (place_of lexer.old)) }
     {
         let body = self.getter_code(context, lexer, home.constructs(&key))?;
         let Body {
@@ -385,7 +392,7 @@ impl<
         ensures read { IfOk result (λ m. OnlyKeyed (is_setter (holder_at home)) (around_of context.entry.around) (view_key key.entry) (view_member m.value (owner_at home)) (place_of lexer.old) (place_of lexer.new)) }
         ensures placed { IfOk result (λ m. IsPlacedMember (setter_words (holder_at home)) lo.0 (told_key key.entry) (view_key key.entry) lexer.old (told_prop m.value) (view_member m.value (owner_at home)) lexer.new) }
         ensures shorter { OnOk result (left lexer.new < left lexer.old) }
-        ensures refused { Refused result (NoneKeyed (is_setter (holder_at home)) (around_of context.entry.around) (view_key key.entry) (place_of lexer.old)) }
+        ensures refused { Refused context.entry.levels result (NoneKeyed (is_setter (holder_at home)) (around_of context.entry.around) (view_key key.entry) (place_of lexer.old)) }
     {
         let SetterCode { param, body } = self.setter_code(context, lexer, home.constructs(&key))?;
         let Body {
@@ -416,7 +423,7 @@ impl<
         ensures read { IfOk result (λ o. OnlyRow so_far (around_of context.entry.around) field_row (place_of lexer.old) (part (optional_of view_expr o) none) (place_of lexer.new)) }
         ensures placed { IfOk result (λ o. IsPlacedRow field_symbols (tale (told_optional told_expr o) no_tales) (part (optional_of view_expr o) none) lexer.old lexer.new) }
         ensures within { OnOk result (left lexer.new ≤ left lexer.old) }
-        ensures refused { Refused result (NoRow so_far (around_of context.entry.around) field_row (place_of lexer.old)) }
+        ensures refused { Refused context.entry.levels result (NoRow so_far (around_of context.entry.around) field_row (place_of lexer.old)) }
     {
         lexer.ends(Ending::Key);
         if !lexer.take(Fixed::Equals) {
@@ -439,7 +446,7 @@ impl<
         ensures read { IfOk result (λ o. OnlyRow so_far (in_field (around_of context.entry.around)) field_row (place_of lexer.old) (part (optional_of view_expr o) none) (place_of lexer.new)) }
         ensures placed { IfOk result (λ o. IsPlacedRow field_symbols (tale (told_optional told_expr o) no_tales) (part (optional_of view_expr o) none) lexer.old lexer.new) }
         ensures within { OnOk result (left lexer.new ≤ left lexer.old) }
-        ensures refused { Refused result (NoRow so_far (in_field (around_of context.entry.around)) field_row (place_of lexer.old)) }
+        ensures refused { Refused context.entry.levels result (NoRow so_far (in_field (around_of context.entry.around)) field_row (place_of lexer.old)) }
     {
         let labels = Labels::None;
         let value = self.own_field(context.of_field(&labels), lexer)?;
@@ -461,7 +468,7 @@ impl<
         ensures read { IfOk result (λ m. OnlyKeyed (is_field (holder_at home)) (around_of context.entry.around) (view_key key.entry) (view_member m.value (owner_at home)) (place_of lexer.old) (place_of lexer.new)) }
         ensures placed { IfOk result (λ m. IsPlacedMember (holder_words (holder_at home)) lo.0 (told_key key.entry) (view_key key.entry) lexer.old (told_prop m.value) (view_member m.value (owner_at home)) lexer.new) }
         ensures within { OnOk result (left lexer.new ≤ left lexer.old) }
-        ensures refused { Refused result (NoneKeyed (is_field (holder_at home)) (around_of context.entry.around) (view_key key.entry) (place_of lexer.old)) }
+        ensures refused { Refused context.entry.levels result (NoneKeyed (is_field (holder_at home)) (around_of context.entry.around) (view_key key.entry) (place_of lexer.old)) }
     {
         let value = self.field_code(context, lexer)?;
         Ok(make::field(
@@ -473,7 +480,7 @@ impl<
         )?)
     }
 
-    /// A getter from its key on; it begins at a place: `a() { b }`.
+    /// A getter from its key on, behind its `get`, which counts; it begins at a place: `a() { b }`.
     pub fn getter_member<'s>(
         &self,
         context: Context,
@@ -486,13 +493,14 @@ impl<
         ensures read { IfOk result (λ m. OnlyFromKey (is_getter (holder_at home)) (around_of context.entry.around) (view_member m.value (owner_at home)) (place_of lexer.old) (place_of lexer.new)) }
         ensures placed { IfOk result (λ m. IsPlacedFrom (getter_words (holder_at home)) lo.0 lexer.old (told_prop m.value) (view_member m.value (owner_at home)) lexer.new) }
         ensures shorter { OnOk result (left lexer.new < left lexer.old) }
-        ensures refused { Refused result (NoneFromKey (is_getter (holder_at home)) (around_of context.entry.around) (place_of lexer.old)) }
+        ensures refused { Refused context.entry.levels result (λ e. NoneFromKey (is_getter (holder_at home)) (around_of context.entry.around) (place_of lexer.old) (inner e)) }
     {
-        let read = self.key(context, lexer)?;
-        Ok(self.getter(context, lexer, lo, home, read.key)?)
+        within_leaf(context, lexer)?;
+        let PlacedKey { key, levels, .. } = self.key(context, lexer)?;
+        Ok(self.getter(Context { levels, ..context }, lexer, lo, home, key)?)
     }
 
-    /// A setter from its key on; it begins at a place: `a(b) { c }`.
+    /// A setter from its key on, behind its `set`, which counts; it begins at a place: `a(b) { c }`.
     pub fn setter_member<'s>(
         &self,
         context: Context,
@@ -505,10 +513,11 @@ impl<
         ensures read { IfOk result (λ m. OnlyFromKey (is_setter (holder_at home)) (around_of context.entry.around) (view_member m.value (owner_at home)) (place_of lexer.old) (place_of lexer.new)) }
         ensures placed { IfOk result (λ m. IsPlacedFrom (setter_words (holder_at home)) lo.0 lexer.old (told_prop m.value) (view_member m.value (owner_at home)) lexer.new) }
         ensures shorter { OnOk result (left lexer.new < left lexer.old) }
-        ensures refused { Refused result (NoneFromKey (is_setter (holder_at home)) (around_of context.entry.around) (place_of lexer.old)) }
+        ensures refused { Refused context.entry.levels result (λ e. NoneFromKey (is_setter (holder_at home)) (around_of context.entry.around) (place_of lexer.old) (inner e)) }
     {
-        let read = self.key(context, lexer)?;
-        Ok(self.setter(context, lexer, lo, home, read.key)?)
+        within_leaf(context, lexer)?;
+        let PlacedKey { key, levels, .. } = self.key(context, lexer)?;
+        Ok(self.setter(Context { levels, ..context }, lexer, lo, home, key)?)
     }
 
     /// What stands in a class behind its key: a method, or a field. It begins at a place.
@@ -526,7 +535,7 @@ impl<
         ensures read { IfOk result (λ m. OnlyKeyed (keyed_in_class (holder_at home)) (around_of context.entry.around) (view_key key.entry) (view_member m.value (owner_at home)) (place_of lexer.old) (place_of lexer.new)) }
         ensures placed { IfOk result (λ m. IsPlacedMember (holder_words (holder_at home)) lo.0 (told_key key.entry) (view_key key.entry) lexer.old (told_prop m.value) (view_member m.value (owner_at home)) lexer.new) }
         ensures within { OnOk result (left lexer.new ≤ left lexer.old) }
-        ensures refused { Refused result (NoneKeyed (keyed_in_class (holder_at home)) (around_of context.entry.around) (view_key key.entry) (place_of lexer.old)) }
+        ensures refused { Refused context.entry.levels result (NoneKeyed (keyed_in_class (holder_at home)) (around_of context.entry.around) (view_key key.entry) (place_of lexer.old)) }
     {
         if lexer.is_before(Fixed::Open) {
             return Ok(self.method(context, lexer, lo, home, key)?);

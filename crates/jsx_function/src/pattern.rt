@@ -29,6 +29,7 @@ ghost use Rattle.jsx_function.specs.Within.{ReadsWithin};
 use crate::grammar::Within;
 use jsx_base::BytePos;
 use jsx_make::make;
+use jsx_operand::depth::{behind_pattern, leave, measure, within, within_leaf};
 use jsx_operand::operand::{ASSIGNMENT, literal_key};
 use jsx_operand::parser::{binding_identifier, bound_name, expect, give_up, span_to};
 use jsx_operand::pattern::start_of_pattern;
@@ -49,7 +50,7 @@ fn rest_property<'s>(context: Context, lexer: &mut Lexer<'s>) -> Result<Box<Pat<
     ensures read { IfOk result (λ p. Built so_far (around_of context.entry.around) (tail (row_so_far (function (RestProperty Binds)))) (function (RestProperty Binds)) (λ ts. ts) (view_pat p.value) (place_of lexer.old) (place_of lexer.new)) }
     ensures placed { IfOk result (λ p. IsPlacedBehind (sign_of fixed.Dots) lexer.old (told_pat p.value) (view_pat p.value) lexer.new) }
     ensures shorter { OnOk result (left lexer.new < left lexer.old) }
-    ensures refused { Refused result (NoRow so_far (around_of context.entry.around) (tail (row_so_far (function (RestProperty Binds)))) (place_of lexer.old)) }
+    ensures refused { Refused context.entry.levels result (NoRow so_far (around_of context.entry.around) (tail (row_so_far (function (RestProperty Binds)))) (place_of lexer.old)) }
 {
     let lo = lexer.last_place();
     let name = bound_name(context, lexer)?;
@@ -76,13 +77,15 @@ impl<
         ensures span { IfOk result (λ p. Spans (pat_at p.value) (next_of lexer.old) (end_of lexer.new)) }
         ensures placed { IfOk result (λ p. IsPlaced (told_pat p.value) (view_pat p.value) lexer.old lexer.new) }
         ensures shorter { OnOk result (left lexer.new < left lexer.old) }
-        ensures refused { Refused result (Barred so_far (around_of context.entry.around) (Part (grammar.Pat Binds)) (place_of lexer.old)) }
+        ensures refused { Refused context.entry.levels result (Barred so_far (around_of context.entry.around) (Part (grammar.Pat Binds)) (place_of lexer.old)) }
     {
         if lexer.take(Fixed::OpenBracket) {
-            return Ok(self.array_pattern(context, lexer)?);
+            let levels = within(context, lexer)?;
+            return Ok(self.array_pattern(Context { levels, ..context }, lexer)?);
         }
         if lexer.take(Fixed::OpenBrace) {
-            return Ok(self.object_pattern(context, lexer)?);
+            let levels = within(context, lexer)?;
+            return Ok(self.object_pattern(Context { levels, ..context }, lexer)?);
         }
         Ok(binding_identifier(context, lexer)?)
     }
@@ -99,7 +102,7 @@ impl<
         ensures read { IfOk result (λ p. Built so_far (around_of context.entry.around) (tail (row_so_far (function (RestPat Binds)))) (function (RestPat Binds)) (λ ts. ts) (view_pat p.value) (place_of lexer.old) (place_of lexer.new)) }
         ensures placed { IfOk result (λ p. IsPlacedBehind (sign_of fixed.Dots) lexer.old (told_pat p.value) (view_pat p.value) lexer.new) }
         ensures shorter { OnOk result (left lexer.new < left lexer.old) }
-        ensures refused { Refused result (NoRow so_far (around_of context.entry.around) (tail (row_so_far (function (RestPat Binds)))) (place_of lexer.old)) }
+        ensures refused { Refused context.entry.levels result (NoRow so_far (around_of context.entry.around) (tail (row_so_far (function (RestPat Binds)))) (place_of lexer.old)) }
     {
         let lo = lexer.last_place();
         let target = self.binding(context, lexer)?;
@@ -122,13 +125,17 @@ impl<
         ensures read { IfOk result (λ p. IsElement (around_of context.entry.around) (place_of lexer.old) (view_pat p.value) (place_of lexer.new)) }
         ensures placed { IfOk result (λ p. IsPlaced (told_pat p.value) (view_pat p.value) lexer.old lexer.new) }
         ensures shorter { OnOk result (left lexer.new < left lexer.old) }
-        ensures refused { Refused result (NoElement (around_of context.entry.around) (place_of lexer.old)) }
+        ensures refused { Refused context.entry.levels result (NoElement (around_of context.entry.around) (place_of lexer.old)) }
     {
+        let outer = measure(context);
         let target = self.binding(context, lexer)?;
         if !lexer.take(Fixed::Equals) {
+            leave(context, outer);
             return Ok(target);
         }
-        let value = self.inner(context, lexer, ASSIGNMENT)?;
+        let levels = behind_pattern(context, lexer, &target)?;
+        let value = self.inner(Context { levels, ..context }, lexer, ASSIGNMENT)?;
+        leave(context, outer);
         let span = span_to(start_of_pattern(&target), lexer);
         Ok(make::with_default(context.alloc, span, target, value)?)
     }
@@ -145,7 +152,7 @@ impl<
         ensures read { IfOk result (λ p. OnlySlot (around_of context.entry.around) (place_of lexer.old) (view_pat p.value) (place_of lexer.new)) }
         ensures placed { IfOk result (λ p. IsPlaced (told_pat p.value) (view_pat p.value) lexer.old lexer.new) }
         ensures shorter { OnOk result (left lexer.new < left lexer.old) }
-        ensures refused { Refused result (NoItem (around_of context.entry.around) (grammar.Slot Binds) (place_of lexer.old)) }
+        ensures refused { Refused context.entry.levels result (NoItem (around_of context.entry.around) (grammar.Slot Binds) (place_of lexer.old)) }
     {
         if lexer.take(Fixed::Dots) {
             return Ok(self.rest_pattern(context, lexer)?);
@@ -166,7 +173,7 @@ impl<
         ensures placed { IfOk result (λ v. IsPlacedRow behind_bracket (tale (told_list (map (inside told_pat) v.items)) no_tales) (part (list (forest (map (inside view_pat) v.items))) none) lexer.old lexer.new) }
         ensures shorter { OnOk result (left lexer.new < left lexer.old) }
         ensures ended { OnOk result (IsTrue (settled (place_of lexer.new))) }
-        ensures refused { Refused result (NoRow so_far (around_of context.entry.around) (tail (row_so_far (function (ArrayPat Binds)))) (place_of lexer.old)) }
+        ensures refused { Refused context.entry.levels result (NoRow so_far (around_of context.entry.around) (tail (row_so_far (function (ArrayPat Binds)))) (place_of lexer.old)) }
     {
         let mut all = Vec::new(context.alloc);
         'slots: while !lexer.take(Fixed::CloseBracket) {
@@ -199,7 +206,7 @@ impl<
         ensures placed { IfOk result (λ p. IsPlacedBehind (sign_of fixed.OpenBracket) lexer.old (told_pat p.value) (view_pat p.value) lexer.new) }
         ensures shorter { OnOk result (left lexer.new < left lexer.old) }
         ensures ended { OnOk result (IsTrue (settled (place_of lexer.new))) }
-        ensures refused { Refused result (NoRow so_far (around_of context.entry.around) (tail (row_so_far (function (ArrayPat Binds)))) (place_of lexer.old)) }
+        ensures refused { Refused context.entry.levels result (NoRow so_far (around_of context.entry.around) (tail (row_so_far (function (ArrayPat Binds)))) (place_of lexer.old)) }
     {
         let lo = lexer.last_place();
         let all = self.pattern_slots(context, lexer)?;
@@ -220,7 +227,7 @@ impl<
         ensures read { IfOk result (λ p. OnlyPair (around_of context.entry.around) (place_of lexer.old) (view_key key.entry) (view_pat p.value) (place_of lexer.new)) }
         ensures placed { IfOk result (λ p. IsPlacedPast lo.0 (told_key key.entry) (view_key key.entry) lexer.old (told_pat p.value) (view_pat p.value) lexer.new) }
         ensures shorter { OnOk result (left lexer.new < left lexer.old) }
-        ensures refused { Refused result (NoRow so_far (around_of context.entry.around) (tail (row_so_far (function (PropertyPat Binds)))) (place_of lexer.old)) }
+        ensures refused { Refused context.entry.levels result (NoRow so_far (around_of context.entry.around) (tail (row_so_far (function (PropertyPat Binds)))) (place_of lexer.old)) }
     {
         expect(context, lexer, Fixed::Colon)?;
         let value = self.element(context, lexer)?;
@@ -240,12 +247,13 @@ impl<
         ensures read { IfOk result (λ p. OnlyShort (around_of context.entry.around) (name_of name.entry) (place_of lexer.old) (view_pat p.value) (place_of lexer.new)) }
         ensures placed { IfOk result (λ p. IsPlacedPast lo.0 (told_text name.entry.text) (name_of name.entry) lexer.old (told_pat p.value) (view_pat p.value) lexer.new) }
         ensures within { OnOk result (left lexer.new ≤ left lexer.old) }
-        ensures refused { Refused result (NoShort (around_of context.entry.around) (name_of name.entry) (place_of lexer.old)) }
+        ensures refused { Refused context.entry.levels result (NoShort (around_of context.entry.around) (name_of name.entry) (place_of lexer.old)) }
     {
         if !lexer.take(Fixed::Equals) {
             return Ok(make::short_pattern(context.alloc, span_to(lo, lexer), name)?);
         }
-        let value = self.inner(context, lexer, ASSIGNMENT)?;
+        let levels = within_leaf(context, lexer)?;
+        let value = self.inner(Context { levels, ..context }, lexer, ASSIGNMENT)?;
         Ok(make::short_default(context.alloc, span_to(lo, lexer), name, value)?)
     }
 
@@ -261,26 +269,32 @@ impl<
         ensures read { IfOk result (λ p. OnlyPart (around_of context.entry.around) (place_of lexer.old) (view_pat p.value) (place_of lexer.new)) }
         ensures placed { IfOk result (λ p. IsPlaced (told_pat p.value) (view_pat p.value) lexer.old lexer.new) }
         ensures shorter { OnOk result (left lexer.new < left lexer.old) }
-        ensures refused { Refused result (NoPart (around_of context.entry.around) (place_of lexer.old)) }
+        ensures refused { Refused context.entry.levels result (NoPart (around_of context.entry.around) (place_of lexer.old)) }
     {
         if lexer.take(Fixed::Dots) {
             return Ok(rest_property(context, lexer)?);
         }
         if lexer.take(Fixed::OpenBracket) {
             let lo = lexer.last_place();
-            let key = self.computed_key(context, lexer)?;
-            return Ok(self.pair_pattern(context, lexer, lo, key)?);
+            let levels = within(context, lexer)?;
+            let inside = Context { levels, ..context };
+            let key = self.computed_key(inside, lexer)?;
+            return Ok(self.pair_pattern(inside, lexer, lo, key)?);
         }
         if let Some(raw) = lexer.leaf(Leaf::Name) {
             let lo = lexer.last_place();
+            let levels = within_leaf(context, lexer)?;
+            let inside = Context { levels, ..context };
             let text = Text::Read(raw, lo);
             if is_key(lexer, raw) {
-                return Ok(self.pair_pattern(context, lexer, lo, make::name_key(text))?);
+                return Ok(self.pair_pattern(inside, lexer, lo, make::name_key(text))?);
             }
-            return Ok(self.short_pattern(context, lexer, lo, Ident { text })?);
+            return Ok(self.short_pattern(inside, lexer, lo, Ident { text })?);
         }
         let key = literal_key(context, lexer)?;
-        Ok(self.pair_pattern(context, lexer, lexer.last_place(), key)?)
+        let levels = within_leaf(context, lexer)?;
+        let inside = Context { levels, ..context };
+        Ok(self.pair_pattern(inside, lexer, lexer.last_place(), key)?)
     }
 
     /// What stands in an object's pattern behind its `{`, with the `}`: `a, b: c, ...d}`.
@@ -296,7 +310,7 @@ impl<
         ensures placed { IfOk result (λ v. IsPlacedRow behind_pattern_brace (tale (told_list (map (inside told_pat) v.items)) no_tales) (part (list (forest (map (inside view_pat) v.items))) none) lexer.old lexer.new) }
         ensures shorter { OnOk result (left lexer.new < left lexer.old) }
         ensures ended { OnOk result (IsTrue (settled (place_of lexer.new))) }
-        ensures refused { Refused result (NoRow so_far (around_of context.entry.around) (tail (row_so_far (function (ObjectPat Binds)))) (place_of lexer.old)) }
+        ensures refused { Refused context.entry.levels result (NoRow so_far (around_of context.entry.around) (tail (row_so_far (function (ObjectPat Binds)))) (place_of lexer.old)) }
     {
         let mut all = Vec::new(context.alloc);
         'parts: while !lexer.take(Fixed::CloseBrace) {
@@ -324,7 +338,7 @@ impl<
         ensures placed { IfOk result (λ p. IsPlacedBehind (sign_of fixed.OpenBrace) lexer.old (told_pat p.value) (view_pat p.value) lexer.new) }
         ensures shorter { OnOk result (left lexer.new < left lexer.old) }
         ensures ended { OnOk result (IsTrue (settled (place_of lexer.new))) }
-        ensures refused { Refused result (NoRow so_far (around_of context.entry.around) (tail (row_so_far (function (ObjectPat Binds)))) (place_of lexer.old)) }
+        ensures refused { Refused context.entry.levels result (NoRow so_far (around_of context.entry.around) (tail (row_so_far (function (ObjectPat Binds)))) (place_of lexer.old)) }
     {
         let lo = lexer.last_place();
         let all = self.pattern_parts(context, lexer)?;

@@ -9,3 +9,4 @@ pub mod Stands
 pub mod CommentLaws
 pub mod FoundComments
 pub mod Spellings
+pub mod NameParts

@@ -67,18 +67,28 @@ pub fn is_start(c: char) -> bool
         || (c >= '\u{80}' && unicode_ident::is_xid_start(c))
 }
 
+/// Whether a name may go on with each of the characters of ASCII.
+const PARTS: [bool; 128] = [
+    false, false, false, false, false, false, false, false, false, false, false, false, false,
+    false, false, false, false, false, false, false, false, false, false, false, false, false,
+    false, false, false, false, false, false, false, false, false, false, true, false, false,
+    false, false, false, false, false, false, false, false, false, true, true, true, true, true,
+    true, true, true, true, true, false, false, false, false, false, false, false, true, true,
+    true, true, true, true, true, true, true, true, true, true, true, true, true, true, true, true,
+    true, true, true, true, true, true, true, true, false, false, false, false, true, false, true,
+    true, true, true, true, true, true, true, true, true, true, true, true, true, true, true, true,
+    true, true, true, true, true, true, true, true, true, false, false, false, false, false,
+];
+
 /// Whether a name may go on with the character.
 #[inline(always)]
 pub fn is_part(c: char) -> bool
     ensures { result ≡ is_part c }
 {
-    c.is_ascii_alphabetic()
-        || c.is_ascii_digit()
-        || c == '$'
-        || c == '_'
-        || c == '\u{200C}'
-        || c == '\u{200D}'
-        || (c >= '\u{80}' && unicode_ident::is_xid_continue(c))
+    if c < '\u{80}' {
+        return PARTS[c as usize];
+    }
+    c == '\u{200C}' || c == '\u{200D}' || unicode_ident::is_xid_continue(c)
 }
 
 /// Whether the character ends a line.

@@ -90,14 +90,14 @@ fn gap_part(c: char, text: &str) -> Between
     ensures is { IsBetween c (chars text.now) result }
     ensures ends { IsPartOf text.now result }
 {
-    if c.is_ascii_graphic() && c != '/' {
-        return Between::Over;
-    }
     if c == ' ' {
         return Between::Part(Ahead {
             rest: text,
             has_new_line: false,
         });
+    }
+    if c.is_ascii_graphic() && c != '/' {
+        return Between::Over;
     }
     if is_blank(c) {
         return Between::Part(Ahead {

@@ -30,7 +30,7 @@ struct Stopped<'s> {
     last: State,
 }
 
-#[inline]
+#[inline(always)]
 pub fn step(state: State, c: char) -> State
     ensures { state_of result ≡ step (state_of state) c }
 {

@@ -170,8 +170,8 @@ pub pattern_slots : Holed (Slot Assigns)
 pattern_slots = record {
   home = refl;
   staged = refl;
-  comma_none = λ f. record { no = λ u z h w. slot_unmarked u comma refl h w.reads f };
-  close_none = λ f. record { no = λ u z h w. slot_unmarked u bracket refl h w.reads f };
+  comma_none = λ f. record { no = λ u z h w s. slot_unmarked u comma refl h w.reads f };
+  close_none = λ f. record { no = λ u z h w s. slot_unmarked u bracket refl h w.reads f };
   early = slot_early;
   comma_ends = λ y f. of_so_far.ends_there (Slot Assigns) y (token_stops (Slot Assigns) Punctuator 44 [] y refl f);
   close_ends = λ y f. of_so_far.ends_there (Slot Assigns) y (token_stops (Slot Assigns) Punctuator 93 [] y refl f);

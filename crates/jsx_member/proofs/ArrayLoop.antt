@@ -14,6 +14,7 @@ use Rattle.jsx_base.specs.declared.place.Span.{Span}
 use Rattle.jsx_tree.specs.declared.tree.Expr.{Expr as Code}
 use Rattle.jsx_tree.specs.Walk.{nothing}
 use Rattle.jsx_tree.specs.Answers.{Moves, Stuck, Missed, Only, Barred}
+use Rattle.jsx_tree.specs.Faults.{Fault}
 use Rattle.jsx_tree.proofs.Tokens.{and_left}
 use Rattle.jsx_token.specs.Here.{Here, place_of, sign_of}
 use Rattle.jsx_token.specs.Places.{Takes, end_of, next_of}
@@ -181,8 +182,8 @@ items_last_placed {xs = xs} {all} {c} {z = z} {z'} {w} q is r grown o same comma
 
 -- ---- what doesn't belong there
 
-pub items_none_here : {v : Surroundings} {xs : List (Box Code Global)} {e m : Bool} {x y y' y'' : Here} → ItemsRead v xs e m x y → y' ≡ y → y'' ≡ y' → forth (pun "]") (place_of y) ≡ Lost → forth (pun ",") (place_of y') ≡ Lost → NoItemCover v (place_of y'') → NoItems v (place_of x)
+pub items_none_here : {v : Surroundings} {xs : List (Box Code Global)} {e m : Bool} {x y y' y'' : Here} {o : Fault} → ItemsRead v xs e m x y → y' ≡ y → y'' ≡ y' → forth (pun "]") (place_of y) ≡ Lost → forth (pun ",") (place_of y') ≡ Lost → NoItemCover v (place_of y'') o → NoItems v (place_of x) o
 items_none_here r e f close comma n = record { items = none_here r.exprs (missed e close) (missed f comma) n.item; slots = none_here r.slots (missed e close) (missed f comma) n.slot }
 
-pub items_unshut : {v : Surroundings} {xs : List (Box Code Global)} {c : Cover} {e m : Bool} {x y z z' : Here} → ItemsRead v xs e m x y → ItemRead v c y z → z' ≡ z → forth (pun ",") (place_of z) ≡ Lost → Barred so_far v (Fixed (pun "]")) (place_of z') → NoItems v (place_of x)
+pub items_unshut : {v : Surroundings} {xs : List (Box Code Global)} {c : Cover} {e m : Bool} {x y z z' : Here} {d : Fault} → ItemsRead v xs e m x y → ItemRead v c y z → z' ≡ z → forth (pun ",") (place_of z) ≡ Lost → Barred so_far v (Fixed (pun "]")) (place_of z') d → NoItems v (place_of x) d
 items_unshut r o same comma n = record { items = unshut r.exprs (expr_before o) (missed same comma) n; slots = unshut r.slots (slot_before o) (missed same comma) n }

@@ -1,5 +1,5 @@
 -- What stands in an array up to its `]`, of a literal's row and of that of the pattern that assigns: as a loop reads both (ECMA-262 sections 13.2.4 and 13.15.5). Of each row it keeps which trees the items so far may be; where they may be none, the row isn't read.
-use Rattle.std.proofs.Common.{◌≡◌, Bool, true, false, List, [], ◌∷◌, refl, sym, ◌∙◌, ap, subst}
+use Rattle.std.proofs.Common.{◌≡◌, ◌≤◌, Bool, true, false, List, [], ◌∷◌, refl, sym, ◌∙◌, ap, subst}
 use Rattle.std.specs.Prelude.{IsTrue, codes}
 use Rattle.jsx_base.specs.Token.{Punctuator, Elision, same}
 use Rattle.jsx_tree.specs.Signs.{Sign, TrailingComma}
@@ -13,13 +13,15 @@ use Rattle.jsx_tree.specs.StaticRules.{Surroundings}
 use Rattle.jsx_tree.specs.Walk.{is_found, nothing, Piece, piece, Items, nil, last, more, sign, many, Walk, done, next, steady, Past}
 use Rattle.jsx_tree.specs.Language.{Whole}
 use Rattle.jsx_tree.specs.Answers.{Moves, Stuck, Missed, Only, Barred, OnlyRow, NoRow}
+use Rattle.jsx_tree.specs.Faults.{Fault, Unread, Shallow, deepest}
 use Rattle.jsx_tree.proofs.Tokens.{and_right, same_is}
 use Rattle.jsx_tree.proofs.Apart.{never_both}
 use Rattle.jsx_tree.proofs.Rows.Bridge.{found_first, found_at}
 use Rattle.jsx_tree.proofs.Rows.Guarded.{whole_items_found}
 use Rattle.jsx_tree.proofs.Rows.Laws.{end_found}
 use Rattle.jsx_tree.proofs.Rows.Steps.{both}
-use Rattle.jsx_tree.proofs.Rows.Turns.{cons, comma_trails, nothing_trails, prepend, prepend_cons, prepend_none}
+use Rattle.jsx_tree.proofs.Rows.Turns.{cons, comma_trails, nothing_trails, prepend, prepend_cons, prepend_none, prepend_up}
+use Rattle.jsx_tree.proofs.Depth.Shallow.{shallow_first, shallow_head, shallow_tail, shallow_up}
 use Rattle.jsx_operand.specs.SoFar.{Staged, so_far}
 use Rattle.jsx_token.specs.Stage.{in_stage}
 use Rattle.jsx_token.specs.Marks.{ends_so_far}
@@ -51,8 +53,8 @@ never_comma x f g = never_both Punctuator Punctuator (codes ",") (codes "]") x r
 pub record Holed (c : Nonterminal) : Type 0 where
   pub home : is c hole ≡ true
   pub staged : in_stage c hole ≡ true
-  pub comma_none : {v : Surroundings} {x : Place} → IsTrue (is_found (forth (pun ",") x)) → NoItem v c x
-  pub close_none : {v : Surroundings} {x : Place} → IsTrue (is_found (forth (pun "]") x)) → NoItem v c x
+  pub comma_none : {v : Surroundings} {x : Place} → IsTrue (is_found (forth (pun ",") x)) → NoItem v c x Unread
+  pub close_none : {v : Surroundings} {x : Place} → IsTrue (is_found (forth (pun "]") x)) → NoItem v c x Unread
   -- what only stands last has no comma behind it
   pub early : {v : Surroundings} {x y : Place} (t : Tree) → Staged v false c x t y → IsTrue (is_found (forth (pun ",") y)) → is_last t ≡ false
   pub comma_ends : (y : Place) → IsTrue (is_found (forth (pun ",") y)) → ends_so_far c y ≡ true
@@ -152,8 +154,11 @@ kept_step {v} {ps} {x} l k s = record {
       record { front = both f.front (part g.item none); among = l.join f.front g.item f.among g.among; rest = g.rest; is = sym (prepend_cons f.front g.item g.rest) ∙ (ap (prepend f.front) g.is ∙ f.is); walk = g.walk };
 }
 
-pub kept_row : {v : Surroundings} {ps : List Piece} {x y : Place} {Q : Forest → Type 0} → Kept v ps x Q y → NoRow so_far v ps y → NoRow so_far v ps x
-kept_row k n = record { no = λ us w walk. let f = k.from us w walk in n.no f.rest w f.walk }
+pub kept_row : {v : Surroundings} {ps : List Piece} {x y : Place} {Q : Forest → Type 0} {e : Fault} → Kept v ps x Q y → NoRow so_far v ps y e → NoRow so_far v ps x e
+kept_row {e = e} k n = record { no = λ us w walk s. let f = k.from us w walk in n.no f.rest w f.walk (shallow_upto e f.rest f.is (prepend_up f.front f.rest) s) }
+  where
+    shallow_upto : (e : Fault) {ws us : Forest} (vs : Forest) → ws ≡ us → deepest vs ≤ deepest ws → Shallow e (deepest us) → Shallow e (deepest vs)
+    shallow_upto e {us = us} vs i le s = shallow_up e (deepest vs) (deepest us) (subst (λ ts. deepest vs ≤ deepest ts) i le) s
 
 both_none : (ts : Forest) → both ts none ≡ ts
 both_none none = refl
@@ -245,7 +250,7 @@ hole_step {v} {c} {x} {z} h m = record { to = forward; from = back }
         let q = hole_is t b r in
         let is : z ≡ p = m.is ∙ ((λ i. scan (q.place i) (behind Elisions (spelled (q.tree i)))) ∙ e) in
         record { item = hole; among = refl; rest = part (list none) us; is = λ i. part (list (part (q.tree i) none)) us; walk = next (many refl (nil m.found)) (subst (λ p. Walk (Whole so_far) (steady v) closing p us w) (sym is) walk) }
-    by_last false {y} {t = t} b r e us w walk = absurd ((h.comma_none there).no t y b r)
+    by_last false {y} {t = t} b r e us w walk = absurd ((h.comma_none there).no t y b r tt)
 
     by_more : (b : Bool) {y z' p : Place} {t u : Tree} {vs : Forest} → is_hole t ≡ b → Whole so_far v false c x t y → scan y (between Elisions) ≡ z' → Items (Whole so_far) v Elisions c z' (part u vs) p → (us : Forest) (w : Place) → Walk (Whole so_far) (steady v) closing p us w
         → StepFrom v (inside c) z IsGap (part (list (part t (part u vs))) us) w
@@ -253,7 +258,7 @@ hole_step {v} {c} {x} {z} h m = record { to = forward; from = back }
         let q = hole_is t b r in
         let is : z ≡ z' = m.is ∙ ((λ i. scan (q.place i) (between Elisions)) ∙ e) in
         record { item = hole; among = refl; rest = part (list (part u vs)) us; is = λ i. part (list (part (q.tree i) (part u vs))) us; walk = next (many refl (subst (λ q. Items (Whole so_far) v Elisions c q (part u vs) p) (sym is) all)) walk }
-    by_more false {y} {t = t} b r e all us w walk = absurd ((h.comma_none there).no t y b r)
+    by_more false {y} {t = t} b r e all us w walk = absurd ((h.comma_none there).no t y b r tt)
 
     inner : (ts : Forest) (p : Place) → Items (Whole so_far) v Elisions c x ts p → (us : Forest) (w : Place) → Walk (Whole so_far) (steady v) closing p us w → StepFrom v (inside c) z IsGap (part (list ts) us) w
     inner ts p (nil f) us w walk = absurd (never_comma x there (closing_found walk))
@@ -356,14 +361,14 @@ shut_only {v} {c} {x} {z} h m = record { walk = next (many refl (nil (found_firs
         let q = hole_is t b r in
         let is : forth (pun ",") x ≡ p = (λ i. scan (q.place i) (behind Elisions (spelled (q.tree i)))) ∙ e in
         absurd (never_comma x (found_at is f) there)
-    by_last false {y} {t = t} b r e f = absurd ((h.close_none there).no t y b r)
+    by_last false {y} {t = t} b r e f = absurd ((h.close_none there).no t y b r tt)
 
     by_more : (b : Bool) {y z' p : Place} {t u : Tree} {vs : Forest} {A : Type 0} → is_hole t ≡ b → Whole so_far v false c x t y → scan y (between Elisions) ≡ z' → Items (Whole so_far) v Elisions c z' (part u vs) p → A
     by_more true {y} {z'} {t = t} b r e all =
         let q = hole_is t b r in
         let is : forth (pun ",") x ≡ z' = (λ i. scan (q.place i) (between Elisions)) ∙ e in
         absurd (never_comma x (found_at is (whole_items_found of_so_far all)) there)
-    by_more false {y} {t = t} b r e all = absurd ((h.close_none there).no t y b r)
+    by_more false {y} {t = t} b r e all = absurd ((h.close_none there).no t y b r tt)
 
     inner : (ts : Forest) (p : Place) → Items (Whole so_far) v Elisions c x ts p → (us : Forest) (w : Place) → Walk (Whole so_far) (steady v) closing p us w → (part (list none) none ≡ part (list ts) us) × (z ≡ w)
     inner ts p (nil f) us w walk = let e = closed_only m walk in (ap (part (list none)) (sym e.0), e.1)
@@ -374,12 +379,12 @@ shut_only {v} {c} {x} {z} h m = record { walk = next (many refl (nil (found_firs
     back us w (next {ts = vs} (many {ts = ts} e all) walk) = inner ts _ all vs w walk
 
 -- what doesn't belong there
-none_only : {v : Surroundings} {c : Nonterminal} {x : Place} → NoItem v c x → Stuck (pun ",") x → Stuck (pun "]") x → NoRow so_far v (inside c) x
-none_only {v} {c} {x} b k s = record { no = λ us w walk. at (first_item k s us w walk) }
+none_only : {v : Surroundings} {c : Nonterminal} {x : Place} {o : Fault} → NoItem v c x o → Stuck (pun ",") x → Stuck (pun "]") x → NoRow so_far v (inside c) x o
+none_only {v} {c} {x} {o = o} b k s = record { no = λ us w walk h. at (first_item k s us w walk) h }
   where
-    at : {us : Forest} {w : Place} → FirstItem v c x us w → ⊥
-    at (first_last {t = t} {y = y} n r e f walk) = b.no t y n r
-    at (first_more {t = t} {y = y} n r e all walk) = b.no t y n r
+    at : {us : Forest} {w : Place} → FirstItem v c x us w → Shallow o (deepest us) → ⊥
+    at (first_last {t = t} {y = y} {vs = vs} n r e f walk) a = b.no t y n r (shallow_head o t none (shallow_head o (list (part t none)) vs a))
+    at (first_more {t = t} {u = u} {us = us} {vs = vs} {y = y} n r e all walk) a = b.no t y n r (shallow_head o t (part u us) (shallow_head o (list (part t (part u us))) vs a))
 
 -- ---- the steps of the loop
 
@@ -392,8 +397,8 @@ filled_more h l k b m = kept_step l k (filled_step h b m)
 pub shut : {v : Surroundings} {c : Nonterminal} {x y z : Place} {Q : Forest → Type 0} → Holed c → Kept v (inside c) x Q y → Moves (pun "]") y z → Ends v (inside c) x Q z
 shut h k m = kept_shut k (shut_only h m)
 
-pub none_here : {v : Surroundings} {c : Nonterminal} {x y y' y'' : Place} {Q : Forest → Type 0} → Kept v (inside c) x Q y → Missed (pun "]") y y' → Missed (pun ",") y' y'' → NoItem v c y'' → NoRow so_far v (inside c) x
-none_here {v} {c} k m n b = kept_row k (none_only (subst (NoItem v c) (sym (m.same ∙ n.same)) b) (subst (Stuck (pun ",")) (sym m.same) n.stuck) m.stuck)
+pub none_here : {v : Surroundings} {c : Nonterminal} {x y y' y'' : Place} {Q : Forest → Type 0} {e : Fault} → Kept v (inside c) x Q y → Missed (pun "]") y y' → Missed (pun ",") y' y'' → NoItem v c y'' e → NoRow so_far v (inside c) x e
+none_here {v} {c} {e = e} k m n b = kept_row k (none_only (subst (λ w. NoItem v c w e) (sym (m.same ∙ n.same)) b) (subst (Stuck (pun ",")) (sym m.same) n.stuck) m.stuck)
 
 pub shut_behind : {v : Surroundings} {c : Nonterminal} {x y z z' w : Place} {Q R : Forest → Type 0} {P : Tree → Type 0} → Holed c → Longer Q P R → Kept v (inside c) x Q y → Before v c y P z → Missed (pun ",") z z' → Only so_far v (Fixed (pun "]")) z' nothing w → Ends v (inside c) x R w
 shut_behind {v} {z = z} {z'} {w} h l k b n o = kept_last l k (filled_last h b n.stuck (subst (λ p. Moves (pun "]") p w) (sym n.same) (at o.past)))
@@ -401,11 +406,11 @@ shut_behind {v} {z = z} {z'} {w} h l k b n o = kept_last l k (filled_last h b n.
     at : {p : Place} → Past (Whole so_far) v (Fixed (pun "]")) p nothing w → Moves (pun "]") p w
     at (sign e f) = record { is = sym e; found = f }
 
-pub unshut : {v : Surroundings} {c : Nonterminal} {x y z z' : Place} {Q : Forest → Type 0} {P : Tree → Type 0} → Kept v (inside c) x Q y → Before v c y P z → Missed (pun ",") z z' → Barred so_far v (Fixed (pun "]")) z' → NoRow so_far v (inside c) x
-unshut {v} {z = z} k b n s = kept_row k (record { no = λ us w walk. at (end_from b n.stuck us w walk).walk })
+pub unshut : {v : Surroundings} {c : Nonterminal} {x y z z' : Place} {Q : Forest → Type 0} {P : Tree → Type 0} {e : Fault} → Kept v (inside c) x Q y → Before v c y P z → Missed (pun ",") z z' → Barred so_far v (Fixed (pun "]")) z' e → NoRow so_far v (inside c) x e
+unshut {v} {z = z} {e = e} k b n s = kept_row k (record { no = λ us w walk h. let f = end_from b n.stuck us w walk in at f.walk (shallow_tail e (list (part f.item none)) f.rest (subst (λ ts. Shallow e (deepest ts)) f.is h)) })
   where
-    here : Barred so_far v (Fixed (pun "]")) z
-    here = subst (Barred so_far v (Fixed (pun "]"))) (sym n.same) s
+    here : Barred so_far v (Fixed (pun "]")) z e
+    here = subst (λ w. Barred so_far v (Fixed (pun "]")) w e) (sym n.same) s
 
-    at : {us : Forest} {w : Place} → Walk (Whole so_far) (steady v) closing z us w → ⊥
-    at (next q walk) = here.no _ _ q
+    at : {us : Forest} {w : Place} → Walk (Whole so_far) (steady v) closing z us w → Shallow e (deepest us) → ⊥
+    at (next {g = g'} {ts = us'} q walk) s = here.no _ _ q (shallow_first e g' us' s)

@@ -8,14 +8,16 @@ use Rattle.jsx_tree.specs.Grammar.{Commas, Fixed, Many, pun}
 use Rattle.jsx_tree.specs.Form.{is_last}
 use Rattle.jsx_tree.specs.Reading.{Place, Lost, At, forth}
 use Rattle.jsx_tree.specs.StaticRules.{Surroundings}
-use Rattle.jsx_tree.specs.Walk.{is_found, nothing, Piece, piece, Items, nil, last, more, sign, many, Walk, done, next, steady, Past}
+use Rattle.jsx_tree.specs.Walk.{is_found, nothing, one, Piece, piece, Items, nil, last, more, sign, many, Walk, done, next, steady, Past}
 use Rattle.jsx_tree.specs.Language.{Whole}
 use Rattle.jsx_tree.specs.Answers.{Moves, Stuck, Missed, Only, Barred, OnlyRow, NoRow}
+use Rattle.jsx_tree.specs.Faults.{Fault, Shallow, part_depth, deepest}
 use Rattle.jsx_tree.proofs.Apart.{clash}
 use Rattle.jsx_tree.proofs.Rows.Bridge.{found_first, found_at}
 use Rattle.jsx_tree.proofs.Rows.Guarded.{whole_items_found}
 use Rattle.jsx_tree.proofs.Rows.Laws.{end_found}
 use Rattle.jsx_tree.proofs.Rows.Turns.{cons, comma_trails, nothing_trails}
+use Rattle.jsx_tree.proofs.Depth.Shallow.{shallow_first, shallow_rest, shallow_head, shallow_tail}
 use Rattle.jsx_operand.specs.Members.{Closed, by_brace, by_comma}
 use Rattle.jsx_operand.specs.SoFar.{Staged, so_far}
 use Rattle.jsx_token.specs.Marks.{ends_so_far}
@@ -53,8 +55,8 @@ pub record FillsClosed (v : Surroundings) (c : Nonterminal) (x : Place) (P : Tre
   pub reads : (t : Tree) → P t → Staged v false c x t y
   pub alone : (u : Tree) (z : Place) → Closed z → Whole so_far v false c x u z → P u × (y ≡ z)
 
-pub record NoneCloses (v : Surroundings) (c : Nonterminal) (x : Place) : Type 0 where
-  pub no : (u : Tree) (z : Place) → Closed z → Whole so_far v false c x u z → ⊥
+pub record NoneCloses (v : Surroundings) (c : Nonterminal) (x : Place) (e : Fault) : Type 0 where
+  pub no : (u : Tree) (z : Place) → Closed z → Whole so_far v false c x u z → Shallow e (part_depth u) → ⊥
 
 -- behind a member of the list stands a comma, or the brace
 before_comma : {x z : Place} → forth (pun ",") x ≡ z → IsTrue (is_found z) → Closed x
@@ -162,19 +164,19 @@ member_more h l k n o m = kept_step l k (member_step h (filled_at n o) n.stuck m
 pub shut : {v : Surroundings} {c : Nonterminal} {x y z : Place} {Q : Forest → Type 0} → Braced c → Kept v (inside c) x Q y → Moves (pun "}") y z → Ends v (inside c) x Q z
 shut h k m = kept_shut k (shut_only h m)
 
-pub none_more : {v : Surroundings} {c : Nonterminal} {x y y' : Place} {Q : Forest → Type 0} → Kept v (inside c) x Q y → Missed (pun "}") y y' → NoneCloses v c y' → NoRow so_far v (inside c) x
-none_more {v} {c} {y = y} k m n = kept_row k (record { no = back })
+pub none_more : {v : Surroundings} {c : Nonterminal} {x y y' : Place} {Q : Forest → Type 0} {o : Fault} → Kept v (inside c) x Q y → Missed (pun "}") y y' → NoneCloses v c y' o → NoRow so_far v (inside c) x o
+none_more {v} {c} {y = y} {o = o} k m n = kept_row k (record { no = back })
   where
-    here : NoneCloses v c y
-    here = subst (NoneCloses v c) (sym m.same) n
+    here : NoneCloses v c y o
+    here = subst (λ w. NoneCloses v c w o) (sym m.same) n
 
-    inner : (ts : Forest) (p : Place) → Items (Whole so_far) v Commas c y ts p → (us : Forest) (w : Place) → Walk (Whole so_far) (steady v) closing p us w → ⊥
-    inner ts p (nil f) us w walk = stuck_not m.stuck (closing_found walk)
-    inner ts p (last {y = y'} {t = t'} r e f) us w walk = here.no t' y' (before_close e (closing_found walk)) r
-    inner ts p (more {y = y'} {t = t'} k r e all) us w walk = here.no t' y' (before_comma e (whole_items_found of_so_far all)) r
+    inner : (ts : Forest) (p : Place) → Items (Whole so_far) v Commas c y ts p → (us : Forest) (w : Place) → Walk (Whole so_far) (steady v) closing p us w → Shallow o (deepest ts) → Shallow o (deepest us) → ⊥
+    inner ts p (nil f) us w walk h q' = stuck_not m.stuck (closing_found walk)
+    inner ts p (last {y = y'} {t = t'} r e f) us w walk h q' = here.no t' y' (before_close e (closing_found walk)) r (shallow_head o t' none h)
+    inner ts p (more {y = y'} {t = t'} {u = u'} {us = vs'} k r e all) us w walk h q' = here.no t' y' (before_comma e (whole_items_found of_so_far all)) r (shallow_head o t' (part u' vs') h)
 
-    back : (us : Forest) (w : Place) → Walk (Whole so_far) (steady v) (inside c) y us w → ⊥
-    back us w (next {ts = vs} (many {ts = ts} e all) walk) = inner ts _ all vs w walk
+    back : (us : Forest) (w : Place) → Walk (Whole so_far) (steady v) (inside c) y us w → Shallow o (deepest us) → ⊥
+    back us w (next {ts = vs} (many {ts = ts} e all) walk) s = inner ts _ all vs w walk (shallow_first o (one (list ts)) vs s) (shallow_rest o (one (list ts)) vs s)
 
 pub shut_behind : {v : Surroundings} {c : Nonterminal} {x y y' z z' w : Place} {Q R : Forest → Type 0} {P : Tree → Type 0} → Braced c → Longer Q P R → Kept v (inside c) x Q y → Missed (pun "}") y y' → FillsClosed v c y' P z → Missed (pun ",") z z' → Only so_far v (Fixed (pun "}")) z' nothing w → Ends v (inside c) x R w
 shut_behind {v} {z = z} {z'} {w} h l k n o m e = kept_last l k (member_last h (filled_at n o) n.stuck m.stuck (subst (λ p. Moves (pun "}") p w) (sym m.same) (at e.past)))
@@ -182,11 +184,11 @@ shut_behind {v} {z = z} {z'} {w} h l k n o m e = kept_last l k (member_last h (f
     at : {p : Place} → Past (Whole so_far) v (Fixed (pun "}")) p nothing w → Moves (pun "}") p w
     at (sign e f) = record { is = sym e; found = f }
 
-pub unshut : {v : Surroundings} {c : Nonterminal} {x y y' z z' : Place} {Q : Forest → Type 0} {P : Tree → Type 0} → Kept v (inside c) x Q y → Missed (pun "}") y y' → FillsClosed v c y' P z → Missed (pun ",") z z' → Barred so_far v (Fixed (pun "}")) z' → NoRow so_far v (inside c) x
-unshut {v} {z = z} k n o m s = kept_row k (record { no = λ us w walk. at (end_from (filled_at n o) n.stuck m.stuck us w walk).walk })
+pub unshut : {v : Surroundings} {c : Nonterminal} {x y y' z z' : Place} {Q : Forest → Type 0} {P : Tree → Type 0} {e : Fault} → Kept v (inside c) x Q y → Missed (pun "}") y y' → FillsClosed v c y' P z → Missed (pun ",") z z' → Barred so_far v (Fixed (pun "}")) z' e → NoRow so_far v (inside c) x e
+unshut {v} {z = z} {e = e} k n o m s = kept_row k (record { no = λ us w walk h. let f = end_from (filled_at n o) n.stuck m.stuck us w walk in at f.walk (shallow_tail e (list (part f.item none)) f.rest (subst (λ ts. Shallow e (deepest ts)) f.is h)) })
   where
-    here : Barred so_far v (Fixed (pun "}")) z
-    here = subst (Barred so_far v (Fixed (pun "}"))) (sym m.same) s
+    here : Barred so_far v (Fixed (pun "}")) z e
+    here = subst (λ w. Barred so_far v (Fixed (pun "}")) w e) (sym m.same) s
 
-    at : {us : Forest} {w : Place} → Walk (Whole so_far) (steady v) closing z us w → ⊥
-    at (next q walk) = here.no _ _ q
+    at : {us : Forest} {w : Place} → Walk (Whole so_far) (steady v) closing z us w → Shallow e (deepest us) → ⊥
+    at (next {g = g'} {ts = us'} q walk) s = here.no _ _ q (shallow_first e g' us' s)

@@ -12,6 +12,7 @@ use Rattle.jsx_tree.specs.StaticRules.{Surroundings}
 use Rattle.jsx_tree.specs.Walk.{is_found, Given, one, Past, tree, Walk, done, next, steady, tail}
 use Rattle.jsx_tree.specs.Language.{Whole}
 use Rattle.jsx_tree.specs.Answers.{Moves, Stuck, Missed, Only, Barred, NoRow, Built}
+use Rattle.jsx_tree.specs.Faults.{Fault, Shallow, part_depth, given_depth}
 use Rattle.jsx_tree.proofs.Tokens.{and_both, and_left, and_right}
 use Rattle.jsx_tree.proofs.Apart.{clash}
 use Rattle.jsx_tree.proofs.Rows.Bridge.{found_at}
@@ -19,7 +20,7 @@ use Rattle.jsx_tree.proofs.Rows.Stopping.{is_not, or_cases}
 use Rattle.jsx_tree.proofs.Rows.Firsts.{kind_home}
 use Rattle.jsx_tree.proofs.Rows.Guarded.{whole_walk, loosen, to_grammar}
 use Rattle.jsx_tree.proofs.Rows.Bodies.{plain as plain_row}
-use Rattle.jsx_tree.proofs.Rows.Placing.{free_around, moved}
+use Rattle.jsx_tree.proofs.Rows.Placing.{free_around, moved, node_shallow}
 use Rattle.jsx_tree.proofs.Rows.Turns.{item_of, whole_of}
 use Rattle.jsx_operand.specs.SoFar.{Staged, so_far}
 use Rattle.jsx_member.specs.Elements.{OnlyItem}
@@ -186,16 +187,16 @@ expression_item {v} {c} {x} {y = y} {t} s m given = record { reads = from_one s 
     at n w spread = absurd (stuck_not m.stuck (dots_led w.reads))
     at {u} {z} n w (valued q) = let e = o.alone (one u) z (tree (to_one s q w)) in (ap item_of e.0, e.1)
 
-pub no_expression_item : {v : Surroundings} {c : Nonterminal} {x x' : Place} → Slot c → Missed (pun "...") x x' → Barred so_far v (Part (Expr 1)) x' → NoItem v c x
-no_expression_item {v} {c} {x} s m given = record { no = λ u z n w. at n w (at_slot s u w.reads) }
+pub no_expression_item : {v : Surroundings} {c : Nonterminal} {x x' : Place} {e : Fault} → Slot c → Missed (pun "...") x x' → Barred so_far v (Part (Expr 1)) x' e → NoItem v c x e
+no_expression_item {v} {c} {x} {e = e} s m given = record { no = λ u z n w a. at n w (at_slot s u w.reads) a }
   where
-    b : Barred so_far v (Part (Expr 1)) x
-    b = subst (Barred so_far v (Part (Expr 1))) (sym m.same) given
+    b : Barred so_far v (Part (Expr 1)) x e
+    b = subst (λ w. Barred so_far v (Part (Expr 1)) w e) (sym m.same) given
 
-    at : {u : Tree} {z : Place} → is_hole u ≡ false → Whole so_far v false c x u z → AtItem u → ⊥
-    at n w empty = cc
-    at n w spread = stuck_not m.stuck (dots_led w.reads)
-    at {u} {z} n w (valued q) = b.no (one u) z (tree (to_one s q w))
+    at : {u : Tree} {z : Place} → is_hole u ≡ false → Whole so_far v false c x u z → AtItem u → Shallow e (part_depth u) → ⊥
+    at n w empty h = cc
+    at n w spread h = stuck_not m.stuck (dots_led w.reads)
+    at {u} {z} n w (valued q) h = b.no (one u) z (tree (to_one s q w)) h
 
 -- ---- a spread
 
@@ -224,28 +225,28 @@ spread_item {v} {c} {x} {a} {y} {t} s m b = record {
     at {z = z} n q (spread {ts}) = let e = w.row.alone ts z (spread_whole q.reads (sym (s.ends z) ∙ q.ends_there)) in (w.is ∙ ap (node (expression Spread)) e.0, e.1)
     at n q (valued p) = absurd (no_value_at (pun "...") refl refl there (to_one s p q).reads)
 
-pub no_spread_item : {v : Surroundings} {c : Nonterminal} {x a : Place} → Slot c → Moves (pun "...") x a → NoRow so_far v (tail (row_so_far (expression Spread))) a → NoItem v c x
-no_spread_item {v} {c} {x} s m b = record { no = λ u z n w. at n w (at_slot s u w.reads) }
+pub no_spread_item : {v : Surroundings} {c : Nonterminal} {x a : Place} {e : Fault} → Slot c → Moves (pun "...") x a → NoRow so_far v (tail (row_so_far (expression Spread))) a e → NoItem v c x e
+no_spread_item {v} {c} {x} {e = e} s m b = record { no = λ u z n w a. at n w (at_slot s u w.reads) a }
   where
-    at : {u : Tree} {z : Place} → is_hole u ≡ false → Whole so_far v false c x u z → AtItem u → ⊥
-    at n w empty = cc
-    at {z = z} n w (spread {ts}) = (signed_none (row_so_far (expression Spread)) refl m b).no ts z (spread_whole w.reads (sym (s.ends z) ∙ w.ends_there))
-    at n w (valued p) = no_value_at (pun "...") refl refl (found_at (sym m.is) m.found) (to_one s p w).reads
+    at : {u : Tree} {z : Place} → is_hole u ≡ false → Whole so_far v false c x u z → AtItem u → Shallow e (part_depth u) → ⊥
+    at n w empty h = cc
+    at {z = z} n w (spread {ts}) h = (signed_none (row_so_far (expression Spread)) refl m b).no ts z (spread_whole w.reads (sym (s.ends z) ∙ w.ends_there)) (node_shallow e false refl of_so_far w.reads h)
+    at n w (valued p) h = no_value_at (pun "...") refl refl (found_at (sym m.is) m.found) (to_one s p w).reads
 
 -- ---- where another sign stands
 
-no_item_at : {v : Surroundings} {c : Nonterminal} {x : Place} (d : Sign) → is_opening d ≡ true → every (begins_none d) kinds ≡ true → same_sign (pun "...") d ≡ false → IsTrue (is_found (forth d x)) → Slot c → NoItem v c x
-no_item_at {v} {c} {x} d o e a f s = record { no = λ u z n w. at n w (at_slot s u w.reads) }
+no_item_at : {v : Surroundings} {c : Nonterminal} {x : Place} {q : Fault} (d : Sign) → is_opening d ≡ true → every (begins_none d) kinds ≡ true → same_sign (pun "...") d ≡ false → IsTrue (is_found (forth d x)) → Slot c → NoItem v c x q
+no_item_at {v} {c} {x} {q = q} d o e a f s = record { no = λ u z n w s'. at n w (at_slot s u w.reads) s' }
   where
-    at : {u : Tree} {z : Place} → is_hole u ≡ false → Whole so_far v false c x u z → AtItem u → ⊥
-    at n w empty = cc
-    at n w spread = clash _ (one_opening (pun "...") d x (opener (pun "...") refl) (opener d o) (dots_led w.reads) f) a
-    at n w (valued p) = no_value_at d o e f (to_one s p w).reads
+    at : {u : Tree} {z : Place} → is_hole u ≡ false → Whole so_far v false c x u z → AtItem u → Shallow q (part_depth u) → ⊥
+    at n w empty h = cc
+    at n w spread h = clash _ (one_opening (pun "...") d x (opener (pun "...") refl) (opener d o) (dots_led w.reads) f) a
+    at n w (valued p) h = no_value_at d o e f (to_one s p w).reads
 
-pub comma_no_item : {v : Surroundings} {x : Place} → IsTrue (is_found (forth (pun ",") x)) → NoItem v ArrayItem x
+pub comma_no_item : {v : Surroundings} {x : Place} {e : Fault} → IsTrue (is_found (forth (pun ",") x)) → NoItem v ArrayItem x e
 comma_no_item f = no_item_at (pun ",") refl refl refl f items
 
-pub close_no_item : {v : Surroundings} {x : Place} → IsTrue (is_found (forth (pun "]") x)) → NoItem v ArrayItem x
+pub close_no_item : {v : Surroundings} {x : Place} {e : Fault} → IsTrue (is_found (forth (pun "]") x)) → NoItem v ArrayItem x e
 close_no_item f = no_item_at (pun "]") refl refl refl f items
 
 -- ---- among arguments there are no holes
@@ -262,11 +263,11 @@ argument_only {v} {x} {y} {t} o = record { past = tree o.reads; alone = at }
     at : (h : Given) (z : Place) → Past (Whole so_far) v (Part Argument) x h z → (one t ≡ h) × (y ≡ z)
     at h z (tree {t = u} w) = let e = o.alone u z (argument_filled u w.reads) w in (ap one e.0, e.1)
 
-pub argument_barred : {v : Surroundings} {x : Place} → NoItem v Argument x → Barred so_far v (Part Argument) x
-argument_barred {v} {x} n = record { no = at }
+pub argument_barred : {v : Surroundings} {x : Place} {e : Fault} → NoItem v Argument x e → Barred so_far v (Part Argument) x e
+argument_barred {v} {x} {e = e} n = record { no = at }
   where
-    at : (h : Given) (z : Place) → Past (Whole so_far) v (Part Argument) x h z → ⊥
-    at h z (tree {t = u} w) = n.no u z (argument_filled u w.reads) w
+    at : (h : Given) (z : Place) → Past (Whole so_far) v (Part Argument) x h z → Shallow e (given_depth h) → ⊥
+    at h z (tree {t = u} w) s = n.no u z (argument_filled u w.reads) w s
 
 pub argument_as : {v : Surroundings} {x y : Place} {t u : Tree} → u ≡ t → Only so_far v (Part Argument) x (one t) y → Only so_far v (Part Argument) x (one u) y
 argument_as {v} {x} {y} e o = subst (λ w. Only so_far v (Part Argument) x (one w) y) (sym e) o

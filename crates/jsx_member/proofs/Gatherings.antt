@@ -12,6 +12,7 @@ use Rattle.jsx_tree.specs.View.{forest, inside, view_expr}
 use Rattle.jsx_tree.specs.Spans.{spans, tells, no_tales, tale}
 use Rattle.jsx_tree.specs.Told.{tales, told_expr}
 use Rattle.jsx_tree.specs.declared.tree.Expr.{Expr as Code}
+use Rattle.jsx_tree.specs.Faults.{Fault}
 use Rattle.jsx_tree.proofs.Rows.Steps.{both}
 use Rattle.jsx_token.specs.Here.{Here, place_of}
 use Rattle.jsx_token.specs.Growths.{closed}
@@ -83,5 +84,5 @@ gathered_all {v} {first} {whole} {y} {z} {u} {w} {es} {fs} {lo} {at} next g e o 
           (spans_from q refl (g.from (next_of x) r) (ap end_of same))));
     }
 
-pub gathered_none : {v : Surroundings} {first : Code} {y z : Here} {es : List (Box Code Global)} {lo : BytePos} → Gathers v first y es lo z → Barred so_far v (Part (Expr 1)) (place_of z) → NotGathered v (view_expr first) (place_of y)
+pub gathered_none : {v : Surroundings} {first : Code} {y z : Here} {es : List (Box Code Global)} {lo : BytePos} {e : Fault} → Gathers v first y es lo z → Barred so_far v (Part (Expr 1)) (place_of z) e → NotGathered v (view_expr first) (place_of y) e
 gathered_none {v} {z = z} g b = record { no = λ x o. sequence_barred (subst (λ ts. Listing v x (forest ts) (place_of z)) g.is (g.reads x o)) b }

@@ -8,6 +8,7 @@ use Rattle.jsx_tree.specs.Reading.{Place, Lost, forth}
 use Rattle.jsx_tree.specs.StaticRules.{Surroundings, rule}
 use Rattle.jsx_tree.specs.Walk.{is_found, nothing, tail}
 use Rattle.jsx_tree.specs.Answers.{Moves, Missed, Only, Barred, NoRow, NoNode, Built, BuiltNode}
+use Rattle.jsx_tree.specs.Faults.{Fault}
 use Rattle.jsx_tree.proofs.Tokens.{and_right}
 use Rattle.jsx_tree.proofs.Apart.{clash, one_token}
 use Rattle.jsx_tree.proofs.Rows.Bridge.{found_at}
@@ -38,11 +39,11 @@ paren_dot : (x : Place) → IsTrue (is_found (forth (pun "(") x)) → IsTrue (is
 paren_dot x f g = let bad : (same (codes "(") (codes ".")) ≡ true = and_right (nat_eq (kind_number Punctuator) (kind_number Punctuator)) _ (one_token Punctuator Punctuator (codes "(") (codes ".") x f g) in cc
 
 -- no `.` behind the word
-undotted : {v : Surroundings} {a : Place} → forth (pun ".") a ≡ Lost → NoRow so_far v (tail (row_so_far (expression ImportMeta))) a
+undotted : {v : Surroundings} {a : Place} {e : Fault} → forth (pun ".") a ≡ Lost → NoRow so_far v (tail (row_so_far (expression ImportMeta))) a e
 undotted n = bar (no_sign (record { is = n }))
 
-none_import : {v : Surroundings} {a : Place} → NoNode so_far v (tail (row_so_far (expression ImportCall))) (expression ImportCall) a → NoNode so_far v (tail (row_so_far (expression ImportMeta))) (expression ImportMeta) a → NoneOpened v (key "import") a
-none_import {v} {a} p q = record { no = of_import (λ j. NoParts v j a) (free_none (expression ImportCall) refl p) (free_none (expression ImportMeta) refl q) }
+none_import : {v : Surroundings} {a : Place} {e : Fault} → NoNode so_far v (tail (row_so_far (expression ImportCall))) (expression ImportCall) a e → NoNode so_far v (tail (row_so_far (expression ImportMeta))) (expression ImportMeta) a e → NoneOpened v (key "import") a e
+none_import {v} {a} {e = e} p q = record { no = of_import (λ j. NoParts v j a e) (free_none (expression ImportCall) refl p) (free_none (expression ImportMeta) refl q) }
 
 pub import_called : {v : Surroundings} {a a' y : Place} {t : Tree} → Missed (pun ".") a a' → Built so_far v (tail (row_so_far (expression ImportCall))) (expression ImportCall) (λ ts. ts) t a' y → OnlyOpened v (key "import") t a y
 import_called {v} {a} {y = y} {t} m given =
@@ -50,11 +51,11 @@ import_called {v} {a} {y = y} {t} m given =
     opened_by (expression ImportCall) refl refl (kept_behind (expression ImportCall) (listed (expression ImportCall) refl refl refl) refl refl b)
     (of_import (Other v a (expression ImportCall)) itself (barred refl (no_node (undotted m.stuck.is))))
 
-pub import_uncalled : {v : Surroundings} {a a' : Place} → Missed (pun ".") a a' → NoRow so_far v (tail (row_so_far (expression ImportCall))) a' → NoneOpened v (key "import") a
-import_uncalled {v} {a} m n = none_import (no_node (subst (NoRow so_far v (tail (row_so_far (expression ImportCall)))) (sym m.same) n)) (no_node (undotted m.stuck.is))
+pub import_uncalled : {v : Surroundings} {a a' : Place} {e : Fault} → Missed (pun ".") a a' → NoRow so_far v (tail (row_so_far (expression ImportCall))) a' e → NoneOpened v (key "import") a e
+import_uncalled {v} {a} {e = e} m n = none_import (no_node (subst (λ w. NoRow so_far v (tail (row_so_far (expression ImportCall))) w e) (sym m.same) n)) (no_node (undotted m.stuck.is))
 
-dotted_call : {v : Surroundings} {a b : Place} → Moves (pun ".") a b → NoRow so_far v (tail (row_so_far (expression ImportCall))) a
-dotted_call {a = a} m = record { no = λ ts y w. paren_dot a (led_sign (tail (row_so_far (expression ImportCall))) refl w) (found_at (sym m.is) m.found) }
+dotted_call : {v : Surroundings} {a b : Place} {e : Fault} → Moves (pun ".") a b → NoRow so_far v (tail (row_so_far (expression ImportCall))) a e
+dotted_call {a = a} m = record { no = λ ts y w s. paren_dot a (led_sign (tail (row_so_far (expression ImportCall))) refl w) (found_at (sym m.is) m.found) }
 
 pub meta_opened : {v : Surroundings} {a b y : Place} {t : Tree} → v.module' ≡ true → Moves (pun ".") a b → Only so_far v (Fixed (key "meta")) b nothing y → IsTrue (is_found y) → t ≡ node (expression ImportMeta) none → OnlyOpened v (key "import") t a y
 meta_opened {v} {a} {y = y} {t} h m o f e = opened_by (expression ImportMeta) refl refl built (of_import (Other v a (expression ImportMeta)) (barred refl (no_node (dotted_call m))) itself)
@@ -62,8 +63,8 @@ meta_opened {v} {a} {y = y} {t} h m o f e = opened_by (expression ImportMeta) re
     built : BuiltNode so_far v (tail (row_so_far (expression ImportMeta))) (expression ImportMeta) t a y
     built = record { parts = none; is = e; row = then' (only_sign m) (then' o (end f)); keeps = h }
 
-pub meta_unread : {v : Surroundings} {a b : Place} → Moves (pun ".") a b → Barred so_far v (Fixed (key "meta")) b → NoneOpened v (key "import") a
+pub meta_unread : {v : Surroundings} {a b : Place} {e : Fault} → Moves (pun ".") a b → Barred so_far v (Fixed (key "meta")) b e → NoneOpened v (key "import") a e
 meta_unread {v} {a} m n = none_import (no_node (dotted_call m)) (no_node (on (only_sign m) (bar n)))
 
-pub meta_outside : {v : Surroundings} {a b : Place} → v.module' ≡ false → Moves (pun ".") a b → NoneOpened v (key "import") a
-meta_outside {v} {a} h m = none_import (no_node (dotted_call m)) (record { no = λ ts y w k. clash _ (and_right (rule (expression ImportMeta) ts) _ k) h })
+pub meta_outside : {v : Surroundings} {a b : Place} {e : Fault} → v.module' ≡ false → Moves (pun ".") a b → NoneOpened v (key "import") a e
+meta_outside {v} {a} h m = none_import (no_node (dotted_call m)) (record { no = λ ts y w k s. clash _ (and_right (rule (expression ImportMeta) ts) _ k) h })

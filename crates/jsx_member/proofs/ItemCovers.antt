@@ -23,6 +23,9 @@ use Rattle.jsx_tree.proofs.Rows.Steps.{bar, both, built_1}
 use Rattle.jsx_tree.proofs.Rows.Stopping.{is_not, stays}
 use Rattle.jsx_tree.proofs.Rows.Turns.{whole_of}
 use Rattle.jsx_tree.specs.Signs.{Sign, Unless}
+use Rattle.jsx_tree.specs.Faults.{Fault, Shallow, part_depth, deepest}
+use Rattle.jsx_tree.proofs.Rows.Placing.{flat_shallow}
+use Rattle.jsx_tree.proofs.Depth.Shallow.{shallow_head}
 use Rattle.jsx_token.specs.Marks.{ends_so_far, row_so_far}
 use Rattle.jsx_operand.specs.Climbing.{is_target}
 use Rattle.jsx_operand.specs.Covers.{view_cover}
@@ -152,13 +155,13 @@ item_cover {v} {x} {x'} {y} {c} m o = record {
     at n w rest = absurd (stuck_not m.stuck (rest_led w.reads))
     at n w gap = cc
 
-pub no_item_cover : {v : Surroundings} {x x' : Place} → Missed (pun "...") x x' → NoCover v 1 x' → NoItemCover v x
-no_item_cover {v} {x} m o = record { item = no_expression_item items m o.none; slot = record { no = λ p z n w. at n w (at_slot p w.reads) } }
+pub no_item_cover : {v : Surroundings} {x x' : Place} {e : Fault} → Missed (pun "...") x x' → NoCover v 1 x' e → NoItemCover v x e
+no_item_cover {v} {x} {e = e} m o = record { item = no_expression_item items m o.none; slot = record { no = λ p z n w s. at n w (at_slot p w.reads) s } }
   where
-    at : {p : Tree} {z : Place} → is_hole p ≡ false → Whole so_far v false (Slot Assigns) x p z → AtSlot v x z p → ⊥
-    at {p} {z} n w (plain q) = o.element refl p z (subst (λ a. Whole so_far v false (PatElement Assigns) a p z) m.same (record { reads = q; ends_there = sym (slot_ends z) ∙ w.ends_there }))
-    at n w rest = stuck_not m.stuck (rest_led w.reads)
-    at n w gap = cc
+    at : {p : Tree} {z : Place} → is_hole p ≡ false → Whole so_far v false (Slot Assigns) x p z → AtSlot v x z p → Shallow e (part_depth p) → ⊥
+    at {p} {z} n w (plain q) s = o.element refl p z (subst (λ a. Whole so_far v false (PatElement Assigns) a p z) m.same (record { reads = q; ends_there = sym (slot_ends z) ∙ w.ends_there })) s
+    at n w rest s = stuck_not m.stuck (rest_led w.reads)
+    at n w gap s = cc
 
 -- ---- behind dots
 
@@ -224,16 +227,16 @@ spread_cover {v} {x} {a} {y} {i} {c} m o is is_expr may = record {
     at n w (rest {ts}) = rests w (rest_parts {us = ts} m (of_so_far.from_node (function (RestPat Assigns)) w.reads).walk)
     at n w gap = cc
 
-pub no_spread_cover : {v : Surroundings} {x a : Place} → Moves (pun "...") x a → NoCover v 1 a → NoItemCover v x
-no_spread_cover {v} {x} {a} m o = record { item = no_spread_item items m (bar o.none); slot = record { no = λ p z n w. at n w (at_slot p w.reads) } }
+pub no_spread_cover : {v : Surroundings} {x a : Place} {e : Fault} → Moves (pun "...") x a → NoCover v 1 a e → NoItemCover v x e
+no_spread_cover {v} {x} {a} {e = e} m o = record { item = no_spread_item items m (bar o.none); slot = record { no = λ p z n w s. at n w (at_slot p w.reads) s } }
   where
-    rests : {ts : Forest} {z : Place} → Whole so_far v false (Slot Assigns) x (node (function (RestPat Assigns)) ts) z → RestRead v a ts z → ⊥
-    rests {z = z} w r = o.element refl r.target z (record { reads = pat_element r.target r.reads; ends_there = sym (slot_ends z) ∙ w.ends_there })
+    rests : {ts : Forest} {z : Place} → Whole so_far v false (Slot Assigns) x (node (function (RestPat Assigns)) ts) z → RestRead v a ts z → Shallow e (part_depth (node (function (RestPat Assigns)) ts)) → ⊥
+    rests {z = z} w r h = o.element refl r.target z (record { reads = pat_element r.target r.reads; ends_there = sym (slot_ends z) ∙ w.ends_there }) (shallow_head e r.target none (subst (λ us. Shallow e (deepest us)) r.is (flat_shallow e of_so_far w.reads h)))
 
-    at : {p : Tree} {z : Place} → is_hole p ≡ false → Whole so_far v false (Slot Assigns) x p z → AtSlot v x z p → ⊥
-    at {p} n w (plain q) = element_unmarked p dots q (found_at (sym m.is) m.found)
-    at n w (rest {ts}) = rests w (rest_parts {us = ts} m (of_so_far.from_node (function (RestPat Assigns)) w.reads).walk)
-    at n w gap = cc
+    at : {p : Tree} {z : Place} → is_hole p ≡ false → Whole so_far v false (Slot Assigns) x p z → AtSlot v x z p → Shallow e (part_depth p) → ⊥
+    at {p} n w (plain q) s = element_unmarked p dots q (found_at (sym m.is) m.found)
+    at n w (rest {ts}) s = rests w (rest_parts {us = ts} m (of_so_far.from_node (function (RestPat Assigns)) w.reads).walk) s
+    at n w gap s = cc
 
 -- ---- what a loop over both rows keeps
 
@@ -258,7 +261,7 @@ item_fills {v} {x} {y} {c} o = record {
   where
     at : (b : Bool) → c.is_expr ≡ b → {u : Tree} {z : Place} → is_hole u ≡ false → Whole so_far v false ArrayItem x u z → IsItem c u × (y ≡ z)
     at true e {u} {z} n w = let s = (o.expr e).alone u z n w in (record { settled = e; is = s.0 }, s.1)
-    at false e {u} {z} n w = absurd ((o.none e).no u z n w)
+    at false e {u} {z} n w = absurd ((o.none e).no u z n w tt)
 
 pub slot_fills : {v : Surroundings} {x y : Place} {c : Cover} → IsItemCover v x c y → Fills v (Slot Assigns) x (IsTurnedSlot c) y
 slot_fills o = record { reads = o.reads; filled = λ t q. case_filled o.filled (slot_case q.turns); alone = o.alone }
@@ -337,7 +340,7 @@ turn_none fs q = no_items q.turns
 pub items_cover : {v : Surroundings} {x y : Place} {all : Vec (Box Code Global) Global} {e m : Bool} (q : Items) → q ≡ record { all = all; are_exprs = e; may_turn = m } → Ends v (within ArrayItem) x (AreAll e (forest (map (inside view_expr) all.items))) y → Ends v (within (Slot Assigns)) x (TurnInto m (forest (map (inside view_expr) all.items))) y → CoversItems v x q y
 items_cover {v} {x} {y} {all} {e} {m} q is r s = subst (λ k. CoversItems v x k y) (sym is) (record {
   expr = λ f. record { walk = r.reads _ (record { settled = f; is = refl }); alone = λ us z w. let g = r.alone us z w in (ap (λ ts. part (list ts) none) g.0.among.is ∙ sym g.0.is, g.1) };
-  none = λ f. record { no = λ us z w. clash e (r.alone us z w).0.among.settled f };
+  none = λ f. record { no = λ us z w s. clash e (r.alone us z w).0.among.settled f };
   reads = λ ts a. subst (λ us. Walk (Whole so_far) (steady v) (within (Slot Assigns)) x us y) (sym a.is) (s.reads a.slots (record { may = a.may; turns = a.turns }));
   alone = λ ts z w. let g = s.alone ts z w in (record { may = g.0.among.may; slots = g.0.items; is = g.0.is; turns = g.0.among.turns }, g.1);
 })

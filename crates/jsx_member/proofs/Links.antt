@@ -1,5 +1,5 @@
 -- The links of optional chains: which stands at a place, told by its first tokens, and all links of a chain, as a loop of the parser reads them.
-use Rattle.std.proofs.Common.{◌≡◌, ℕ, nat_eq, Bool, true, false, List, [], refl, sym, ◌∙◌, ap, subst, cond}
+use Rattle.std.proofs.Common.{◌≡◌, ◌≤◌, ℕ, nat_eq, Bool, true, false, List, [], refl, sym, ◌∙◌, ap, subst, cond}
 use Rattle.std.specs.Prelude.{IsTrue, codes}
 use Rattle.jsx_base.specs.Token.{Text, Operator, Punctuator, IdentifierName, TokenKind, kind_number, same}
 use Rattle.std.proofs.lemmas.Bool.{eqb-true, false≢true}
@@ -19,12 +19,15 @@ use Rattle.jsx_tree.proofs.Rows.Bridge.{found_at}
 use Rattle.jsx_tree.proofs.Rows.Bodies.{plain, bodiless}
 use Rattle.jsx_tree.proofs.Rows.Guarded.{guarded, to_grammar}
 use Rattle.jsx_tree.proofs.Rows.Laws.{end_found}
-use Rattle.jsx_tree.proofs.Rows.Placing.{Chosen, barred_node, free, no_node, only_node}
-use Rattle.jsx_tree.proofs.Rows.Steps.{bar, both, built_sign, on, only_sign}
+use Rattle.jsx_tree.proofs.Rows.Placing.{Chosen, barred_node, flat_shallow, free, no_node, only_node}
+use Rattle.jsx_tree.proofs.Rows.Steps.{bar, both, both_up, built_sign, on, only_sign}
 use Rattle.jsx_tree.proofs.Rows.Stopping.{never_stops}
 use Rattle.jsx_tree.proofs.Rows.Turns.{early, item_of, whole_of}
 use Rattle.jsx_tree.specs.Spans.{Told}
-use Rattle.jsx_token.specs.Here.{Here}
+use Rattle.jsx_tree.specs.Faults.{Fault, Shallow, deepest, given_depth}
+use Rattle.jsx_tree.proofs.Depth.Nodes.{counts_as}
+use Rattle.jsx_tree.proofs.Depth.Shallow.{shallow_head, shallow_first, shallow_up}
+use Rattle.jsx_token.specs.Here.{Here, place_of}
 use Rattle.jsx_operand.specs.Spans.{IsPlacedBehind}
 use Rattle.jsx_token.specs.Growths.{OnLine, mark, settled}
 use Rattle.jsx_token.specs.Marks.{row_so_far}
@@ -190,6 +193,15 @@ link_closed false named = refl
 link_closed false indexed = refl
 link_closed false called = refl
 
+-- a link doesn't count
+link_uncounted : (q : Bool) (s : Shape) → counts_as false (link_of q s) ≡ true
+link_uncounted true named = refl
+link_uncounted true indexed = refl
+link_uncounted true called = refl
+link_uncounted false named = refl
+link_uncounted false indexed = refl
+link_uncounted false called = refl
+
 link_free : (q : Bool) (s : Shape) → free (row_so_far (link_of q s)) ≡ true
 link_free true named = refl
 link_free true indexed = refl
@@ -214,8 +226,8 @@ link_keeps v ts q called h = and_both _ _ h refl
 only_link : {v : Surroundings} {x y : Place} {t : Tree} (q : Bool) (s : Shape) → Shows q s x → Built so_far v (row_so_far (link_of q s)) (link_of q s) (λ ts. ts) t x y → Only so_far v (Part ChainLink) x (one t) y
 only_link {y = y} q s a b = only_node of_so_far (chosen q s a) (link_closed q s) (link_free q s) (link_home q s) b (link_keeps _ _ q s (plain (row_so_far (link_of q s)) (link_bare q s) (to_grammar of_so_far b.row.walk))) (of_so_far.ends_there ChainLink y (never_stops ChainLink y refl))
 
-no_link : {v : Surroundings} {x : Place} (q : Bool) (s : Shape) → Shows q s x → NoRow so_far v (row_so_far (link_of q s)) x → Barred so_far v (Part ChainLink) x
-no_link q s a n = barred_node of_so_far (chosen q s a) (link_closed q s) (link_free q s) (no_node n)
+no_link : {v : Surroundings} {x : Place} {e : Fault} (q : Bool) (s : Shape) → Shows q s x → NoRow so_far v (row_so_far (link_of q s)) x e → Barred so_far v (Part ChainLink) x e
+no_link q s a n = barred_node false (link_uncounted q s) of_so_far (chosen q s a) (link_closed q s) (link_free q s) (no_node n)
 
 -- ---- behind its first tokens
 
@@ -237,13 +249,13 @@ plain_index n = record { on = λ a m. only_link false indexed (plain_shows index
 pub plain_call : {v : Surroundings} {b y : Place} {t : Tree} → Built so_far v (tail (row_so_far (expression (CallLink false)))) (expression (CallLink false)) (λ ts. ts) t b y → OnlyLink v (link_sign linking.Call) b t y
 plain_call n = record { on = λ a m. only_link false called (plain_shows called m) (built_sign m n) }
 
-pub no_plain_name : {v : Surroundings} {b : Place} → Barred so_far v (Part Name) b → NoneLinked v (link_sign linking.Name) b
+pub no_plain_name : {v : Surroundings} {b : Place} {e : Fault} → Barred so_far v (Part Name) b e → NoneLinked v (link_sign linking.Name) b e
 no_plain_name n = record { no = λ a m. no_link false named (plain_shows named m) (on (only_sign m) (bar n)) }
 
-pub no_plain_index : {v : Surroundings} {b : Place} → NoRow so_far v (tail (row_so_far (expression (IndexLink false)))) b → NoneLinked v (link_sign linking.Index) b
+pub no_plain_index : {v : Surroundings} {b : Place} {e : Fault} → NoRow so_far v (tail (row_so_far (expression (IndexLink false)))) b e → NoneLinked v (link_sign linking.Index) b e
 no_plain_index n = record { no = λ a m. no_link false indexed (plain_shows indexed m) (on (only_sign m) n) }
 
-pub no_plain_call : {v : Surroundings} {b : Place} → NoRow so_far v (tail (row_so_far (expression (CallLink false)))) b → NoneLinked v (link_sign linking.Call) b
+pub no_plain_call : {v : Surroundings} {b : Place} {e : Fault} → NoRow so_far v (tail (row_so_far (expression (CallLink false)))) b e → NoneLinked v (link_sign linking.Call) b e
 no_plain_call n = record { no = λ a m. no_link false called (plain_shows called m) (on (only_sign m) n) }
 
 -- behind `?.`
@@ -259,10 +271,10 @@ optional_index k n = record { on = λ a m. only_link true indexed (optional_show
 pub optional_call : {v : Surroundings} {b c y : Place} {t : Tree} → Moves (pun "(") b c → Built so_far v (tail (row_so_far (expression (CallLink false)))) (expression (CallLink true)) (λ ts. ts) t c y → OnlyLink v (link_sign linking.Optional) b t y
 optional_call k n = record { on = λ a m. only_link true called (optional_shows called [] m (there k)) (built_sign m (built_sign k n)) }
 
-pub no_optional_index : {v : Surroundings} {b c : Place} → Moves (pun "[") b c → NoRow so_far v (tail (row_so_far (expression (IndexLink false)))) c → NoneLinked v (link_sign linking.Optional) b
+pub no_optional_index : {v : Surroundings} {b c : Place} {e : Fault} → Moves (pun "[") b c → NoRow so_far v (tail (row_so_far (expression (IndexLink false)))) c e → NoneLinked v (link_sign linking.Optional) b e
 no_optional_index k n = record { no = λ a m. no_link true indexed (optional_shows indexed [] m (there k)) (on (only_sign m) (on (only_sign k) n)) }
 
-pub no_optional_call : {v : Surroundings} {b c : Place} → Moves (pun "(") b c → NoRow so_far v (tail (row_so_far (expression (CallLink false)))) c → NoneLinked v (link_sign linking.Optional) b
+pub no_optional_call : {v : Surroundings} {b c : Place} {e : Fault} → Moves (pun "(") b c → NoRow so_far v (tail (row_so_far (expression (CallLink false)))) c e → NoneLinked v (link_sign linking.Optional) b e
 no_optional_call k n = record { no = λ a m. no_link true called (optional_shows called [] m (there k)) (on (only_sign m) (on (only_sign k) n)) }
 
 -- none of the three stands there
@@ -272,23 +284,23 @@ lost_not s n e f g = let bad : IsTrue (is_found Lost) = subst (λ p. IsTrue (is_
 unoptional : {A : Type 0} {a b : Place} (l : Linking) → is_optional_sign l ≡ false → Moves (link_sign linking.Optional) a b → IsTrue (is_found (forth (link_sign l) a)) → A
 unoptional {a = a} l n m f = absurd (clash (is_optional_sign l) (ap is_optional_sign (one_linking l linking.Optional a f (there m))) n)
 
-unread : {v : Surroundings} {a b z : Place} {ts : Forest} (k : Kind) → is_link k ≡ true → Moves (link_sign linking.Optional) a b → forth (pun "[") b ≡ Lost → forth (pun "(") b ≡ Lost → Barred so_far v (Part Name) b → Walk Staged (around v ts) (row_so_far k) a ts z → ⊥
-unread {v} (expression (NameLink true)) h m i c n (next (sign {y = y} e f) (next (tree {y = y'} {t = u} r) w)) =
-    n.no (one u) y' (tree (record { reads = subst (λ p. Staged v false Name p u y') (sym (m.is ∙ e)) r; ends_there = of_so_far.ends_there Name y' (never_stops Name y' refl) }))
-unread (expression (IndexLink true)) h m i c n (next (sign e f) (next (sign g j) w)) = lost_not (pun "[") i (m.is ∙ e) g j
-unread (expression (CallLink true)) h m i c n (next (sign e f) (next (sign g j) w)) = lost_not (pun "(") c (m.is ∙ e) g j
-unread (expression (NameLink false)) h m i c n w = unoptional linking.Name refl m (led_sign (row_so_far (expression (NameLink false))) refl w)
-unread (expression (IndexLink false)) h m i c n w = unoptional linking.Index refl m (led_sign (row_so_far (expression (IndexLink false))) refl w)
-unread (expression (CallLink false)) h m i c n w = unoptional linking.Call refl m (led_sign (row_so_far (expression (CallLink false))) refl w)
-unread _ h m i c n w = cc
+unread : {v : Surroundings} {a b z : Place} {ts us : Forest} {e : Fault} (k : Kind) → is_link k ≡ true → Moves (link_sign linking.Optional) a b → forth (pun "[") b ≡ Lost → forth (pun "(") b ≡ Lost → Barred so_far v (Part Name) b e → Walk Staged (around v us) (row_so_far k) a ts z → Shallow e (deepest ts) → ⊥
+unread {v} {e = o} (expression (NameLink true)) h m i c n (next (sign {y = y} e f) (next {ts = ts} (tree {y = y'} {t = u} r) w)) s =
+    n.no (one u) y' (tree (record { reads = subst (λ p. Staged v false Name p u y') (sym (m.is ∙ e)) r; ends_there = of_so_far.ends_there Name y' (never_stops Name y' refl) })) (shallow_head o u ts s)
+unread (expression (IndexLink true)) h m i c n (next (sign e f) (next (sign g j) w)) s = lost_not (pun "[") i (m.is ∙ e) g j
+unread (expression (CallLink true)) h m i c n (next (sign e f) (next (sign g j) w)) s = lost_not (pun "(") c (m.is ∙ e) g j
+unread (expression (NameLink false)) h m i c n w s = unoptional linking.Name refl m (led_sign (row_so_far (expression (NameLink false))) refl w)
+unread (expression (IndexLink false)) h m i c n w s = unoptional linking.Index refl m (led_sign (row_so_far (expression (IndexLink false))) refl w)
+unread (expression (CallLink false)) h m i c n w s = unoptional linking.Call refl m (led_sign (row_so_far (expression (CallLink false))) refl w)
+unread _ h m i c n w s = cc
 
-pub no_optional : {v : Surroundings} {b : Place} → forth (pun "[") b ≡ Lost → forth (pun "(") b ≡ Lost → Barred so_far v (Part Name) b → NoneLinked v (link_sign linking.Optional) b
-no_optional {v} {b} i c n = record { no = λ a m. record { no = at a m } }
+pub no_optional : {v : Surroundings} {b : Place} {e : Fault} → forth (pun "[") b ≡ Lost → forth (pun "(") b ≡ Lost → Barred so_far v (Part Name) b e → NoneLinked v (link_sign linking.Optional) b e
+no_optional {v} {b} {e = e} i c n = record { no = λ a m. record { no = at a m } }
   where
-    at : (a : Place) → Moves (link_sign linking.Optional) a b → (h : Given) (z : Place) → Past (Whole so_far) v (Part ChainLink) a h z → ⊥
-    at a m h z (tree {t = leaf k t} q) = let bad = q.reads.staged in cc
-    at a m h z (tree {t = list ts} q) = no_list q.reads
-    at a m h z (tree {t = node k ts} q) = unread k (link_kind k q.reads) m i c n (of_so_far.from_node k q.reads).walk
+    at : (a : Place) → Moves (link_sign linking.Optional) a b → (h : Given) (z : Place) → Past (Whole so_far) v (Part ChainLink) a h z → Shallow e (given_depth h) → ⊥
+    at a m h z (tree {t = leaf k t} q) s = let bad = q.reads.staged in cc
+    at a m h z (tree {t = list ts} q) s = no_list q.reads
+    at a m h z (tree {t = node k ts} q) s = unread {us = ts} k (link_kind k q.reads) m i c n (of_so_far.from_node k q.reads).walk (flat_shallow e of_so_far q.reads s)
 
 -- ---- the links of a chain
 
@@ -382,38 +394,42 @@ chain_grown {v} {b} {y} {ls = ls} k n e = record {
     at a m us z (next {g = g} (many {ts = vs} p all) (done f)) i = let s = all_read ((k a m).from vs z all p (i.unlinked refl)) n in (ap (λ us. part (list us) none) s.0, s.1)
 
 -- where the next one can't be read
-pub chain_broken : {v : Surroundings} {b y c : Place} {ls : Forest} (l : Linking) → ((a : Place) → Moves (mark (expression Chain)) a b → Linked v a ls y) → Moves (link_sign l) y c → NoneLinked v (link_sign l) c → NotGrown v (expression Chain) b
-chain_broken {v} {b} {y} {c} {ls = ls} l k m n = record { no = at }
+pub chain_broken : {v : Surroundings} {b y c : Place} {ls : Forest} {d : Fault} (l : Linking) → ((a : Place) → Moves (mark (expression Chain)) a b → Linked v a ls y) → Moves (link_sign l) y c → NoneLinked v (link_sign l) c d → NotGrown v (expression Chain) b d
+chain_broken {v} {b} {y} {c} {ls = ls} {d = d} l k m n = record { no = at }
   where
-    by : (rest : Forest) (z : Place) → Items (Whole so_far) v OneOrMore ChainLink y rest z → enough OneOrMore rest ≡ true → ⊥
-    by rest z (nil f) p = cc
-    by rest z (last {y = y'} {t = u} q e f) p = (n.no y m).no (one u) y' (tree q)
-    by rest z (more {y = y'} {t = u} o q e all) p = (n.no y m).no (one u) y' (tree q)
+    by : (rest : Forest) (z : Place) → Items (Whole so_far) v OneOrMore ChainLink y rest z → enough OneOrMore rest ≡ true → Shallow d (deepest rest) → ⊥
+    by rest z (nil f) p s' = cc
+    by rest z (last {y = y'} {t = u} q e f) p s' = (n.no y m).no (one u) y' (tree q) (shallow_head d u none s')
+    by rest z (more {y = y'} {t = u} {u = u'} {us = vs'} o q e all) p s' = (n.no y m).no (one u) y' (tree q) (shallow_head d u (part u' vs') s')
 
-    at : (a : Place) → OnLine (expression Chain) a → Moves (mark (expression Chain)) a b → (us : Forest) (z : Place) → Walk (Whole so_far) (steady v) (tail (row_so_far (expression Chain))) a us z → Ended (expression Chain) z → ⊥
-    at a o h us z (next (many {ts = vs} p all) (done f)) i =
+    at : (a : Place) → OnLine (expression Chain) a → Moves (mark (expression Chain)) a b → (us : Forest) (z : Place) → Walk (Whole so_far) (steady v) (tail (row_so_far (expression Chain))) a us z → Ended (expression Chain) z → Shallow d (deepest us) → ⊥
+    at a o h us z (next (many {ts = vs} p all) (done f)) i s =
         let r = (k a h).from vs z all p (i.unlinked refl) in
-        by r.rest z r.items (not_last l r.rest r.items (k a h).ended (there m) (i.unlinked refl))
+        let low : Shallow d (deepest vs) = shallow_first d (one (list vs)) none s in
+        by r.rest z r.items (not_last l r.rest r.items (k a h).ended (there m) (i.unlinked refl)) (shallow_up d (deepest r.rest) (deepest vs) (subst (λ ts. deepest r.rest ≤ deepest ts) r.is (both_up ls r.rest)) low)
 
 -- where the first can't
-pub chain_unread : {v : Surroundings} {b : Place} → NoneLinked v (link_sign linking.Optional) b → NotGrown v (expression Chain) b
-chain_unread {v} {b} n = record { no = at }
+pub chain_unread : {v : Surroundings} {b : Place} {d : Fault} → NoneLinked v (link_sign linking.Optional) b d → NotGrown v (expression Chain) b d
+chain_unread {v} {b} {d = d} n = record { no = at }
   where
-    by : (a : Place) → Moves (link_sign linking.Optional) a b → (us : Forest) (z : Place) → Items (Whole so_far) v OneOrMore ChainLink a us z → enough OneOrMore us ≡ true → ⊥
-    by a m us z (nil f) p = cc
-    by a m us z (last {y = y'} {t = u} q e f) p = (n.no a m).no (one u) y' (tree q)
-    by a m us z (more {y = y'} {t = u} o q e all) p = (n.no a m).no (one u) y' (tree q)
+    by : (a : Place) → Moves (link_sign linking.Optional) a b → (us : Forest) (z : Place) → Items (Whole so_far) v OneOrMore ChainLink a us z → enough OneOrMore us ≡ true → Shallow d (deepest us) → ⊥
+    by a m us z (nil f) p h = cc
+    by a m us z (last {y = y'} {t = u} q e f) p h = (n.no a m).no (one u) y' (tree q) (shallow_head d u none h)
+    by a m us z (more {y = y'} {t = u} {u = u'} {us = vs'} o q e all) p h = (n.no a m).no (one u) y' (tree q) (shallow_head d u (part u' vs') h)
 
-    at : (a : Place) → OnLine (expression Chain) a → Moves (mark (expression Chain)) a b → (us : Forest) (z : Place) → Walk (Whole so_far) (steady v) (tail (row_so_far (expression Chain))) a us z → Ended (expression Chain) z → ⊥
-    at a o m us z (next (many {ts = vs} p all) (done f)) i = by a m vs z all p
+    at : (a : Place) → OnLine (expression Chain) a → Moves (mark (expression Chain)) a b → (us : Forest) (z : Place) → Walk (Whole so_far) (steady v) (tail (row_so_far (expression Chain))) a us z → Ended (expression Chain) z → Shallow d (deepest us) → ⊥
+    at a o m us z (next (many {ts = vs} p all) (done f)) i s = by a m vs z all p (shallow_first d (one (list vs)) none s)
 
 -- ---- the same in the code
+
+pub name_from : {v : Surroundings} {x y : Here} {e : Fault} → x ≡ y → Barred so_far v (Part Name) (place_of x) e → Barred so_far v (Part Name) (place_of y) e
+name_from {v} {e = e} same n = subst (λ h. Barred so_far v (Part Name) (place_of h) e) same n
 
 pub link_as : {v : Surroundings} {b y : Place} {t : Tree} (l m : Linking) → l ≡ m → OnlyLink v (link_sign m) b t y → OnlyLink v (link_sign l) b t y
 link_as {v} {b} {y} {t} l m e o = subst (λ s. OnlyLink v (link_sign s) b t y) (sym e) o
 
-pub no_link_as : {v : Surroundings} {b : Place} (l m : Linking) → l ≡ m → NoneLinked v (link_sign m) b → NoneLinked v (link_sign l) b
-no_link_as {v} {b} l m e n = subst (λ s. NoneLinked v (link_sign s) b) (sym e) n
+pub no_link_as : {v : Surroundings} {b : Place} {o : Fault} (l m : Linking) → l ≡ m → NoneLinked v (link_sign m) b o → NoneLinked v (link_sign l) b o
+no_link_as {v} {b} {o = o} l m e n = subst (λ s. NoneLinked v (link_sign s) b o) (sym e) n
 
 pub link_placed : {x y : Here} {d : Told} {t : Tree} (l m : Linking) → l ≡ m → IsPlacedBehind (link_sign m) x d t y → IsPlacedBehind (link_sign l) x d t y
 link_placed {x} {y} {d} {t} l m e p = subst (λ s. IsPlacedBehind (link_sign s) x d t y) (sym e) p

@@ -13,13 +13,14 @@ use Rattle.jsx_tree.specs.Told.{told_list, told_node}
 use Rattle.jsx_tree.specs.Walk.{is_found, Piece, Walk, steady, tail, piece, sign, next}
 use Rattle.jsx_tree.specs.Language.{Whole}
 use Rattle.jsx_tree.specs.Answers.{Moves, NoNode}
+use Rattle.jsx_tree.specs.Faults.{Fault, Unread, Shallow, outer, part_depth}
 use Rattle.jsx_tree.proofs.Tokens.{and_both}
 use Rattle.jsx_tree.proofs.Apart.{clash, never_both}
 use Rattle.jsx_tree.proofs.Rows.Bodies.{plain as plain_row}
 use Rattle.jsx_tree.proofs.Rows.Bridge.{found_at}
 use Rattle.jsx_tree.proofs.Rows.Firsts.{kind_home}
 use Rattle.jsx_tree.proofs.Rows.Guarded.{whole_walk, loosen, to_grammar}
-use Rattle.jsx_tree.proofs.Rows.Placing.{free_around, moved, no_node}
+use Rattle.jsx_tree.proofs.Rows.Placing.{free_around, moved, no_node, node_shallow}
 use Rattle.jsx_tree.proofs.Rows.Steps.{on}
 use Rattle.jsx_tree.proofs.Rows.Stopping.{never_stops}
 use Rattle.jsx_token.specs.Here.{Here}
@@ -161,7 +162,7 @@ array_pattern {v} {x} {y} {q} {c} o is may w m = record { reads = λ p t b. read
 pub array_cover : {v : Surroundings} {x y : Place} {q : Items} {c : Cover} → CoversItems v x q y → view_cover c ≡ node (expression Array) (part (list (view_items q)) none) → c.is_expr ≡ q.are_exprs → c.may_turn ≡ q.may_turn → OpensCover v (pun "[") c x y
 array_cover {v} {x} {y} {q} {c} o is e may = record {
   expr = λ f. opened_by (expression Array) refl refl (kept_behind (expression Array) (listed (expression Array) refl refl refl) refl refl (record { parts = part (list (view_items q)) none; is = is; row = o.expr (sym e ∙ f) })) (of_array (Other v x (expression Array)) itself);
-  none = λ f. record { no = of_array (λ j. NoParts v j x) (free_none (expression Array) refl (no_node (o.none (sym e ∙ f)))) };
+  none = λ f. record { no = of_array (λ j. NoParts v j x Unread) (free_none (expression Array) refl (no_node (o.none (sym e ∙ f)))) };
   pattern = array_pattern o is may;
   literal = λ f. ap is_literal is;
   other = λ f. cc;
@@ -169,15 +170,15 @@ array_cover {v} {x} {y} {q} {c} o is e may = record {
   unsettled = λ f. ap is_literal is;
 }
 
-pub no_array_cover : {v : Surroundings} {x : Place} → NoItems v x → NoCoverOpened v (pun "[") x
-no_array_cover {v} {x} n = record {
-  none = record { no = of_array (λ j. NoParts v j x) (free_none (expression Array) refl (no_node n.items)) };
-  pattern = λ w m. record { no = λ p z b r. at m (at_brackets p b r) r };
+pub no_array_cover : {v : Surroundings} {x : Place} {e : Fault} → NoItems v x e → NoCoverOpened v (pun "[") x e
+no_array_cover {v} {x} {e = e} n = record {
+  none = record { no = of_array (λ j. NoParts v j x e) (free_none (expression Array) refl (no_node n.items)) };
+  pattern = λ w m. record { no = λ p z b r s. at m (at_brackets p b r) r s };
 }
   where
-    at : {w : Place} {p : Tree} {z : Place} → Moves (pun "[") w x → AtBrackets p → Staged v false (Pat Assigns) w p z → ⊥
-    at {z = z} m (in_array {ts}) r = n.slots.no ts z (past_sign m (array_whole r))
-    at {w} m in_object r = never_both Punctuator Punctuator (codes "[") (codes "{") w refl (found_at (sym m.is) m.found) (object_led r)
+    at : {w : Place} {p : Tree} {z : Place} → Moves (pun "[") w x → AtBrackets p → Staged v false (Pat Assigns) w p z → Shallow (outer e) (part_depth p) → ⊥
+    at {z = z} m (in_array {ts}) r s = n.slots.no ts z (past_sign m (array_whole r)) (node_shallow e true refl of_so_far r s)
+    at {w} m in_object r s = never_both Punctuator Punctuator (codes "[") (codes "{") w refl (found_at (sym m.is) m.found) (object_led r)
 
 pub array_placed : {x y : Here} {at : Option Span} {q : Items} {c : Cover} → IsPlacedItems q x y → view_cover c ≡ node (expression Array) (part (list (view_items q)) none) → told_cover c ≡ told_node at (told_list (told_items q) ∷ []) → c.is_expr ≡ q.are_exprs → c.may_turn ≡ q.may_turn → ((w : Here) → begin_of x ≡ next_of w → Spans at (next_of w) (end_of y)) → IsPlacedCoverBehind (pun "[") x c y
 array_placed {x} {y} {at} {q} {c} o is told e may spanned = record {
@@ -228,7 +229,7 @@ second_half false b e = cc
 pub object_cover : {v : Surroundings} {x y : Place} {q : Members} {c : Cover} → CoversMembers v x q y → view_cover c ≡ node (expression Object) (part (list (view_members q)) none) → c.is_expr ≡ (q.are_exprs && at_most 1 is_proto (view_members q)) → c.may_turn ≡ q.may_turn → OpensCover v (pun "{") c x y
 object_cover {v} {x} {y} {q} {c} o is e may = record {
   expr = λ f. opened_by (expression Object) refl refl (object_node (o.expr (first_half q.are_exprs _ (sym e ∙ f))) (second_half q.are_exprs _ (sym e ∙ f)) is) (of_object (Other v x (expression Object)) itself);
-  none = λ f. record { no = of_object (λ j. NoParts v j x) (free_none (expression Object) refl (none q.are_exprs refl (sym e ∙ f))) };
+  none = λ f. record { no = of_object (λ j. NoParts v j x Unread) (free_none (expression Object) refl (none q.are_exprs refl (sym e ∙ f))) };
   pattern = object_pattern o is may;
   literal = λ f. ap is_literal is;
   other = λ f. cc;
@@ -236,19 +237,19 @@ object_cover {v} {x} {y} {q} {c} o is e may = record {
   unsettled = λ f. ap is_literal is;
 }
   where
-    none : (b : Bool) → q.are_exprs ≡ b → (q.are_exprs && at_most 1 is_proto (view_members q)) ≡ false → NoNode so_far v (tail (row_so_far (expression Object))) (expression Object) x
+    none : (b : Bool) → q.are_exprs ≡ b → (q.are_exprs && at_most 1 is_proto (view_members q)) ≡ false → NoNode so_far v (tail (row_so_far (expression Object))) (expression Object) x Unread
     none true g f = two_protos (o.expr g) (ap (λ d. d && at_most 1 is_proto (view_members q)) (sym g) ∙ f)
     none false g f = no_node (o.none g)
 
-pub no_object_cover : {v : Surroundings} {x : Place} → NoMembers v x → NoCoverOpened v (pun "{") x
-no_object_cover {v} {x} n = record {
-  none = record { no = of_object (λ j. NoParts v j x) (free_none (expression Object) refl (no_node n.members)) };
-  pattern = λ w m. record { no = λ p z b r. at m (at_brackets p b r) r };
+pub no_object_cover : {v : Surroundings} {x : Place} {e : Fault} → NoMembers v x e → NoCoverOpened v (pun "{") x e
+no_object_cover {v} {x} {e = e} n = record {
+  none = record { no = of_object (λ j. NoParts v j x e) (free_none (expression Object) refl (no_node n.members)) };
+  pattern = λ w m. record { no = λ p z b r s. at m (at_brackets p b r) r s };
 }
   where
-    at : {w : Place} {p : Tree} {z : Place} → Moves (pun "{") w x → AtBrackets p → Staged v false (Pat Assigns) w p z → ⊥
-    at {z = z} m (in_object {ts}) r = n.parts.no ts z (past_sign m (object_whole r))
-    at {w} m in_array r = never_both Punctuator Punctuator (codes "{") (codes "[") w refl (found_at (sym m.is) m.found) (array_led r)
+    at : {w : Place} {p : Tree} {z : Place} → Moves (pun "{") w x → AtBrackets p → Staged v false (Pat Assigns) w p z → Shallow (outer e) (part_depth p) → ⊥
+    at {z = z} m (in_object {ts}) r s = n.parts.no ts z (past_sign m (object_whole r)) (node_shallow e true refl of_so_far r s)
+    at {w} m in_array r s = never_both Punctuator Punctuator (codes "{") (codes "[") w refl (found_at (sym m.is) m.found) (array_led r)
 
 pub object_placed : {x y : Here} {at : Option Span} {q : Members} {c : Cover} → IsPlacedMembers q x y → view_cover c ≡ node (expression Object) (part (list (view_members q)) none) → told_cover c ≡ told_node at (told_list (told_members q) ∷ []) → (c.is_expr ≡ true → q.are_exprs ≡ true) → c.may_turn ≡ q.may_turn → ((w : Here) → begin_of x ≡ next_of w → Spans at (next_of w) (end_of y)) → IsPlacedCoverBehind (pun "{") x c y
 object_placed {x} {y} {at} {q} {c} o is told e may spanned = record {

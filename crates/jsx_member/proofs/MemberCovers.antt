@@ -1,5 +1,5 @@
 -- What stands in an object, as a member of it and as a part of the pattern that assigns: one by one, and all up to the `}` (ECMA-262 sections 13.2.5 and 13.15.5).
-use Rattle.std.proofs.Common.{◌≡◌, Bool, true, false, not, [], map, refl, sym, ◌∙◌, ap, subst, Box, Vec, Global}
+use Rattle.std.proofs.Common.{◌≡◌, ◌≤◌, ℕ, Bool, true, false, not, [], map, refl, sym, ◌∙◌, ap, subst, arith, Box, Vec, Global}
 use Rattle.std.specs.Prelude.{IsTrue, codes, ◌&&◌, ◌||◌}
 use Rattle.jsx_base.specs.Token.{Text, Operator, Punctuator, IdentifierName, among, same}
 use Rattle.jsx_tree.specs.Signs.{Sign, Tok}
@@ -15,16 +15,18 @@ use Rattle.jsx_tree.specs.declared.tree.Prop.{Prop}
 use Rattle.jsx_tree.specs.Walk.{is_found, Given, IsRead, nothing, one, Past, sign, tree, Walk, done, next, steady, tail}
 use Rattle.jsx_tree.specs.Language.{Whole}
 use Rattle.jsx_tree.specs.Answers.{Moves, Stuck, Missed, Only, Barred, OnlyRow, NoRow, Built}
+use Rattle.jsx_tree.specs.Faults.{Fault, Unread, Deep, Shallow, Below, outer, inner, part_depth, deepest, given_depth}
 use Rattle.jsx_tree.proofs.Tokens.{and_both, and_left, and_right}
 use Rattle.jsx_tree.proofs.Apart.{clash, never_both}
 use Rattle.jsx_tree.proofs.Rows.Bodies.{plain as plain_row}
 use Rattle.jsx_tree.proofs.Rows.Bridge.{found_at}
 use Rattle.jsx_tree.proofs.Rows.Laws.{end_found}
 use Rattle.jsx_tree.proofs.Rows.Guarded.{loosen, to_grammar}
-use Rattle.jsx_tree.proofs.Rows.Placing.{free_around, moved}
+use Rattle.jsx_tree.proofs.Rows.Placing.{free_around, moved, flat_shallow, nested_shallow, node_shallow}
 use Rattle.jsx_tree.proofs.Rows.Steps.{bar, both, built_2, end, on, only_sign, then'}
 use Rattle.jsx_tree.proofs.Rows.Stopping.{is_not, or_cases, token_stops}
 use Rattle.jsx_tree.proofs.Rows.Turns.{item_of, whole_of}
+use Rattle.jsx_tree.proofs.Depth.Shallow.{below_shallow, shallow_first, shallow_rest}
 use Rattle.jsx_token.specs.Here.{Here, place_of}
 use Rattle.jsx_token.specs.Marks.{ends_so_far, row_so_far}
 use Rattle.jsx_make.specs.Members.{view_prop}
@@ -34,8 +36,9 @@ use Rattle.jsx_operand.specs.SoFar.{Staged, so_far}
 use Rattle.jsx_operand.specs.Turning.{TurnsElement, TurnsParts, parts_none, part_pair, part_short, part_preset, part_rest, preset}
 use Rattle.jsx_operand.specs.declared.cover.Cover.{Cover}
 use Rattle.jsx_operand.proofs.OfSoFar.{of_so_far}
-use Rattle.jsx_operand.proofs.Homes.{IsName, bindings, bound_word, idents, only_leaf}
+use Rattle.jsx_operand.proofs.Homes.{IsName, bindings, bound_word, idents, leaf_one, only_leaf}
 use Rattle.jsx_operand.proofs.Keys.{key_unmarked, literal_key}
+use Rattle.jsx_operand.proofs.Patterns.{deep_counted, deep_nested}
 use Rattle.jsx_operand.proofs.Turned.{parts_both, parts_parted}
 use Rattle.jsx_operand.proofs.Values.{leaf_to}
 use Rattle.jsx_member.specs.Covers.{CoversKeyed, CoversMembers, CoversPair, CoversShort, IsKeyed, IsMemberCover, IsTurnedPart, NoCoverKeyed, NoMemberCover, NoPair, NoShortCover, IsBare}
@@ -48,12 +51,20 @@ use Rattle.jsx_member.proofs.CoverItems.{Ends, Longer}
 use Rattle.jsx_member.proofs.CoverMembers.{FillsClosed, NoneCloses, inside as within}
 use Rattle.jsx_member.proofs.ItemCovers.{AreAll}
 use Rattle.jsx_function.proofs.Keyed.{keyed_first, keyed_neither, keyed_second, method_is, unbracketed, uncalled}
-use Rattle.jsx_member.proofs.Members.{ShortName, accessor_member, goes_by, keyed_member, keyed_word, no_accessor, no_key, no_keyed_member, no_spread, short_member, shut_not, spread_read, word_marked}
+use Rattle.jsx_member.proofs.Members.{ShortName, accessor_member, deep_key, deep_member, outer_member, goes_by, keyed_member, keyed_word, no_accessor, no_key, no_keyed_member, no_spread, short_member, shut_not, spread_read, word_marked}
 use Rattle.jsx_member.proofs.Parted.{AtPart, at_part, default_marked, default_row, default_unvalued, default_whole, key_marked, pair_row, pair_whole, paired, part_behind, rest, rest_led, rest_parts, rest_row, short, short_closed, short_marked, short_row, short_whole, uncoloned, valued, RestRead}
 use Rattle.jsx_function.proofs.PatternParts.{Bound, as_key, bound_by, colon_moves, key_end}
 use Rattle.jsx_function.proofs.Params.{unless_comma}
 use Rattle.jsx_function.proofs.Prefixes.{key_before}
 use Rattle.jsx_function.proofs.Worded.{accessor_is, accessor_key, accessor_kind, accessor_sign, accessor_word, is_accessor}
+
+outwards : (e : Fault) (d : ℕ) → Shallow e d → Shallow (outer e) d
+outwards Unread d s = tt
+outwards (Deep n) d s = omega (arith, s)
+
+below_more : (e : Fault) → Below 0 e → Below 1 e
+below_more Unread b = b
+below_more (Deep n) b = omega (arith, b)
 
 stuck_not : {s : Sign} {x : Place} → Stuck s x → IsTrue (is_found (forth s x)) → ⊥
 stuck_not k f = let bad : IsTrue (is_found Lost) = subst (λ p. IsTrue (is_found p)) k.is f in cc
@@ -155,8 +166,8 @@ record IsPart (v : Surroundings) (x : Place) (m : Member) (y : Place) : Type 0 w
 member_too : {v : Surroundings} {x y : Place} {m : Member} → m.is_expr ≡ true → OnlyMember v x (view_prop m.prop.value) y → IsPart v x m y → IsMemberCover v x m y
 member_too e o p = record { reads_member = λ f. o.reads; member = λ u z s w. (e, o.alone u z s w); reads = p.reads; alone = p.alone }
 
-part_alone : {v : Surroundings} {x y : Place} {m : Member} → m.is_expr ≡ false → NoMember v x → IsPart v x m y → IsMemberCover v x m y
-part_alone e n p = record { reads_member = λ f. absurd (clash _ f e); member = λ u z s w. absurd (n.no u z s w); reads = p.reads; alone = p.alone }
+part_alone : {v : Surroundings} {x y : Place} {m : Member} → m.is_expr ≡ false → NoMember v x Unread → IsPart v x m y → IsMemberCover v x m y
+part_alone e n p = record { reads_member = λ f. absurd (clash _ f e); member = λ u z s w. absurd (n.no u z s w tt); reads = p.reads; alone = p.alone }
 
 -- one that turns into none
 no_part : {v : Surroundings} {x y : Place} {m : Member} → turns_tree (view_prop m.prop.value) ≡ false → ((p : Tree) (z : Place) → Closed z → Whole so_far v false (PatProp Assigns) x p z → ⊥) → IsPart v x m y
@@ -180,8 +191,8 @@ unvalued {x = x} k t e i f =
     or_cases (among t reserved) _ (k.named t e) (λ r. clash _ r (is_not _ i))
     (λ r. or_cases (is_found (forth (pun ":") x)) _ r (λ g. never_both Punctuator Punctuator (codes ":") (codes "=") x refl g f) (λ g. never_both Punctuator Punctuator (codes "(") (codes "=") x refl g f))
 
-pub no_keyed_cover : {v : Surroundings} {w x : Place} {k : Tree} → IsBare w → IsKeyed k x → Only so_far v (Part Key) w (one k) x → NoneKeyed keyed_in_object v k x → NoRow so_far v (tail pair_row) x → NoMemberCover v w
-no_keyed_cover {v} {w} {x} {k} b i o n r = record { member = λ u z s q. (no_keyed_member b o (unended i) n).no u z s q; part' = λ p z s q. at s (at_part p q.reads) q }
+pub no_keyed_cover : {v : Surroundings} {w x : Place} {k : Tree} {d : Fault} → IsBare w → IsKeyed k x → Only so_far v (Part Key) w (one k) x → NoneKeyed keyed_in_object v k x d → NoRow so_far v (tail pair_row) x d → NoMemberCover v w (outer d)
+no_keyed_cover {v} {w} {x} {k} {d = d} b i o n r = record { member = λ u z s q a. (no_keyed_member b o (unended i) n).no u z s q a; part' = λ p z s q a. at s (at_part p q.reads) q a }
   where
     name_key : {u : Tree} {a : Place} → Whole so_far v false BindingIdent w u a → (g : Bound u) → k ≡ leaf IdentifierName g.text
     name_key {u} {a} q g = ap item_of (o.alone (one u) a (tree (as_key u q.reads))).0 ∙ g.is
@@ -192,14 +203,14 @@ no_keyed_cover {v} {w} {x} {k} b i o n r = record { member = λ u z s q. (no_key
     defaults : {ts : Forest} {z : Place} → Walk (Whole so_far) (steady v) default_row w ts z → ⊥
     defaults (next (tree {t = u} q) (next (sign e f) h)) = let g = bound_by u q.reads in unvalued i g.text (name_key q g) (bound_ident g.text g.bound) (subst (λ a. IsTrue (is_found (forth (pun "=") a))) (sym (key_end o q)) (found_at e f))
 
-    pairs : {ts : Forest} {z : Place} → Walk (Whole so_far) (steady v) pair_row w ts z → ⊥
-    pairs (next {z = z} {ts = ts} q h) = r.no ts z (subst (λ a. Walk (Whole so_far) (steady v) (tail pair_row) a ts z) (sym (o.alone _ _ q).1) h)
+    pairs : {ts : Forest} {z : Place} → Walk (Whole so_far) (steady v) pair_row w ts z → Shallow d (deepest ts) → ⊥
+    pairs (next {z = z} {g = g} {ts = ts} q h) s' = r.no ts z (subst (λ a. Walk (Whole so_far) (steady v) (tail pair_row) a ts z) (sym (o.alone _ _ q).1) h) (shallow_rest d g ts s')
 
-    at : {p : Tree} {z : Place} → Closed z → AtPart p → Whole so_far v false (PatProp Assigns) w p z → ⊥
-    at s paired q = pairs (pair_whole q)
-    at s short q = shorts s (short_whole q)
-    at s valued q = defaults (default_whole q)
-    at s rest q = undotted o (rest_led q.reads)
+    at : {p : Tree} {z : Place} → Closed z → AtPart p → Whole so_far v false (PatProp Assigns) w p z → Shallow (outer d) (part_depth p) → ⊥
+    at s paired q h = pairs (pair_whole q) (node_shallow d true refl of_so_far q.reads h)
+    at s short q h = shorts s (short_whole q)
+    at s valued q h = defaults (default_whole q)
+    at s rest q h = undotted o (rest_led q.reads)
 
 -- ---- a property
 
@@ -207,11 +218,11 @@ unfound : (x : Place) → (IsTrue (is_found x) → ⊥) → is_found x ≡ false
 unfound Lost n = refl
 unfound (At q e text) n = absurd (n refl)
 
-no_value : {v : Surroundings} {a : Place} → NoCover v 1 a → Barred so_far v (Part (PatElement Assigns)) a
-no_value {v} {a} o = record { no = λ g y q. at q }
+no_value : {v : Surroundings} {a : Place} {e : Fault} → NoCover v 1 a e → Barred so_far v (Part (PatElement Assigns)) a e
+no_value {v} {a} {e = e} o = record { no = λ g y q h. at q h }
   where
-    at : {g : Given} {y : Place} → Past (Whole so_far) v (Part (PatElement Assigns)) a g y → ⊥
-    at {y = y} (tree {t = u} w) = o.element refl u y w
+    at : {g : Given} {y : Place} → Past (Whole so_far) v (Part (PatElement Assigns)) a g y → Shallow e (given_depth g) → ⊥
+    at {y = y} (tree {t = u} w) s = o.element refl u y w s
 
 pub pair_cover : {v : Surroundings} {x a y : Place} {i : Cover} {m : Member} (k : Code) → Only so_far v (Fixed (pun ":")) x nothing a → IsCover v 1 a i y → view_prop m.prop.value ≡ node (expression Property) (part (view_key k) (part (view_cover i) none)) → m.is_expr ≡ i.is_expr → m.may_turn ≡ i.may_turn → CoversPair v (view_key k) m x y
 pair_cover {v} {x} {a} {y} {i} {m} k c o is e f = record { on = λ w b q. at b q i.is_expr refl }
@@ -222,7 +233,7 @@ pair_cover {v} {x} {a} {y} {i} {m} k c o is e f = record { on = λ w b q. at b q
     colon : IsTrue (is_found (forth (pun ":") x))
     colon = found_at (sym moves.is) moves.found
 
-    no_call : NoneKeyed (is_method InObject) v (view_key k) x
+    no_call : NoneKeyed (is_method InObject) v (view_key k) x Unread
     no_call = uncalled InObject k (λ w. unbracketed (unfound (forth (pun "(") x) (λ g. never_both Punctuator Punctuator (codes "(") (codes ":") x refl g colon)))
 
     pairs : {w z : Place} {ts : Forest} → Only so_far v (Part Key) w (one (view_key k)) x → Walk (Whole so_far) (steady v) pair_row w ts z → IsTurnedPart m (node (function (PropertyPat Assigns)) ts) × (y ≡ z)
@@ -256,14 +267,14 @@ pair_cover {v} {x} {a} {y} {i} {m} k c o is e f = record { on = λ w b q. at b q
 
     at : {w : Place} → IsBare w → Only so_far v (Part Key) w (one (view_key k)) x → (h : Bool) → i.is_expr ≡ h → IsMemberCover v w m y
     at b q true h = let r = o.expr h in member_too (e ∙ h) (keyed_member b q (keyed_first (property_only k (built_2 (end_found of_so_far (whole_of r.past).reads) c r is)) no_call)) (turned q)
-    at b q false h = part_alone (e ∙ h) (no_keyed_member b q (λ s g j n. shut_not (codes ":") refl refl n colon) (keyed_neither (no_property (view_key k) (on c (bar (o.none h)))) no_call)) (turned q)
+    at b q false h = part_alone (e ∙ h) (no_keyed_member {fault = Unread} b q (λ s g j n. shut_not (codes ":") refl refl n colon) (keyed_neither (no_property (view_key k) (on c (bar (o.none h)))) no_call)) (turned q)
 
 -- no `:` stands there
-pub no_colon_pair : {v : Surroundings} {x : Place} (k : Code) → Barred so_far v (Fixed (pun ":")) x → NoPair v (view_key k) x
+pub no_colon_pair : {v : Surroundings} {x : Place} {e : Fault} (k : Code) → Barred so_far v (Fixed (pun ":")) x e → NoPair v (view_key k) x e
 no_colon_pair k n = record { no = λ w b i q s. no_keyed_cover b i q (keyed_neither (no_property (view_key k) (bar n)) (uncalled InObject k (λ w. unbracketed (unfound _ (stuck_not s))))) (bar n) }
 
 -- or no value behind it
-pub no_value_pair : {v : Surroundings} {x a : Place} (k : Code) → Only so_far v (Fixed (pun ":")) x nothing a → NoCover v 1 a → NoPair v (view_key k) x
+pub no_value_pair : {v : Surroundings} {x a : Place} {e : Fault} (k : Code) → Only so_far v (Fixed (pun ":")) x nothing a → NoCover v 1 a e → NoPair v (view_key k) x e
 no_value_pair k c o = record { no = λ w b i q s. no_keyed_cover b i q (keyed_neither (no_property (view_key k) (on c (bar o.none))) (uncalled InObject k (λ w. unbracketed (unfound _ (stuck_not s))))) (on c (bar (no_value o))) }
 
 -- ---- a method
@@ -274,13 +285,13 @@ method_unturned {k = k} o = ap turns_tree (o.is ∙ ap (λ j. node j (part k o.p
 pub method_cover : {v : Surroundings} {x y : Place} {k : Tree} {m : Member} → IsTrue (is_found (forth (pun "(") x)) → m.is_expr ≡ true → OnlyKeyed (is_method InObject) v k (view_prop m.prop.value) x y → CoversKeyed v k m x y
 method_cover {v} {x} {y} {k} {m} f e o = record { on = λ w b q. member_too e (keyed_member b q (keyed_second (no_property k (no_colon f)) o)) (no_part (method_unturned o) (λ p z s g. part_behind (codes "(") q f refl refl (λ h. shut_not (codes "(") refl refl h f) (undotted q) s g)) }
 
-no_colon_row : {v : Surroundings} {x : Place} → IsTrue (is_found (forth (pun "(") x)) → NoRow so_far v (tail pair_row) x
-no_colon_row {v} {x} f = record { no = λ ts z w. at w }
+no_colon_row : {v : Surroundings} {x : Place} {o : Fault} → IsTrue (is_found (forth (pun "(") x)) → NoRow so_far v (tail pair_row) x o
+no_colon_row {v} {x} {o = o} f = record { no = λ ts z w h. at w h }
   where
-    at : {ts : Forest} {z : Place} → Walk (Whole so_far) (steady v) (tail pair_row) x ts z → ⊥
-    at (next (sign e g) w) = never_both Punctuator Punctuator (codes "(") (codes ":") x refl f (found_at e g)
+    at : {ts : Forest} {z : Place} → Walk (Whole so_far) (steady v) (tail pair_row) x ts z → Shallow o (deepest ts) → ⊥
+    at (next (sign e g) w) s = never_both Punctuator Punctuator (codes "(") (codes ":") x refl f (found_at e g)
 
-pub no_method_cover : {v : Surroundings} {x : Place} {k : Tree} → IsTrue (is_found (forth (pun "(") x)) → NoneKeyed (is_method InObject) v k x → NoCoverKeyed v k x
+pub no_method_cover : {v : Surroundings} {x : Place} {k : Tree} {e : Fault} → IsTrue (is_found (forth (pun "(") x)) → NoneKeyed (is_method InObject) v k x e → NoCoverKeyed v k x e
 no_method_cover {k = k} f n = record { no = λ w b i q. no_keyed_cover b i q (keyed_neither (no_property k (no_colon f)) n) (no_colon_row f) }
 
 -- ---- a getter or a setter, behind its word
@@ -311,8 +322,8 @@ worded_unturned b d = ap turns_tree (d.is ∙ ap (λ j. node j d.parts) (sym (ac
 pub accessor_cover : {v : Surroundings} {x y z : Place} {m : Member} (b : Bool) → IsPrefix (accessor_sign b) x y → m.is_expr ≡ true → OnlyFromKey (is_accessor InObject b) v (view_prop m.prop.value) y z → IsMemberCover v x m z
 accessor_cover {m = m} b i e d = member_too e (accessor_member b i d) (no_part (worded_unturned b d) (λ p z s g. no_worded_part b i s g))
 
-pub no_accessor_cover : {v : Surroundings} {x y : Place} (b : Bool) → IsPrefix (accessor_sign b) x y → NoneFromKey (is_accessor InObject b) v y → NoMemberCover v x
-no_accessor_cover b i n = record { member = (no_accessor b i n).no; part' = λ p z s g. no_worded_part b i s g }
+pub no_accessor_cover : {v : Surroundings} {x y : Place} {e : Fault} (b : Bool) → IsPrefix (accessor_sign b) x y → NoneFromKey (is_accessor InObject b) v y (inner e) → NoMemberCover v x e
+no_accessor_cover b i n = record { member = (no_accessor b i n).no; part' = λ p z s g h. no_worded_part b i s g }
 
 -- ---- a name
 
@@ -371,8 +382,8 @@ short_cover {v} {x} {x'} {n} {m} e f is k = record { on = λ w b q c d. subst (I
         parted rest g = absurd (undotted literal (rest_led g.reads))
 
 -- before `=` it is no member of a literal
-unshort : {v : Surroundings} {w x : Place} {n : Text} → IsBare w → Word n w x → Stuck (pun ":") x → Stuck (pun "(") x → IsTrue (is_found (forth (pun "=") x)) → NoMember v w
-unshort {v} {w} {x} b r c d f = no_keyed_member b (word_key r) (λ s g h n. shut_not (codes "=") refl refl n f) (record { no = λ k us z h g j. goes_by k h (stuck_not c) (stuck_not d) g })
+unshort : {v : Surroundings} {w x : Place} {n : Text} {e : Fault} → IsBare w → Word n w x → Stuck (pun ":") x → Stuck (pun "(") x → IsTrue (is_found (forth (pun "=") x)) → NoMember v w e
+unshort {v} {w} {x} {e = e} b r c d f = outer_member (no_keyed_member {fault = inner e} b (word_key r) (λ s g h n. shut_not (codes "=") refl refl n f) (record { no = λ k us z h g j s. goes_by k h (stuck_not c) (stuck_not d) g }))
 
 -- with its default
 pub preset_cover : {v : Surroundings} {x a y : Place} {n : Text} {t : Tree} {m : Member} → m.is_expr ≡ false → m.may_turn ≡ true → view_prop m.prop.value ≡ preset n t → is_bound n ≡ true → Moves (pun "=") x a → Only so_far v (Part (Expr 1)) a (one t) y → CoversShort v n x m y
@@ -399,21 +410,21 @@ preset_cover {v} {x} {a} {y} {n} {t} {m} e f is bound k value = record { on = λ
             (record { may = f; turns = subst (λ u. TurnsParts (part u none) (part (node (function (ShorthandInit Assigns)) ts) none)) (sym is) (subst (λ us. TurnsParts (part (preset n t) none) (part (node (function (ShorthandInit Assigns)) us) none)) o.0 (part_preset parts_none)) }, o.1)
         parted s rest g = absurd (undotted {v = v} (word_key r) (rest_led g.reads))
 
-no_preset : {v : Surroundings} {x a : Place} {n : Text} → Moves (pun "=") x a → ((w : Place) (ts : Forest) (z : Place) → Word n w x → Walk (Whole so_far) (steady v) default_row w ts z → ⊥) → NoShortCover v n x
-no_preset {v} {x} {a} {n} k gone = record { no = λ w b q c d. record { member = (unshort b (word_of q) c d there).no; part' = λ p z s g. at (word_of q) c s (at_part p g.reads) g } }
+no_preset : {v : Surroundings} {x a : Place} {n : Text} {e : Fault} → Moves (pun "=") x a → ((w : Place) (ts : Forest) (z : Place) → Word n w x → Whole so_far v false (PatProp Assigns) w (node (function (ShorthandInit Assigns)) ts) z → Shallow (outer e) (part_depth (node (function (ShorthandInit Assigns)) ts)) → ⊥) → NoShortCover v n x e
+no_preset {v} {x} {a} {n} {e = e} k gone = record { no = λ w b q c d. record { member = (unshort b (word_of q) c d there).no; part' = λ p z s g a. at (word_of q) c s (at_part p g.reads) g a } }
   where
     there : IsTrue (is_found (forth (pun "=") x))
     there = found_at (sym k.is) k.found
 
-    at : {w z : Place} {p : Tree} → Word n w x → Stuck (pun ":") x → Closed z → AtPart p → Whole so_far v false (PatProp Assigns) w p z → ⊥
-    at r c s paired g = uncoloned (word_key r) (stuck_not c) (pair_whole g)
-    at r c s short g = short_closed (word_key r) s (λ h. shut_not (codes "=") refl refl h there) (short_whole g)
-    at {w} {z} r c s (valued {ts}) g = gone w ts z r (default_whole g)
-    at r c s rest g = undotted {v = v} (word_key r) (rest_led g.reads)
+    at : {w z : Place} {p : Tree} → Word n w x → Stuck (pun ":") x → Closed z → AtPart p → Whole so_far v false (PatProp Assigns) w p z → Shallow (outer e) (part_depth p) → ⊥
+    at r c s paired g a = uncoloned (word_key r) (stuck_not c) (pair_whole g)
+    at r c s short g a = short_closed (word_key r) s (λ h. shut_not (codes "=") refl refl h there) (short_whole g)
+    at {w} {z} r c s (valued {ts}) g a = gone w ts z r g a
+    at r c s rest g a = undotted {v = v} (word_key r) (rest_led g.reads)
 
 -- a name that isn't bound
-pub unbound_short : {v : Surroundings} {x a : Place} {n : Text} → Moves (pun "=") x a → is_bound n ≡ false → NoShortCover v n x
-unbound_short {v} {x} {n = n} k u = no_preset k (λ w ts z r g. at r g)
+pub unbound_short : {v : Surroundings} {x a : Place} {n : Text} {e : Fault} → Moves (pun "=") x a → is_bound n ≡ false → NoShortCover v n x e
+unbound_short {v} {x} {n = n} k u = no_preset k (λ w ts z r g a. at r (default_whole g))
   where
     at : {w z : Place} {ts : Forest} → Word n w x → Walk (Whole so_far) (steady v) default_row w ts z → ⊥
     at r (next (tree {t = t} q) h) =
@@ -422,13 +433,28 @@ unbound_short {v} {x} {n = n} k u = no_preset k (λ w ts z r g. at r g)
         clash _ (ap is_bound (leaf_text (ap item_of s.0 ∙ b.is)) ∙ b.bound) u
 
 -- or no value behind the `=`
-pub unfilled_short : {v : Surroundings} {x a : Place} {n : Text} → Moves (pun "=") x a → Barred so_far v (Part (Expr 1)) a → NoShortCover v n x
-unfilled_short {v} {x} {a} {n} k o = no_preset k (λ w ts z r g. at r g)
+pub unfilled_short : {v : Surroundings} {x a : Place} {n : Text} {d : Fault} → Moves (pun "=") x a → Barred so_far v (Part (Expr 1)) a d → NoShortCover v n x (outer d)
+unfilled_short {v} {x} {a} {n} {d = d} k o = no_preset k (λ w ts z r g h. at r (default_whole g) (nested_shallow d of_so_far g.reads h))
   where
-    at : {w z : Place} {ts : Forest} → Word n w x → Walk (Whole so_far) (steady v) default_row w ts z → ⊥
-    at r (next (tree {t = t} q) (next (sign e f) (next g h))) =
+    at : {w z : Place} {ts : Forest} → Word n w x → Walk (Whole so_far) (steady v) default_row w ts z → Shallow d (deepest ts) → ⊥
+    at r (next {ts = us'} (tree {t = t} q) (next (sign e f) (next {g = g'} {ts = vs'} g h))) a =
         let s = (word_key r).alone (one t) _ (tree (as_key t q.reads)) in
-        (subst (Barred so_far v (Part (Expr 1))) (k.is ∙ (ap (forth (pun "=")) s.1 ∙ e)) o).no _ _ g
+        (subst (λ w. Barred so_far v (Part (Expr 1)) w d) (k.is ∙ (ap (forth (pun "=")) s.1 ∙ e)) o).no _ _ g (shallow_first d g' vs' (shallow_rest d (one t) us' a))
+
+-- a name with its default is deeper by two levels than the name
+pub deep_short : {v : Surroundings} {x a : Place} {n : Text} {e : Fault} → Moves (pun "=") x a → Below 1 e → NoShortCover v n x e
+deep_short {v} {x} {e = e} k b = no_preset k (λ w ts z r g h. none_name (default_whole g) (nested_shallow (Deep 0) of_so_far g.reads (lower e _ b h)))
+  where
+    lower : (d : Fault) (m : ℕ) → Below 1 d → Shallow (outer d) m → m ≤ 2
+    lower Unread m w s = absurd w
+    lower (Deep i) m w s = omega (arith, w, s)
+
+    none_name : {w p : Place} {ts : Forest} → Walk (Whole so_far) (steady v) default_row w ts p → deepest ts ≤ 0 → ⊥
+    none_name (next {ts = us'} (tree {t = u} q) h) s =
+        let m = bound_by u q.reads in
+        let d = ap part_depth m.is ∙ leaf_one IdentifierName m.text refl in
+        let low : part_depth u ≤ 0 = shallow_first (Deep 0) (one u) us' s in
+        omega (arith, d, low)
 
 -- ---- a spread
 
@@ -483,44 +509,65 @@ spread_cover {v} {x} {a} {y} {m} k b e f = member_too e (spread_read k b) (recor
     at s valued g = absurd (default_marked (codes "...") (default_whole g) there)
     at s (rest {ts}) g = rests s (rest_parts {us = ts} k (of_so_far.from_node (function (RestProperty Assigns)) g.reads).walk)
 
-pub no_spread_cover : {v : Surroundings} {x a : Place} → Moves (pun "...") x a → NoRow so_far v (tail (row_so_far (expression Spread))) a → NoMemberCover v x
-no_spread_cover {v} {x} {a} k o = record { member = (no_spread k o).no; part' = λ p z s g. at s (at_part p g.reads) g }
+pub no_spread_cover : {v : Surroundings} {x a : Place} {e : Fault} → Moves (pun "...") x a → NoRow so_far v (tail (row_so_far (expression Spread))) a e → NoMemberCover v x e
+no_spread_cover {v} {x} {a} {e = e} k o = record { member = (no_spread k o).no; part' = λ p z s g a. at s (at_part p g.reads) g a }
   where
     there : IsTrue (is_found (forth (pun "...") x))
     there = found_at (sym k.is) k.found
 
-    rests : {ts : Forest} {z : Place} → Closed z → RestRead v a ts z → ⊥
-    rests {ts} {z} s r =
+    rests : {ts : Forest} {z : Place} → Closed z → RestRead v a ts z → Shallow e (deepest ts) → ⊥
+    rests {ts} {z} s r h =
         let n = bound_by r.name r.reads in
         let name : Staged v false BindingIdent a (leaf IdentifierName n.text) z = subst (λ u. Staged v false BindingIdent a u z) n.is r.reads in
         let value : Staged v false (Expr 1) a (leaf IdentifierName n.text) z = leaf_to (Expr 1) IsName (bound_word n.text n.bound) (bound_word n.text n.bound) name in
-        o.no (part (leaf IdentifierName n.text) none) z (next (tree (record { reads = value; ends_there = closed_ends z s })) (done value.reads.found))
+        o.no (part (leaf IdentifierName n.text) none) z (next (tree (record { reads = value; ends_there = closed_ends z s })) (done value.reads.found)) (subst (λ us. Shallow e (deepest us)) (r.is ∙ ap (λ u. part u none) n.is) h)
 
-    at : {p : Tree} {z : Place} → Closed z → AtPart p → Whole so_far v false (PatProp Assigns) x p z → ⊥
-    at s paired g = key_marked (codes "...") refl (pair_whole g) there
-    at s short g = short_marked (codes "...") (short_whole g) there
-    at s valued g = default_marked (codes "...") (default_whole g) there
-    at s (rest {ts}) g = rests s (rest_parts {us = ts} k (of_so_far.from_node (function (RestProperty Assigns)) g.reads).walk)
+    at : {p : Tree} {z : Place} → Closed z → AtPart p → Whole so_far v false (PatProp Assigns) x p z → Shallow e (part_depth p) → ⊥
+    at s paired g h = key_marked (codes "...") refl (pair_whole g) there
+    at s short g h = short_marked (codes "...") (short_whole g) there
+    at s valued g h = default_marked (codes "...") (default_whole g) there
+    at s (rest {ts}) g h = rests s (rest_parts {us = ts} k (of_so_far.from_node (function (RestProperty Assigns)) g.reads).walk) (flat_shallow e of_so_far g.reads h)
 
 -- ---- where no key stands
 
-pub no_key_cover : {v : Surroundings} {x : Place} → IsBare x → Barred so_far v (Part Key) x → NoMemberCover v x
-no_key_cover {v} {x} b k = record { member = (no_key b k).no; part' = λ p z s g. at (at_part p g.reads) g }
+pub no_key_cover : {v : Surroundings} {x : Place} {e : Fault} → IsBare x → Barred so_far v (Part Key) x e → NoMemberCover v x (outer e)
+no_key_cover {v} {x} {e = e} b k = record { member = (no_key b k).no; part' = λ p z s g a. at (at_part p g.reads) g a }
   where
-    pairs : {ts : Forest} {z : Place} → Walk (Whole so_far) (steady v) pair_row x ts z → ⊥
-    pairs (next q w) = k.no _ _ q
+    pairs : {ts : Forest} {z : Place} → Walk (Whole so_far) (steady v) pair_row x ts z → Shallow e (deepest ts) → ⊥
+    pairs (next {g = g'} {ts = us'} q w) s' = k.no _ _ q (shallow_first e g' us' s')
 
-    shorts : {ts : Forest} {z : Place} → Walk (Whole so_far) (steady v) short_row x ts z → ⊥
-    shorts (next (tree {t = n} q) w) = k.no (one n) _ (tree (as_key n q.reads))
+    shorts : {ts : Forest} {z : Place} → Walk (Whole so_far) (steady v) short_row x ts z → Shallow e (deepest ts) → ⊥
+    shorts (next {ts = us'} (tree {t = n} q) w) a = k.no (one n) _ (tree (as_key n q.reads)) (shallow_first e (one n) us' a)
 
-    defaults : {ts : Forest} {z : Place} → Walk (Whole so_far) (steady v) default_row x ts z → ⊥
-    defaults (next (tree {t = n} q) w) = k.no (one n) _ (tree (as_key n q.reads))
+    defaults : {ts : Forest} {z : Place} → Walk (Whole so_far) (steady v) default_row x ts z → Shallow e (deepest ts) → ⊥
+    defaults (next {ts = us'} (tree {t = n} q) w) h = k.no (one n) _ (tree (as_key n q.reads)) (shallow_first e (one n) us' h)
 
-    at : {p : Tree} {z : Place} → AtPart p → Whole so_far v false (PatProp Assigns) x p z → ⊥
-    at paired g = pairs (pair_whole g)
-    at short g = shorts (short_whole g)
-    at valued g = defaults (default_whole g)
-    at rest g = stuck_not b.dots (rest_led g.reads)
+    at : {p : Tree} {z : Place} → AtPart p → Whole so_far v false (PatProp Assigns) x p z → Shallow (outer e) (part_depth p) → ⊥
+    at paired g s = pairs (pair_whole g) (node_shallow e true refl of_so_far g.reads s)
+    at short g s = shorts (short_whole g) (node_shallow e true refl of_so_far g.reads s)
+    at (valued {ts}) g s = defaults (default_whole g) (nested_shallow e of_so_far g.reads (outwards (outer e) (part_depth (node (function (ShorthandInit Assigns)) ts)) s))
+    at rest g s = stuck_not b.dots (rest_led g.reads)
+
+-- at a level less than a member's
+pub outer_cover : {v : Surroundings} {x : Place} {e : Fault} → NoMemberCover v x (outer e) → NoMemberCover v x e
+outer_cover {e = e} n = record { member = λ u z s q h. n.member u z s q (outwards e (part_depth u) h); part' = λ p z s q h. n.part' p z s q (outwards e (part_depth p) h) }
+
+-- where neither dots stand nor a word before a key, whatever stands there counts
+pub deep_bracket : {v : Surroundings} {x : Place} {e : Fault} → IsBare x → Below 0 e → NoMemberCover v x e
+deep_bracket {v} {x} {e} n b = record { member = (deep_member n b).no; part' = λ p z s q h. at (at_part p q.reads) q h }
+  where
+    at : {u : Tree} {p : Place} → AtPart u → Whole so_far v false (PatProp Assigns) x u p → Shallow e (part_depth u) → ⊥
+    at paired q h = deep_counted e refl q.reads b h
+    at short q h = deep_counted e refl q.reads b h
+    at valued q h = deep_nested e q.reads (below_more e b) h
+    at rest q h = stuck_not n.dots (rest_led q.reads)
+
+-- and so does its key
+pub deep_keyed : {v : Surroundings} {x y : Place} {t : Tree} {e : Fault} → IsBare x → Only so_far v (Part Key) x (one t) y → part_depth t ≡ 1 → Below 1 e → NoMemberCover v x e
+deep_keyed {v} {x} {y} {t} {e} n o d b = record { member = (deep_key n o d b).no; part' = λ p z s q h. (no_key_cover n none).part' p z s q (below_shallow 1 e (part_depth p) b h) }
+  where
+    none : Barred so_far v (Part Key) x (Deep 0)
+    none = record { no = λ g a q h. let s = o.alone g a q in let same = ap given_depth s.0 in omega (arith, d, same, h) }
 
 -- a key that is no name is a key alone
 pub wordless : {k : Tree} {x : Place} → is_word k ≡ false → IsKeyed k x
@@ -538,15 +585,15 @@ cover_from {v} {m = m} {z} e o = subst (λ h. IsMemberCover v (place_of h) m z) 
 pub cover_to : {v : Surroundings} {x : Place} {m : Member} {y z : Here} → z ≡ y → IsMemberCover v x m (place_of y) → IsMemberCover v x m (place_of z)
 cover_to {v} {x} {m} e o = subst (λ h. IsMemberCover v x m (place_of h)) (sym e) o
 
-pub no_cover_from : {v : Surroundings} {x y : Here} → x ≡ y → NoMemberCover v (place_of x) → NoMemberCover v (place_of y)
-no_cover_from {v} e n = subst (λ h. NoMemberCover v (place_of h)) e n
+pub no_cover_from : {v : Surroundings} {x y : Here} {o : Fault} → x ≡ y → NoMemberCover v (place_of x) o → NoMemberCover v (place_of y) o
+no_cover_from {v} {o = o} e n = subst (λ h. NoMemberCover v (place_of h) o) e n
 
 -- a property, or none, where no `(` stands
 pub pair_keyed : {v : Surroundings} {k : Tree} {m : Member} {x y : Here} {z : Place} → x ≡ y → CoversPair v k m (place_of x) z → CoversKeyed v k m (place_of y) z
 pair_keyed {v} {k} {m} {x} {y} {z} e o = subst (λ h. CoversKeyed v k m (place_of h) z) e (record { on = o.on })
 
-pub no_pair_keyed : {v : Surroundings} {k : Tree} {x y : Here} → x ≡ y → is_found (forth (pun "(") (place_of y)) ≡ false → NoPair v k (place_of x) → NoCoverKeyed v k (place_of y)
-no_pair_keyed {v} {k} {x} {y} e f n = record { no = λ w b i q. (subst (λ h. NoPair v k (place_of h)) e n).no w b i q (record { is = lost_by _ f }) }
+pub no_pair_keyed : {v : Surroundings} {k : Tree} {x y : Here} {o : Fault} → x ≡ y → is_found (forth (pun "(") (place_of y)) ≡ false → NoPair v k (place_of x) o → NoCoverKeyed v k (place_of y) o
+no_pair_keyed {v} {k} {x} {y} {o = o} e f n = record { no = λ w b i q. (subst (λ h. NoPair v k (place_of h) o) e n).no w b i q (record { is = lost_by _ f }) }
   where
     lost_by : (p : Place) → is_found p ≡ false → p ≡ Lost
     lost_by Lost h = refl
@@ -582,10 +629,10 @@ member_fills {v} {x} {y} o = record {
 pub part_fills : {v : Surroundings} {x y : Place} {m : Member} → IsMemberCover v x m y → FillsClosed v (PatProp Assigns) x (IsTurnedPart m) y
 part_fills o = record { reads = o.reads; alone = o.alone }
 
-pub no_member : {v : Surroundings} {x : Place} → NoMemberCover v x → NoneCloses v ObjectMember x
+pub no_member : {v : Surroundings} {x : Place} {e : Fault} → NoMemberCover v x e → NoneCloses v ObjectMember x e
 no_member n = record { no = n.member }
 
-pub no_turned_part : {v : Surroundings} {x : Place} → NoMemberCover v x → NoneCloses v (PatProp Assigns) x
+pub no_turned_part : {v : Surroundings} {x : Place} {e : Fault} → NoMemberCover v x e → NoneCloses v (PatProp Assigns) x e
 no_turned_part n = record { no = n.part' }
 
 pub members_longer : {e b : Bool} {m : Member} {ts us : Forest} → b ≡ (e && m.is_expr) → us ≡ both ts (part (view_prop m.prop.value) none) → Longer (AreAll e ts) (IsMember m) (AreAll b us)
@@ -629,7 +676,7 @@ parted_none fs q = no_parts q.turns
 pub members_cover : {v : Surroundings} {x y : Place} {all : Vec (Box Prop Global) Global} {e m : Bool} (q : Members) → q ≡ record { all = all; are_exprs = e; may_turn = m } → Ends v (within ObjectMember) x (AreAll e (forest (map (inside view_prop) all.items))) y → Ends v (within (PatProp Assigns)) x (PartInto m (forest (map (inside view_prop) all.items))) y → CoversMembers v x q y
 members_cover {v} {x} {y} {all} {e} {m} q is r s = subst (λ k. CoversMembers v x k y) (sym is) (record {
   expr = λ f. record { walk = r.reads _ (record { settled = f; is = refl }); alone = λ us z w. let g = r.alone us z w in (ap (λ ts. part (list ts) none) g.0.among.is ∙ sym g.0.is, g.1) };
-  none = λ f. record { no = λ us z w. clash e (r.alone us z w).0.among.settled f };
+  none = λ f. record { no = λ us z w s. clash e (r.alone us z w).0.among.settled f };
   reads = λ ts a. subst (λ us. Walk (Whole so_far) (steady v) (within (PatProp Assigns)) x us y) (sym a.is) (s.reads a.parts (record { may = a.may; turns = a.turns }));
   alone = λ ts z w. let g = s.alone ts z w in (record { may = g.0.among.may; parts = g.0.items; is = g.0.is; turns = g.0.among.turns }, g.1);
 })

@@ -1,5 +1,5 @@
 -- What stands in an object as a literal has it, member by member (ECMA-262 section 13.2.5). A name alone and the key of a property or a method may be read from one place, and so may `get` and `set` as words and as keys; so it is what stands behind that tells.
-use Rattle.std.proofs.Common.{◌≡◌, Bool, List, [], ◌∷◌, true, false, not, refl, sym, ◌∙◌, ap, subst}
+use Rattle.std.proofs.Common.{◌≡◌, Bool, List, [], ◌∷◌, true, false, not, refl, sym, ◌∙◌, ap, subst, arith}
 use Rattle.std.specs.Prelude.{IsTrue, codes, ◌||◌}
 use Rattle.jsx_base.specs.Token.{Text, Operator, Punctuator, IdentifierName, among, same}
 use Rattle.jsx_tree.specs.Signs.{Sign, Tok}
@@ -13,13 +13,16 @@ use Rattle.jsx_tree.specs.StaticRules.{Surroundings}
 use Rattle.jsx_tree.specs.Walk.{is_found, one, piece, sign, tree, Walk, done, next, around, steady, tail}
 use Rattle.jsx_tree.specs.Language.{Whole}
 use Rattle.jsx_tree.specs.Answers.{Moves, Stuck, Only, Barred, NoRow, Built}
+use Rattle.jsx_tree.specs.Faults.{Fault, Deep, Shallow, Below, outer, inner, part_depth, deepest, given_depth}
 use Rattle.jsx_tree.proofs.Tokens.{and_left, and_both}
 use Rattle.jsx_tree.proofs.Apart.{clash, never_both}
 use Rattle.jsx_tree.proofs.Rows.Bridge.{found_at}
 use Rattle.jsx_tree.proofs.Rows.Stopping.{is_not, never_stops, or_cases}
 use Rattle.jsx_tree.proofs.Rows.Guarded.{whole_walk, loosen, to_grammar}
 use Rattle.jsx_tree.proofs.Rows.Bodies.{plain as plain_row}
-use Rattle.jsx_tree.proofs.Rows.Placing.{free_around, moved}
+use Rattle.jsx_tree.proofs.Rows.Placing.{free_around, moved, node_shallow}
+use Rattle.jsx_tree.proofs.Depth.Nodes.{counts_as}
+use Rattle.jsx_tree.proofs.Depth.Shallow.{below_shallow, shallow_first, shallow_head, shallow_outer}
 use Rattle.jsx_tree.proofs.Rows.Turns.{item_of}
 use Rattle.jsx_operand.specs.SoFar.{Staged, so_far}
 use Rattle.jsx_operand.specs.Members.{Closed, OnlyMember, NoMember, by_brace, by_comma}
@@ -27,11 +30,13 @@ use Rattle.jsx_token.specs.Here.{Here, place_of}
 use Rattle.jsx_token.specs.Marks.{ends_so_far, row_so_far}
 use Rattle.jsx_operand.proofs.OfSoFar.{of_so_far}
 use Rattle.jsx_tree.proofs.Rows.Firsts.{kind_home}
+use Rattle.jsx_function.proofs.Functions.{shallow_behind}
 use Rattle.jsx_operand.proofs.Standing.{standing}
 use Rattle.jsx_operand.proofs.Homes.{IsName, Taken, taken_by, home_of, no_list, idents, only_leaf}
 use Rattle.jsx_operand.proofs.Values.{leaf_to}
 use Rattle.jsx_operand.proofs.Climbing.{signed_built, signed_none}
 use Rattle.jsx_operand.proofs.Keys.{key_unmarked, literal_key, mark_none}
+use Rattle.jsx_operand.proofs.Patterns.{deep_counted}
 use Rattle.jsx_member.proofs.Properties.{keyed_in_object}
 use Rattle.jsx_member.specs.Covers.{IsBare}
 use Rattle.jsx_function.specs.Methods.{IsPrefix, NoPrefix, NoneFromKey, NoneKeyed, OnlyFromKey, OnlyKeyed, behind_key, from_key}
@@ -132,8 +137,16 @@ keyed_home (function (Method InClass)) ts e = cc
 keyed_home (function (Method Static)) ts e = cc
 keyed_home _ ts e = cc
 
-no_keyed : {v : Surroundings} {x z : Place} {us ts : Forest} (k : Kind) → Barred so_far v (Part Key) x → Walk (Whole so_far) (around v us) (from_key k) x ts z → ⊥
-no_keyed k b (next q w) = b.no _ _ q
+-- each of them counts
+keyed_counts : (k : Kind) → keyed_in_object k ≡ true → counts_as true k ≡ true
+keyed_counts (expression Property) e = refl
+keyed_counts (function (Method InObject)) e = refl
+keyed_counts (function (Method InClass)) e = cc
+keyed_counts (function (Method Static)) e = cc
+keyed_counts _ e = cc
+
+no_keyed : {v : Surroundings} {x z : Place} {us ts : Forest} {e : Fault} (k : Kind) → Barred so_far v (Part Key) x e → Walk (Whole so_far) (around v us) (from_key k) x ts z → Shallow e (deepest ts) → ⊥
+no_keyed {e = e} k b (next {g = g} {ts = ts} q w) s = b.no _ _ q (shallow_first e g ts s)
 
 -- behind the key neither a comma nor the brace stands
 pub shut_not : {x : Place} (d : Text) → same (codes ",") d ≡ false → same (codes "}") d ≡ false → Closed x → IsTrue (is_found (forth (Tok Operator Punctuator d) x)) → ⊥
@@ -216,22 +229,22 @@ keyed_member {v} {x} {y} {z} {c} {u} n o d = record {
     at s (worded b) q = absurd (unworded (accessor_kind InObject b) (bare_word n b) (worded_walk b q))
 
 -- none that begins with the key, which is no name that may stand alone, or before `:` or `(`
-pub no_keyed_member : {v : Surroundings} {x y : Place} {t : Tree} → IsBare x → Only so_far v (Part Key) x (one t) y → ((s : Text) → t ≡ leaf IdentifierName s → is_ident s ≡ true → Closed y → ⊥) → NoneKeyed keyed_in_object v t y → NoMember v x
-no_keyed_member {v} {x} {y} {t} b o c n = record { no = λ w p s q. at s (at_member w q.reads) q }
+pub no_keyed_member : {v : Surroundings} {x y : Place} {t : Tree} {fault : Fault} → IsBare x → Only so_far v (Part Key) x (one t) y → ((s : Text) → t ≡ leaf IdentifierName s → is_ident s ≡ true → Closed y → ⊥) → NoneKeyed keyed_in_object v t y fault → NoMember v x (outer fault)
+no_keyed_member {v} {x} {y} {t} {fault = fault} b o c n = record { no = λ w p s q a. at s (at_member w q.reads) q a }
   where
     tree_is : {s : Text} → one t ≡ one (leaf IdentifierName s) → t ≡ leaf IdentifierName s
     tree_is e = ap item_of e
 
-    at : {w : Tree} {p : Place} → Closed p → AtMember w → Whole so_far v false ObjectMember x w p → ⊥
-    at {p = p} s (keyed {k = k} e) q =
+    at : {w : Tree} {p : Place} → Closed p → AtMember w → Whole so_far v false ObjectMember x w p → Shallow (outer fault) (part_depth w) → ⊥
+    at {p = p} s (keyed {k = k} e) q h =
         let r = past {k = k} o (keyed_walk k e q) in
-        n.no k r.parts p e r.walk (subst (λ f. so_far.keeps k v f ≡ true) (sym r.is) (of_so_far.from_node k q.reads).keeps)
-    at {p = p} s short q =
+        n.no k r.parts p e r.walk (subst (λ f. so_far.keeps k v f ≡ true) (sym r.is) (of_so_far.from_node k q.reads).keeps) (shallow_behind fault t r.parts _ r.is (node_shallow fault true (keyed_counts k e) of_so_far q.reads h))
+    at {p = p} s short q h =
         let m = name_of q.reads in
         let e = o.alone (one (leaf IdentifierName m.text)) p (tree (as_key m.reads)) in
         c m.text (tree_is e.0) (and_left (leaf_in Ident IdentifierName m.text) (is_leaf IdentifierName m.text) m.reads.reads.is) (subst Closed (sym e.1) s)
-    at s spreads q = stuck_not b.dots (dots_led q.reads)
-    at s (worded d) q = unworded (accessor_kind InObject d) (bare_word b d) (worded_walk d q)
+    at s spreads q h = stuck_not b.dots (dots_led q.reads)
+    at s (worded d) q h = unworded (accessor_kind InObject d) (bare_word b d) (worded_walk d q)
 
 -- one that is a name is reserved, or stands before a `:` or a `(`; or neither
 pub keyed_word : {y p : Place} {u : Tree} (t : Text) → u ≡ leaf IdentifierName t → y ≡ p → (among t reserved || (is_found (forth (pun ":") p) || is_found (forth (pun "(") p))) ≡ true → (s : Text) → u ≡ leaf IdentifierName s → is_ident s ≡ true → Closed y → ⊥
@@ -260,14 +273,39 @@ unkeyed {y} {p} t same h =
     neither false b e = (refl, e)
 
 -- no key stands there, and no dots
-pub no_key : {v : Surroundings} {x : Place} → IsBare x → Barred so_far v (Part Key) x → NoMember v x
-no_key {v} {x} n b = record { no = λ w p s q. at (at_member w q.reads) q }
+pub no_key : {v : Surroundings} {x : Place} {o : Fault} → IsBare x → Barred so_far v (Part Key) x o → NoMember v x (outer o)
+no_key {v} {x} {o = o} n b = record { no = λ w p s q h. at (at_member w q.reads) q h }
   where
-    at : {w : Tree} {p : Place} → AtMember w → Whole so_far v false ObjectMember x w p → ⊥
-    at (keyed {k = k} e) q = no_keyed k b (keyed_walk k e q)
-    at {p = p} short q = let m = name_of q.reads in b.no (one (leaf IdentifierName m.text)) p (tree (as_key m.reads))
-    at spreads q = stuck_not n.dots (dots_led q.reads)
-    at (worded c) q = unworded (accessor_kind InObject c) (bare_word n c) (worded_walk c q)
+    at : {w : Tree} {p : Place} → AtMember w → Whole so_far v false ObjectMember x w p → Shallow (outer o) (part_depth w) → ⊥
+    at (keyed {k = k} e) q s = no_keyed k b (keyed_walk k e q) (node_shallow o true (keyed_counts k e) of_so_far q.reads s)
+    at {p = p} (short {ts}) q s =
+        let m = name_of q.reads in
+        let low : Shallow o (deepest ts) = node_shallow o true refl of_so_far q.reads s in
+        b.no (one (leaf IdentifierName m.text)) p (tree (as_key m.reads)) (shallow_head o (leaf IdentifierName m.text) none (subst (λ us. Shallow o (deepest us)) m.is low))
+    at spreads q s = stuck_not n.dots (dots_led q.reads)
+    at (worded c) q s = unworded (accessor_kind InObject c) (bare_word n c) (worded_walk c q)
+
+-- ---- what is too deep
+
+pub outer_member : {v : Surroundings} {x : Place} {e : Fault} → NoMember v x (outer (inner e)) → NoMember v x e
+outer_member {e = e} n = record { no = λ u z s q h. n.no u z s q (shallow_outer e (part_depth u) h) }
+
+-- where no dots stand, and no word before a key, whatever stands there counts
+pub deep_member : {v : Surroundings} {x : Place} {e : Fault} → IsBare x → Below 0 e → NoMember v x e
+deep_member {v} {x} {e} n b = record { no = λ w p s q h. at (at_member w q.reads) q h }
+  where
+    at : {w : Tree} {p : Place} → AtMember w → Whole so_far v false ObjectMember x w p → Shallow e (part_depth w) → ⊥
+    at (keyed {k = k} i) q s = deep_counted e (keyed_counts k i) q.reads b s
+    at short q s = deep_counted e refl q.reads b s
+    at spreads q s = stuck_not n.dots (dots_led q.reads)
+    at (worded c) q s = unworded (accessor_kind InObject c) (bare_word n c) (worded_walk c q)
+
+-- and so does its key
+pub deep_key : {v : Surroundings} {x y : Place} {t : Tree} {e : Fault} → IsBare x → Only so_far v (Part Key) x (one t) y → part_depth t ≡ 1 → Below 1 e → NoMember v x e
+deep_key {v} {x} {y} {t} {e} n o d b = record { no = λ w p s q h. (no_key n none).no w p s q (below_shallow 1 e (part_depth w) b h) }
+  where
+    none : Barred so_far v (Part Key) x (Deep 0)
+    none = record { no = λ g a q h. let s = o.alone g a q in let same = ap given_depth s.0 in omega (arith, d, same, h) }
 
 -- ---- a name alone that was read
 
@@ -315,17 +353,17 @@ spread_read {v} {x} {a} {y} {t} m b = record {
     at {p = p} (spreads {ts}) q = let e = w.row.alone ts p (spread_whole q.reads (sym (member_ends p) ∙ q.ends_there)) in (w.is ∙ ap (node (expression Spread)) e.0, e.1)
     at (worded c) q = absurd (word_marked x c (codes "...") (worded_led (worded_walk c q)) there)
 
-pub no_spread : {v : Surroundings} {x a : Place} → Moves (pun "...") x a → NoRow so_far v (tail (row_so_far (expression Spread))) a → NoMember v x
-no_spread {v} {x} m n = record { no = λ u p s q. at (at_member u q.reads) q }
+pub no_spread : {v : Surroundings} {x a : Place} {o : Fault} → Moves (pun "...") x a → NoRow so_far v (tail (row_so_far (expression Spread))) a o → NoMember v x o
+no_spread {v} {x} {o = o} m n = record { no = λ u p s q h. at (at_member u q.reads) q h }
   where
     there : IsTrue (is_found (forth (pun "...") x))
     there = found_at (sym m.is) m.found
 
-    at : {u : Tree} {p : Place} → AtMember u → Whole so_far v false ObjectMember x u p → ⊥
-    at (keyed {k = k} e) q = key_there k (codes "...") refl (keyed_walk k e q) there
-    at short q = name_marked (codes "...") q.reads there
-    at {p = p} (spreads {ts}) q = (signed_none (row_so_far (expression Spread)) refl m n).no ts p (spread_whole q.reads (sym (member_ends p) ∙ q.ends_there))
-    at (worded c) q = word_marked x c (codes "...") (worded_led (worded_walk c q)) there
+    at : {u : Tree} {p : Place} → AtMember u → Whole so_far v false ObjectMember x u p → Shallow o (part_depth u) → ⊥
+    at (keyed {k = k} e) q s = key_there k (codes "...") refl (keyed_walk k e q) there
+    at short q s = name_marked (codes "...") q.reads there
+    at {p = p} (spreads {ts}) q s = (signed_none (row_so_far (expression Spread)) refl m n).no ts p (spread_whole q.reads (sym (member_ends p) ∙ q.ends_there)) (node_shallow o false refl of_so_far q.reads s)
+    at (worded c) q s = word_marked x c (codes "...") (worded_led (worded_walk c q)) there
 
 -- ---- a getter or a setter
 
@@ -371,14 +409,18 @@ accessor_member {v} {x} {y} {z} {u} b i d = record { reads = reads; alone = λ w
     at s spreads q = absurd (no_word_dots b i.word q.reads)
     at {p = p} s (worded c {ts}) q = subst (λ k. Whole so_far v false ObjectMember x (node (accessor_kind InObject k) ts) p → (u ≡ node (accessor_kind InObject k) ts) × (z ≡ p)) (one_accessor b c x (word_there b i) (worded_led (worded_walk c q))) same q
 
-pub no_accessor : {v : Surroundings} {x y : Place} (b : Bool) → IsPrefix (accessor_sign b) x y → NoneFromKey (is_accessor InObject b) v y → NoMember v x
-no_accessor {v} {x} {y} b i n = record { no = λ w p s q. at s (at_member w q.reads) q }
-  where
-    same : {ts : Forest} {p : Place} → Whole so_far v false ObjectMember x (node (accessor_kind InObject b) ts) p → ⊥
-    same {ts} {p} q = n.no (accessor_kind InObject b) ts p (accessor_self InObject b) (behind_word i.word (worded_walk b q)).walk (of_so_far.from_node (accessor_kind InObject b) q.reads).keeps
+accessor_counts : (b : Bool) → counts_as true (accessor_kind InObject b) ≡ true
+accessor_counts true = refl
+accessor_counts false = refl
 
-    at : {w : Tree} {p : Place} → Closed p → AtMember w → Whole so_far v false ObjectMember x w p → ⊥
-    at s (keyed {k = k} e) q = no_word_key b k e i q
-    at s short q = no_word_name b s i q.reads
-    at s spreads q = no_word_dots b i.word q.reads
-    at {p = p} s (worded c {ts}) q = subst (λ k. Whole so_far v false ObjectMember x (node (accessor_kind InObject k) ts) p → ⊥) (one_accessor b c x (word_there b i) (worded_led (worded_walk c q))) same q
+pub no_accessor : {v : Surroundings} {x y : Place} {o : Fault} (b : Bool) → IsPrefix (accessor_sign b) x y → NoneFromKey (is_accessor InObject b) v y (inner o) → NoMember v x o
+no_accessor {v} {x} {y} {o = o} b i n = record { no = λ w p s q s'. at s (at_member w q.reads) q s' }
+  where
+    same : {ts : Forest} {p : Place} → Whole so_far v false ObjectMember x (node (accessor_kind InObject b) ts) p → Shallow o (part_depth (node (accessor_kind InObject b) ts)) → ⊥
+    same {ts} {p} q a = n.no (accessor_kind InObject b) ts p (accessor_self InObject b) (behind_word i.word (worded_walk b q)).walk (of_so_far.from_node (accessor_kind InObject b) q.reads).keeps (node_shallow (inner o) true (accessor_counts b) of_so_far q.reads (shallow_outer o _ a))
+
+    at : {w : Tree} {p : Place} → Closed p → AtMember w → Whole so_far v false ObjectMember x w p → Shallow o (part_depth w) → ⊥
+    at s (keyed {k = k} e) q h = no_word_key b k e i q
+    at s short q h = no_word_name b s i q.reads
+    at s spreads q h = no_word_dots b i.word q.reads
+    at {p = p} s (worded c {ts}) q h = subst (λ k. Whole so_far v false ObjectMember x (node (accessor_kind InObject k) ts) p → Shallow o (part_depth (node (accessor_kind InObject k) ts)) → ⊥) (one_accessor b c x (word_there b i) (worded_led (worded_walk c q))) same q h

@@ -13,6 +13,7 @@ use Rattle.jsx_tree.specs.View.{forest, inside}
 use Rattle.jsx_tree.specs.declared.tree.Prop.{Prop}
 use Rattle.jsx_tree.specs.Walk.{nothing}
 use Rattle.jsx_tree.specs.Answers.{Moves, Missed, Only, Barred}
+use Rattle.jsx_tree.specs.Faults.{Fault}
 use Rattle.jsx_token.specs.Here.{Here, place_of, sign_of}
 use Rattle.jsx_token.specs.Places.{Takes}
 use Rattle.jsx_token.specs.declared.lexer.Fixed.TheVariants as fixed
@@ -126,8 +127,8 @@ members_last_placed {xs = xs} {all} {k} {z = z} {z'} {w} q is r grown o same com
 
 -- ---- what doesn't belong there
 
-pub members_none_here : {v : Surroundings} {xs : List (Box Prop Global)} {e m : Bool} {x y y' : Here} → MembersRead v xs e m x y → y' ≡ y → forth (pun "}") (place_of y) ≡ Lost → NoMemberCover v (place_of y') → NoMembers v (place_of x)
+pub members_none_here : {v : Surroundings} {xs : List (Box Prop Global)} {e m : Bool} {x y y' : Here} {o : Fault} → MembersRead v xs e m x y → y' ≡ y → forth (pun "}") (place_of y) ≡ Lost → NoMemberCover v (place_of y') o → NoMembers v (place_of x) o
 members_none_here r e close n = record { members = none_more r.exprs (missed e close) (no_member n); parts = none_more r.parts (missed e close) (no_turned_part n) }
 
-pub members_unshut : {v : Surroundings} {xs : List (Box Prop Global)} {k : Member} {e m : Bool} {x y z z' : Here} → MembersRead v xs e m x y → MemberRead v k y z → z' ≡ z → forth (pun ",") (place_of z) ≡ Lost → Barred so_far v (Fixed (pun "}")) (place_of z') → NoMembers v (place_of x)
+pub members_unshut : {v : Surroundings} {xs : List (Box Prop Global)} {k : Member} {e m : Bool} {x y z z' : Here} {d : Fault} → MembersRead v xs e m x y → MemberRead v k y z → z' ≡ z → forth (pun ",") (place_of z) ≡ Lost → Barred so_far v (Fixed (pun "}")) (place_of z') d → NoMembers v (place_of x) d
 members_unshut {y = y} r o same comma n = record { members = unshut r.exprs (missed {y = y} {y' = y} refl o.no_close) (member_fills o.member) (missed same comma) n; parts = unshut r.parts (missed {y = y} {y' = y} refl o.no_close) (part_fills o.member) (missed same comma) n }

@@ -11,6 +11,7 @@ use Rattle.jsx_tree.specs.View.{view_key}
 use Rattle.jsx_tree.specs.Walk.{is_found, sign, Walk, next, steady, tail}
 use Rattle.jsx_tree.specs.Language.{Whole}
 use Rattle.jsx_tree.specs.Answers.{NoRow, Built}
+use Rattle.jsx_tree.specs.Faults.{Fault, Shallow, deepest}
 use Rattle.jsx_tree.proofs.Tokens.{and_both}
 use Rattle.jsx_tree.proofs.Apart.{never_both}
 use Rattle.jsx_tree.proofs.Rows.Bridge.{found_at}
@@ -44,12 +45,12 @@ property_behind = record { passes = refl; alone = λ j e. property_is j e; row =
 pub property_only : {v : Surroundings} {x y : Place} {t : Tree} (k : Key) → Built so_far v (tail (row_so_far (expression Property))) (expression Property) (part (view_key k)) t x y → OnlyKeyed is_property v (view_key k) t x y
 property_only {v} k b = keyed_only property_behind (λ us. refl) b.row (and_both _ _ (plain_keyed k b.parts ∙ plain_row (tail (row_so_far (expression Property))) refl (to_grammar of_so_far b.row.walk)) refl) b.is
 
-pub no_property : {v : Surroundings} {x : Place} (key : Tree) → NoRow so_far v (tail (row_so_far (expression Property))) x → NoneKeyed is_property v key x
+pub no_property : {v : Surroundings} {x : Place} {e : Fault} (key : Tree) → NoRow so_far v (tail (row_so_far (expression Property))) x e → NoneKeyed is_property v key x e
 no_property {v} key n = keyed_none property_behind (λ us. refl) (λ us z w m. n.no us z w)
 
 -- none where a `(` stands there
-pub no_colon : {v : Surroundings} {x : Place} → IsTrue (is_found (forth (pun "(") x)) → NoRow so_far v (tail (row_so_far (expression Property))) x
-no_colon {v} {x} f = record { no = λ ts z w. at w }
+pub no_colon : {v : Surroundings} {x : Place} {o : Fault} → IsTrue (is_found (forth (pun "(") x)) → NoRow so_far v (tail (row_so_far (expression Property))) x o
+no_colon {v} {x} {o = o} f = record { no = λ ts z w h. at w h }
   where
-    at : {ts : Forest} {z : Place} → Walk (Whole so_far) (steady v) (tail (row_so_far (expression Property))) x ts z → ⊥
-    at (next (sign e g) w) = never_both Punctuator Punctuator (codes "(") (codes ":") x refl f (found_at e g)
+    at : {ts : Forest} {z : Place} → Walk (Whole so_far) (steady v) (tail (row_so_far (expression Property))) x ts z → Shallow o (deepest ts) → ⊥
+    at (next (sign e g) w) s = never_both Punctuator Punctuator (codes "(") (codes ":") x refl f (found_at e g)

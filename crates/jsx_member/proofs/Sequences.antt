@@ -1,5 +1,5 @@
 -- Expressions with commas between: what is read where a sequence may stand.
-use Rattle.std.proofs.Common.{◌≡◌, Bool, true, false, not, cond, [], ◌∷◌, refl, sym, ◌∙◌, ap, subst}
+use Rattle.std.proofs.Common.{◌≡◌, ◌≤◌, Bool, true, false, not, cond, [], ◌∷◌, refl, sym, ◌∙◌, ap, subst}
 use Rattle.std.specs.Prelude.{IsTrue, codes, Some, ◌&&◌, ◌||◌}
 use Rattle.jsx_base.specs.Token.{Operator, Lexeme, among, same, breaks, token}
 use Rattle.jsx_tree.specs.Signs.{AfterExpr, AfterBlock}
@@ -13,6 +13,7 @@ use Rattle.jsx_tree.specs.Walk.{is_found, Relation, Given, one, Items, nil, last
 use Rattle.jsx_tree.specs.Stops.{going}
 use Rattle.jsx_tree.specs.Language.{Whole}
 use Rattle.jsx_tree.specs.Answers.{Moves, Only, Barred}
+use Rattle.jsx_tree.specs.Faults.{Fault, Shallow, part_depth, given_depth, deepest}
 use Rattle.jsx_tree.proofs.Tokens.{and_both}
 use Rattle.jsx_tree.proofs.Apart.{clash}
 use Rattle.jsx_tree.proofs.Rows.Bridge.{found_at}
@@ -20,8 +21,10 @@ use Rattle.jsx_tree.proofs.Rows.Stopping.{is_not}
 use Rattle.jsx_tree.proofs.Rows.Laws.{start_found, end_found}
 use Rattle.jsx_tree.proofs.Rows.Bodies.{plain}
 use Rattle.jsx_tree.proofs.Rows.Guarded.{whole_walk, loosen, to_grammar}
-use Rattle.jsx_tree.proofs.Rows.Steps.{both}
+use Rattle.jsx_tree.proofs.Rows.Steps.{both, both_up}
 use Rattle.jsx_tree.proofs.Rows.Turns.{early, item_of, whole_of}
+use Rattle.jsx_tree.proofs.Depth.Shallow.{shallow_head, shallow_up}
+use Rattle.jsx_tree.proofs.Rows.Placing.{node_shallow}
 use Rattle.jsx_operand.specs.SoFar.{so_far}
 use Rattle.jsx_token.specs.Marks.{marks, goes_at, steps, is_sign, is_mark, goes_on_so_far, ends_so_far, row_so_far, goes_by_mark, goes_by_quote}
 use Rattle.jsx_token.specs.Growths.{closed, settled}
@@ -184,6 +187,13 @@ head_of ts n (more {y = y} {t = t} m r e all) = record { tree = t; place = y; wh
 lost_comma : {y z : Place} → y ≡ z → forth (pun ",") y ≡ Lost → IsTrue (is_found (forth (pun ",") z)) → ⊥
 lost_comma e l f = let bad : IsTrue (is_found Lost) = subst (λ p. IsTrue (is_found p)) (ap (forth (pun ",")) (sym e) ∙ l) f in cc
 
+-- which is no deeper than all
+head_shallow : {v : Surroundings} {x z : Place} (e : Fault) (ts : Forest) (n : enough TwoOrMore ts ≡ true) (items : Items (Whole so_far) v NoTrailing (Expr 1) x ts z) → Shallow e (deepest ts) → Shallow e (part_depth (head_of ts n items).tree)
+unfolding head_of
+head_shallow e ts n (nil f) s = cc
+head_shallow e ts n (last r d f) s = cc
+head_shallow e ts n (more {t = t} {u = u} {us = us} m r d all) s = shallow_head e t (part u us) s
+
 -- one expression, with no comma behind it
 pub whole_only : {v : Surroundings} {x y : Place} {t : Tree} → Only so_far v (Part (Expr 1)) x (one t) y → closed y ≡ true → forth (pun ",") y ≡ Lost → Only so_far v (Part (Expr 0)) x (one t) y
 whole_only {v} {x} {y} {t} o s l = record {
@@ -201,15 +211,18 @@ whole_only {v} {x} {y} {t} o s l = record {
     at : (h : Given) (z : Place) → Past (Whole so_far) v (Part (Expr 0)) x h z → (one t ≡ h) × (y ≡ z)
     at h z (tree {t = u} w) = by u z (at_whole u w.reads) w
 
-pub whole_barred : {v : Surroundings} {x : Place} → Barred so_far v (Part (Expr 1)) x → Barred so_far v (Part (Expr 0)) x
-whole_barred {v} {x} b = record { no = at }
+pub whole_barred : {v : Surroundings} {x : Place} {e : Fault} → Barred so_far v (Part (Expr 1)) x e → Barred so_far v (Part (Expr 0)) x e
+whole_barred {v} {x} {e = e} b = record { no = at }
   where
-    by : (u : Tree) (z : Place) → AtWhole u → Whole so_far v false (Expr 0) x u z → ⊥
-    by u z (single a) w = b.no (one u) z (tree (record { reads = move at_one a w.reads; ends_there = ends_one z w.ends_there }))
-    by u z (several {ts = vs}) w = let p = several_of w in let h = head_of p.parts p.two p.items in b.no (one h.tree) h.place (tree h.whole)
+    by : (u : Tree) (z : Place) → AtWhole u → Whole so_far v false (Expr 0) x u z → Shallow e (part_depth u) → ⊥
+    by u z (single a) w s' = b.no (one u) z (tree (record { reads = move at_one a w.reads; ends_there = ends_one z w.ends_there })) s'
+    by u z (several {ts = vs}) w s' =
+        let p = several_of w in
+        let h = head_of p.parts p.two p.items in
+        b.no (one h.tree) h.place (tree h.whole) (head_shallow e p.parts p.two p.items (shallow_head e (list p.parts) none (subst (λ us. Shallow e (deepest us)) p.is (node_shallow e false refl of_so_far w.reads s'))))
 
-    at : (h : Given) (z : Place) → Past (Whole so_far) v (Part (Expr 0)) x h z → ⊥
-    at h z (tree {t = u} w) = by u z (at_whole u w.reads) w
+    at : (h : Given) (z : Place) → Past (Whole so_far) v (Part (Expr 0)) x h z → Shallow e (given_depth h) → ⊥
+    at h z (tree {t = u} w) s = by u z (at_whole u w.reads) w s
 
 -- ---- a sequence
 
@@ -264,20 +277,21 @@ sequence_only {v} {x} {y} {z} {a} {t} {w} {bs} {us} l o s lost e is = subst (λ 
     at h p (tree {t = u} q) = by u p (at_whole u q.reads) q
 
 -- nothing behind a comma
-first_barred : {v : Surroundings} {y p : Place} (us : Forest) → Barred so_far v (Part (Expr 1)) y → enough NoTrailing us ≡ true → Items (Whole so_far) v NoTrailing (Expr 1) y us p → ⊥
-first_barred us b n (nil f) = cc
-first_barred us b n (last {y = y'} {t = t'} r g f) = b.no (one t') y' (tree r)
-first_barred us b n (more {y = y'} {t = t'} m r g all) = b.no (one t') y' (tree r)
+first_barred : {v : Surroundings} {y p : Place} {e : Fault} (us : Forest) → Barred so_far v (Part (Expr 1)) y e → enough NoTrailing us ≡ true → Items (Whole so_far) v NoTrailing (Expr 1) y us p → Shallow e (deepest us) → ⊥
+first_barred us b n (nil f) s = cc
+first_barred {e = e} us b n (last {y = y'} {t = t'} r g f) s = b.no (one t') y' (tree r) (shallow_head e t' none s)
+first_barred {e = e} us b n (more {y = y'} {t = t'} {u = u'} {us = us'} m r g all) s = b.no (one t') y' (tree r) (shallow_head e t' (part u' us') s)
 
-pub sequence_barred : {v : Surroundings} {x y : Place} {a : Tree} {bs : Forest} → Listing v x (part a bs) y → Barred so_far v (Part (Expr 1)) y → Barred so_far v (Part (Expr 0)) x
-sequence_barred {v} {x} l b = record { no = at }
+pub sequence_barred : {v : Surroundings} {x y : Place} {a : Tree} {bs : Forest} {e : Fault} → Listing v x (part a bs) y → Barred so_far v (Part (Expr 1)) y e → Barred so_far v (Part (Expr 0)) x e
+sequence_barred {v} {x} {a = a'} {bs = bs} {e = e} l b = record { no = at }
   where
-    by : (u : Tree) (p : Place) → AtWhole u → Whole so_far v false (Expr 0) x u p → ⊥
-    by u p (single c) q = no_single l (record { reads = move at_one c q.reads; ends_there = ends_one p q.ends_there }) q.ends_there
-    by u p (several {ts = vs}) q =
+    by : (u : Tree) (p : Place) → AtWhole u → Whole so_far v false (Expr 0) x u p → Shallow e (part_depth u) → ⊥
+    by u p (single c) q a = no_single l (record { reads = move at_one c q.reads; ends_there = ends_one p q.ends_there }) q.ends_there
+    by u p (several {ts = vs}) q a =
         let m = several_of q in
         let r = l.from m.parts p (any_enough m.parts m.two) m.items q.ends_there in
-        first_barred r.parts b r.some r.items
+        let low : Shallow e (deepest m.parts) = shallow_head e (list m.parts) none (subst (λ us. Shallow e (deepest us)) m.is (node_shallow e false refl of_so_far q.reads a)) in
+        first_barred r.parts b r.some r.items (shallow_up e (deepest r.parts) (deepest m.parts) (subst (λ us. deepest r.parts ≤ deepest us) (sym r.is) (both_up (part a' bs) r.parts)) low)
 
-    at : (h : Given) (p : Place) → Past (Whole so_far) v (Part (Expr 0)) x h p → ⊥
-    at h p (tree {t = u} q) = by u p (at_whole u q.reads) q
+    at : (h : Given) (p : Place) → Past (Whole so_far) v (Part (Expr 0)) x h p → Shallow e (given_depth h) → ⊥
+    at h p (tree {t = u} q) s = by u p (at_whole u q.reads) q s

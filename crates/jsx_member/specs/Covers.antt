@@ -14,6 +14,7 @@ use Rattle.jsx_tree.specs.View.{forest, inside, view_expr}
 use Rattle.jsx_tree.specs.Walk.{Piece, Walk, is_found, one, steady, tail}
 use Rattle.jsx_tree.specs.Language.{Whole}
 use Rattle.jsx_tree.specs.Answers.{Moves, NoRow, Only, OnlyRow, Stuck}
+use Rattle.jsx_tree.specs.Faults.{Fault, Unread, Shallow, outer, part_depth}
 use Rattle.jsx_token.specs.Here.{Here}
 use Rattle.jsx_token.specs.Marks.{row_so_far}
 use Rattle.jsx_token.specs.Growths.{same_sign}
@@ -40,26 +41,26 @@ pub record IsPatternCover (v : Surroundings) (x : Place) (c : Cover) (y : Place)
   pub reads : (p : Tree) → IsTurned c p → is_bracketed p ≡ true → Staged v false (Pat Assigns) x p y
   pub alone : (p : Tree) (z : Place) → is_bracketed p ≡ true → Staged v false (Pat Assigns) x p z → IsTurned c p × (y ≡ z)
 
-pub record NoPatternCover (v : Surroundings) (x : Place) : Type 0 where
-  pub no : (p : Tree) (z : Place) → is_bracketed p ≡ true → Staged v false (Pat Assigns) x p z → ⊥
+pub record NoPatternCover (v : Surroundings) (x : Place) (e : Fault) : Type 0 where
+  pub no : (p : Tree) (z : Place) → is_bracketed p ≡ true → Staged v false (Pat Assigns) x p z → Shallow e (part_depth p) → ⊥
 
 -- the signs with which an array, an object and a pattern in brackets begin
 abbrev pub is_bracket_sign : Sign → Bool
 is_bracket_sign s = same_sign (pun "[") s || same_sign (pun "{") s
 
--- behind the sign with which it begins: as an expression, where it is one, and as a pattern in brackets
+-- behind the sign with which it begins, and from which on it counts: as an expression, where it is one, and as a pattern in brackets
 pub record OpensCover (v : Surroundings) (s : Sign) (c : Cover) (x y : Place) : Type 0 where
   pub expr : c.is_expr ≡ true → OnlyOpened v s (view_cover c) x y
-  pub none : c.is_expr ≡ false → NoneOpened v s x
+  pub none : c.is_expr ≡ false → NoneOpened v s x Unread
   pub pattern : (w : Place) → Moves s w x → IsPatternCover v w c y
   pub literal : is_bracket_sign s ≡ true → is_literal (view_cover c) ≡ true
   pub other : is_bracket_sign s ≡ false → is_literal (view_cover c) ≡ false
   pub may : is_literal (view_cover c) ≡ false → c.may_turn ≡ true
   pub unsettled : c.is_expr ≡ false → is_literal (view_cover c) ≡ true
 
-pub record NoCoverOpened (v : Surroundings) (s : Sign) (x : Place) : Type 0 where
-  pub none : NoneOpened v s x
-  pub pattern : (w : Place) → Moves s w x → NoPatternCover v w
+pub record NoCoverOpened (v : Surroundings) (s : Sign) (x : Place) (e : Fault) : Type 0 where
+  pub none : NoneOpened v s x e
+  pub pattern : (w : Place) → Moves s w x → NoPatternCover v w (outer e)
 
 -- ---- what stands in an array, and is no hole
 
@@ -69,14 +70,14 @@ pub record IsTurnedSlot (c : Cover) (p : Tree) : Type 0 where
 
 pub record IsItemCover (v : Surroundings) (x : Place) (c : Cover) (y : Place) : Type 0 where
   pub expr : c.is_expr ≡ true → OnlyItem v ArrayItem x (view_cover c) y
-  pub none : c.is_expr ≡ false → NoItem v ArrayItem x
+  pub none : c.is_expr ≡ false → NoItem v ArrayItem x Unread
   pub filled : is_hole (view_cover c) ≡ false
   pub reads : (p : Tree) → IsTurnedSlot c p → Staged v false (Slot Assigns) x p y
   pub alone : (p : Tree) (z : Place) → is_hole p ≡ false → Whole so_far v false (Slot Assigns) x p z → IsTurnedSlot c p × (y ≡ z)
 
-pub record NoItemCover (v : Surroundings) (x : Place) : Type 0 where
-  pub item : NoItem v ArrayItem x
-  pub slot : NoItem v (Slot Assigns) x
+pub record NoItemCover (v : Surroundings) (x : Place) (e : Fault) : Type 0 where
+  pub item : NoItem v ArrayItem x e
+  pub slot : NoItem v (Slot Assigns) x e
 
 -- up to the `]`, with it: the rest of the literal's row, and of the pattern's
 abbrev pub items_row : List Piece
@@ -96,13 +97,13 @@ pub record AreSlots (q : Items) (ts : Forest) : Type 0 where
 
 pub record CoversItems (v : Surroundings) (x : Place) (q : Items) (y : Place) : Type 0 where
   pub expr : q.are_exprs ≡ true → OnlyRow so_far v items_row x (part (list (view_items q)) none) y
-  pub none : q.are_exprs ≡ false → NoRow so_far v items_row x
+  pub none : q.are_exprs ≡ false → NoRow so_far v items_row x Unread
   pub reads : (ts : Forest) → AreSlots q ts → Walk (Whole so_far) (steady v) slots_row x ts y
   pub alone : (ts : Forest) (z : Place) → Walk (Whole so_far) (steady v) slots_row x ts z → AreSlots q ts × (y ≡ z)
 
-pub record NoItems (v : Surroundings) (x : Place) : Type 0 where
-  pub items : NoRow so_far v items_row x
-  pub slots : NoRow so_far v slots_row x
+pub record NoItems (v : Surroundings) (x : Place) (e : Fault) : Type 0 where
+  pub items : NoRow so_far v items_row x e
+  pub slots : NoRow so_far v slots_row x e
 
 -- ---- what stands in an object: of what ends before a comma or the brace
 
@@ -116,9 +117,9 @@ pub record IsMemberCover (v : Surroundings) (x : Place) (m : Member) (y : Place)
   pub reads : (p : Tree) → IsTurnedPart m p → Staged v false (PatProp Assigns) x p y
   pub alone : (p : Tree) (z : Place) → Closed z → Whole so_far v false (PatProp Assigns) x p z → IsTurnedPart m p × (y ≡ z)
 
-pub record NoMemberCover (v : Surroundings) (x : Place) : Type 0 where
-  pub member : (u : Tree) (z : Place) → Closed z → Whole so_far v false ObjectMember x u z → ⊥
-  pub part' : (p : Tree) (z : Place) → Closed z → Whole so_far v false (PatProp Assigns) x p z → ⊥
+pub record NoMemberCover (v : Surroundings) (x : Place) (e : Fault) : Type 0 where
+  pub member : (u : Tree) (z : Place) → Closed z → Whole so_far v false ObjectMember x u z → Shallow e (part_depth u) → ⊥
+  pub part' : (p : Tree) (z : Place) → Closed z → Whole so_far v false (PatProp Assigns) x p z → Shallow e (part_depth p) → ⊥
 
 -- neither `...` nor a word of an object before its key stands there
 pub record IsBare (x : Place) : Type 0 where
@@ -130,26 +131,26 @@ pub record IsBare (x : Place) : Type 0 where
 pub record IsKeyed (k : Tree) (x : Place) : Type 0 where
   pub named : (t : Text) → k ≡ leaf IdentifierName t → (among t reserved || (is_found (forth (pun ":") x) || is_found (forth (pun "(") x))) ≡ true
 
--- behind a key, wherever that was read from: a property, or a method
+-- behind a key, wherever that was read from, and within the member, which counts from it on: a property, or a method
 pub record CoversKeyed (v : Surroundings) (k : Tree) (m : Member) (x y : Place) : Type 0 where
   pub on : (w : Place) → IsBare w → Only so_far v (Part Key) w (one k) x → IsMemberCover v w m y
 
-pub record NoCoverKeyed (v : Surroundings) (k : Tree) (x : Place) : Type 0 where
-  pub no : (w : Place) → IsBare w → IsKeyed k x → Only so_far v (Part Key) w (one k) x → NoMemberCover v w
+pub record NoCoverKeyed (v : Surroundings) (k : Tree) (x : Place) (e : Fault) : Type 0 where
+  pub no : (w : Place) → IsBare w → IsKeyed k x → Only so_far v (Part Key) w (one k) x → NoMemberCover v w (outer e)
 
 -- a property, where no method stands
 pub record CoversPair (v : Surroundings) (k : Tree) (m : Member) (x y : Place) : Type 0 where
   pub on : (w : Place) → IsBare w → Only so_far v (Part Key) w (one k) x → IsMemberCover v w m y
 
-pub record NoPair (v : Surroundings) (k : Tree) (x : Place) : Type 0 where
-  pub no : (w : Place) → IsBare w → IsKeyed k x → Only so_far v (Part Key) w (one k) x → Stuck (pun "(") x → NoMemberCover v w
+pub record NoPair (v : Surroundings) (k : Tree) (x : Place) (e : Fault) : Type 0 where
+  pub no : (w : Place) → IsBare w → IsKeyed k x → Only so_far v (Part Key) w (one k) x → Stuck (pun "(") x → NoMemberCover v w (outer e)
 
 -- behind a name that stands for a property: with its default, or alone
 pub record CoversShort (v : Surroundings) (n : Text) (x : Place) (m : Member) (y : Place) : Type 0 where
   pub on : (w : Place) → IsBare w → Only so_far v (Part Ident) w (one (leaf IdentifierName n)) x → Stuck (pun ":") x → Stuck (pun "(") x → IsMemberCover v w m y
 
-pub record NoShortCover (v : Surroundings) (n : Text) (x : Place) : Type 0 where
-  pub no : (w : Place) → IsBare w → Only so_far v (Part Ident) w (one (leaf IdentifierName n)) x → Stuck (pun ":") x → Stuck (pun "(") x → NoMemberCover v w
+pub record NoShortCover (v : Surroundings) (n : Text) (x : Place) (e : Fault) : Type 0 where
+  pub no : (w : Place) → IsBare w → Only so_far v (Part Ident) w (one (leaf IdentifierName n)) x → Stuck (pun ":") x → Stuck (pun "(") x → NoMemberCover v w (outer e)
 
 -- up to the `}`, with it
 abbrev pub members_row : List Piece
@@ -169,13 +170,13 @@ pub record AreParts (q : Members) (ts : Forest) : Type 0 where
 
 pub record CoversMembers (v : Surroundings) (x : Place) (q : Members) (y : Place) : Type 0 where
   pub expr : q.are_exprs ≡ true → OnlyRow so_far v members_row x (part (list (view_members q)) none) y
-  pub none : q.are_exprs ≡ false → NoRow so_far v members_row x
+  pub none : q.are_exprs ≡ false → NoRow so_far v members_row x Unread
   pub reads : (ts : Forest) → AreParts q ts → Walk (Whole so_far) (steady v) parts_row x ts y
   pub alone : (ts : Forest) (z : Place) → Walk (Whole so_far) (steady v) parts_row x ts z → AreParts q ts × (y ≡ z)
 
-pub record NoMembers (v : Surroundings) (x : Place) : Type 0 where
-  pub members : NoRow so_far v members_row x
-  pub parts : NoRow so_far v parts_row x
+pub record NoMembers (v : Surroundings) (x : Place) (e : Fault) : Type 0 where
+  pub members : NoRow so_far v members_row x e
+  pub parts : NoRow so_far v parts_row x e
 
 -- ---- the places of what they tell, as an expression and as the pattern
 

@@ -10,6 +10,7 @@ use Rattle.jsx_tree.specs.Answers.{Only, Barred}
 use Rattle.jsx_tree.specs.View.{view_expr}
 use Rattle.jsx_tree.specs.Told.{told_expr}
 use Rattle.jsx_tree.specs.declared.tree.Expr.{Expr as Code}
+use Rattle.jsx_tree.specs.Faults.{Fault}
 use Rattle.jsx_token.specs.Here.{Here, place_of}
 use Rattle.jsx_token.specs.Places.{end_of, next_of}
 use Rattle.jsx_make.specs.NodeSpans.{expr_at}
@@ -22,5 +23,5 @@ pub record IsGathered (v : Surroundings) (first : Code) (y : Here) (whole : Code
   pub spans : (lo : ℕ) → Spans (expr_at first) lo (end_of y) → Spans (expr_at whole) lo (end_of z)
   pub placed : (w : Here) → Spans (expr_at first) (next_of w) (end_of y) → IsPlaced (told_expr first) (view_expr first) w y → IsPlaced (told_expr whole) (view_expr whole) w z
 
-pub record NotGathered (v : Surroundings) (t : Tree) (y : Place) : Type 0 where
-  pub no : (x : Place) → Only so_far v (Part (Expr 1)) x (one t) y → Barred so_far v (Part (Expr 0)) x
+pub record NotGathered (v : Surroundings) (t : Tree) (y : Place) (e : Fault) : Type 0 where
+  pub no : (x : Place) → Only so_far v (Part (Expr 1)) x (one t) y → Barred so_far v (Part (Expr 0)) x e

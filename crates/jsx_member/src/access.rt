@@ -51,7 +51,7 @@ impl<
         ensures read { IfOk result (λ e. Only so_far (around_of context.entry.around) (Part grammar.Argument) (place_of lexer.old) (one (view_expr e.value)) (place_of lexer.new)) }
         ensures placed { IfOk result (λ e. IsPlacedAs true (told_expr e.value) (view_expr e.value) lexer.old lexer.new) }
         ensures shorter { OnOk result (left lexer.new < left lexer.old) }
-        ensures refused { Refused result (Barred so_far (around_of context.entry.around) (Part grammar.Argument) (place_of lexer.old)) }
+        ensures refused { Refused context.entry.levels result (Barred so_far (around_of context.entry.around) (Part grammar.Argument) (place_of lexer.old)) }
     {
         if lexer.take(Fixed::Dots) {
             return Ok(self.spread(context, lexer)?);
@@ -74,7 +74,7 @@ impl<
         ensures placed { IfOk result (λ v. IsPlacedRow (Many Commas grammar.Argument ∷ p ")" ∷ []) (tale (told_list (map (inside told_expr) v.items)) no_tales) (part (list (forest (map (inside view_expr) v.items))) none) lexer.old lexer.new) }
         ensures shorter { OnOk result (left lexer.new < left lexer.old) }
         ensures ended { OnOk result (IsTrue (settled (place_of lexer.new))) }
-        ensures refused { Refused result (NoRow so_far (around_of context.entry.around) (tail (tail (row_so_far (expression Call)))) (place_of lexer.old)) }
+        ensures refused { Refused context.entry.levels result (NoRow so_far (around_of context.entry.around) (tail (tail (row_so_far (expression Call)))) (place_of lexer.old)) }
     {
         let mut all = Vec::new(context.alloc);
         'arguments: while !lexer.take(Fixed::Close) {
@@ -103,7 +103,7 @@ impl<
         ensures placed { IfOk result (λ e. IsPlacedOn (sign_of fixed.Open) callee.entry.value lexer.old e.value lexer.new) }
         ensures shorter { OnOk result (left lexer.new < left lexer.old) }
         ensures ended { OnOk result (IsTrue (settled (place_of lexer.new))) }
-        ensures refused { Refused result (NoRow so_far (around_of context.entry.around) (tail (tail (row_so_far (expression Call)))) (place_of lexer.old)) }
+        ensures refused { Refused context.entry.levels result (NoRow so_far (around_of context.entry.around) (tail (tail (row_so_far (expression Call)))) (place_of lexer.old)) }
     {
         let all = self.arguments(context, lexer)?;
         let span = span_to(start_of(&callee), lexer);
@@ -124,7 +124,7 @@ impl<
         ensures placed { IfOk result (λ e. IsPlacedOn (mark (expression Index)) object.entry.value lexer.old e.value lexer.new) }
         ensures shorter { OnOk result (left lexer.new < left lexer.old) }
         ensures ended { OnOk result (IsTrue (settled (place_of lexer.new))) }
-        ensures refused { Refused result (NoRow so_far (around_of context.entry.around) (tail (tail (row_so_far (expression Index)))) (place_of lexer.old)) }
+        ensures refused { Refused context.entry.levels result (NoRow so_far (around_of context.entry.around) (tail (tail (row_so_far (expression Index)))) (place_of lexer.old)) }
     {
         let inner = self.sequence(context, lexer)?;
         expect(context, lexer, Fixed::CloseBracket)?;
@@ -145,7 +145,7 @@ impl<
         ensures placed { IfOk result (λ e. IsPlacedBehind (opening_sign (expression ImportCall)) lexer.old (told_expr e.value) (view_expr e.value) lexer.new) }
         ensures shorter { OnOk result (left lexer.new < left lexer.old) }
         ensures ended { OnOk result (IsTrue (settled (place_of lexer.new))) }
-        ensures refused { Refused result (NoRow so_far (around_of context.entry.around) (tail (row_so_far (expression ImportCall))) (place_of lexer.old)) }
+        ensures refused { Refused context.entry.levels result (NoRow so_far (around_of context.entry.around) (tail (row_so_far (expression ImportCall))) (place_of lexer.old)) }
     {
         let lo = lexer.last_place();
         expect(context, lexer, Fixed::Open)?;
@@ -168,7 +168,7 @@ impl<
         ensures placed { IfOk result (λ e. IsPlacedBehind (opening_sign (expression ImportCall)) lexer.old (told_expr e.value) (view_expr e.value) lexer.new) }
         ensures shorter { OnOk result (left lexer.new < left lexer.old) }
         ensures ended { OnOk result (IsTrue (settled (place_of lexer.new))) }
-        ensures refused { Refused result (NoneOpened (around_of context.entry.around) (opening_sign (expression ImportCall)) (place_of lexer.old)) }
+        ensures refused { Refused context.entry.levels result (NoneOpened (around_of context.entry.around) (opening_sign (expression ImportCall)) (place_of lexer.old)) }
     {
         let lo = lexer.last_place();
         if !lexer.take(Fixed::Dot) {
@@ -195,7 +195,7 @@ impl<
         ensures told { IfOk result (λ e. IsPlacedSuper (sign_of fixed.Open) lo.0 lexer.old (told_expr e.value) (view_expr e.value) lexer.new) }
         ensures shorter { OnOk result (left lexer.new < left lexer.old) }
         ensures ended { OnOk result (IsTrue (settled (place_of lexer.new))) }
-        ensures refused { Refused result (NoNode so_far (around_of context.entry.around) (tail (tail (row_so_far (expression SuperCall)))) (expression SuperCall) (place_of lexer.old)) }
+        ensures refused { Refused context.entry.levels result (NoNode so_far (around_of context.entry.around) (tail (tail (row_so_far (expression SuperCall)))) (expression SuperCall) (place_of lexer.old)) }
     {
         if !context.around.calls_super {
             return Err(give_up(lexer));
@@ -218,7 +218,7 @@ impl<
         ensures told { IfOk result (λ e. IsPlacedSuper (sign_of fixed.OpenBracket) lo.0 lexer.old (told_expr e.value) (view_expr e.value) lexer.new) }
         ensures shorter { OnOk result (left lexer.new < left lexer.old) }
         ensures ended { OnOk result (IsTrue (settled (place_of lexer.new))) }
-        ensures refused { Refused result (NoNode so_far (around_of context.entry.around) (tail (tail (row_so_far (expression SuperIndex)))) (expression SuperIndex) (place_of lexer.old)) }
+        ensures refused { Refused context.entry.levels result (NoNode so_far (around_of context.entry.around) (tail (tail (row_so_far (expression SuperIndex)))) (expression SuperIndex) (place_of lexer.old)) }
     {
         if !context.around.has_super {
             return Err(give_up(lexer));
@@ -243,7 +243,7 @@ impl<
         ensures placed { IfOk result (λ e. IsPlacedBehind (opening_sign (expression SuperCall)) lexer.old (told_expr e.value) (view_expr e.value) lexer.new) }
         ensures shorter { OnOk result (left lexer.new < left lexer.old) }
         ensures ended { OnOk result (IsTrue (settled (place_of lexer.new))) }
-        ensures refused { Refused result (NoneOpened (around_of context.entry.around) (opening_sign (expression SuperCall)) (place_of lexer.old)) }
+        ensures refused { Refused context.entry.levels result (NoneOpened (around_of context.entry.around) (opening_sign (expression SuperCall)) (place_of lexer.old)) }
     {
         let lo = lexer.last_place();
         if lexer.take(Fixed::Open) {

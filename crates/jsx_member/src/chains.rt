@@ -51,7 +51,7 @@ impl<
         ensures placed { IfOk result (λ l. IsPlacedLink lo.0 form (sign_of fixed.OpenBracket) lexer.old (told_link l.value) (view_link l.value) lexer.new) }
         ensures shorter { OnOk result (left lexer.new < left lexer.old) }
         ensures ended { OnOk result (IsTrue (settled (place_of lexer.new))) }
-        ensures refused { Refused result (NoRow so_far (around_of context.entry.around) (tail (row_so_far (expression (IndexLink false)))) (place_of lexer.old)) }
+        ensures refused { Refused context.entry.levels result (NoRow so_far (around_of context.entry.around) (tail (row_so_far (expression (IndexLink false)))) (place_of lexer.old)) }
     {
         let inner = self.sequence(context, lexer)?;
         expect(context, lexer, Fixed::CloseBracket)?;
@@ -72,7 +72,7 @@ impl<
         ensures placed { IfOk result (λ l. IsPlacedLink lo.0 form (sign_of fixed.Open) lexer.old (told_link l.value) (view_link l.value) lexer.new) }
         ensures shorter { OnOk result (left lexer.new < left lexer.old) }
         ensures ended { OnOk result (IsTrue (settled (place_of lexer.new))) }
-        ensures refused { Refused result (NoRow so_far (around_of context.entry.around) (tail (row_so_far (expression (CallLink false)))) (place_of lexer.old)) }
+        ensures refused { Refused context.entry.levels result (NoRow so_far (around_of context.entry.around) (tail (row_so_far (expression (CallLink false)))) (place_of lexer.old)) }
     {
         let all = self.arguments(context, lexer)?;
         Ok(make::call_link(context.alloc, span_to(lo, lexer), form, all)?)
@@ -91,7 +91,7 @@ impl<
         ensures placed { IfOk result (λ l. IsPlacedBehind (link_sign linkings.Optional) lexer.old (told_link l.value) (view_link l.value) lexer.new) }
         ensures shorter { OnOk result (left lexer.new < left lexer.old) }
         ensures ended { OnOk result (IsTrue (settled (place_of lexer.new))) }
-        ensures refused { Refused result (NoneLinked (around_of context.entry.around) (link_sign linkings.Optional) (place_of lexer.old)) }
+        ensures refused { Refused context.entry.levels result (NoneLinked (around_of context.entry.around) (link_sign linkings.Optional) (place_of lexer.old)) }
     {
         let lo = lexer.last_place();
         if lexer.take(Fixed::OpenBracket) {
@@ -116,7 +116,7 @@ impl<
         ensures placed { IfOk result (λ l. IsPlacedBehind (link_sign linking) lexer.old (told_link l.value) (view_link l.value) lexer.new) }
         ensures shorter { OnOk result (left lexer.new < left lexer.old) }
         ensures ended { OnOk result (IsTrue (settled (place_of lexer.new))) }
-        ensures refused { Refused result (NoneLinked (around_of context.entry.around) (link_sign linking) (place_of lexer.old)) }
+        ensures refused { Refused context.entry.levels result (NoneLinked (around_of context.entry.around) (link_sign linking) (place_of lexer.old)) }
     {
         let lo = lexer.last_place();
         match linking {
@@ -141,7 +141,7 @@ impl<
         ensures placed { IfOk result (λ e. IsPlacedOn (mark (expression Chain)) base.entry.value lexer.old e.value lexer.new) }
         ensures shorter { OnOk result (left lexer.new < left lexer.old) }
         ensures ended { OnOk result (IsTrue (settled (place_of lexer.new))) }
-        ensures refused { Refused result (NotGrown (around_of context.entry.around) (expression Chain) (place_of lexer.old)) }
+        ensures refused { Refused context.entry.levels result (NotGrown (around_of context.entry.around) (expression Chain) (place_of lexer.old)) }
     {
         let first = self.optional_link(context, lexer)?;
         let mut links = Vec::with_capacity(context.alloc, 1)?;

@@ -54,7 +54,7 @@ impl<
         ensures placed { IfOk result (λ c. IsPlacedCover c lexer.old lexer.new) }
         ensures shorter { OnOk result (left lexer.new < left lexer.old) }
         ensures ended { OnOk result (IsTrue (closed (place_of lexer.new))) }
-        ensures refused { Refused result (NoCover (around_of context.entry.around) 1 (place_of lexer.old)) }
+        ensures refused { Refused context.entry.levels result (NoCover (around_of context.entry.around) 1 (place_of lexer.old)) }
     {
         self.within.covered(context, lexer, ASSIGNMENT)
     }
@@ -72,7 +72,7 @@ impl<
         ensures placed { IfOk result (λ e. IsPlaced (told_expr e.value) (view_expr e.value) lexer.old lexer.new) }
         ensures shorter { OnOk result (left lexer.new < left lexer.old) }
         ensures ended { OnOk result (IsTrue (closed (place_of lexer.new))) }
-        ensures refused { Refused result (Barred so_far (around_of context.entry.around) (Part (grammar.Expr 0)) (place_of lexer.old)) }
+        ensures refused { Refused context.entry.levels result (Barred so_far (around_of context.entry.around) (Part (grammar.Expr 0)) (place_of lexer.old)) }
     {
         let first = self.within.inner(context, lexer, ASSIGNMENT)?;
         Ok(self.more_items(context, lexer, first)?)
@@ -91,7 +91,7 @@ impl<
         ensures read { IfOk result (λ e. IsGathered (around_of context.entry.around) first.entry.value lexer.old e.value lexer.new) }
         ensures within { OnOk result (left lexer.new ≤ left lexer.old) }
         ensures ended { OnOk result (IsTrue (closed (place_of lexer.new))) }
-        ensures refused { Refused result (NotGathered (around_of context.entry.around) (view_expr first.entry.value) (place_of lexer.old)) }
+        ensures refused { Refused context.entry.levels result (NotGathered (around_of context.entry.around) (view_expr first.entry.value) (place_of lexer.old)) }
     {
         if !lexer.take(Fixed::Comma) {
             return Ok(first);

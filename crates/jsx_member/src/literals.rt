@@ -26,6 +26,7 @@ use crate::grammar::Brackets;
 use jsx_base::BytePos;
 use jsx_function::method::{Home, take_prefix};
 use jsx_make::make;
+use jsx_operand::depth::{within, within_leaf};
 use jsx_operand::operand::{ASSIGNMENT, is_keyed, literal_key};
 use jsx_operand::parser::{expect, give_up, span_to};
 use jsx_operand::proto::has_two_protos;
@@ -112,7 +113,7 @@ impl<
         ensures span { IfOk result (λ e. Spans (expr_at e.value) (begin_of lexer.old) (end_of lexer.new)) }
         ensures placed { IfOk result (λ e. IsPlacedBehind (opening_sign (expression Spread)) lexer.old (told_expr e.value) (view_expr e.value) lexer.new) }
         ensures shorter { OnOk result (left lexer.new < left lexer.old) }
-        ensures refused { Refused result (NoRow so_far (around_of context.entry.around) (tail (row_so_far (expression Spread))) (place_of lexer.old)) }
+        ensures refused { Refused context.entry.levels result (NoRow so_far (around_of context.entry.around) (tail (row_so_far (expression Spread))) (place_of lexer.old)) }
     {
         let lo = lexer.last_place();
         let inner = self.within.inner(context, lexer, ASSIGNMENT)?;
@@ -130,7 +131,7 @@ impl<
         ensures read { IfOk result (λ c. IsItemCover (around_of context.entry.around) (place_of lexer.old) c (place_of lexer.new)) }
         ensures placed { IfOk result (λ c. IsPlacedItem c lexer.old lexer.new) }
         ensures shorter { OnOk result (left lexer.new < left lexer.old) }
-        ensures refused { Refused result (NoItemCover (around_of context.entry.around) (place_of lexer.old)) }
+        ensures refused { Refused context.entry.levels result (NoItemCover (around_of context.entry.around) (place_of lexer.old)) }
     {
         if !lexer.take(Fixed::Dots) {
             return Ok(self.cover(context, lexer)?);
@@ -157,7 +158,7 @@ impl<
         ensures placed { IfOk result (λ q. IsPlacedItems q lexer.old lexer.new) }
         ensures shorter { OnOk result (left lexer.new < left lexer.old) }
         ensures ended { OnOk result (IsTrue (settled (place_of lexer.new))) }
-        ensures refused { Refused result (NoItems (around_of context.entry.around) (place_of lexer.old)) }
+        ensures refused { Refused context.entry.levels result (NoItems (around_of context.entry.around) (place_of lexer.old)) }
     {
         let mut all = Vec::new(context.alloc);
         let mut are_exprs = true;
@@ -193,7 +194,7 @@ impl<
         ensures placed { IfOk result (λ c. IsPlacedCoverBehind (opening_sign (expression Array)) lexer.old c lexer.new) }
         ensures shorter { OnOk result (left lexer.new < left lexer.old) }
         ensures ended { OnOk result (IsTrue (settled (place_of lexer.new))) }
-        ensures refused { Refused result (NoCoverOpened (around_of context.entry.around) (opening_sign (expression Array)) (place_of lexer.old)) }
+        ensures refused { Refused context.entry.levels result (NoCoverOpened (around_of context.entry.around) (opening_sign (expression Array)) (place_of lexer.old)) }
     {
         let lo = lexer.last_place();
         let Items {
@@ -221,7 +222,7 @@ impl<
         ensures placed { IfOk result (λ p. IsPlacedBehind (opening_sign (expression Spread)) lexer.old (told_prop p.value) (view_prop p.value) lexer.new) }
         ensures rest { IfOk result (λ p. IsPlacedRest lexer.old (told_prop p.value) (view_prop p.value) lexer.new) }
         ensures shorter { OnOk result (left lexer.new < left lexer.old) }
-        ensures refused { Refused result (NoRow so_far (around_of context.entry.around) (tail (row_so_far (expression Spread))) (place_of lexer.old)) }
+        ensures refused { Refused context.entry.levels result (NoRow so_far (around_of context.entry.around) (tail (row_so_far (expression Spread))) (place_of lexer.old)) }
     {
         let lo = lexer.last_place();
         let inner = self.within.inner(context, lexer, ASSIGNMENT)?;
@@ -241,7 +242,7 @@ impl<
         ensures read { IfOk result (λ m. CoversPair (around_of context.entry.around) (view_key key.entry) m (place_of lexer.old) (place_of lexer.new)) }
         ensures placed { IfOk result (λ m. IsPlacedPair lo.0 (told_key key.entry) (view_key key.entry) lexer.old m lexer.new) }
         ensures shorter { OnOk result (left lexer.new < left lexer.old) }
-        ensures refused { Refused result (NoPair (around_of context.entry.around) (view_key key.entry) (place_of lexer.old)) }
+        ensures refused { Refused context.entry.levels result (NoPair (around_of context.entry.around) (view_key key.entry) (place_of lexer.old)) }
     {
         expect(context, lexer, Fixed::Colon)?;
         let value = self.cover(context, lexer)?;
@@ -266,7 +267,7 @@ impl<
         ensures read { IfOk result (λ m. CoversKeyed (around_of context.entry.around) (view_key key.entry) m (place_of lexer.old) (place_of lexer.new)) }
         ensures placed { IfOk result (λ m. IsPlacedPair lo.0 (told_key key.entry) (view_key key.entry) lexer.old m lexer.new) }
         ensures shorter { OnOk result (left lexer.new < left lexer.old) }
-        ensures refused { Refused result (NoCoverKeyed (around_of context.entry.around) (view_key key.entry) (place_of lexer.old)) }
+        ensures refused { Refused context.entry.levels result (NoCoverKeyed (around_of context.entry.around) (view_key key.entry) (place_of lexer.old)) }
     {
         if lexer.is_before(Fixed::Open) {
             let prop = self.within.method(context, lexer, lo, Home::Object, key)?;
@@ -289,7 +290,7 @@ impl<
         ensures read { IfOk result (λ m. CoversShort (around_of context.entry.around) (chars raw.now) (place_of lexer.old) m (place_of lexer.new)) }
         ensures placed { IfOk result (λ m. IsPlacedShort lo.0 (chars raw.now) lexer.old m lexer.new) }
         ensures within { OnOk result (left lexer.new ≤ left lexer.old) }
-        ensures refused { Refused result (NoShortCover (around_of context.entry.around) (chars raw.now) (place_of lexer.old)) }
+        ensures refused { Refused context.entry.levels result (NoShortCover (around_of context.entry.around) (chars raw.now) (place_of lexer.old)) }
     {
         let text = Text::Read(raw, lo);
         if !lexer.take(Fixed::Equals) {
@@ -300,7 +301,10 @@ impl<
         if !is_bound(raw) {
             return Err(give_up(lexer));
         }
-        let value = self.within.inner(context, lexer, ASSIGNMENT)?;
+        let levels = within_leaf(context, lexer)?;
+        let value = self
+            .within
+            .inner(Context { levels, ..context }, lexer, ASSIGNMENT)?;
         let key = make::name_key(text);
         let span = span_to(lo, lexer);
         let prop = make::field(context.alloc, span, Placement::Instance, key, Some(value))?;
@@ -323,7 +327,7 @@ impl<
         ensures read { IfOk result (λ m. IsMemberCover (around_of context.entry.around) (place_of lexer.old) m (place_of lexer.new)) }
         ensures placed { IfOk result (λ m. IsPlacedMember m lexer.old lexer.new) }
         ensures shorter { OnOk result (left lexer.new < left lexer.old) }
-        ensures refused { Refused result (NoMemberCover (around_of context.entry.around) (place_of lexer.old)) }
+        ensures refused { Refused context.entry.levels result (NoMemberCover (around_of context.entry.around) (place_of lexer.old)) }
     {
         if lexer.take(Fixed::Dots) {
             let prop = self.spread_member(context, lexer)?;
@@ -358,23 +362,29 @@ impl<
         ensures read { IfOk result (λ m. IsMemberCover (around_of context.entry.around) (place_of lexer.old) m (place_of lexer.new)) }
         ensures placed { IfOk result (λ m. IsPlacedMember m lexer.old lexer.new) }
         ensures shorter { OnOk result (left lexer.new < left lexer.old) }
-        ensures refused { Refused result (NoMemberCover (around_of context.entry.around) (place_of lexer.old)) }
+        ensures refused { Refused context.entry.levels result (NoMemberCover (around_of context.entry.around) (place_of lexer.old)) }
     {
         if lexer.take(Fixed::OpenBracket) {
             let lo = lexer.last_place();
-            let key = self.within.computed_key(context, lexer)?;
-            return Ok(self.object_keyed(context, lexer, lo, key)?);
+            let levels = within(context, lexer)?;
+            let inside = Context { levels, ..context };
+            let key = self.within.computed_key(inside, lexer)?;
+            return Ok(self.object_keyed(inside, lexer, lo, key)?);
         }
         if let Some(raw) = lexer.leaf(Leaf::Name) {
             let lo = lexer.last_place();
+            let levels = within_leaf(context, lexer)?;
+            let inside = Context { levels, ..context };
             if is_keyed(lexer, raw) {
                 let key = make::name_key(Text::Read(raw, lo));
-                return Ok(self.object_keyed(context, lexer, lo, key)?);
+                return Ok(self.object_keyed(inside, lexer, lo, key)?);
             }
-            return Ok(self.short_member(context, lexer, lo, raw)?);
+            return Ok(self.short_member(inside, lexer, lo, raw)?);
         }
         let key = literal_key(context, lexer)?;
-        Ok(self.object_keyed(context, lexer, lexer.last_place(), key)?)
+        let levels = within_leaf(context, lexer)?;
+        let inside = Context { levels, ..context };
+        Ok(self.object_keyed(inside, lexer, lexer.last_place(), key)?)
     }
 
     /// What stands in an object behind its `{`, with the `}`: `a, b: c, ...d}`.
@@ -389,7 +399,7 @@ impl<
         ensures placed { IfOk result (λ q. IsPlacedMembers q lexer.old lexer.new) }
         ensures shorter { OnOk result (left lexer.new < left lexer.old) }
         ensures ended { OnOk result (IsTrue (settled (place_of lexer.new))) }
-        ensures refused { Refused result (NoMembers (around_of context.entry.around) (place_of lexer.old)) }
+        ensures refused { Refused context.entry.levels result (NoMembers (around_of context.entry.around) (place_of lexer.old)) }
     {
         let mut all = Vec::new(context.alloc);
         let mut are_exprs = true;
@@ -421,7 +431,7 @@ impl<
         ensures placed { IfOk result (λ c. IsPlacedCoverBehind (opening_sign (expression Object)) lexer.old c lexer.new) }
         ensures shorter { OnOk result (left lexer.new < left lexer.old) }
         ensures ended { OnOk result (IsTrue (settled (place_of lexer.new))) }
-        ensures refused { Refused result (NoCoverOpened (around_of context.entry.around) (opening_sign (expression Object)) (place_of lexer.old)) }
+        ensures refused { Refused context.entry.levels result (NoCoverOpened (around_of context.entry.around) (opening_sign (expression Object)) (place_of lexer.old)) }
     {
         let lo = lexer.last_place();
         let Members {

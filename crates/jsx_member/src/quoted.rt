@@ -26,6 +26,7 @@ ghost use Rattle.jsx_operand.specs.Bodies.{ReadsBodies};
 use crate::grammar::Brackets;
 use jsx_base::BytePos;
 use jsx_make::make;
+use jsx_operand::depth::{behind_expr_at, within_leaf_at};
 use jsx_operand::operand::{level, start_of};
 use jsx_operand::parser::{expect, give_up, span_to};
 use jsx_operand::template::{Template, middle, piece_text, whole_template};
@@ -55,7 +56,7 @@ impl<
         ensures placed { IfOk result (λ t. IsPlacedRow (rest_production is_tagged) (told_rest (behind_first t.pieces.items) (map (inside told_expr) t.parts.items)) (rest_of is_tagged (behind_first t.pieces.items) (map (inside view_expr) t.parts.items)) lexer.old lexer.new) }
         ensures shorter { OnOk result (left lexer.new < left lexer.old) }
         ensures ended { OnOk result (IsTrue (settled (place_of lexer.new))) }
-        ensures refused { Refused result (NoRest (around_of context.entry.around) is_tagged (text_of head.entry) (place_of lexer.old)) }
+        ensures refused { Refused context.entry.levels result (NoRest (around_of context.entry.around) is_tagged (text_of head.entry) (place_of lexer.old)) }
     {
         let mut pieces = Vec::with_capacity(context.alloc, 2)?;
         pieces.push(head)?;
@@ -88,7 +89,7 @@ impl<
         ensures placed { IfOk result (λ t. IsPlacedTemplate is_tagged t.pieces.items t.parts.items lexer.old lexer.new) }
         ensures shorter { OnOk result (left lexer.new < left lexer.old) }
         ensures ended { OnOk result (IsTrue (settled (place_of lexer.new))) }
-        ensures refused { Refused result (NoTemplate (around_of context.entry.around) is_tagged (place_of lexer.old)) }
+        ensures refused { Refused context.entry.levels result (NoTemplate (around_of context.entry.around) is_tagged (place_of lexer.old)) }
     {
         if let Some(raw) = lexer.leaf(Leaf::NoSubstitution) {
             return Ok(whole_template(context, lexer, is_tagged, raw)?);
@@ -115,9 +116,10 @@ impl<
         ensures span { IfOk result (λ e. Spans (expr_at e.value) (next_of lexer.old) (end_of lexer.new)) }
         ensures placed { IfOk result (λ e. IsPlaced (told_expr e.value) (view_expr e.value) lexer.old lexer.new) }
         ensures shorter { OnOk result (left lexer.new < left lexer.old) }
-        ensures refused { Refused result (NoneBegins (around_of context.entry.around) (place_of lexer.old)) }
+        ensures refused { Refused context.entry.levels result (NoneBegins (around_of context.entry.around) (place_of lexer.old)) }
     {
-        let read = self.any_template(context, lexer, false)?;
+        let levels = within_leaf_at(context, lexer.failing_place())?;
+        let read = self.any_template(Context { levels, ..context }, lexer, false)?;
         let span = span_to(read.lo, lexer);
         Ok(make::template(context.alloc, span, read.pieces, read.parts)?)
     }
@@ -139,12 +141,15 @@ impl<
         ensures placed { IfOk result (λ e. IsPlacedTag tag.entry.value lexer.old e.value lexer.new) }
         ensures shorter { OnOk result (left lexer.new < left lexer.old) }
         ensures ended { OnOk result (IsTrue (settled (place_of lexer.new))) }
-        ensures refused { Refused result (NotTagged (around_of context.entry.around) (view_expr tag.entry.value) (place_of lexer.old)) }
+        ensures refused { Refused context.entry.levels result (NotTagged (around_of context.entry.around) (view_expr tag.entry.value) (place_of lexer.old)) }
     {
         if level(&tag) < 18 {
             return Err(give_up(lexer));
         }
-        let read = self.any_template(context, lexer, true)?;
+        let at = lexer.failing_place();
+        let levels = behind_expr_at(context, at, &tag)?;
+        let levels = within_leaf_at(Context { levels, ..context }, at)?;
+        let read = self.any_template(Context { levels, ..context }, lexer, true)?;
         let here = span_to(read.lo, lexer);
         let span = span_to(start_of(&tag), lexer);
         Ok(make::tagged(context.alloc, span, tag, here, read.pieces, read.parts)?)

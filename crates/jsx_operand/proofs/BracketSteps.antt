@@ -1,7 +1,7 @@
 -- What a pattern in brackets goes on with: `=`, at the level of assignments.
 use Rattle.std.proofs.Common.{◌≡◌, nat_eq, nat_le, Bool, true, false, not, refl, sym, ◌∙◌, ap, subst}
 use Rattle.std.specs.Prelude.{IsTrue, Some, ◌||◌}
-use Rattle.jsx_tree.specs.Kinds.{Assign, Assigns, ArrayPat, ObjectPat, Kind, function, expression, Tree, node, Forest, part}
+use Rattle.jsx_tree.specs.Kinds.{Assign, Assigns, ArrayPat, ObjectPat, Kind, function, expression, Tree, node, Forest}
 use Rattle.jsx_tree.specs.Nonterminals.{Nonterminal}
 use Rattle.jsx_tree.specs.Grammar.{pun}
 use Rattle.jsx_tree.specs.Reading.{Place, Lost, forth}

@@ -16,6 +16,7 @@ use Rattle.jsx_tree.specs.Language.{Whole}
 use Rattle.jsx_tree.specs.Stops.{going, quotes, stops}
 use Rattle.jsx_tree.specs.Answers.{Moves, Only, Barred, NoRow, NoNode, Built, BuiltNode, OnlyRow}
 use Rattle.jsx_tree.specs.Grows.{starts, Follows, Onward, stay, step, Steps, Decides, Joins, Stays, takes_target, as_target, seen}
+use Rattle.jsx_tree.specs.Faults.{Fault, Shallow, deepest, outer, inner}
 use Rattle.jsx_tree.proofs.Rows.Targets.{left_simple, left_pattern}
 use Rattle.jsx_operand.proofs.Aims.{is_pair, seen_plain, calm_of, aim_of, aim_is, aim_back, staged_target, target_reads, open_value}
 use Rattle.jsx_operand.specs.SoFar.{Staged, so_far}
@@ -30,18 +31,20 @@ use Rattle.jsx_tree.proofs.Rows.Bodies.{plain}
 use Rattle.jsx_tree.proofs.Rows.Firsts.{kind_home}
 use Rattle.jsx_tree.proofs.Rows.Placing.{free_around, moved}
 use Rattle.jsx_tree.proofs.Rows.Spines.{grows}
-use Rattle.jsx_tree.proofs.Rows.Growing.{grown_only, step_barred, left_barred}
-use Rattle.jsx_tree.proofs.Rows.Steps.{on, then', only_sign}
+use Rattle.jsx_tree.proofs.Rows.Growing.{grown_only, step_barred, left_barred, steps_barred}
+use Rattle.jsx_tree.proofs.Rows.Steps.{on, then', only_sign, outer_barred}
+use Rattle.jsx_tree.proofs.Depth.Nodes.{counts_as}
 use Rattle.jsx_operand.proofs.OfSoFar.{of_so_far}
+use Rattle.jsx_operand.proofs.Outgrown.{left_outgrown}
 use Rattle.jsx_token.specs.Growths.{Rung, asked, is_rung, least, reaches, seat, OnLine, begins_line, lead, mark, on_line, past_line, same_sign, level_of_kind, fits_by, is_blocked, settled, rung, callee, is_chain, is_code, growth_kind}
-use Rattle.jsx_operand.proofs.Growing.{grown_follows, none_grown}
+use Rattle.jsx_operand.proofs.Growing.{grown_follows}
 use Rattle.jsx_token.specs.declared.growth.Growth.{Growth}
 use Rattle.jsx_operand.specs.declared.link.Linking.{Linking}
 use Rattle.jsx_operand.specs.declared.link.Linking.TheVariants as linking
 use Rattle.jsx_operand.specs.Links.{link_sign}
 use Rattle.jsx_operand.proofs.Standing.{standing}
 use Rattle.jsx_operand.specs.Climbing.{behind, level, fits, is_target_kind, is_target, Climbs, Ended, Grown, NotGrown}
-use Rattle.jsx_operand.specs.Templates.{NotTagged}
+use Rattle.jsx_operand.specs.Templates.{NotTagged, outgrown, unread}
 use Rattle.jsx_token.proofs.Listed.{Listed, code, every, kinds, of_each, every_two, of_two, one_place, implies, implied, agree, agreed, listed, of_level}
 use Rattle.jsx_token.proofs.Marks.{by_sign, mark_by, seen_sign, one_sign}
 use Rattle.jsx_operand.proofs.Homes.{Literal, IsName, IsNumber, IsLong, IsString, IsPattern, token_kind, Value, literal, made, value, taken_by, home_of, wholes, heads, no_list}
@@ -622,14 +625,14 @@ signed_built {v} {k} {before} {w} {a} {y = y} ps l m b = subst (λ qs. Built so_
 pub signed_node : {v : Surroundings} {k : Kind} {w : Tree} {a b y : Place} (ps : List Piece) → signed ps ≡ true → Moves (lead ps) a b → BuiltNode so_far v (tail ps) k w b y → BuiltNode so_far v ps k w a y
 signed_node {v} {k} {w} {a} {y = y} ps l m b = subst (λ qs. BuiltNode so_far v qs k w a y) (lead_row ps l) (record { parts = b.parts; is = b.is; row = then' (only_sign m) b.row; keeps = b.keeps })
 
-pub signed_no_node : {v : Surroundings} {k : Kind} {a b : Place} (ps : List Piece) → signed ps ≡ true → Moves (lead ps) a b → NoNode so_far v (tail ps) k b → NoNode so_far v ps k a
-signed_no_node {v} {k} {a} {b} ps l m n = subst (λ qs. NoNode so_far v qs k a) (lead_row ps l) (record { no = at })
+pub signed_no_node : {v : Surroundings} {k : Kind} {a b : Place} {o : Fault} (ps : List Piece) → signed ps ≡ true → Moves (lead ps) a b → NoNode so_far v (tail ps) k b o → NoNode so_far v ps k a o
+signed_no_node {v} {k} {a} {b} {o = o} ps l m n = subst (λ qs. NoNode so_far v qs k a o) (lead_row ps l) (record { no = at })
   where
-    at : (us : Forest) (w : Place) → Walk (Whole so_far) (steady v) (piece (front_of ps) (Fixed (lead ps)) ∷ tail ps) a us w → so_far.keeps k v us ≡ true → ⊥
-    at us w (next (sign e f) walk) h = n.no us w (subst (λ p. Walk (Whole so_far) (steady v) (tail ps) p us w) (sym e ∙ sym m.is) walk) h
+    at : (us : Forest) (w : Place) → Walk (Whole so_far) (steady v) (piece (front_of ps) (Fixed (lead ps)) ∷ tail ps) a us w → so_far.keeps k v us ≡ true → Shallow o (deepest us) → ⊥
+    at us w (next (sign e f) walk) h s = n.no us w (subst (λ p. Walk (Whole so_far) (steady v) (tail ps) p us w) (sym e ∙ sym m.is) walk) h s
 
-pub signed_none : {v : Surroundings} {a b : Place} (ps : List Piece) → signed ps ≡ true → Moves (lead ps) a b → NoRow so_far v (tail ps) b → NoRow so_far v ps a
-signed_none {v} {a} ps l m n = subst (λ qs. NoRow so_far v qs a) (lead_row ps l) (on (only_sign m) n)
+pub signed_none : {v : Surroundings} {a b : Place} {e : Fault} (ps : List Piece) → signed ps ≡ true → Moves (lead ps) a b → NoRow so_far v (tail ps) b e → NoRow so_far v ps a e
+signed_none {v} {a} {e = e} ps l m n = subst (λ qs. NoRow so_far v qs a e) (lead_row ps l) (on (only_sign m) n)
 
 -- the same of a mark, which may have to stand on the line
 signed_row : {v : Surroundings} {a b y : Place} {us : Forest} (ps : List Piece) → signed ps ≡ true → Moves (lead ps) a b → OnlyRow so_far v (tail ps) b us y → OnlyRow so_far v ps a us y
@@ -639,7 +642,7 @@ marked_row : {v : Surroundings} {a b y : Place} {us : Forest} (ps : List Piece) 
 marked_row {a = a} (piece [] (Fixed SameLine) ∷ ps) l o m r = then' (only_sign (record { is = sym (o refl); found = found_first (lead ps ∷ []) a (found_at (sym m.is) m.found) })) (signed_row ps l m r)
 marked_row ps l o m r = signed_row ps l m r
 
-marked_none : {v : Surroundings} {a b : Place} (ps : List Piece) → signed (past_line ps) ≡ true → (begins_line ps ≡ true → forth SameLine a ≡ a) → Moves (lead (past_line ps)) a b → NoRow so_far v (tail (past_line ps)) b → NoRow so_far v ps a
+marked_none : {v : Surroundings} {a b : Place} {e : Fault} (ps : List Piece) → signed (past_line ps) ≡ true → (begins_line ps ≡ true → forth SameLine a ≡ a) → Moves (lead (past_line ps)) a b → NoRow so_far v (tail (past_line ps)) b e → NoRow so_far v ps a e
 marked_none {a = a} (piece [] (Fixed SameLine) ∷ ps) l o m n = on (only_sign (record { is = sym (o refl); found = found_first (lead ps ∷ []) a (found_at (sym m.is) m.found) })) (signed_none ps l m n)
 marked_none ps l o m n = signed_none ps l m n
 
@@ -652,8 +655,8 @@ grown_by {k = k} l built = record {
   alone = λ a o m us z w e. (marked_row (tail (row_so_far k)) l o.stays m built.row).alone us z w;
 }
 
-pub not_grown_by : {v : Surroundings} {k : Kind} {b : Place} → signed (past_line (tail (row_so_far k))) ≡ true → NoRow so_far v (behind k) b → NotGrown v k b
-not_grown_by {k = k} l n = record { no = λ a o m us z w e. (marked_none (tail (row_so_far k)) l o.stays m n).no us z w }
+pub not_grown_by : {v : Surroundings} {k : Kind} {b : Place} {d : Fault} → signed (past_line (tail (row_so_far k))) ≡ true → NoRow so_far v (behind k) b d → NotGrown v k b d
+not_grown_by {k = k} l n = record { no = λ a o m us z w e s. (marked_none (tail (row_so_far k)) l o.stays m n).no us z w s }
 
 -- the same of what a token goes on by
 growth_signed : (g : Growth) → is_chain (growth_kind g) ≡ false → signed (past_line (tail (row_so_far (growth_kind g)))) ≡ true
@@ -662,13 +665,13 @@ growth_signed g n = (marked (growth_kind g) (growth_listed g) (growth_marks g)).
 pub grown_as : {v : Surroundings} {b y : Place} {t w : Tree} (g h : Growth) → g ≡ h → Grown v (growth_kind h) t b w y → Grown v (growth_kind g) t b w y
 grown_as {v} {b} {y} {t} {w} g h e n = subst (λ j. Grown v (growth_kind j) t b w y) (sym e) n
 
-pub not_grown_as : {v : Surroundings} {b : Place} (g h : Growth) → g ≡ h → NotGrown v (growth_kind h) b → NotGrown v (growth_kind g) b
-not_grown_as {v} {b} g h e n = subst (λ j. NotGrown v (growth_kind j) b) (sym e) n
+pub not_grown_as : {v : Surroundings} {b : Place} {o : Fault} (g h : Growth) → g ≡ h → NotGrown v (growth_kind h) b o → NotGrown v (growth_kind g) b o
+not_grown_as {v} {b} {o = o} g h e n = subst (λ j. NotGrown v (growth_kind j) b o) (sym e) n
 
 pub as_grown : {v : Surroundings} {b y : Place} {t w : Tree} (g h : Growth) → g ≡ h → is_chain (growth_kind h) ≡ false → Built so_far v (behind (growth_kind h)) (growth_kind h) (part (seen (growth_kind h) t)) w b y → Grown v (growth_kind g) t b w y
 as_grown g h e n built = grown_as g h e (grown_by (growth_signed h n) built)
 
-pub as_not_grown : {v : Surroundings} {b : Place} (g h : Growth) → g ≡ h → is_chain (growth_kind h) ≡ false → NoRow so_far v (behind (growth_kind h)) b → NotGrown v (growth_kind g) b
+pub as_not_grown : {v : Surroundings} {b : Place} {o : Fault} (g h : Growth) → g ≡ h → is_chain (growth_kind h) ≡ false → NoRow so_far v (behind (growth_kind h)) b o → NotGrown v (growth_kind g) b o
 as_not_grown g h e n m = not_grown_as g h e (not_grown_by (growth_signed h n) m)
 
 -- ---- where a step has ended that no other goes on with
@@ -719,7 +722,7 @@ climb_step q s = record { follows = q.follows; reads = q.reads; ended = s }
 climbed_on : {v : Surroundings} (r : Rung) {x a b y : Place} {t w : Tree} (k : Kind) → is_rung r ≡ true → Listed k → marks_on k ≡ true → Climbs v r x t a → OnLine k a → Moves (mark k) a b → reaches r k ≡ true → fits k t ≡ true → Grown v k t b w y → Climbed v r x w y
 climbed_on r {a = a} k h m g c o f e i n = let found = found_at (sym f.is) f.found in climbed r k h m (steps_of k g) c (decides r h c m g e o found) e i (λ q. found) n.is (n.walk a o f) (n.alone a o f)
 
-unfit_step : {v : Surroundings} (r : Rung) {x a : Place} {t : Tree} (k : Kind) → is_rung r ≡ true → Listed k → steps_on k ≡ true → Climbs v r x t a → Decides so_far v (seat r) x t a k (tail (row_so_far k)) → fits k t ≡ false → Barred so_far v (Part (seat r)) x
+unfit_step : {v : Surroundings} {e : Fault} (r : Rung) {x a : Place} {t : Tree} (k : Kind) → is_rung r ≡ true → Listed k → steps_on k ≡ true → Climbs v r x t a → Decides so_far v (seat r) x t a k (tail (row_so_far k)) → fits k t ≡ false → Barred so_far v (Part (seat r)) x e
 unfit_step r {t = t} k h m g c d i = left_barred c.follows d (begins_side (row_so_far k) (goes k g)) (λ q. value_unfit k m g (value t (rung_single r h) c.reads) i c.reads q)
 
 pub climb_on : {v : Surroundings} (r : Rung) {x a b y : Place} {t w : Tree} (k : Kind) → is_rung r ≡ true → Listed k → marks_on k ≡ true → Climbs v r x t a → OnLine k a → Moves (mark k) a b → reaches r k ≡ true → fits k t ≡ true → Grown v k t b w y → settled y ≡ true → Climbs v r x w y
@@ -752,11 +755,15 @@ blocked_ends r (At q _ text) h b = cc
 pub climb_blocked : {v : Surroundings} (r : Rung) {x a b y : Place} {t w : Tree} (k : Kind) → is_rung r ≡ true → Listed k → marks_on k ≡ true → Climbs v r x t a → OnLine k a → Moves (mark k) a b → reaches r k ≡ true → fits k t ≡ true → Grown v k t b w y → nat_le (level_of_kind k) 2 ≡ true → is_blocked y ≡ true → Only so_far v (Part (seat r)) x (one w) y
 climb_blocked {v} r {x} {y = y} k h m g c o f e i n low b = let q = climbed_on r k h m g c o f e i n in grown_only q.follows (subst (λ u. Stays so_far v (seat r) x u y) (sym n.is) (stays_low k m low)) q.reads (blocked_ends r y h b)
 
--- it can't be read, or the tree may not stand at its left
-pub climb_barred : {v : Surroundings} (r : Rung) {x a b : Place} {t : Tree} (k : Kind) → is_rung r ≡ true → Listed k → marks_on k ≡ true → Climbs v r x t a → OnLine k a → Moves (mark k) a b → reaches r k ≡ true → NotGrown v k b → Barred so_far v (Part (seat r)) x
-climb_barred r {a = a} k h m g c o f e n = let d = decides r h c m g e o (found_at (sym f.is) f.found) in none_grown c.follows d (λ ts z p. n.no a o f ts z (d.ends ts z p) (step_ended r h p))
+-- all kinds that stand where an expression does count
+pub counts_listed : (k : Kind) → Listed k → counts_as true k ≡ true
+counts_listed k l = of_each (counts_as true) refl k l
 
-pub climb_unfit : {v : Surroundings} (r : Rung) {x a b : Place} {t : Tree} (k : Kind) → is_rung r ≡ true → Listed k → marks_on k ≡ true → Climbs v r x t a → OnLine k a → Moves (mark k) a b → reaches r k ≡ true → fits k t ≡ false → Barred so_far v (Part (seat r)) x
+-- it can't be read, with a level for the step, or the tree may not stand at its left
+pub climb_barred : {v : Surroundings} {q : Fault} (r : Rung) {x a b : Place} {t : Tree} (k : Kind) → is_rung r ≡ true → Listed k → marks_on k ≡ true → Climbs v r x t a → OnLine k a → Moves (mark k) a b → reaches r k ≡ true → NotGrown v k b q → Barred so_far v (Part (seat r)) x (outer q)
+climb_barred {q = q} r {a = a} k h m g c o f e n = let d = decides r h c m g e o (found_at (sym f.is) f.found) in steps_barred q of_so_far (counts_listed k m) c.follows d (λ ts z p s. n.no a o f ts z (d.ends ts z p) (step_ended r h p) s)
+
+pub climb_unfit : {v : Surroundings} {d : Fault} (r : Rung) {x a b : Place} {t : Tree} (k : Kind) → is_rung r ≡ true → Listed k → marks_on k ≡ true → Climbs v r x t a → OnLine k a → Moves (mark k) a b → reaches r k ≡ true → fits k t ≡ false → Barred so_far v (Part (seat r)) x d
 climb_unfit r k h m g c o f e i = unfit_step r k h m (steps_of k g) c (decides r h c m g e o (found_at (sym f.is) f.found)) i
 
 -- ---- a template behind its tag
@@ -771,11 +778,12 @@ tagged_reaches callee h = refl
 pub climb_tagged : {v : Surroundings} (r : Rung) {x a y : Place} {t w : Tree} → is_rung r ≡ true → Climbs v r x t a → Quote a → fits (expression Tagged) t ≡ true → Built so_far v (tail (row_so_far (expression Tagged))) (expression Tagged) (part t) w a y → settled y ≡ true → Climbs v r x w y
 climb_tagged r h c q i built s = climb_step (climbed r (expression Tagged) h tagged_listed refl c (decides_tagged r h c q) (tagged_reaches r h) i (λ e. absurd (clash false e refl)) built.is built.row.walk (λ ts z walk e. built.row.alone ts z walk)) s
 
-pub tagged_unread : {v : Surroundings} (r : Rung) {x a : Place} {t : Tree} → is_rung r ≡ true → Climbs v r x t a → Quote a → NotTagged v t a → Barred so_far v (Part (seat r)) x
-tagged_unread {v} r {x} {t = t} h c q n = by (fits (expression Tagged) t) refl
+pub tagged_unread : {v : Surroundings} {o : Fault} (r : Rung) {x a : Place} {t : Tree} → is_rung r ≡ true → Climbs v r x t a → Quote a → NotTagged v t a o → Barred so_far v (Part (seat r)) x o
+tagged_unread {o = o} r h c q (outgrown d) = left_outgrown o refl c.follows (decides_tagged r h c q) c.reads d
+tagged_unread {v} {o = o} r {x} {t = t} h c q (unread n) = outer_barred (by (fits (expression Tagged) t) refl)
   where
-    by : (b : Bool) → fits (expression Tagged) t ≡ b → Barred so_far v (Part (seat r)) x
-    by true e = step_barred c.follows (decides_tagged r h c q) (n.no e)
+    by : (b : Bool) → fits (expression Tagged) t ≡ b → Barred so_far v (Part (seat r)) x (outer (inner o))
+    by true e = step_barred of_so_far refl c.follows (decides_tagged r h c q) (n e)
     by false e = unfit_step r (expression Tagged) h tagged_listed refl c (decides_tagged r h c q) e
 
 -- ---- where the lexer stands

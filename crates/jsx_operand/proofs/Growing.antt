@@ -6,9 +6,8 @@ use Rattle.jsx_tree.specs.Nonterminals.{Nonterminal}
 use Rattle.jsx_tree.specs.Grammar.{Part}
 use Rattle.jsx_tree.specs.Reading.{Place}
 use Rattle.jsx_tree.specs.StaticRules.{Surroundings}
-use Rattle.jsx_tree.specs.Walk.{Piece, piece, tail, Given, Past, tree, Walk, next, around, steady}
+use Rattle.jsx_tree.specs.Walk.{Piece, piece, tail, tree, Walk, next, around, steady}
 use Rattle.jsx_tree.specs.Language.{Language, Whole}
-use Rattle.jsx_tree.specs.Answers.{Barred}
 use Rattle.jsx_tree.specs.Grows.{starts, seen, Onward, stay, step, Follows, Steps, Decides, Joins}
 use Rattle.jsx_tree.proofs.Rows.Laws.{Lawful}
 use Rattle.jsx_tree.proofs.Rows.Guarded.{loosen}
@@ -34,13 +33,6 @@ no_stay {L} {v} {c} {x} {a} {t} t' a' e g u z (step {y = a''} {z = y} k s d {ts 
 
 cases : {L : Language} {v : Surroundings} {c : Nonterminal} {x a : Place} {t : Tree} {A : Type 0} → Follows L v c x t a → (u : Tree) (z : Place) → Whole L v false c x u z → (t ≡ u → a ≡ z → A) → ((l : Kind) (ts : Forest) (y : Place) (p : Steps L v c x t a l ts y) → p.end ≡ u → p.place ≡ z → A) → A
 cases {a = a} {t = t} fs u z w h f = no_stay t a refl refl u z (fs.all u z w) w h f
-
--- no such step is taken
-pub none_grown : {L : Language} {v : Surroundings} {c : Nonterminal} {x a : Place} {t : Tree} {k : Kind} {qs : List Piece} → Follows L v c x t a → Decides L v c x t a k qs → ((ts : Forest) (y : Place) → Steps L v c x t a k ts y → ⊥) → Barred L v (Part c) x
-none_grown {L} {v} {c} {x} {a} {t} {k} fs d n = record { no = at }
-  where
-    at : (h : Given) (z : Place) → Past (Whole L) v (Part c) x h z → ⊥
-    at h z (tree {t = u} w) = cases fs u z w (λ e g. d.goes (subst (λ q. L.ends c q ≡ true) (sym g) w.ends_there)) (λ l ts y p e g. n ts y (subst (λ m. Steps L v c x t a m ts y) (d.kind l ts y p) p))
 
 led_row : (ps : List Piece) (c : Nonterminal) → starts ps ≡ Some c → piece [] (Part c) ∷ tail ps ≡ ps
 led_row (piece [] (Part d) ∷ ps) c e = cc

@@ -11,7 +11,7 @@ use Rattle.jsx_tree.specs.Form.{enough, is_leaf}
 use Rattle.jsx_tree.specs.Reading.{Place, Lost, At, forth}
 use Rattle.jsx_tree.specs.StaticRules.{Surroundings}
 use Rattle.jsx_token.specs.Stage.{value_leaf}
-use Rattle.jsx_tree.specs.Walk.{is_found, is_text, Items, nil, last, more, tree, many, Walk, next, around}
+use Rattle.jsx_tree.specs.Walk.{is_found, is_text, Items, nil, last, more, many, Walk, next, around}
 use Rattle.jsx_tree.specs.Answers.{Stuck}
 use Rattle.jsx_operand.specs.SoFar.{Staged}
 use Rattle.jsx_token.specs.Marks.{row_so_far}

@@ -1,5 +1,5 @@
 -- Which trees of the language so far stand where.
-use Rattle.std.proofs.Common.{◌≡◌, Bool, true, false, not, refl, sym, ◌∙◌, ap, subst}
+use Rattle.std.proofs.Common.{◌≡◌, Bool, true, false, not, refl, sym, ◌∙◌, ap, subst, arith}
 use Rattle.std.specs.Prelude.{IsTrue, codes, [], ◌∷◌, ◌&&◌, ◌||◌}
 use Rattle.jsx_base.specs.Token.{Text, Operator, TokenKind, IdentifierName, NumericLiteral, BigIntLiteral, StringLiteral, NoSubstitution, TemplateHead, TemplateMiddle, TemplateTail, JsxName, Elision, RegExpLiteral, among}
 use Rattle.jsx_tree.specs.Signs.{Tok}
@@ -25,6 +25,8 @@ use Rattle.jsx_tree.proofs.Rows.Firsts.{kind_home}
 use Rattle.jsx_tree.proofs.Rows.Closers.{any_operand, homes_operand}
 use Rattle.jsx_operand.proofs.OfSoFar.{of_so_far}
 use Rattle.jsx_tree.specs.declared.text.DeclareWord.TheVariants as declare_word
+use Rattle.jsx_tree.specs.Faults.{Fault, Shallow, given_depth, Below, part_depth}
+use Rattle.jsx_tree.proofs.Depth.Shallow.{below_shallow}
 use Rattle.jsx_token.specs.declared.heading.Heading.{Heading}
 use Rattle.jsx_token.specs.declared.heading.Heading.TheVariants as heading
 use Rattle.jsx_token.specs.Headings.{Begins, own, over_keys, over_items}
@@ -223,14 +225,14 @@ pub record LeafOnly (c : Nonterminal) (k : TokenKind) : Type 0 where
   pub node : (l : Kind) (ts : Forest) → Taken l → admits c (node l ts) ≡ true → ⊥
   pub kind : (l : TokenKind) (t : Text) → leaf_at c l t ≡ true → l ≡ k
 
-record Told (c : Nonterminal) (k : TokenKind) (x : Place) (u : Tree) (y : Place) : Type 0 where
-  text : Text
-  is : u ≡ leaf k text
-  there : forth (Tok (mode_of k) k text) x ≡ y
-  found : IsTrue (is_found y)
-  member : leaf_in c k text ≡ true
-  at : leaf_at c k text ≡ true
-  whole : is_leaf k text ≡ true
+pub record Told (c : Nonterminal) (k : TokenKind) (x : Place) (u : Tree) (y : Place) : Type 0 where
+  pub text : Text
+  pub is : u ≡ leaf k text
+  pub there : forth (Tok (mode_of k) k text) x ≡ y
+  pub found : IsTrue (is_found y)
+  pub member : leaf_in c k text ≡ true
+  pub at : leaf_at c k text ≡ true
+  pub whole : is_leaf k text ≡ true
 
 leaf_scan : (k : TokenKind) (t : Text) (x : Place) → has_token k ≡ true → scan x (spelled (leaf k t)) ≡ forth (Tok (mode_of k) k t) x
 leaf_scan Elision t x e = cc
@@ -242,7 +244,12 @@ leaf_told {v} {c} {k} {x} {y} l t h e r =
     let q : Staged v false c x (leaf k t) y = subst (λ m. Staged v false c x (leaf m t) y) e r in
     record { text = t; is = ap (λ m. leaf m t) e; there = sym (leaf_scan k t x h) ∙ q.reads.scans; found = q.reads.found; member = and_left (leaf_in c k t) (is_leaf k t) q.reads.is; at = q.staged; whole = and_right (leaf_in c k t) (is_leaf k t) q.reads.is }
 
-told : {v : Surroundings} {c : Nonterminal} {k : TokenKind} {x y : Place} → LeafOnly c k → (u : Tree) → Staged v false c x u y → Told c k x u y
+pub leaf_one : (k : TokenKind) (t : Text) → has_token k ≡ true → part_depth (leaf k t) ≡ 1
+leaf_one Elision t e = cc
+leaf_one RegExpLiteral t e = refl
+leaf_one _ t e = refl
+
+pub told : {v : Surroundings} {c : Nonterminal} {k : TokenKind} {x y : Place} → LeafOnly c k → (u : Tree) → Staged v false c x u y → Told c k x u y
 told o (leaf l t) r = leaf_told l t o.token (o.kind l t r.staged) r
 told o (node l ts) r = absurd (o.node l ts (taken_by r) (home_of r))
 told o (list ts) r = absurd (no_list r)
@@ -267,18 +274,29 @@ lost_not : {x y : Place} → x ≡ Lost → x ≡ y → IsTrue (is_found y) → 
 lost_not l e f = let bad : IsTrue (is_found Lost) = subst (λ p. IsTrue (is_found p)) l (found_at e f) in cc
 
 -- no such token stands there
-pub no_leaf : {v : Surroundings} {c : Nonterminal} {k : TokenKind} {x : Place} → LeafOnly c k → ((t : Text) → forth (Tok (mode_of k) k t) x ≡ Lost) → Barred so_far v (Part c) x
-no_leaf {v} {c} {k} {x} o n = record { no = at }
+pub no_leaf : {v : Surroundings} {c : Nonterminal} {k : TokenKind} {x : Place} {e : Fault} → LeafOnly c k → ((t : Text) → forth (Tok (mode_of k) k t) x ≡ Lost) → Barred so_far v (Part c) x e
+no_leaf {v} {c} {k} {x} {e = e} o n = record { no = at }
   where
-    at : (h : Given) (z : Place) → Past (Whole so_far) v (Part c) x h z → ⊥
-    at h z (tree {t = u} q) = let m = told o u q.reads in lost_not (n m.text) m.there m.found
+    at : (h : Given) (z : Place) → Past (Whole so_far) v (Part c) x h z → Shallow e (given_depth h) → ⊥
+    at h z (tree {t = u} q) s = let m = told o u q.reads in lost_not (n m.text) m.there m.found
+
+-- where no level is left none may
+pub deep_leaf : {v : Surroundings} {c : Nonterminal} {k : TokenKind} {x : Place} {e : Fault} → LeafOnly c k → Below 0 e → Barred so_far v (Part c) x e
+deep_leaf {v} {c} {k} {x} {e} o b = record { no = at }
+  where
+    at : (h : Given) (z : Place) → Past (Whole so_far) v (Part c) x h z → Shallow e (given_depth h) → ⊥
+    at h z (tree {t = u} q) s =
+        let m = told o u q.reads in
+        let d = ap part_depth m.is ∙ leaf_one k m.text o.token in
+        let w = below_shallow 0 e (part_depth u) b s in
+        omega (arith, d, w)
 
 -- the one that stands there may not
-pub unfit_leaf : {v : Surroundings} {c : Nonterminal} {k : TokenKind} {x y : Place} (t : Text) → LeafOnly c k → y ≡ forth (Tok (mode_of k) k t) x → IsTrue (is_found y) → (leaf_in c k t && leaf_at c k t) ≡ false → Barred so_far v (Part c) x
-unfit_leaf {v} {c} {k} {x} {y} t o e f n = record { no = at }
+pub unfit_leaf : {v : Surroundings} {c : Nonterminal} {k : TokenKind} {x y : Place} {d : Fault} (t : Text) → LeafOnly c k → y ≡ forth (Tok (mode_of k) k t) x → IsTrue (is_found y) → (leaf_in c k t && leaf_at c k t) ≡ false → Barred so_far v (Part c) x d
+unfit_leaf {v} {c} {k} {x} {y} {d = d} t o e f n = record { no = at }
   where
-    at : (h : Given) (z : Place) → Past (Whole so_far) v (Part c) x h z → ⊥
-    at h z (tree {t = u} q) =
+    at : (h : Given) (z : Place) → Past (Whole so_far) v (Part c) x h z → Shallow d (given_depth h) → ⊥
+    at h z (tree {t = u} q) a =
         let m = told o u q.reads in
         let same : m.text ≡ t = one_text (mode_of k) k m.text t x (found_at m.there m.found) (found_at (sym e) f) in
         let bad : true ≡ false = sym (and_both _ _ m.member m.at) ∙ (ap (λ s. leaf_in c k s && leaf_at c k s) same ∙ n) in cc
@@ -358,15 +376,15 @@ tails = record { token = refl; never = refl; node = λ l ts. nowhere (TemplatePa
 
 -- ---- where nothing stands
 
-none_there : {v : Surroundings} {c : Nonterminal} {x : Place} → ((l : TokenKind) (t : Text) → leaf_at c l t ≡ true → ⊥) → ((l : Kind) (ts : Forest) → Taken l → admits c (node l ts) ≡ true → ⊥) → Barred so_far v (Part c) x
-none_there {v} {c} {x} f g = record { no = at }
+none_there : {v : Surroundings} {c : Nonterminal} {x : Place} {e : Fault} → ((l : TokenKind) (t : Text) → leaf_at c l t ≡ true → ⊥) → ((l : Kind) (ts : Forest) → Taken l → admits c (node l ts) ≡ true → ⊥) → Barred so_far v (Part c) x e
+none_there {v} {c} {x} {e = e} f g = record { no = at }
   where
-    at : (h : Given) (z : Place) → Past (Whole so_far) v (Part c) x h z → ⊥
-    at h z (tree {t = leaf l t} q) = f l t q.reads.staged
-    at h z (tree {t = node l ts} q) = g l ts (taken_by q.reads) (home_of q.reads)
-    at h z (tree {t = list ts} q) = no_list q.reads
+    at : (h : Given) (z : Place) → Past (Whole so_far) v (Part c) x h z → Shallow e (given_depth h) → ⊥
+    at h z (tree {t = leaf l t} q) s = f l t q.reads.staged
+    at h z (tree {t = node l ts} q) s = g l ts (taken_by q.reads) (home_of q.reads)
+    at h z (tree {t = list ts} q) s = no_list q.reads
 
-pub no_attributes : {v : Surroundings} {x : Place} → Barred so_far v (Part Attributes) x
+pub no_attributes : {v : Surroundings} {x : Place} {e : Fault} → Barred so_far v (Part Attributes) x e
 no_attributes = none_there (λ l t h. cc) (λ l ts. nowhere Attributes refl refl refl refl refl refl refl)
 
 -- ---- values

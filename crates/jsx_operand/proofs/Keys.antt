@@ -1,5 +1,5 @@
 -- The key of a member of an object: a name, a string, a number, or an expression in brackets (ECMA-262 section 13.2.5).
-use Rattle.std.proofs.Common.{◌≡◌, Bool, true, false, refl, sym, ◌∙◌, ap, subst}
+use Rattle.std.proofs.Common.{◌≡◌, Bool, true, false, refl, sym, ◌∙◌, ap, subst, arith}
 use Rattle.std.specs.Prelude.{IsTrue, codes}
 use Rattle.jsx_base.specs.Token.{Text, TokenKind, Operator, Punctuator, IdentifierName, NumericLiteral, BigIntLiteral, StringLiteral, same}
 use Rattle.jsx_tree.specs.Signs.{Tok}
@@ -12,13 +12,15 @@ use Rattle.jsx_tree.specs.StaticRules.{Surroundings}
 use Rattle.jsx_tree.specs.Walk.{is_found, Given, one, Past, tree, Walk, steady, tail}
 use Rattle.jsx_tree.specs.Language.{Whole}
 use Rattle.jsx_tree.specs.Answers.{Moves, Only, Barred, NoRow, Built}
+use Rattle.jsx_tree.specs.Faults.{Fault, Below, Shallow, part_depth, given_depth}
 use Rattle.jsx_tree.proofs.Tokens.{and_both}
 use Rattle.jsx_tree.proofs.Apart.{clash, one_token, never_both}
+use Rattle.jsx_tree.proofs.Depth.Shallow.{below_shallow}
 use Rattle.jsx_tree.proofs.Rows.Bridge.{found_at}
 use Rattle.jsx_tree.proofs.Rows.Stopping.{never_stops}
 use Rattle.jsx_tree.proofs.Rows.Guarded.{whole_walk, loosen, to_grammar}
 use Rattle.jsx_tree.proofs.Rows.Bodies.{plain as plain_row}
-use Rattle.jsx_tree.proofs.Rows.Placing.{free_around, moved}
+use Rattle.jsx_tree.proofs.Rows.Placing.{free_around, moved, node_shallow}
 use Rattle.jsx_operand.specs.SoFar.{Staged, so_far}
 use Rattle.jsx_operand.specs.Members.{NoOtherKey}
 use Rattle.jsx_token.specs.Stage.{leaf_at}
@@ -100,22 +102,31 @@ literal_key {v} {x} {y} l t p w e f = record { past = tree (record { reads = key
     at h z (tree {t = u} q) = here (at_key u q.reads) q.reads
 
 -- no token stands there that is one
-pub no_literal_key : {v : Surroundings} {x : Place} → NoOtherKey x → ((t : Text) → forth (Tok Operator StringLiteral t) x ≡ Lost) → ((t : Text) → forth (Tok Operator NumericLiteral t) x ≡ Lost) → ((t : Text) → forth (Tok Operator BigIntLiteral t) x ≡ Lost) → Barred so_far v (Part Key) x
-no_literal_key {v} {x} n a b c = record { no = at }
+pub no_literal_key : {v : Surroundings} {x : Place} {o : Fault} → NoOtherKey x → ((t : Text) → forth (Tok Operator StringLiteral t) x ≡ Lost) → ((t : Text) → forth (Tok Operator NumericLiteral t) x ≡ Lost) → ((t : Text) → forth (Tok Operator BigIntLiteral t) x ≡ Lost) → Barred so_far v (Part Key) x o
+no_literal_key {v} {x} {o = o} n a b c = record { no = at }
   where
     lost : {p q : Place} → p ≡ Lost → p ≡ q → IsTrue (is_found q) → ⊥
     lost l e f = let bad : IsTrue (is_found Lost) = subst (λ p. IsTrue (is_found p)) l (found_at e f) in cc
 
-    here : {u : Tree} {z : Place} → AtKey u → Staged v false Key x u z → ⊥
-    here (named IsName {t = t} q) r = lost (n.name t) (leaf_forth IsName r) r.reads.found
-    here (named IsString {t = t} q) r = lost (a t) (leaf_forth IsString r) r.reads.found
-    here (named IsNumber {t = t} q) r = lost (b t) (leaf_forth IsNumber r) r.reads.found
-    here (named IsLong {t = t} q) r = lost (c t) (leaf_forth IsLong r) r.reads.found
-    here (named IsPattern q) r = cc
-    here bracketed r = let bad : IsTrue (is_found Lost) = subst (λ p. IsTrue (is_found p)) n.bracket (bracket_led r) in cc
+    here : {u : Tree} {z : Place} → AtKey u → Staged v false Key x u z → Shallow o (part_depth u) → ⊥
+    here (named IsName {t = t} q) r s' = lost (n.name t) (leaf_forth IsName r) r.reads.found
+    here (named IsString {t = t} q) r s' = lost (a t) (leaf_forth IsString r) r.reads.found
+    here (named IsNumber {t = t} q) r s' = lost (b t) (leaf_forth IsNumber r) r.reads.found
+    here (named IsLong {t = t} q) r s' = lost (c t) (leaf_forth IsLong r) r.reads.found
+    here (named IsPattern q) r s' = cc
+    here bracketed r s' = let bad : IsTrue (is_found Lost) = subst (λ p. IsTrue (is_found p)) n.bracket (bracket_led r) in cc
 
-    at : (h : Given) (z : Place) → Past (Whole so_far) v (Part Key) x h z → ⊥
-    at h z (tree {t = u} q) = here (at_key u q.reads) q.reads
+    at : (h : Given) (z : Place) → Past (Whole so_far) v (Part Key) x h z → Shallow o (given_depth h) → ⊥
+    at h z (tree {t = u} q) s = here (at_key u q.reads) q.reads s
+
+-- where no level is left the one that stands there may not
+pub deep_key : {v : Surroundings} {x y : Place} {t : Tree} {e : Fault} → Only so_far v (Part Key) x (one t) y → part_depth t ≡ 1 → Below 0 e → Barred so_far v (Part Key) x e
+deep_key {e = e} o is b = record {
+  no = λ h z q s.
+      let d = ap given_depth (o.alone h z q).0 in
+      let w = below_shallow 0 e (given_depth h) b s in
+      omega (arith, is, d, w);
+}
 
 -- the same tree in the code
 pub key_as : {v : Surroundings} {x y : Place} {t u : Tree} → u ≡ t → Only so_far v (Part Key) x (one t) y → Only so_far v (Part Key) x (one u) y
@@ -145,12 +156,13 @@ computed_only {v} {x} {a} {y} {t} m b = record {
     at : (h : Given) (z : Place) → Past (Whole so_far) v (Part Key) x h z → (one t ≡ h) × (y ≡ z)
     at h z (tree {t = u} q) = here (at_key u q.reads) q.reads
 
-pub computed_barred : {v : Surroundings} {x a : Place} → Moves (pun "[") x a → NoRow so_far v (tail (row_so_far (function ComputedKey))) a → Barred so_far v (Part Key) x
-computed_barred {v} {x} m n = record { no = at }
+-- it counts for nothing itself
+pub computed_barred : {v : Surroundings} {x a : Place} {e : Fault} → Moves (pun "[") x a → NoRow so_far v (tail (row_so_far (function ComputedKey))) a e → Barred so_far v (Part Key) x e
+computed_barred {v} {x} {e = e} m n = record { no = at }
   where
-    here : {u : Tree} {z : Place} → AtKey u → Staged v false Key x u z → ⊥
-    here (named l {t = s} q) r = mark_none l s (codes "[") x q (found_at (leaf_forth l r) r.reads.found) (found_at (sym m.is) m.found)
-    here {z = z} (bracketed {ts}) r = (signed_none (row_so_far (function ComputedKey)) refl m n).no ts z (key_whole r)
+    here : {u : Tree} {z : Place} → AtKey u → Staged v false Key x u z → Shallow e (part_depth u) → ⊥
+    here (named l {t = s} q) r a = mark_none l s (codes "[") x q (found_at (leaf_forth l r) r.reads.found) (found_at (sym m.is) m.found)
+    here {z = z} (bracketed {ts}) r a = (signed_none (row_so_far (function ComputedKey)) refl m n).no ts z (key_whole r) (node_shallow e false refl of_so_far r a)
 
-    at : (h : Given) (z : Place) → Past (Whole so_far) v (Part Key) x h z → ⊥
-    at h z (tree {t = u} q) = here (at_key u q.reads) q.reads
+    at : (h : Given) (z : Place) → Past (Whole so_far) v (Part Key) x h z → Shallow e (given_depth h) → ⊥
+    at h z (tree {t = u} q) s = here (at_key u q.reads) q.reads s

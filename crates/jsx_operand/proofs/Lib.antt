@@ -40,6 +40,9 @@ pub mod Tokens
 pub mod Binding
 pub mod Arrows
 pub mod Turned
+pub mod Reaching
 pub mod Variants
 pub mod Turners
 pub mod Suiting
+pub mod Outgrown
+pub mod Outgrowing

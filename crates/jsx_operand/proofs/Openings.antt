@@ -1,42 +1,47 @@
 -- What an expression begins with that is neither a literal nor another expression: a node of a kind whose row begins with a sign. Each fact on the kinds is one test of all of them.
-use Rattle.std.proofs.Common.{◌≡◌, nat_eq, nat_le, Bool, true, false, not, List, [], ◌∷◌, refl, sym, ◌∙◌, ap, subst}
+use Rattle.std.proofs.Common.{◌≡◌, ◌≤◌, nat_eq, nat_le, Bool, true, false, not, List, [], ◌∷◌, refl, sym, ◌∙◌, ap, subst, arith}
 use Rattle.std.specs.Prelude.{IsTrue, ◌&&◌, ◌||◌}
 use Rattle.std.proofs.lemmas.Bool.{eqb-true}
-use Rattle.jsx_base.specs.Token.{Text, Operator, Punctuator, kind_number, token, same}
+use Rattle.jsx_base.specs.Token.{Text, Operator, Punctuator, JsxName, kind_number, token, same}
 use Rattle.jsx_tree.specs.Signs.{AfterExpr, Sign, Tok}
 use Rattle.jsx_tree.specs.Kinds.{Binds, Assigns, ArrayPat, ObjectPat, Array, Object, Parenthesized, Arrow, ArrowBlock, ImportCall, ImportMeta, New, NewWithoutArguments, NewTarget, SuperCall, SuperMember, SuperIndex, Seq, Spread, ParenTarget, Element, Kind, function, expression, jsx, Tree, leaf, node, list, Forest, PlainTemplate, SubstitutedTemplate}
 use Rattle.jsx_tree.specs.Nonterminals.{Nonterminal, Expr, homes, in_homes}
 use Rattle.jsx_tree.specs.Grammar.{Fixed, Part, Context, pun}
 use Rattle.jsx_tree.specs.Reading.{Place, Lost, At, forth, go_if}
 use Rattle.jsx_tree.specs.StaticRules.{Surroundings}
-use Rattle.jsx_tree.specs.Form.{admits}
+use Rattle.jsx_tree.specs.Form.{admits, fits_below}
+use Rattle.jsx_tree.specs.Depth.{depth}
 use Rattle.jsx_tree.specs.Walk.{is_found, one, Given, Past, Piece, piece, sign, tree, tail, Walk, next, around, steady}
 use Rattle.jsx_tree.specs.Language.{Whole}
 use Rattle.jsx_tree.specs.Answers.{Moves, Only, Barred, NoRow, NoNode, Built, BuiltNode}
 use Rattle.jsx_tree.specs.Grows.{Onward, Stays}
+use Rattle.jsx_tree.specs.Faults.{Fault, Unread, Shallow, part_depth, given_depth, outer, outer_if, inner, Below, deepest}
 use Rattle.jsx_token.specs.Stage.{has_kind, value_leaf}
 use Rattle.jsx_operand.specs.SoFar.{Staged, so_far}
 use Rattle.jsx_token.specs.Marks.{row_so_far}
 use Rattle.jsx_tree.proofs.Tokens.{and_left, and_right, and_both, same_is}
 use Rattle.jsx_tree.proofs.Apart.{clash}
 use Rattle.jsx_tree.proofs.Rows.Bridge.{found_at}
-use Rattle.jsx_tree.proofs.Rows.Stopping.{is_never, never_stops, is_not, or_cases}
+use Rattle.jsx_tree.proofs.Rows.Stopping.{is_never, never_stops, or_cases}
 use Rattle.jsx_tree.proofs.Rows.Guarded.{guarded, whole_walk, loosen, to_grammar}
 use Rattle.jsx_tree.proofs.Rows.Bodies.{bodiless, plain as plain_row}
 use Rattle.jsx_tree.proofs.Rows.Closers.{any_operand, homes_operand}
 use Rattle.jsx_tree.proofs.Rows.Spines.{grows}
-use Rattle.jsx_tree.proofs.Rows.Growing.{grown_only}
-use Rattle.jsx_tree.proofs.Rows.Placing.{Chosen, free, free_around, moved}
+use Rattle.jsx_tree.proofs.Rows.Growing.{grown_only, inside_shallow, onward_up}
+use Rattle.jsx_tree.proofs.Rows.Placing.{Chosen, free, free_around, moved, node_shallow}
+use Rattle.jsx_tree.proofs.Depth.Nodes.{counts_as, depth_told, read_depth}
+use Rattle.jsx_tree.proofs.Depth.Shallow.{below_shallow, below_inner}
+use Rattle.jsx_tree.proofs.Rows.Steps.{outer_barred}
 use Rattle.jsx_operand.proofs.OfSoFar.{of_so_far}
 use Rattle.jsx_token.specs.Growths.{Rung, rung, is_blocked, is_rung, level_of_kind, reaches, seat, lead, settled, opening_sign, opening_signs, same_sign, has_sign, is_code, NoOpening}
 use Rattle.jsx_operand.specs.Climbing.{Begins, Climbs, NoneBegins, rises}
 use Rattle.jsx_operand.specs.Openings.{opens_with, OnlyParts, NoParts, OnlyOpened, NoneOpened}
 use Rattle.jsx_token.proofs.Listed.{Listed, listed, code, is_apart, kinds, every, every_two, of_each, of_two, one_place, implies, implied}
-use Rattle.jsx_operand.proofs.Homes.{Literal, IsName, IsNumber, IsLong, IsString, token_kind, IsPattern, Value, made, no_list}
-use Rattle.jsx_operand.proofs.Values.{First, name, opened, less_literal, lead_row, led_sign, Opener, angle, plain, SameFirst, begun, onto, same_both, literal_sign, literal_opening, one_opening, opener_of, opened_sign, opened_led, quoted, Bracketed, in_array, in_object, bracketed, literal_kind, bracket_opener, bracket_sign, bracket_none, unbracketed, Quote, one_piece, whole_row, head_row, piece_row, piece_of, literal_piece, opener_piece}
+use Rattle.jsx_operand.proofs.Homes.{Literal, IsName, IsNumber, IsLong, IsString, token_kind, IsPattern, Value, made, no_list, leaf_one, tags, told}
+use Rattle.jsx_operand.proofs.Values.{First, name, opened, less_literal, lead_row, led_sign, Opener, angle, plain, SameFirst, begun, onto, same_both, literal_sign, literal_opening, one_opening, opener_of, opened_sign, opened_led, quoted, Bracketed, in_array, in_object, bracketed, bracket_opener, bracket_sign, bracket_none, unbracketed, Quote, one_piece, whole_row, head_row, piece_row, piece_of, literal_piece, opener_piece}
 use Rattle.jsx_operand.proofs.Rungs.{clear_first, leads_as, reaches_level, rises_node, rung_operand, rung_single, seat_admits, clear}
 use Rattle.jsx_token.proofs.Levels.{grows_on, edge, at_level, is_ruled, signed, Quoted, undivided, divided, is_template}
-use Rattle.jsx_operand.proofs.Climbing.{Climbed, blocked_ends, climb_step, edge_on, low, node_reaches, stays_low}
+use Rattle.jsx_operand.proofs.Climbing.{Climbed, blocked_ends, climb_step, edge_on, low, node_reaches, stays_low, counts_listed}
 use Rattle.jsx_operand.proofs.PlainKinds.{plain_kind}
 
 -- ---- of each kind
@@ -123,8 +128,8 @@ free_in k f b = record { parts = b.parts; is = b.is; walk = unsteadied b.parts f
 pub free_parts : {v : Surroundings} {x y : Place} {t : Tree} (k : Kind) → free (tail (row_so_far k)) ≡ true → BuiltNode so_far v (tail (row_so_far k)) k t x y → OnlyParts v k t x y
 free_parts k f b = record { parts = b.parts; is = b.is; walk = unsteadied b.parts f b.row.walk; keeps = b.keeps; alone = λ us z w h. b.row.alone us z (steadied us f w) }
 
-pub free_none : {v : Surroundings} {x : Place} (k : Kind) → free (tail (row_so_far k)) ≡ true → NoNode so_far v (tail (row_so_far k)) k x → NoParts v k x
-free_none k f n = record { no = λ us z w h. n.no us z (steadied us f w) h }
+pub free_none : {v : Surroundings} {x : Place} {e : Fault} (k : Kind) → free (tail (row_so_far k)) ≡ true → NoNode so_far v (tail (row_so_far k)) k x e → NoParts v k x e
+free_none k f n = record { no = λ us z w h s. n.no us z (steadied us f w) h s }
 
 -- a row without the sign that it begins with
 pub peel : {V : List Context → Surroundings} (ps : List Piece) {x a z : Place} {ts : Forest} → signed ps ≡ true → forth (lead ps) x ≡ a → Walk (Whole so_far) V ps x ts z → Walk (Whole so_far) V (tail ps) a ts z
@@ -158,16 +163,16 @@ parts_only {v} {c} {k} {x} {a} {y} {t} ch g l home e m b = record {
         let same = n.alone us z (whole_walk of_so_far c (row_so_far k) g q'.ends_there w.walk) w.keeps in
         (ap one (n.is ∙ (ap (node k) same.0 ∙ ap (λ h. node h us) (sym i))), same.1)
 
-pub parts_barred : {v : Surroundings} {c : Nonterminal} {k : Kind} {x a : Place} → Chosen so_far v c k x → guarded c (row_so_far k) ≡ true → signed (row_so_far k) ≡ true → Moves (lead (row_so_far k)) x a → NoParts v k a → Barred so_far v (Part c) x
-parts_barred {v} {c} {k} {x} ch g l m n = record { no = at }
+pub parts_barred : {v : Surroundings} {c : Nonterminal} {k : Kind} {x a : Place} {e : Fault} (b : Bool) → counts_as b k ≡ true → Chosen so_far v c k x → guarded c (row_so_far k) ≡ true → signed (row_so_far k) ≡ true → Moves (lead (row_so_far k)) x a → NoParts v k a e → Barred so_far v (Part c) x (outer_if b e)
+parts_barred {v} {c} {k} {x} {e = e} b i ch g l m n = record { no = at }
   where
-    at : (h : Given) (z : Place) → Past (Whole so_far) v (Part c) x h z → ⊥
-    at h z (tree {t = leaf j r} q) = ch.no_leaf j r z q
-    at h z (tree {t = list us} q) = no_list q.reads
-    at h z (tree {t = node j us} q) =
+    at : (h : Given) (z : Place) → Past (Whole so_far) v (Part c) x h z → Shallow (outer_if b e) (given_depth h) → ⊥
+    at h z (tree {t = leaf j r} q) s = ch.no_leaf j r z q
+    at h z (tree {t = list us} q) s = no_list q.reads
+    at h z (tree {t = node j us} q) s =
         let q' : Whole so_far v false c x (node k us) z = subst (λ h. Whole so_far v false c x (node h us) z) (ch.kind j us z q) q in
         let w = of_so_far.from_node k q'.reads in
-        n.no us z (peel (row_so_far k) l (sym m.is) (whole_walk of_so_far c (row_so_far k) g q'.ends_there w.walk)) w.keeps
+        n.no us z (peel (row_so_far k) l (sym m.is) (whole_walk of_so_far c (row_so_far k) g q'.ends_there w.walk)) w.keeps (node_shallow e b i of_so_far q'.reads (subst (λ h. Shallow (outer_if b e) (part_depth (node h us))) (ch.kind j us z q) s))
 
 -- ---- read to the ends of its parts
 
@@ -180,6 +185,13 @@ opened_whole r k i l g q o w = kind_whole r k i l (opens k l g).closed q o w
 -- no pattern in brackets is what is read whole there begins with
 pub record NoBracket (v : Surroundings) (r : Rung) (x : Place) : Type 0 where
   pub on : {d : Nonterminal} {p : Place} {ts : Forest} {u : Tree} {z : Place} {k : Kind} → Bracketed k → Staged v false d x (node k ts) p → Onward so_far v x (node k ts) p u z → Whole so_far v false (seat r) x u z → ⊥
+
+-- none that is as shallow
+pub record DeepBracket (v : Surroundings) (r : Rung) (x : Place) (e : Fault) : Type 0 where
+  pub on : {d : Nonterminal} {p : Place} {ts : Forest} {u : Tree} {z : Place} {k : Kind} → Bracketed k → Staged v false d x (node k ts) p → Onward so_far v x (node k ts) p u z → Whole so_far v false (seat r) x u z → Shallow e (part_depth u) → ⊥
+
+pub deep_bracket : {v : Surroundings} {r : Rung} {x : Place} {e : Fault} → NoBracket v r x → DeepBracket v r x e
+deep_bracket n = record { on = λ b s o w _. n.on b s o w }
 
 -- where another sign stands none does
 pub no_bracket_by : {v : Surroundings} {x : Place} (k : Kind) → Listed k → grows_on k ≡ false → unbracketed (opening_sign k) ≡ true → IsTrue (is_found (forth (opening_sign k) x)) → (r : Rung) → NoBracket v r x
@@ -237,11 +249,11 @@ record Leads (v : Surroundings) (r : Rung) (x : Place) (t : Tree) (y : Place) : 
   on : {f u : Tree} {p z : Place} → First v x f p → Onward so_far v x f p u z → Whole so_far v false (seat r) x u z → SameFirst f t p y
 
 -- above its level nothing is read that begins with it
-too_low : {v : Surroundings} (r : Rung) {x y : Place} {t : Tree} (k : Kind) → is_rung r ≡ true → Listed k → Leads v r x t y → OnlyIn v (row_so_far k) k t x y → rises r t ≡ false → Barred so_far v (Part (seat r)) x
-too_low {v} r {x} {y} {t} k i l c b e = record { no = at }
+too_low : {v : Surroundings} {d : Fault} (r : Rung) {x y : Place} {t : Tree} (k : Kind) → is_rung r ≡ true → Listed k → Leads v r x t y → OnlyIn v (row_so_far k) k t x y → rises r t ≡ false → Barred so_far v (Part (seat r)) x d
+too_low {v} {d = d} r {x} {y} {t} k i l c b e = record { no = at }
   where
-    at : (h : Given) (z : Place) → Past (Whole so_far) v (Part (seat r)) x h z → ⊥
-    at h z (tree {t = u} q) =
+    at : (h : Given) (z : Place) → Past (Whole so_far) v (Part (seat r)) x h z → Shallow d (given_depth h) → ⊥
+    at h z (tree {t = u} q) s =
         let m = begun (rung_single r i) u q.reads in
         let o : Onward so_far v x t y u z = onto (c.on m.first m.onward q) m.onward in
         let here : Staged v false (Expr 1) x t y = subst (λ w. Staged v false (Expr 1) x w y) (sym b.is) (staged_at (rung 1) k refl (of_each (λ j. nat_le 1 (level_of_kind j)) refl k l) l refl b.walk b.keeps) in
@@ -250,7 +262,7 @@ too_low {v} r {x} {y} {t} k i l c b e = record { no = at }
 -- at one rung: wherever the tree may stand there, and else nothing is read
 pub record Rises (v : Surroundings) (r : Rung) (x : Place) (t : Tree) (y : Place) : Type 0 where
   pub climbs : rises r t ≡ true → Climbs v r x t y
-  pub low : rises r t ≡ false → Barred so_far v (Part (seat r)) x
+  pub low : rises r t ≡ false → Barred so_far v (Part (seat r)) x Unread
 
 node_climbed : {v : Surroundings} {x y : Place} {t : Tree} (r : Rung) → is_rung r ≡ true → (k : Kind) → Listed k → Leads v r x t y → (b : OnlyIn v (row_so_far k) k t x y) → (reaches r k ≡ true → clear r (node k b.parts) ≡ true) → rises r t ≡ true → Climbed v r x t y
 node_climbed {v} {x} {y} {t} r i k l c b d e =
@@ -412,7 +424,7 @@ signed_follows k l g n m o s = only_follows (no_bracket_by k l g n (found_at (sy
 -- of an arrow function with its block, with which nothing goes on
 pub record EndsAt (v : Surroundings) (x : Place) (t : Tree) (y : Place) : Type 0 where
   pub whole : (r : Rung) → is_rung r ≡ true → rises r t ≡ true → Only so_far v (Part (seat r)) x (one t) y
-  pub low : (r : Rung) → is_rung r ≡ true → rises r t ≡ false → Barred so_far v (Part (seat r)) x
+  pub low : (r : Rung) → is_rung r ≡ true → rises r t ≡ false → Barred so_far v (Part (seat r)) x Unread
 
 pub signed_blocked : {v : Surroundings} {x a y : Place} {t : Tree} (k : Kind) → Listed k → grows_on k ≡ false → unbracketed (opening_sign k) ≡ true → Moves (opening_sign k) x a → (o : OnlyOpened v (opening_sign k) t a y) → nat_le (level_of_kind o.kind) 2 ≡ true → is_blocked y ≡ true → EndsAt v x t y
 unfolding opened_first
@@ -454,20 +466,20 @@ sole_parts {v} {a} {y} {t} k l g n b = record {
   alone = λ j ts z o w keeps. subst (λ i. Walk (Whole so_far) (around v ts) (tail (row_so_far i)) a ts z → so_far.keeps i v ts ≡ true → (node i ts ≡ t) × (z ≡ y)) (sym (sole_with k l g n j o)) (same_parts k b) w keeps;
 }
 
-pub no_sole_parts : {v : Surroundings} {a : Place} (k : Kind) → Listed k → grows_on k ≡ false → is_shared k ≡ false → NoParts v k a → NoneOpened v (opening_sign k) a
-no_sole_parts {v} {a} k l g n b = record { no = λ j o. subst (λ i. NoParts v i a) (sym (sole_with k l g n j o)) b }
+pub no_sole_parts : {v : Surroundings} {a : Place} {e : Fault} (k : Kind) → Listed k → grows_on k ≡ false → is_shared k ≡ false → NoParts v k a e → NoneOpened v (opening_sign k) a e
+no_sole_parts {v} {a} {e = e} k l g n b = record { no = λ j o. subst (λ i. NoParts v i a e) (sym (sole_with k l g n j o)) b }
 
 -- where what its parts stand in doesn't hang on them
 pub sole_opened : {v : Surroundings} {a y : Place} {t : Tree} (k : Kind) → Listed k → grows_on k ≡ false → is_shared k ≡ false → free (tail (row_so_far k)) ≡ true → BuiltNode so_far v (tail (row_so_far k)) k t a y → OnlyOpened v (opening_sign k) t a y
 sole_opened k l g n f b = sole_parts k l g n (free_parts k f b)
 
-pub sole_none : {v : Surroundings} {a : Place} (k : Kind) → Listed k → grows_on k ≡ false → is_shared k ≡ false → free (tail (row_so_far k)) ≡ true → NoNode so_far v (tail (row_so_far k)) k a → NoneOpened v (opening_sign k) a
+pub sole_none : {v : Surroundings} {a : Place} {e : Fault} (k : Kind) → Listed k → grows_on k ≡ false → is_shared k ≡ false → free (tail (row_so_far k)) ≡ true → NoNode so_far v (tail (row_so_far k)) k a e → NoneOpened v (opening_sign k) a e
 sole_none k l g n f b = no_sole_parts k l g n (free_none k f b)
 
 -- of kinds that begin with one sign one is read, and each other is not
 pub data Other (v : Surroundings) (a : Place) : Kind → Kind → Type 0 where
   itself : {k : Kind} → Other v a k k
-  barred : {k j : Kind} → free (tail (row_so_far j)) ≡ true → NoNode so_far v (tail (row_so_far j)) j a → Other v a k j
+  barred : {k j : Kind} → free (tail (row_so_far j)) ≡ true → NoNode so_far v (tail (row_so_far j)) j a Unread → Other v a k j
 
 pub opened_by : {v : Surroundings} {s : Sign} {a y : Place} {t : Tree} (k : Kind) → opens_with s k ≡ true → free (tail (row_so_far k)) ≡ true → BuiltNode so_far v (tail (row_so_far k)) k t a y → ((j : Kind) → opens_with s j ≡ true → Other v a k j) → OnlyOpened v s t a y
 opened_by {v} {s} {a} {y} {t} k e f b others = record { kind = k; begins = e; built = built; alone = λ j ts z o w keeps. by (others j o) w keeps }
@@ -477,42 +489,90 @@ opened_by {v} {s} {a} {y} {t} k e f b others = record { kind = k; begins = e; bu
 
     by : {j : Kind} {ts : Forest} {z : Place} → Other v a k j → Walk (Whole so_far) (around v ts) (tail (row_so_far j)) a ts z → so_far.keeps j v ts ≡ true → (node j ts ≡ t) × (z ≡ y)
     by itself w keeps = same_parts k built w keeps
-    by {ts = ts} {z = z} (barred h n) w keeps = absurd (n.no ts z (steadied ts h w) keeps)
+    by {ts = ts} {z = z} (barred h n) w keeps = absurd (n.no ts z (steadied ts h w) keeps tt)
 
 -- ---- where no expression stands
 
 -- what is read from there begins with neither a literal nor a node, nor with a pattern in brackets, nor is it a template
-record NoFirst (v : Surroundings) (x : Place) : Type 0 where
+record NoFirst (v : Surroundings) (x : Place) (e : Fault) : Type 0 where
   literal : (l : Literal) (t : Text) → value_leaf (token_kind l) t ≡ true → IsTrue (is_found (forth (literal_sign l t) x)) → ⊥
-  quoted : (r : Rung) {d : Nonterminal} {p : Place} {ts : Forest} {u : Tree} {z : Place} {k : Kind} → is_rung r ≡ true → Quoted k → Staged v false d x (node k ts) p → Onward so_far v x (node k ts) p u z → Whole so_far v false (seat r) x u z → ⊥
-  node : (r : Rung) {d : Nonterminal} {p : Place} {ts : Forest} {u : Tree} {z : Place} (k : Kind) → is_rung r ≡ true → Listed k → grows_on k ≡ false → Staged v false d x (node k ts) p → Onward so_far v x (node k ts) p u z → Whole so_far v false (seat r) x u z → ⊥
+  quoted : (r : Rung) {d : Nonterminal} {p : Place} {ts : Forest} {u : Tree} {z : Place} {k : Kind} → is_rung r ≡ true → Quoted k → Staged v false d x (node k ts) p → Onward so_far v x (node k ts) p u z → Whole so_far v false (seat r) x u z → Shallow e (part_depth u) → ⊥
+  node : (r : Rung) {d : Nonterminal} {p : Place} {ts : Forest} {u : Tree} {z : Place} (k : Kind) → is_rung r ≡ true → Listed k → grows_on k ≡ false → Staged v false d x (node k ts) p → Onward so_far v x (node k ts) p u z → Whole so_far v false (seat r) x u z → Shallow e (part_depth u) → ⊥
   bracketed : (r : Rung) → is_rung r ≡ true → NoBracket v r x
 
-none_first : {v : Surroundings} (r : Rung) {x p z : Place} {f u : Tree} → NoFirst v x → is_rung r ≡ true → First v x f p → Onward so_far v x f p u z → Whole so_far v false (seat r) x u z → ⊥
-none_first r b i (name l {t} h q e g) o w = b.literal l t h (found_at e g)
-none_first r b i (opened d {k} l g q) o w = b.node r k i l g q o w
-none_first r b i (quoted d q s) o w = b.quoted r i q s o w
-none_first r b i (bracketed d q s) o w = (b.bracketed r i).on q s o w
+none_first : {v : Surroundings} (r : Rung) {x p z : Place} {f u : Tree} {d : Fault} → NoFirst v x d → is_rung r ≡ true → First v x f p → Onward so_far v x f p u z → Whole so_far v false (seat r) x u z → Shallow d (part_depth u) → ⊥
+none_first r b i (name l {t} h q e g) o w a = b.literal l t h (found_at e g)
+none_first r b i (opened d {k} l g q) o w a = b.node r k i l g q o w a
+none_first r b i (quoted d q s) o w a = b.quoted r i q s o w a
+none_first r b i (bracketed d q s) o w a = (b.bracketed r i).on q s o w
 
-none_begins : {v : Surroundings} {x : Place} → NoFirst v x → NoneBegins v x
-none_begins {v} {x} b = record { on = λ r i. record { no = at r i } }
+none_begins : {v : Surroundings} {x : Place} {e : Fault} → NoFirst v x e → NoneBegins v x e
+none_begins {v} {x} {e = e} b = record { on = λ r i. record { no = at r i } }
   where
-    at : (r : Rung) → is_rung r ≡ true → (h : Given) (z : Place) → Past (Whole so_far) v (Part (seat r)) x h z → ⊥
-    at r i h z (tree {t = u} q) = let f = begun (rung_single r i) u q.reads in none_first r b i f.first f.onward q
+    at : (r : Rung) → is_rung r ≡ true → (h : Given) (z : Place) → Past (Whole so_far) v (Part (seat r)) x h z → Shallow e (given_depth h) → ⊥
+    at r i h z (tree {t = u} q) s = let f = begun (rung_single r i) u q.reads in none_first r b i f.first f.onward q s
+
+pub outer_begins : {v : Surroundings} {x : Place} {e : Fault} → NoneBegins v x (outer (inner e)) → NoneBegins v x e
+outer_begins n = record { on = λ r i. outer_barred (n.on r i) }
+
+-- where no level is left no expression is read: each is one deep at least
+literal_one : (l : Literal) (t : Text) → depth (leaf (token_kind l) t) ≡ 1
+literal_one IsName t = refl
+literal_one IsNumber t = refl
+literal_one IsLong t = refl
+literal_one IsString t = refl
+literal_one IsPattern t = refl
+
+node_one : {v : Surroundings} {d : Nonterminal} {x p : Place} {ts : Forest} (k : Kind) → counts_as true k ≡ true → Staged v false d x (node k ts) p → 1 ≤ depth (node k ts)
+node_one {d = d} {ts = ts} k n q = let e = depth_told true d k ts n (and_right (admits d (node k ts)) (fits_below d (node k ts)) (of_so_far.is_read q).is) in omega (arith, e)
+
+bracketed_counted : {k : Kind} → Bracketed k → counts_as true k ≡ true
+bracketed_counted in_array = refl
+bracketed_counted in_object = refl
+
+first_one : {v : Surroundings} {x p : Place} {f : Tree} → First v x f p → 1 ≤ depth f
+first_one (name l {t} h q e g) = let d = literal_one l t in omega (arith, d)
+first_one (opened d {k} l g q) = node_one k (counts_listed k l) q
+first_one (quoted d {k} q s) = node_one k (counts_listed k (quoted_listed q)) s
+first_one (bracketed d {k} b s) = node_one k (bracketed_counted b) s
+
+pub deep_begins : {v : Surroundings} {x : Place} {e : Fault} → Below 0 e → NoneBegins v x e
+deep_begins {v} {x} {e} b = record { on = λ r i. record { no = at r i } }
+  where
+    at : (r : Rung) → is_rung r ≡ true → (h : Given) (z : Place) → Past (Whole so_far) v (Part (seat r)) x h z → Shallow e (given_depth h) → ⊥
+    at r i h z (tree {t = u} q) s =
+        let f = begun (rung_single r i) u q.reads in
+        let one = first_one f.first in
+        let up = onward_up of_so_far f.onward in
+        let w = below_shallow 0 e (part_depth u) b s in
+        let d = read_depth (seat r) u (and_right (admits (seat r) u) (fits_below (seat r) u) (of_so_far.is_read q.reads).is) in
+        omega (arith, one, up, w, d)
 
 lost_there : (s : Sign) (x : Place) → forth s x ≡ Lost → IsTrue (is_found (forth s x)) → ⊥
 lost_there s x e f = let bad : IsTrue (is_found Lost) = subst (λ p. IsTrue (is_found p)) e f in cc
 
 -- none of the signs stands there, and no element does
-no_node : {v : Surroundings} (r : Rung) {d : Nonterminal} {x p z : Place} {ts : Forest} {u : Tree} (k : Kind) → NoOpening x → NoRow so_far v (row_so_far (jsx Element)) x → is_rung r ≡ true → Listed k → grows_on k ≡ false → Staged v false d x (node k ts) p → Onward so_far v x (node k ts) p u z → Whole so_far v false (seat r) x u z → ⊥
-no_node {v} r {d} {x} {p} {z} {ts} {u} k unopened e i l g q o w = or_cases (nat_eq (code k) (code (jsx Element))) (is_code (opening_sign k) && has_sign (opening_sign k) opening_signs) (opens k l g).begins element (λ h. lost_there (opening_sign k) x (unopened.on (opening_sign k) (and_left (is_code (opening_sign k)) _ h) (and_right (is_code (opening_sign k)) _ h)) (opened_sign k l g q))
+no_node : {v : Surroundings} (r : Rung) {d : Nonterminal} {x p z : Place} {ts : Forest} {u : Tree} {f : Fault} (k : Kind) → NoOpening x → NoRow so_far v (row_so_far (jsx Element)) x f → is_rung r ≡ true → Listed k → grows_on k ≡ false → Staged v false d x (node k ts) p → Onward so_far v x (node k ts) p u z → Whole so_far v false (seat r) x u z → Shallow (outer f) (part_depth u) → ⊥
+no_node {v} r {d} {x} {p} {z} {ts} {u} {f} k unopened e i l g q o w s = or_cases (nat_eq (code k) (code (jsx Element))) (is_code (opening_sign k) && has_sign (opening_sign k) opening_signs) (opens k l g).begins element (λ h. lost_there (opening_sign k) x (unopened.on (opening_sign k) (and_left (is_code (opening_sign k)) _ h) (and_right (is_code (opening_sign k)) _ h)) (opened_sign k l g q))
   where
     element : nat_eq (code k) (code (jsx Element)) ≡ true → ⊥
-    element h = subst (λ j. Staged v false d x (node j ts) p → Onward so_far v x (node j ts) p u z → ⊥) (sym (one_place k (jsx Element) l (listed (jsx Element) refl refl refl) h)) (λ q o. e.no ts p (steadied ts refl (opened_whole r (jsx Element) i (listed (jsx Element) refl refl refl) refl q o w))) q o
+    element h = subst (λ j. Staged v false d x (node j ts) p → Onward so_far v x (node j ts) p u z → ⊥) (sym (one_place k (jsx Element) l (listed (jsx Element) refl refl refl) h)) (λ q o. e.no ts p (steadied ts refl (opened_whole r (jsx Element) i (listed (jsx Element) refl refl refl) refl q o w)) (inside_shallow f of_so_far refl q o w.reads s)) q o
 
 -- an element doesn't begin with one of the signs
-no_angle : {v : Surroundings} {x : Place} (l : Literal) (t : Text) → IsTrue (is_found (forth (literal_sign l t) x)) → NoRow so_far v (row_so_far (jsx Element)) x
-no_angle {v} {x} l t f = record { no = λ ts y w. less_literal l t x (led_sign (row_so_far (jsx Element)) refl w) f }
+no_angle : {v : Surroundings} {x : Place} {e : Fault} (l : Literal) (t : Text) → IsTrue (is_found (forth (literal_sign l t) x)) → NoRow so_far v (row_so_far (jsx Element)) x e
+no_angle {v} {x} l t f = record { no = λ ts y w s. less_literal l t x (led_sign (row_so_far (jsx Element)) refl w) f }
+
+-- its name is one deep
+tag_deep : {v : Surroundings} {x y : Place} {ts : Forest} → Walk (Whole so_far) (steady v) (row_so_far (jsx Element)) x ts y → 1 ≤ deepest ts
+tag_deep {v} (next (sign a b) (next (tree {t = u} q) w)) = let m = told tags u q.reads in let d = ap part_depth m.is ∙ leaf_one JsxName m.text refl in omega (arith, d)
+
+pub deep_element : {v : Surroundings} {x : Place} (e : Fault) → Below 1 e → NoRow so_far v (row_so_far (jsx Element)) x (inner e)
+deep_element e b = record {
+  no = λ ts y w s.
+      let d = tag_deep w in
+      let h = below_shallow 0 (inner e) (deepest ts) (below_inner 0 e b) s in
+      omega (arith, d, h);
+}
 
 -- nor does a pattern in brackets where none of the signs stands
 unopened_bracket : {v : Surroundings} {x : Place} → NoOpening x → (r : Rung) → NoBracket v r x
@@ -524,21 +584,21 @@ unopened_bracket {v} {x} n r = record { on = λ b s o w. by b s }
     by in_object s = lost_there (pun "{") x (n.on (pun "{") refl refl) (bracket_sign in_object s)
 
 -- the literal that stands there may not
-pub unfit_literal : {v : Surroundings} {x y : Place} (l : Literal) (t : Text) → NoOpening x → y ≡ forth (literal_sign l t) x → IsTrue (is_found y) → value_leaf (token_kind l) t ≡ false → NoneBegins v x
+pub unfit_literal : {v : Surroundings} {x y : Place} {d : Fault} (l : Literal) (t : Text) → NoOpening x → y ≡ forth (literal_sign l t) x → IsTrue (is_found y) → value_leaf (token_kind l) t ≡ false → NoneBegins v x d
 unfit_literal {v} {x} {y} l t unopened e f n =
     let there = found_at (sym e) f in
     none_begins (record {
       literal = λ m s h g. let q = same_both m l s t x g there in clash _ (subst (λ k. value_leaf (token_kind k) t ≡ true) q.kinds (subst (λ r. value_leaf (token_kind m) r ≡ true) q.texts h)) n;
-      node = λ r k i j g q o w. no_node r k unopened (no_angle l t there) i j g q o w;
-      quoted = λ r i q s o w. literal_piece l t x there (piece_of q s);
+      node = λ r k i j g q o w a. no_node r k unopened (no_angle {e = Unread} l t there) i j g q o w tt;
+      quoted = λ r i q s o w a. literal_piece l t x there (piece_of q s);
       bracketed = λ r i. unopened_bracket unopened r;
     })
 
-pub no_value : {v : Surroundings} {x : Place} → NoOpening x → ((t : Text) → forth (literal_sign IsName t) x ≡ Lost) → ((t : Text) → forth (literal_sign IsNumber t) x ≡ Lost) → ((t : Text) → forth (literal_sign IsLong t) x ≡ Lost) → ((t : Text) → forth (literal_sign IsString t) x ≡ Lost) → ((t : Text) → forth (literal_sign IsPattern t) x ≡ Lost) → NoRow so_far v (row_so_far (jsx Element)) x → (Quote x → ⊥) → NoneBegins v x
+pub no_value : {v : Surroundings} {x : Place} {e : Fault} → NoOpening x → ((t : Text) → forth (literal_sign IsName t) x ≡ Lost) → ((t : Text) → forth (literal_sign IsNumber t) x ≡ Lost) → ((t : Text) → forth (literal_sign IsLong t) x ≡ Lost) → ((t : Text) → forth (literal_sign IsString t) x ≡ Lost) → ((t : Text) → forth (literal_sign IsPattern t) x ≡ Lost) → NoRow so_far v (row_so_far (jsx Element)) x e → (Quote x → ⊥) → NoneBegins v x (outer e)
 no_value {v} {x} unopened a b d c p r z = none_begins (record {
   literal = λ m s h g. lost_there (literal_sign m s) x (n m s) g;
   node = λ s k i j g q o w. no_node s k unopened r i j g q o w;
-  quoted = λ s i q n o w. z (piece_of q n);
+  quoted = λ s i q n o w a. z (piece_of q n);
   bracketed = λ r i. unopened_bracket unopened r;
 })
   where
@@ -549,43 +609,34 @@ no_value {v} {x} unopened a b d c p r z = none_begins (record {
     n IsString t = c t
     n IsPattern t = p t
 
--- the sign stands there, and what is behind it can't be read
-pub unread_opening : {v : Surroundings} {x a : Place} (k : Kind) → Listed k → grows_on k ≡ false → ((r : Rung) → is_rung r ≡ true → NoBracket v r x) → Moves (opening_sign k) x a → NoneOpened v (opening_sign k) a → NoneBegins v x
-unread_opening {v} {x} {a} k l g clear m n =
-    let there = found_at (sym m.is) m.found in
-    none_begins (record {
-      literal = λ o t h f. literal_opening o t (opening_sign k) x (opener_of k l g) h f there;
-      node = λ r {ts = ts} j i h f q o w.
-          let e = one_opening (opening_sign j) (opening_sign k) x (opener_of j h f) (opener_of k l g) (opened_sign j h f q) there in
-          (n.no j (with_sign k j h f e)).no ts _ (behind_sign j k h f l g m e (opened_whole r j i h f q o w)) (of_so_far.from_node j q).keeps;
-      quoted = λ r i q s o w. opener_piece x (opener_of k l g) there (piece_of q s);
-      bracketed = clear;
-    })
-
--- the same of a bracket at one rung
-pub unread_bracket : {v : Surroundings} {x a : Place} (r : Rung) → is_rung r ≡ true → (k : Kind) → Listed k → grows_on k ≡ false → NoBracket v r x → Moves (opening_sign k) x a → NoneOpened v (opening_sign k) a → Barred so_far v (Part (seat r)) x
-unread_bracket {v} {x} {a} r i k l g none m n = record { no = at }
+-- behind a sign, at one rung
+pub unread_bracket : {v : Surroundings} {x a : Place} {f : Fault} (r : Rung) → is_rung r ≡ true → (k : Kind) → Listed k → grows_on k ≡ false → DeepBracket v r x (outer f) → Moves (opening_sign k) x a → NoneOpened v (opening_sign k) a f → Barred so_far v (Part (seat r)) x (outer f)
+unread_bracket {v} {x} {a} {f = fault} r i k l g none m n = record { no = at }
   where
     there : IsTrue (is_found (forth (opening_sign k) x))
     there = found_at (sym m.is) m.found
 
-    by : {f u : Tree} {p z : Place} → First v x f p → Onward so_far v x f p u z → Whole so_far v false (seat r) x u z → ⊥
-    by (name o {t} h q e f) w s = literal_opening o t (opening_sign k) x (opener_of k l g) h (found_at e f) there
-    by {p = p} (opened d {k = j} {ts} h f q) o w =
+    by : {f u : Tree} {p z : Place} → First v x f p → Onward so_far v x f p u z → Whole so_far v false (seat r) x u z → Shallow (outer fault) (part_depth u) → ⊥
+    by (name o {t} h q e f) w s a = literal_opening o t (opening_sign k) x (opener_of k l g) h (found_at e f) there
+    by {p = p} (opened d {k = j} {ts} h f q) o w a =
         let e = one_opening (opening_sign j) (opening_sign k) x (opener_of j h f) (opener_of k l g) (opened_sign j h f q) there in
-        (n.no j (with_sign k j h f e)).no ts p (behind_sign j k h f l g m e (opened_whole r j i h f q o w)) (of_so_far.from_node j q).keeps
-    by (quoted d q s) o w = opener_piece x (opener_of k l g) there (piece_of q s)
-    by (bracketed d b s) o w = none.on b s o w
+        (n.no j (with_sign k j h f e)).no ts p (behind_sign j k h f l g m e (opened_whole r j i h f q o w)) (of_so_far.from_node j q).keeps (inside_shallow fault of_so_far (counts_listed j h) q o w.reads a)
+    by (quoted d q s) o w a = opener_piece x (opener_of k l g) there (piece_of q s)
+    by (bracketed d b s) o w a = none.on b s o w a
 
-    at : (h : Given) (z : Place) → Past (Whole so_far) v (Part (seat r)) x h z → ⊥
-    at h z (tree {t = u} q) = let f = begun (rung_single r i) u q.reads in by f.first f.onward q
+    at : (h : Given) (z : Place) → Past (Whole so_far) v (Part (seat r)) x h z → Shallow (outer fault) (given_depth h) → ⊥
+    at h z (tree {t = u} q) s = let f = begun (rung_single r i) u q.reads in by f.first f.onward q s
+
+-- the sign stands there, and what is behind it can't be read
+pub unread_opening : {v : Surroundings} {x a : Place} {d : Fault} (k : Kind) → Listed k → grows_on k ≡ false → ((r : Rung) → is_rung r ≡ true → DeepBracket v r x (outer d)) → Moves (opening_sign k) x a → NoneOpened v (opening_sign k) a d → NoneBegins v x (outer d)
+unread_opening k l g clear m n = record { on = λ r i. unread_bracket r i k l g (clear r i) m n }
 
 -- a template begins there, and none can be read
-pub unread_quoted : {v : Surroundings} {x : Place} → Quote x → ((k : Kind) → Quoted k → NoNode so_far v (row_so_far k) k x) → NoneBegins v x
-unread_quoted {x = x} p n = none_begins (record {
+pub unread_quoted : {v : Surroundings} {x : Place} {e : Fault} → Quote x → ((k : Kind) → Quoted k → NoNode so_far v (row_so_far k) k x e) → NoneBegins v x (outer e)
+unread_quoted {x = x} {e = e} p n = none_begins (record {
   literal = λ l t h f. literal_piece l t x f p;
-  node = λ r k i l g s o w. opener_piece x (opener_of k l g) (opened_sign k l g s) p;
-  quoted = λ r {p = q} {ts = ts} {k = k} i h s o w. (n k h).no ts q (steadied ts (quoted_freed h) (quoted_whole r h i s o w)) (of_so_far.from_node k s).keeps;
+  node = λ r k i l g s o w a. opener_piece x (opener_of k l g) (opened_sign k l g s) p;
+  quoted = λ r {p = q} {ts = ts} {k = k} i h s o w a. (n k h).no ts q (steadied ts (quoted_freed h) (quoted_whole r h i s o w)) (of_so_far.from_node k s).keeps (inside_shallow e of_so_far (counts_listed k (quoted_listed h)) s o w.reads a);
   bracketed = λ r i. record { on = λ b s o w. opener_piece x (bracket_opener b) (bracket_sign b s) p };
 })
 
@@ -607,16 +658,16 @@ pub opened_begun : {v : Surroundings} {x a y z : Place} {t u : Tree} (k : Kind) 
 opened_begun {u = u} k l g m o r i w = let f = begun (rung_single r i) u w.reads in by_first (opened_first k l g m o) r i f.first f.onward w
 
 -- where the literal isn't read, with a pattern
-pub unopened_begun : {v : Surroundings} {x a z : Place} {u : Tree} (t : Tree) (y : Place) (k : Kind) → Listed k → grows_on k ≡ false → Moves (opening_sign k) x a → NoneOpened v (opening_sign k) a → (r : Rung) → is_rung r ≡ true → Whole so_far v false (seat r) x u z → BegunSo v x t y u z
-unopened_begun {v} {x} {u = u} t y k l g m n r i w = let f = begun (rung_single r i) u w.reads in by f.first f.onward w
+pub unopened_begun : {v : Surroundings} {x a z : Place} {u : Tree} {d : Fault} (t : Tree) (y : Place) (k : Kind) → Listed k → grows_on k ≡ false → Moves (opening_sign k) x a → NoneOpened v (opening_sign k) a d → (r : Rung) → is_rung r ≡ true → Whole so_far v false (seat r) x u z → Shallow (outer d) (part_depth u) → BegunSo v x t y u z
+unopened_begun {v} {x} {u = u} {d = fault} t y k l g m n r i w a = let f = begun (rung_single r i) u w.reads in by f.first f.onward w a
   where
     there : IsTrue (is_found (forth (opening_sign k) x))
     there = found_at (sym m.is) m.found
 
-    by : {f u : Tree} {p z : Place} → First v x f p → Onward so_far v x f p u z → Whole so_far v false (seat r) x u z → BegunSo v x t y u z
-    by (name o {t = s} h q e f) w s' = absurd (literal_opening o s (opening_sign k) x (opener_of k l g) h (found_at e f) there)
-    by {p = p} (opened d {k = j} {ts} h f q) o w =
+    by : {f u : Tree} {p z : Place} → First v x f p → Onward so_far v x f p u z → Whole so_far v false (seat r) x u z → Shallow (outer fault) (part_depth u) → BegunSo v x t y u z
+    by (name o {t = s} h q e f) w s' a = absurd (literal_opening o s (opening_sign k) x (opener_of k l g) h (found_at e f) there)
+    by {p = p} (opened d {k = j} {ts} h f q) o w a =
         let e = one_opening (opening_sign j) (opening_sign k) x (opener_of j h f) (opener_of k l g) (opened_sign j h f q) there in
-        absurd ((n.no j (with_sign k j h f e)).no ts p (behind_sign j k h f l g m e (opened_whole r j i h f q o w)) (of_so_far.from_node j q).keeps)
-    by (quoted d q s) o w = absurd (opener_piece x (opener_of k l g) there (piece_of q s))
-    by (bracketed d b s) o w = so_bracketed b s o
+        absurd ((n.no j (with_sign k j h f e)).no ts p (behind_sign j k h f l g m e (opened_whole r j i h f q o w)) (of_so_far.from_node j q).keeps (inside_shallow fault of_so_far (counts_listed j h) q o w.reads a))
+    by (quoted d q s) o w a = absurd (opener_piece x (opener_of k l g) there (piece_of q s))
+    by (bracketed d b s) o w a = so_bracketed b s o

@@ -9,6 +9,7 @@ use Rattle.jsx_tree.specs.StaticRules.{Surroundings}
 use Rattle.jsx_tree.specs.Walk.{is_found, one, piece, tail}
 use Rattle.jsx_tree.specs.Answers.{Only, Barred, NoRow, Built}
 use Rattle.jsx_tree.specs.Grows.{operator_sign}
+use Rattle.jsx_tree.specs.Faults.{Fault}
 use Rattle.jsx_token.specs.Marks.{row_so_far}
 use Rattle.jsx_operand.specs.SoFar.{so_far}
 use Rattle.jsx_operand.specs.Climbing.{behind}
@@ -50,8 +51,8 @@ operator_behind _ = refl
 pub built_operator : {v : Surroundings} {b y : Place} {t w : Tree} (o : BinaryOp) → Built so_far v (tail (tail (row_so_far (expression (Binary o))))) (expression (Binary o)) (part t) w b y → Built so_far v (behind (expression (Binary o))) (expression (Binary o)) (part t) w b y
 built_operator {v} {b} {y} {t} {w} o n = subst (λ ps. Built so_far v ps (expression (Binary o)) (part t) w b y) (operator_behind o) n
 
-pub no_operator : {v : Surroundings} {b : Place} (o : BinaryOp) → NoRow so_far v (tail (tail (row_so_far (expression (Binary o))))) b → NoRow so_far v (behind (expression (Binary o))) b
-no_operator {v} {b} o n = subst (λ ps. NoRow so_far v ps b) (operator_behind o) n
+pub no_operator : {v : Surroundings} {b : Place} {e : Fault} (o : BinaryOp) → NoRow so_far v (tail (tail (row_so_far (expression (Binary o))))) b e → NoRow so_far v (behind (expression (Binary o))) b e
+no_operator {v} {b} {e = e} o n = subst (λ ps. NoRow so_far v ps b e) (operator_behind o) n
 
 pub mark_is : (o : BinaryOp) → mark (expression (Binary o)) ≡ operator_sign o
 mark_is Nullish = refl
@@ -137,8 +138,8 @@ right_is_level Exponentiate = refl
 pub binary_built : (o : BinaryOp) {v : Surroundings} {m : ℕ} {x z : Place} {t u w : Tree} → m ≡ right_of o → Only so_far v (Part (Expr m)) x (one u) z → IsTrue (is_found z) → w ≡ node (expression (Binary o)) (part t (part u none)) → Built so_far v (tail (tail (row_so_far (expression (Binary o))))) (expression (Binary o)) (part t) w x z
 binary_built o {v} {x = x} {z = z} {t = t} {u = u} {w = w} e q f is = subst (λ ps. Built so_far v ps (expression (Binary o)) (part t) w x z) (behind_operator o) (built_1 f (subst (λ n. Only so_far v (Part (Expr n)) x (one u) z) e q) is)
 
-pub binary_none : (o : BinaryOp) {v : Surroundings} {m : ℕ} {x : Place} → m ≡ right_of o → Barred so_far v (Part (Expr m)) x → NoRow so_far v (tail (tail (row_so_far (expression (Binary o))))) x
-binary_none o {v} {x = x} e b = subst (λ ps. NoRow so_far v ps x) (behind_operator o) (bar (subst (λ n. Barred so_far v (Part (Expr n)) x) e b))
+pub binary_none : {d : Fault} (o : BinaryOp) {v : Surroundings} {m : ℕ} {x : Place} → m ≡ right_of o → Barred so_far v (Part (Expr m)) x d → NoRow so_far v (tail (tail (row_so_far (expression (Binary o))))) x d
+binary_none {d = d} o {v} {x = x} e b = subst (λ ps. NoRow so_far v ps x d) (behind_operator o) (bar (subst (λ n. Barred so_far v (Part (Expr n)) x d) e b))
 
 behind_prefix : (o : UnaryOp) → piece [] (Part (Expr 15)) ∷ [] ≡ tail (row_so_far (expression (Unary o)))
 behind_prefix Delete = refl
@@ -152,5 +153,5 @@ behind_prefix Not = refl
 pub unary_built : (o : UnaryOp) {v : Surroundings} {x z : Place} {u w : Tree} → Only so_far v (Part (Expr 15)) x (one u) z → IsTrue (is_found z) → w ≡ node (expression (Unary o)) (part u none) → Built so_far v (tail (row_so_far (expression (Unary o)))) (expression (Unary o)) (λ ts. ts) w x z
 unary_built o {v} {x = x} {z = z} {w = w} q f is = subst (λ ps. Built so_far v ps (expression (Unary o)) (λ ts. ts) w x z) (behind_prefix o) (built_1 f q is)
 
-pub unary_none : (o : UnaryOp) {v : Surroundings} {x : Place} → Barred so_far v (Part (Expr 15)) x → NoRow so_far v (tail (row_so_far (expression (Unary o)))) x
-unary_none o {v} {x = x} b = subst (λ ps. NoRow so_far v ps x) (behind_prefix o) (bar b)
+pub unary_none : {e : Fault} (o : UnaryOp) {v : Surroundings} {x : Place} → Barred so_far v (Part (Expr 15)) x e → NoRow so_far v (tail (row_so_far (expression (Unary o)))) x e
+unary_none {e = e} o {v} {x = x} b = subst (λ ps. NoRow so_far v ps x e) (behind_prefix o) (bar b)

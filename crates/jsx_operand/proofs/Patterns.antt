@@ -1,33 +1,36 @@
 -- What stands where names are bound: a name, or a pattern in brackets. The three are told apart by their first token, and none of them goes on.
-use Rattle.std.proofs.Common.{◌≡◌, Bool, List, true, false, not, refl, sym, ◌∙◌, ap, subst}
+use Rattle.std.proofs.Common.{◌≡◌, Bool, List, true, false, not, refl, sym, ◌∙◌, ap, subst, arith}
 use Rattle.std.specs.Prelude.{IsTrue, codes}
 use Rattle.jsx_base.specs.Token.{Text, Operator, Punctuator, IdentifierName, same}
 use Rattle.jsx_tree.specs.Signs.{Sign, Tok}
-use Rattle.jsx_tree.specs.Kinds.{ArrayPat, Binds, Kind, ObjectPat, function, Tree, leaf, node, list, Forest}
-use Rattle.jsx_tree.specs.Nonterminals.{BindingIdent, Pat, leaf_in}
+use Rattle.jsx_tree.specs.Kinds.{ArrayPat, Binds, Kind, ObjectPat, function, Tree, leaf, node, list, Forest, Role, ShorthandInit}
+use Rattle.jsx_tree.specs.Nonterminals.{BindingIdent, Pat, leaf_in, Nonterminal}
 use Rattle.jsx_tree.specs.Grammar.{Part, pun}
-use Rattle.jsx_tree.specs.Form.{admits, is_last, is_leaf}
+use Rattle.jsx_tree.specs.Form.{admits, is_last, is_leaf, fits_below}
 use Rattle.jsx_tree.specs.Reading.{Place, Lost, forth}
 use Rattle.jsx_tree.specs.StaticRules.{Surroundings, is_word, open_in}
 use Rattle.jsx_tree.specs.Walk.{is_found, Given, one, Past, sign, tree, many, Piece, Walk, done, next, around, steady, tail}
 use Rattle.jsx_tree.specs.Language.{Whole}
 use Rattle.jsx_tree.specs.Answers.{Moves, Missed, Stuck, Only, Barred, NoRow, Built}
+use Rattle.jsx_tree.specs.Faults.{Fault, Shallow, part_depth, given_depth, outer, Below}
 use Rattle.jsx_tree.proofs.Tokens.{and_both, and_left, and_right}
 use Rattle.jsx_tree.proofs.Apart.{never_both}
 use Rattle.jsx_tree.proofs.Rows.Bridge.{found_at}
 use Rattle.jsx_tree.proofs.Rows.Stopping.{never_stops}
 use Rattle.jsx_tree.proofs.Rows.Guarded.{whole_walk, loosen, to_grammar}
 use Rattle.jsx_tree.proofs.Rows.Bodies.{plain as plain_row}
-use Rattle.jsx_tree.proofs.Rows.Placing.{free_around, moved}
+use Rattle.jsx_tree.proofs.Rows.Placing.{free_around, moved, node_shallow}
 use Rattle.jsx_tree.proofs.Rows.Firsts.{kind_home}
 use Rattle.jsx_tree.proofs.Rows.Turns.{whole_of}
+use Rattle.jsx_tree.proofs.Depth.Shallow.{below_shallow}
+use Rattle.jsx_tree.proofs.Depth.Nodes.{counts_as, depth_told, nested_up}
 use Rattle.jsx_operand.specs.Patterns.{is_compound, is_rest}
 use Rattle.jsx_operand.specs.SoFar.{Staged, so_far}
 use Rattle.jsx_token.specs.Growths.{settled}
 use Rattle.jsx_token.specs.Marks.{row_so_far}
 use Rattle.jsx_operand.proofs.OfSoFar.{of_so_far}
 use Rattle.jsx_operand.proofs.Standing.{standing}
-use Rattle.jsx_operand.proofs.Homes.{IsName, Taken, taken_by, home_of, no_list, bindings}
+use Rattle.jsx_operand.proofs.Homes.{IsName, Taken, taken_by, home_of, no_list, bindings, leaf_one}
 use Rattle.jsx_operand.proofs.Values.{leaf_full, leaf_to, led_sign, settled_token}
 use Rattle.jsx_operand.proofs.Climbing.{signed_built, signed_none}
 use Rattle.jsx_operand.proofs.Keys.{mark_none}
@@ -180,22 +183,22 @@ name_only {v} {x} {y = y} {t} {u} m n given is = record { past = tree (pattern_w
     at : (h : Given) (z : Place) → Past (Whole so_far) v (Part (Pat Binds)) x h z → (one u ≡ h) × (y ≡ z)
     at h z (tree {t = w} q) = here (at_pattern w q.reads) q.reads
 
-pub no_name_pattern : {v : Surroundings} {x x' x'' : Place} → Missed (pun "[") x x' → Missed (pun "{") x' x'' → Barred so_far v (Part BindingIdent) x'' → Barred so_far v (Part (Pat Binds)) x
-no_name_pattern {v} {x} m n given = record { no = at }
+pub no_name_pattern : {v : Surroundings} {x x' x'' : Place} {e : Fault} → Missed (pun "[") x x' → Missed (pun "{") x' x'' → Barred so_far v (Part BindingIdent) x'' e → Barred so_far v (Part (Pat Binds)) x e
+no_name_pattern {v} {x} {e = e} m n given = record { no = at }
   where
-    b : Barred so_far v (Part BindingIdent) x
-    b = subst (Barred so_far v (Part BindingIdent)) (sym (m.same ∙ n.same)) given
+    b : Barred so_far v (Part BindingIdent) x e
+    b = subst (λ w. Barred so_far v (Part BindingIdent) w e) (sym (m.same ∙ n.same)) given
 
     brace : Stuck (pun "{") x
     brace = subst (Stuck (pun "{")) (sym m.same) n.stuck
 
-    here : {w : Tree} {z : Place} → AtPattern w → Staged v false (Pat Binds) x w z → ⊥
-    here {z = z} (named {t = s}) q = b.no (one (leaf IdentifierName s)) z (tree (pattern_name q))
-    here array q = stuck_not m.stuck (array_led q)
-    here object q = stuck_not brace (object_led q)
+    here : {w : Tree} {z : Place} → AtPattern w → Staged v false (Pat Binds) x w z → Shallow e (part_depth w) → ⊥
+    here {z = z} (named {t = s}) q a = b.no (one (leaf IdentifierName s)) z (tree (pattern_name q)) a
+    here array q a = stuck_not m.stuck (array_led q)
+    here object q a = stuck_not brace (object_led q)
 
-    at : (h : Given) (z : Place) → Past (Whole so_far) v (Part (Pat Binds)) x h z → ⊥
-    at h z (tree {t = w} q) = here (at_pattern w q.reads) q.reads
+    at : (h : Given) (z : Place) → Past (Whole so_far) v (Part (Pat Binds)) x h z → Shallow e (given_depth h) → ⊥
+    at h z (tree {t = w} q) s = here (at_pattern w q.reads) q.reads s
 
 -- ---- a pattern in brackets
 
@@ -225,19 +228,44 @@ array_only {v} {x} {a} {y} {t} m b = record {
     at : (h : Given) (z : Place) → Past (Whole so_far) v (Part (Pat Binds)) x h z → (one t ≡ h) × (y ≡ z)
     at h z (tree {t = u} q) = here (at_pattern u q.reads) q.reads
 
-pub no_array : {v : Surroundings} {x a : Place} → Moves (pun "[") x a → NoRow so_far v (tail array_pattern_row) a → Barred so_far v (Part (Pat Binds)) x
-no_array {v} {x} m n = record { no = at }
+pub no_array : {v : Surroundings} {x a : Place} {e : Fault} → Moves (pun "[") x a → NoRow so_far v (tail array_pattern_row) a e → Barred so_far v (Part (Pat Binds)) x (outer e)
+no_array {v} {x} {e = e} m n = record { no = at }
   where
     there : IsTrue (is_found (forth (pun "[") x))
     there = found_at (sym m.is) m.found
 
-    here : {u : Tree} {z : Place} → AtPattern u → Staged v false (Pat Binds) x u z → ⊥
-    here named q = name_marked (codes "[") q there
-    here {z = z} (array {ts}) q = (signed_none array_pattern_row refl m n).no ts z (array_whole q)
-    here object q = never_both Punctuator Punctuator (codes "{") (codes "[") x refl (object_led q) there
+    here : {u : Tree} {z : Place} → AtPattern u → Staged v false (Pat Binds) x u z → Shallow (outer e) (part_depth u) → ⊥
+    here named q a = name_marked (codes "[") q there
+    here {z = z} (array {ts}) q a = (signed_none array_pattern_row refl m n).no ts z (array_whole q) (node_shallow e true refl of_so_far q a)
+    here object q a = never_both Punctuator Punctuator (codes "{") (codes "[") x refl (object_led q) there
 
-    at : (h : Given) (z : Place) → Past (Whole so_far) v (Part (Pat Binds)) x h z → ⊥
-    at h z (tree {t = u} q) = here (at_pattern u q.reads) q.reads
+    at : (h : Given) (z : Place) → Past (Whole so_far) v (Part (Pat Binds)) x h z → Shallow (outer e) (given_depth h) → ⊥
+    at h z (tree {t = u} q) s = here (at_pattern u q.reads) q.reads s
+
+-- a node that counts, and one that counts twice
+pub deep_counted : {v : Surroundings} {c : Nonterminal} {k : Kind} {x z : Place} {ts : Forest} (e : Fault) → counts_as true k ≡ true → Staged v false c x (node k ts) z → Below 0 e → Shallow e (part_depth (node k ts)) → ⊥
+deep_counted {c = c} {k} {ts = ts} e i q b s =
+    let d = depth_told true c k ts i (and_right (admits c (node k ts)) (fits_below c (node k ts)) (of_so_far.is_read q).is) in
+    let w = below_shallow 0 e (part_depth (node k ts)) b s in
+    omega (arith, d, w)
+
+pub deep_nested : {v : Surroundings} {c : Nonterminal} {r : Role} {x z : Place} {ts : Forest} (e : Fault) → Staged v false c x (node (function (ShorthandInit r)) ts) z → Below 1 e → Shallow e (part_depth (node (function (ShorthandInit r)) ts)) → ⊥
+deep_nested {c = c} {r} {ts = ts} e q b s =
+    let d = nested_up r ts (and_right (admits c (node (function (ShorthandInit r)) ts)) (fits_below c (node (function (ShorthandInit r)) ts)) (of_so_far.is_read q).is) in
+    let w = below_shallow 1 e (part_depth (node (function (ShorthandInit r)) ts)) b s in
+    omega (arith, d, w)
+
+-- whatever stands there counts
+pub deep_pattern : {v : Surroundings} {x : Place} {e : Fault} → Below 0 e → Barred so_far v (Part (Pat Binds)) x e
+deep_pattern {v} {x} {e} b = record { no = at }
+  where
+    here : {u : Tree} {z : Place} → AtPattern u → Staged v false (Pat Binds) x u z → Shallow e (part_depth u) → ⊥
+    here (named {t}) q s = let w = below_shallow 0 e (part_depth (leaf IdentifierName t)) b s in omega (arith, leaf_one IdentifierName t refl, w)
+    here array q s = deep_counted e refl q b s
+    here object q s = deep_counted e refl q b s
+
+    at : (h : Given) (z : Place) → Past (Whole so_far) v (Part (Pat Binds)) x h z → Shallow e (given_depth h) → ⊥
+    at h z (tree {t = u} q) s = here (at_pattern u q.reads) q.reads s
 
 -- the same of an object's, behind a bracket that wasn't there
 pub object_only : {v : Surroundings} {x x' a y : Place} {t : Tree} → Missed (pun "[") x x' → Moves (pun "{") x' a → Built so_far v (tail object_pattern_row) (function (ObjectPat Binds)) (λ ts. ts) t a y → Only so_far v (Part (Pat Binds)) x (one t) y
@@ -263,8 +291,8 @@ object_only {v} {x} {x'} {a} {y} {t} k m b = record {
     at : (h : Given) (z : Place) → Past (Whole so_far) v (Part (Pat Binds)) x h z → (one t ≡ h) × (y ≡ z)
     at h z (tree {t = u} q) = here (at_pattern u q.reads) q.reads
 
-pub no_object : {v : Surroundings} {x x' a : Place} → Missed (pun "[") x x' → Moves (pun "{") x' a → NoRow so_far v (tail object_pattern_row) a → Barred so_far v (Part (Pat Binds)) x
-no_object {v} {x} {x'} {a} k m r = record { no = at }
+pub no_object : {v : Surroundings} {x x' a : Place} {e : Fault} → Missed (pun "[") x x' → Moves (pun "{") x' a → NoRow so_far v (tail object_pattern_row) a e → Barred so_far v (Part (Pat Binds)) x (outer e)
+no_object {v} {x} {x'} {a} {e = e} k m r = record { no = at }
   where
     n : Moves (pun "{") x a
     n = subst (λ p. Moves (pun "{") p a) (sym k.same) m
@@ -272,10 +300,10 @@ no_object {v} {x} {x'} {a} k m r = record { no = at }
     there : IsTrue (is_found (forth (pun "{") x))
     there = found_at (sym n.is) n.found
 
-    here : {u : Tree} {z : Place} → AtPattern u → Staged v false (Pat Binds) x u z → ⊥
-    here named q = name_marked (codes "{") q there
-    here array q = stuck_not k.stuck (array_led q)
-    here {z = z} (object {ts}) q = (signed_none object_pattern_row refl n r).no ts z (object_whole q)
+    here : {u : Tree} {z : Place} → AtPattern u → Staged v false (Pat Binds) x u z → Shallow (outer e) (part_depth u) → ⊥
+    here named q s = name_marked (codes "{") q there
+    here array q s = stuck_not k.stuck (array_led q)
+    here {z = z} (object {ts}) q s = (signed_none object_pattern_row refl n r).no ts z (object_whole q) (node_shallow e true refl of_so_far q s)
 
-    at : (h : Given) (z : Place) → Past (Whole so_far) v (Part (Pat Binds)) x h z → ⊥
-    at h z (tree {t = u} q) = here (at_pattern u q.reads) q.reads
+    at : (h : Given) (z : Place) → Past (Whole so_far) v (Part (Pat Binds)) x h z → Shallow (outer e) (given_depth h) → ⊥
+    at h z (tree {t = u} q) s = here (at_pattern u q.reads) q.reads s

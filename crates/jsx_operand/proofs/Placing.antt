@@ -332,6 +332,10 @@ placed_from {a} {d} {t} {z = z} e l = subst (λ v. IsPlacedAs a d t v z) e l
 pub takes_ends : {f : Ending} {x y : Here} → y ≡ record x { ending = f } → Takes (Ends f) x y
 takes_ends e = record { leads = sym (ap place_of e); same = ap (λ h. h.end) e }
 
+-- to where nothing was taken behind it
+pub takes_to : {s : Sign} {x y z : Here} → z ≡ y → Takes s x y → Takes s x z
+takes_to {s} {x} e t = subst (Takes s x) (sym e) t
+
 pub takes_from : {s : Sign} {x y z : Here} → x ≡ y → Takes s x z → Takes s y z
 takes_from {s} {z = z} e k = subst (λ v. Takes s v z) e k
 

@@ -9,6 +9,7 @@ use Rattle.jsx_tree.specs.StaticRules.{Surroundings, at_most, count_of, is_proto
 use Rattle.jsx_tree.specs.View.{forest}
 use Rattle.jsx_tree.specs.Walk.{tail}
 use Rattle.jsx_tree.specs.Answers.{OnlyRow, NoNode, BuiltNode}
+use Rattle.jsx_tree.specs.Faults.{Fault}
 use Rattle.jsx_tree.proofs.Tokens.{and_left, and_both}
 use Rattle.jsx_tree.proofs.Apart.{clash}
 use Rattle.jsx_operand.specs.SoFar.{so_far}
@@ -22,8 +23,8 @@ object_node {ms = ms} o h is = record { parts = part (list ms) none; is = is; ro
 kept : (v : Surroundings) (ms : Forest) → so_far.keeps (expression Object) v (part (list ms) none) ≡ true → at_most 1 is_proto ms ≡ true
 kept v ms k = and_left (at_most 1 is_proto ms) true (and_left (at_most 1 is_proto ms && true) true k)
 
-pub two_protos : {v : Surroundings} {x y : Place} {ms : Forest} → OnlyRow so_far v (tail (row_so_far (expression Object))) x (part (list ms) none) y → at_most 1 is_proto ms ≡ false → NoNode so_far v (tail (row_so_far (expression Object))) (expression Object) x
-two_protos {v} {ms = ms} o n = record { no = λ us z w k. clash _ (kept v ms (subst (λ ts. so_far.keeps (expression Object) v ts ≡ true) (sym (o.alone us z w).0) k)) n }
+pub two_protos : {v : Surroundings} {x y : Place} {ms : Forest} {e : Fault} → OnlyRow so_far v (tail (row_so_far (expression Object))) x (part (list ms) none) y → at_most 1 is_proto ms ≡ false → NoNode so_far v (tail (row_so_far (expression Object))) (expression Object) x e
+two_protos {v} {ms = ms} o n = record { no = λ us z w k s. clash _ (kept v ms (subst (λ ts. so_far.keeps (expression Object) v ts ≡ true) (sym (o.alone us z w).0) k)) n }
 
 pub not_false : (b : Bool) → not b ≡ false → b ≡ true
 not_false true e = refl

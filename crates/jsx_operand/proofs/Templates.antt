@@ -1,5 +1,5 @@
 -- Templates: what stands behind the first piece, as a loop of the parser reads it, and a template as a whole.
-use Rattle.std.proofs.Common.{◌≡◌, ℕ, Bool, true, false, List, [], ◌∷◌, ◌++◌, map, refl, sym, ◌∙◌, ap, subst, Box, Global}
+use Rattle.std.proofs.Common.{◌≡◌, ◌≤◌, ℕ, Bool, true, false, List, [], ◌∷◌, ◌++◌, map, refl, sym, ◌∙◌, ap, subst, arith, Box, Global}
 use Rattle.std.specs.Prelude.{IsTrue, ◌&&◌, ◌||◌}
 use Rattle.jsx_base.specs.Token.{Text, Mode, Operator, Piece, TokenKind, NoSubstitution, TemplateHead, TemplateMiddle, TemplateTail, Blank, breaks, is_kind, is_token, kind_number, same, skip}
 use Rattle.jsx_tree.specs.declared.text.Text.{Text as TreeText}
@@ -18,6 +18,7 @@ use Rattle.jsx_tree.specs.View.{closing, forest, inside, middle, middles as midd
 use Rattle.jsx_tree.specs.Walk.{is_found, Given, nothing, one, Piece as RowPiece, piece, Items, nil, last, more, Past, sign, tree, many, Walk, done, next, steady, tail}
 use Rattle.jsx_tree.specs.Language.{Language, Whole}
 use Rattle.jsx_tree.specs.Answers.{Only, Barred, OnlyRow, NoRow, NoNode, BuiltNode}
+use Rattle.jsx_tree.specs.Faults.{Fault, Unread, Shallow, deepest, given_depth, outer, part_depth, Below}
 use Rattle.jsx_tree.proofs.Tokens.{and_left, and_right, and_both, one_text, same_self}
 use Rattle.jsx_tree.proofs.Apart.{clash, found_token}
 use Rattle.jsx_tree.proofs.Rows.Bridge.{found_at}
@@ -25,9 +26,12 @@ use Rattle.jsx_tree.proofs.Rows.Stopping.{never_stops, or_cases}
 use Rattle.jsx_tree.proofs.Rows.Guarded.{guarded, to_grammar, loosen, whole_walk}
 use Rattle.jsx_tree.proofs.Rows.Bodies.{plain as plain_row}
 use Rattle.jsx_tree.proofs.Rows.Firsts.{kind_home}
-use Rattle.jsx_tree.proofs.Rows.Placing.{Chosen, only_node, barred_node, no_node, free, free_around, moved}
+use Rattle.jsx_tree.proofs.Rows.Placing.{Chosen, only_node, barred_node, no_node, free, free_around, moved, node_shallow}
 use Rattle.jsx_tree.proofs.Rows.Steps.{bar, both, end, on, then'}
-use Rattle.jsx_tree.proofs.Rows.Turns.{From, Turn, item_of, prepend, prepend_cons, cons, turn_as, turn_both, turn_none, turn_only, whole_of}
+use Rattle.jsx_tree.proofs.Rows.Turns.{From, Turn, item_of, prepend, prepend_cons, cons, turn_as, turn_both, turn_none, turn_only, whole_of, cons_up}
+use Rattle.jsx_tree.proofs.Depth.Nodes.{counts_as}
+use Rattle.jsx_tree.proofs.Rows.Lists.{no_items}
+use Rattle.jsx_tree.proofs.Depth.Shallow.{shallow_tail, part_up, shallow_head, below_shallow}
 use Rattle.jsx_token.specs.Here.{Here, place_of, sign_of}
 use Rattle.jsx_token.specs.declared.lexer.Fixed.TheVariants as fixed
 use Rattle.jsx_token.specs.Marks.{is_quoted, row_so_far}
@@ -40,7 +44,7 @@ use Rattle.jsx_operand.specs.SoFar.{Staged, so_far}
 use Rattle.jsx_operand.specs.Climbing.{Begins, NoneBegins}
 use Rattle.jsx_operand.specs.Templates.{IsDivided, IsOf, IsPiece, IsRest, IsTemplate, NoMiddle, NoRest, NoTemplate, behind_first, behind_head, fits_tag, plain, rest_of, substituted, told_rest}
 use Rattle.jsx_operand.proofs.OfSoFar.{of_so_far}
-use Rattle.jsx_operand.proofs.Homes.{home_of, only_leaf, no_leaf, no_list, taken_by, heads, middles, tails, wholes}
+use Rattle.jsx_operand.proofs.Homes.{home_of, leaf_one, only_leaf, no_leaf, no_list, taken_by, heads, middles, tails, wholes}
 use Rattle.jsx_operand.proofs.Standing.{standing}
 use Rattle.jsx_operand.proofs.Tags.{one_tag, template_kind}
 use Rattle.jsx_operand.proofs.Values.{Quote as Opening, Stands, whole_there, head_there, one_kind}
@@ -174,6 +178,11 @@ span_closed : (b : Bool) → guarded (TemplateSpans b) (row_so_far (expression (
 span_closed true = refl
 span_closed false = refl
 
+-- spans count for nothing themselves
+span_uncounted : (b : Bool) → counts_as false (expression (TemplateSpan b)) ≡ true
+span_uncounted true = refl
+span_uncounted false = refl
+
 span_home : (b : Bool) (ts : Forest) → admits (TemplateSpans b) (node (expression (TemplateSpan b)) ts) ≡ true
 span_home true ts = refl
 span_home false ts = refl
@@ -181,8 +190,8 @@ span_home false ts = refl
 span_only : (b : Bool) {v : Surroundings} {x y : Place} {t : Tree} → BuiltNode so_far v (row_so_far (expression (TemplateSpan b))) (expression (TemplateSpan b)) t x y → Only so_far v (Part (TemplateSpans b)) x (one t) y
 span_only b {y = y} n = only_node of_so_far (span_chosen b) (span_closed b) refl (span_home b) (record { parts = n.parts; is = n.is; row = n.row }) n.keeps (of_so_far.ends_there (TemplateSpans b) y (never_stops (TemplateSpans b) y refl))
 
-span_barred : (b : Bool) {v : Surroundings} {x : Place} → NoNode so_far v (row_so_far (expression (TemplateSpan b))) (expression (TemplateSpan b)) x → Barred so_far v (Part (TemplateSpans b)) x
-span_barred b n = barred_node of_so_far (span_chosen b) (span_closed b) refl n
+span_barred : {e : Fault} (b : Bool) {v : Surroundings} {x : Place} → NoNode so_far v (row_so_far (expression (TemplateSpan b))) (expression (TemplateSpan b)) x e → Barred so_far v (Part (TemplateSpans b)) x e
+span_barred b n = barred_node false (span_uncounted b) of_so_far (span_chosen b) (span_closed b) refl n
 
 -- its rule
 span_keeps : (b : Bool) {v : Surroundings} {x y : Place} (t : Tree) (p : Text) → is_cooked t ≡ true → fits_tag b p ≡ true → Walk (Whole so_far) (steady v) (row_so_far (expression (TemplateSpan b))) x (part t (part (leaf TemplateMiddle p) none)) y → so_far.keeps (expression (TemplateSpan b)) v (part t (part (leaf TemplateMiddle p) none)) ≡ true
@@ -212,28 +221,35 @@ middle_there (node k ts) r = absurd (middles.node k ts (taken_by r) (home_of r))
 middle_there (list ts) r = absurd (no_list r)
 
 -- none stands there that may be one
-no_span : (b : Bool) {v : Surroundings} {x y z : Place} {t : Tree} → Only so_far v (Part (grammar.Expr 0)) x (one t) y → Only so_far v (Fixed (sign_of fixed.CloseBrace)) y nothing z → NoMiddle b z → NoNode so_far v (row_so_far (expression (TemplateSpan b))) (expression (TemplateSpan b)) x
-no_span b {v} {x} {y} {z} o k n = record { no = at }
+no_span : {d : Fault} (b : Bool) {v : Surroundings} {x y z : Place} {t : Tree} → Only so_far v (Part (grammar.Expr 0)) x (one t) y → Only so_far v (Fixed (sign_of fixed.CloseBrace)) y nothing z → NoMiddle b z d → NoNode so_far v (row_so_far (expression (TemplateSpan b))) (expression (TemplateSpan b)) x d
+no_span {d = d} b {v} {x} {y} {z} o k n = record { no = at }
   where
-    unfit : (e : Tree) (u : Tree) → Middle z u → so_far.keeps (expression (TemplateSpan b)) v (part e (part u none)) ≡ true → ⊥
-    unfit e u m h =
+    unfit : (e : Tree) (u : Tree) → Middle z u → so_far.keeps (expression (TemplateSpan b)) v (part e (part u none)) ≡ true → Shallow d (part_depth u) → ⊥
+    unfit e u m h s =
         let fit = span_fits b v e m.text (subst (λ s. so_far.keeps (expression (TemplateSpan b)) v (part e (part s none)) ≡ true) m.is h) in
-        let bad : IsTrue (is_found Lost) = subst (λ p. IsTrue (is_found p)) (n.no m.text fit) m.found in cc
+        let bad : IsTrue (is_found Lost) = subst (λ p. IsTrue (is_found p)) (n.no m.text fit (subst (Shallow d) (ap part_depth m.is ∙ leaf_one TemplateMiddle m.text refl) s)) m.found in cc
 
-    at : (ts : Forest) (w : Place) → Walk (Whole so_far) (steady v) (row_so_far (expression (TemplateSpan b))) x ts w → so_far.keeps (expression (TemplateSpan b)) v ts ≡ true → ⊥
-    at ts w (next {y = y'} (tree {t = e} q) (next {y = z'} (sign {s = s} g f) (next {y = w'} (tree {t = u} m) (done h)))) kept =
+    at : (ts : Forest) (w : Place) → Walk (Whole so_far) (steady v) (row_so_far (expression (TemplateSpan b))) x ts w → so_far.keeps (expression (TemplateSpan b)) v ts ≡ true → Shallow d (deepest ts) → ⊥
+    at ts w (next {y = y'} (tree {t = e} q) (next {y = z'} (sign {s = s} g f) (next {y = w'} (tree {t = u} m) (done h)))) kept a =
         let first = o.alone (one e) y' (tree q) in
         let second = k.alone nothing z' (subst (λ p. Past (Whole so_far) v (Fixed s) p nothing z') (sym first.1) (sign g f)) in
-        unfit e u (middle_there u (subst (λ p. Staged v false (TemplatePart TemplateMiddle) p u w') (sym second.1) m.reads)) kept
+        unfit e u (middle_there u (subst (λ p. Staged v false (TemplatePart TemplateMiddle) p u w') (sym second.1) m.reads)) kept (shallow_head d u none (shallow_tail d e (part u none) a))
 
 -- one that stands there and may not be one
-pub unfit_middle : (b : Bool) {x y : Place} (p : Text) → y ≡ forth (Tok Piece TemplateMiddle p) x → IsTrue (is_found y) → fits_tag b p ≡ false → NoMiddle b x
-unfit_middle b {x} p e f n = record { no = λ t h. lost_at (forth (Tok Piece TemplateMiddle t) x) (λ g. clash (fits_tag b t) h (ap (fits_tag b) (one_text Piece TemplateMiddle t p x g (found_at (sym e) f)) ∙ n)) }
+pub unfit_middle : (b : Bool) {x y : Place} {d : Fault} (p : Text) → y ≡ forth (Tok Piece TemplateMiddle p) x → IsTrue (is_found y) → fits_tag b p ≡ false → NoMiddle b x d
+unfit_middle b {x} p e f n = record { no = λ t h s. lost_at (forth (Tok Piece TemplateMiddle t) x) (λ g. clash (fits_tag b t) h (ap (fits_tag b) (one_text Piece TemplateMiddle t p x g (found_at (sym e) f)) ∙ n)) }
+
+-- where no level is left none may
+pub deep_middle : (b : Bool) {x : Place} {e : Fault} → Below 0 e → NoMiddle b x e
+deep_middle b {e = e} w = record { no = λ t h s. absurd (one_more (below_shallow 0 e 1 w s)) }
+  where
+    one_more : 1 ≤ 0 → ⊥
+    one_more h = omega (arith, h)
 
 -- ---- a list with nothing between
 
-turn_span : {L : Language} {v : Surroundings} {a : List Context} {c : Nonterminal} {ps : List RowPiece} {x y : Place} {t : Tree} → is_last t ≡ false → IsTrue (is_found y) → Only L (steady v a) (Part c) x (one t) y → NoRow L v ps x → Turn L v (piece a (Many Adjacent c) ∷ ps) (piece a (Many Adjacent c) ∷ ps) x y (cons t)
-turn_span {L} {v} {a} {c} {ps} {x} {y} {t} early g o n = record { to = forward; from = back }
+turn_span : {L : Language} {v : Surroundings} {a : List Context} {c : Nonterminal} {ps : List RowPiece} {x y : Place} {t : Tree} → is_last t ≡ false → IsTrue (is_found y) → Only L (steady v a) (Part c) x (one t) y → NoRow L v ps x Unread → Turn L v (piece a (Many Adjacent c) ∷ ps) (piece a (Many Adjacent c) ∷ ps) x y (cons t)
+turn_span {L} {v} {a} {c} {ps} {x} {y} {t} early g o n = record { to = forward; from = back; rises = cons_up t }
   where
     ahead : (ts : Forest) (p : Place) → Items (Whole L) (steady v a) Adjacent c y ts p → Items (Whole L) (steady v a) Adjacent c x (part t ts) p
     ahead none p (nil f) = last (whole_of o.past) refl f
@@ -243,7 +259,7 @@ turn_span {L} {v} {a} {c} {ps} {x} {y} {t} early g o n = record { to = forward; 
     forward ts w (next {ts = vs} (many {ts = us} e all) walk) = next (many refl (ahead us _ all)) walk
 
     inner : (ts : Forest) (p : Place) → Items (Whole L) (steady v a) Adjacent c x ts p → (us : Forest) (w : Place) → Walk (Whole L) (steady v) ps p us w → From L v (piece a (Many Adjacent c) ∷ ps) y (cons t) (part (list ts) us) w
-    inner ts p (nil f) us w walk = absurd (n.no us w walk)
+    inner ts p (nil f) us w walk = absurd (n.no us w walk tt)
     inner ts p (last {y = y'} {t = t'} r e f) us w walk =
         let same = o.alone (one t') y' (tree r) in
         record { parts = part (list none) us; is = λ i. part (list (part (item_of (same.0 i)) none)) us; walk = next (many refl (nil g)) (subst (λ q. Walk (Whole L) (steady v) ps q us w) (sym (same.1 ∙ e)) walk) }
@@ -254,13 +270,13 @@ turn_span {L} {v} {a} {c} {ps} {x} {y} {t} early g o n = record { to = forward; 
     back : (us : Forest) (w : Place) → Walk (Whole L) (steady v) (piece a (Many Adjacent c) ∷ ps) x us w → From L v (piece a (Many Adjacent c) ∷ ps) y (cons t) us w
     back us w (next {ts = vs} (many {ts = ts} e all) walk) = inner ts _ all vs w walk
 
-turn_done : {L : Language} {v : Surroundings} {a : List Context} {c : Nonterminal} {ps : List RowPiece} {x : Place} → IsTrue (is_found x) → Barred L (steady v a) (Part c) x → Turn L v (piece a (Many Adjacent c) ∷ ps) ps x x (part (list none))
-turn_done {L} {v} {a} {c} {ps} {x} f b = record { to = λ ts w walk. next (many refl (nil f)) walk; from = back }
+turn_done : {L : Language} {v : Surroundings} {a : List Context} {c : Nonterminal} {ps : List RowPiece} {x : Place} → IsTrue (is_found x) → Barred L (steady v a) (Part c) x Unread → Turn L v (piece a (Many Adjacent c) ∷ ps) ps x x (part (list none))
+turn_done {L} {v} {a} {c} {ps} {x} f b = record { to = λ ts w walk. next (many refl (nil f)) walk; from = back; rises = part_up (list none) }
   where
     inner : (ts : Forest) (y : Place) → Items (Whole L) (steady v a) Adjacent c x ts y → (us : Forest) (w : Place) → Walk (Whole L) (steady v) ps y us w → From L v ps x (part (list none)) (part (list ts) us) w
     inner ts y (nil f) us w walk = record { parts = us; is = refl; walk = walk }
-    inner ts y (last r e f) us w walk = absurd (b.no _ _ (tree r))
-    inner ts y (more n r e all) us w walk = absurd (b.no _ _ (tree r))
+    inner ts y (last r e f) us w walk = absurd (b.no _ _ (tree r) tt)
+    inner ts y (more n r e all) us w walk = absurd (b.no _ _ (tree r) tt)
 
     back : (us : Forest) (w : Place) → Walk (Whole L) (steady v) (piece a (Many Adjacent c) ∷ ps) x us w → From L v ps x (part (list none)) us w
     back us w (next {z = z} {ts = vs} (many {ts = ts} e all) walk) = inner ts _ all vs w walk
@@ -276,17 +292,17 @@ span_more b {t = t} {p} ts us so o k n m f h e =
     (turn_both so (turn_span refl f (span_only b (span_built b p o k m f h)) (on o (on k (bar (no_leaf tails n))))))
 
 -- nothing more
-no_more : (b : Bool) {v : Surroundings} {x y : Place} (head : Text) (ts : Forest) → Turn so_far v (behind_head b) (behind_head b) x y (prepend ts) → IsTrue (is_found y) → Barred so_far v (Part (TemplateSpans b)) y → NoRow so_far v (tail (behind_head b)) y → NoRest v b head x
-no_more b head ts so f s n = record { no = λ us w walk h. (turn_none so (turn_none (turn_done f s) n)).no us w walk }
+no_more : {e : Fault} (b : Bool) {v : Surroundings} {x y : Place} (head : Text) (ts : Forest) → Turn so_far v (behind_head b) (behind_head b) x y (prepend ts) → IsTrue (is_found y) → Barred so_far v (Part (TemplateSpans b)) y e → NoRow so_far v (tail (behind_head b)) y e → NoRest v b head x e
+no_more b head ts so f s n = record { no = λ us w walk h q. (turn_none so (no_items (λ t y r. r) s n)).no us w walk q }
 
-pub no_part : (b : Bool) {v : Surroundings} {x y : Place} (head : Text) (ts : Forest) → Turn so_far v (behind_head b) (behind_head b) x y (prepend ts) → IsTrue (is_found y) → Barred so_far v (Part (grammar.Expr 0)) y → NoRest v b head x
+pub no_part : {e : Fault} (b : Bool) {v : Surroundings} {x y : Place} (head : Text) (ts : Forest) → Turn so_far v (behind_head b) (behind_head b) x y (prepend ts) → IsTrue (is_found y) → Barred so_far v (Part (grammar.Expr 0)) y e → NoRest v b head x e
 no_part b head ts so f n = no_more b head ts so f (span_barred b (no_node (bar n))) (bar n)
 
-pub no_brace : (b : Bool) {v : Surroundings} {x y z : Place} {t : Tree} (head : Text) (ts : Forest) → Turn so_far v (behind_head b) (behind_head b) x y (prepend ts) → IsTrue (is_found y) → Only so_far v (Part (grammar.Expr 0)) y (one t) z → Barred so_far v (Fixed (sign_of fixed.CloseBrace)) z → NoRest v b head x
+pub no_brace : {e : Fault} (b : Bool) {v : Surroundings} {x y z : Place} {t : Tree} (head : Text) (ts : Forest) → Turn so_far v (behind_head b) (behind_head b) x y (prepend ts) → IsTrue (is_found y) → Only so_far v (Part (grammar.Expr 0)) y (one t) z → Barred so_far v (Fixed (sign_of fixed.CloseBrace)) z e → NoRest v b head x e
 no_brace b head ts so f o n = no_more b head ts so f (span_barred b (no_node (on o (bar n)))) (on o (bar n))
 
-pub no_piece : (b : Bool) {v : Surroundings} {x y z w : Place} {t : Tree} (head : Text) (ts : Forest) → Turn so_far v (behind_head b) (behind_head b) x y (prepend ts) → IsTrue (is_found y) → Only so_far v (Part (grammar.Expr 0)) y (one t) z → Only so_far v (Fixed (sign_of fixed.CloseBrace)) z nothing w
-    → ((s : Text) → forth (Tok Piece TemplateTail s) w ≡ Lost) → NoMiddle b w → NoRest v b head x
+pub no_piece : {e : Fault} (b : Bool) {v : Surroundings} {x y z w : Place} {t : Tree} (head : Text) (ts : Forest) → Turn so_far v (behind_head b) (behind_head b) x y (prepend ts) → IsTrue (is_found y) → Only so_far v (Part (grammar.Expr 0)) y (one t) z → Only so_far v (Fixed (sign_of fixed.CloseBrace)) z nothing w
+    → ((s : Text) → forth (Tok Piece TemplateTail s) w ≡ Lost) → NoMiddle b w e → NoRest v b head x e
 no_piece b head ts so f o k n m = no_more b head ts so f (span_barred b (no_span b o k m)) (on o (on k (bar (no_leaf tails n))))
 
 both_none : (ts : Forest) → both ts none ≡ ts
@@ -297,7 +313,7 @@ both_none (part t ts) = ap (part t) (both_none ts)
 last_row : (b : Bool) {v : Surroundings} {x y z w u : Place} {t : Tree} (p : Text) (ts : Forest) → Turn so_far v (behind_head b) (behind_head b) x y (prepend ts) → IsTrue (is_found y) → Only so_far v (Part (grammar.Expr 0)) y (one t) z → Only so_far v (Fixed (sign_of fixed.CloseBrace)) z nothing w
     → u ≡ forth (Tok Piece TemplateTail p) w → IsTrue (is_found u) → is_leaf TemplateTail p ≡ true → OnlyRow so_far v (behind_head b) x (part (list ts) (part t (part (leaf TemplateTail p) none))) u
 last_row b {v} {x} {w = w} {u} {t} p ts so f o k e g l =
-    let barred = no_leaf {v = v} middles (λ s. no_other Piece TemplateTail TemplateMiddle p s w (λ h. cc) (found_at (sym e) g)) in
+    let barred : Barred so_far v (Part (TemplatePart TemplateMiddle)) w Unread = no_leaf middles (λ s. no_other Piece TemplateTail TemplateMiddle p s w (λ h. cc) (found_at (sym e) g)) in
     subst (λ us. OnlyRow so_far v (behind_head b) x (part (list us) (part t (part (leaf TemplateTail p) none))) u) (both_none ts)
     (turn_only so (turn_only (turn_done f (span_barred b (no_node (on o (on k (bar barred)))))) (then' o (then' k (then' (only_tail p e g l) (end g))))))
 
@@ -318,11 +334,11 @@ rest_only b {v} {x} {u = u} {t} head p ts us so f o k e g l h i is =
     let row = last_row b p ts so f o k e g l in
     subst (λ vs. IsRest v b head x vs u) (sym is) (record { row = row; keeps = rest_keeps b head ts t p h (cooked t (whole_of o.past).reads) i row.walk })
 
-pub unfit_tail : (b : Bool) {v : Surroundings} {x y z w u : Place} {t : Tree} (head p : Text) (ts : Forest) → Turn so_far v (behind_head b) (behind_head b) x y (prepend ts) → IsTrue (is_found y) → Only so_far v (Part (grammar.Expr 0)) y (one t) z → Only so_far v (Fixed (sign_of fixed.CloseBrace)) z nothing w
-    → u ≡ forth (Tok Piece TemplateTail p) w → IsTrue (is_found u) → is_leaf TemplateTail p ≡ true → fits_tag b p ≡ false → NoRest v b head x
+pub unfit_tail : {d : Fault} (b : Bool) {v : Surroundings} {x y z w u : Place} {t : Tree} (head p : Text) (ts : Forest) → Turn so_far v (behind_head b) (behind_head b) x y (prepend ts) → IsTrue (is_found y) → Only so_far v (Part (grammar.Expr 0)) y (one t) z → Only so_far v (Fixed (sign_of fixed.CloseBrace)) z nothing w
+    → u ≡ forth (Tok Piece TemplateTail p) w → IsTrue (is_found u) → is_leaf TemplateTail p ≡ true → fits_tag b p ≡ false → NoRest v b head x d
 unfit_tail b {v} {x} {t = t} head p ts so f o k e g l i =
     let row = last_row b p ts so f o k e g l in
-    record { no = λ us w walk h. clash _ (tail_fits b v head ts t p (subst (λ vs. so_far.keeps (expression (SubstitutedTemplate b)) v (part (leaf TemplateHead head) vs) ≡ true) (sym (row.alone us w walk).0) h)) i }
+    record { no = λ us w walk h q. clash _ (tail_fits b v head ts t p (subst (λ vs. so_far.keeps (expression (SubstitutedTemplate b)) v (part (leaf TemplateHead head) vs) ≡ true) (sym (row.alone us w walk).0) h)) i }
 
 -- ---- a template of one piece
 
@@ -340,36 +356,36 @@ whole_row b p e f l = then' (only_leaf wholes refl refl l e f) (end f)
 pub whole_template : (b : Bool) {v : Surroundings} {x y : Place} (p : Text) (t : Tree) → y ≡ forth (Tok Operator NoSubstitution p) x → IsTrue (is_found y) → is_leaf NoSubstitution p ≡ true → fits_tag b p ≡ true → t ≡ node (expression (PlainTemplate b)) (part (leaf NoSubstitution p) none) → IsTemplate v b x t y
 whole_template b {v} p t e f l i is = record { kind = expression (PlainTemplate b); of = plain; built = record { parts = part (leaf NoSubstitution p) none; is = is; row = whole_row b p e f l; keeps = whole_keeps b v p i } }
 
-pub unfit_whole : (b : Bool) {v : Surroundings} {x y : Place} (p : Text) → y ≡ forth (Tok Operator NoSubstitution p) x → IsTrue (is_found y) → is_leaf NoSubstitution p ≡ true → fits_tag b p ≡ false → NoTemplate v b x
-unfit_whole b {v} {x} {y} p e f l i = record { no = at }
+pub unfit_whole : {o : Fault} (b : Bool) {v : Surroundings} {x y : Place} (p : Text) → y ≡ forth (Tok Operator NoSubstitution p) x → IsTrue (is_found y) → is_leaf NoSubstitution p ≡ true → fits_tag b p ≡ false → NoTemplate v b x o
+unfit_whole {o = o} b {v} {x} {y} p e f l i = record { no = at }
   where
     row : OnlyRow so_far v (row_so_far (expression (PlainTemplate b))) x (part (leaf NoSubstitution p) none) y
     row = whole_row b p e f l
 
-    at : (k : Kind) → IsOf b k → NoNode so_far v (row_so_far k) k x
-    at k plain = record { no = λ us w walk h. clash _ (whole_fits b v p (subst (λ vs. so_far.keeps (expression (PlainTemplate b)) v vs ≡ true) (sym (row.alone us w walk).0) h)) i }
+    at : (k : Kind) → IsOf b k → NoNode so_far v (row_so_far k) k x o
+    at k plain = record { no = λ us w walk h q. clash _ (whole_fits b v p (subst (λ vs. so_far.keeps (expression (PlainTemplate b)) v vs ≡ true) (sym (row.alone us w walk).0) h)) i }
     at k substituted = no_node (bar (no_leaf heads (λ s. no_other Operator NoSubstitution TemplateHead p s x (λ h. cc) (found_at (sym e) f))))
 
 -- ---- one with substitutions
 
-no_whole_there : {v : Surroundings} {x y : Place} (p : Text) → y ≡ forth (Tok Operator TemplateHead p) x → IsTrue (is_found y) → Barred so_far v (Part (TemplatePart NoSubstitution)) x
+no_whole_there : {v : Surroundings} {x y : Place} {o : Fault} (p : Text) → y ≡ forth (Tok Operator TemplateHead p) x → IsTrue (is_found y) → Barred so_far v (Part (TemplatePart NoSubstitution)) x o
 no_whole_there {x = x} p e f = no_leaf wholes (λ s. no_other Operator TemplateHead NoSubstitution p s x (λ h. cc) (found_at (sym e) f))
 
 pub head_template : (b : Bool) {v : Surroundings} {x a y : Place} (p : Text) (t : Tree) (us : Forest) → a ≡ forth (Tok Operator TemplateHead p) x → IsTrue (is_found a) → is_leaf TemplateHead p ≡ true → IsRest v b p a us y → t ≡ node (expression (SubstitutedTemplate b)) (part (leaf TemplateHead p) us) → IsTemplate v b x t y
 head_template b p t us e f l r is = record { kind = expression (SubstitutedTemplate b); of = substituted; built = record { parts = part (leaf TemplateHead p) us; is = is; row = then' (only_head p e f l) r.row; keeps = r.keeps } }
 
-pub no_rest : (b : Bool) {v : Surroundings} {x a : Place} (p : Text) → a ≡ forth (Tok Operator TemplateHead p) x → IsTrue (is_found a) → is_leaf TemplateHead p ≡ true → NoRest v b p a → NoTemplate v b x
-no_rest b {v} {x} {a} p e f l n = record { no = at }
+pub no_rest : {d : Fault} (b : Bool) {v : Surroundings} {x a : Place} (p : Text) → a ≡ forth (Tok Operator TemplateHead p) x → IsTrue (is_found a) → is_leaf TemplateHead p ≡ true → NoRest v b p a d → NoTemplate v b x d
+no_rest {d = d} b {v} {x} {a} p e f l n = record { no = at }
   where
     o : Only so_far v (Part (TemplatePart TemplateHead)) x (one (leaf TemplateHead p)) a
     o = only_head p e f l
 
-    row : (ts : Forest) (y : Place) → Walk (Whole so_far) (steady v) (row_so_far (expression (SubstitutedTemplate b))) x ts y → so_far.keeps (expression (SubstitutedTemplate b)) v ts ≡ true → ⊥
-    row ts y (next {y = a'} {ts = us} (tree {t = h} q) w) k =
+    row : (ts : Forest) (y : Place) → Walk (Whole so_far) (steady v) (row_so_far (expression (SubstitutedTemplate b))) x ts y → so_far.keeps (expression (SubstitutedTemplate b)) v ts ≡ true → Shallow d (deepest ts) → ⊥
+    row ts y (next {y = a'} {ts = us} (tree {t = h} q) w) k s =
         let same = o.alone (one h) a' (tree q) in
-        n.no us y (subst (λ c. Walk (Whole so_far) (steady v) (behind_head b) c us y) (sym same.1) w) (subst (λ g. so_far.keeps (expression (SubstitutedTemplate b)) v (part (item_of g) us) ≡ true) (sym same.0) k)
+        n.no us y (subst (λ c. Walk (Whole so_far) (steady v) (behind_head b) c us y) (sym same.1) w) (subst (λ g. so_far.keeps (expression (SubstitutedTemplate b)) v (part (item_of g) us) ≡ true) (sym same.0) k) (shallow_tail d h us s)
 
-    at : (k : Kind) → IsOf b k → NoNode so_far v (row_so_far k) k x
+    at : (k : Kind) → IsOf b k → NoNode so_far v (row_so_far k) k x d
     at k plain = no_node (bar (no_whole_there p e f))
     at k substituted = record { no = row }
 
@@ -377,14 +393,14 @@ head_fits : (b : Bool) (v : Surroundings) (p : Text) (us : Forest) → so_far.ke
 head_fits true v p us k = refl
 head_fits false v p us k = and_left (fits_tag false p) _ (and_left _ true k)
 
-pub unfit_head : (b : Bool) {v : Surroundings} {x a : Place} (p : Text) → a ≡ forth (Tok Operator TemplateHead p) x → IsTrue (is_found a) → is_leaf TemplateHead p ≡ true → fits_tag b p ≡ false → NoTemplate v b x
-unfit_head b {v} p e f l i = no_rest b p e f l (record { no = λ us y w k. clash _ (head_fits b v p us k) i })
+pub unfit_head : {o : Fault} (b : Bool) {v : Surroundings} {x a : Place} (p : Text) → a ≡ forth (Tok Operator TemplateHead p) x → IsTrue (is_found a) → is_leaf TemplateHead p ≡ true → fits_tag b p ≡ false → NoTemplate v b x o
+unfit_head b {v} p e f l i = no_rest b p e f l (record { no = λ us y w k q. clash _ (head_fits b v p us k) i })
 
 -- neither piece stands there
-pub no_template : (b : Bool) {v : Surroundings} {x : Place} → ((t : Text) → forth (Tok Operator NoSubstitution t) x ≡ Lost) → ((t : Text) → forth (Tok Operator TemplateHead t) x ≡ Lost) → NoTemplate v b x
-no_template b {v} {x} m n = record { no = at }
+pub no_template : {e : Fault} (b : Bool) {v : Surroundings} {x : Place} → ((t : Text) → forth (Tok Operator NoSubstitution t) x ≡ Lost) → ((t : Text) → forth (Tok Operator TemplateHead t) x ≡ Lost) → NoTemplate v b x e
+no_template {e = e} b {v} {x} m n = record { no = at }
   where
-    at : (k : Kind) → IsOf b k → NoNode so_far v (row_so_far k) k x
+    at : (k : Kind) → IsOf b k → NoNode so_far v (row_so_far k) k x e
     at k plain = no_node (bar (no_leaf wholes m))
     at k substituted = no_node (bar (no_leaf heads n))
 
@@ -434,7 +450,7 @@ quoted_to {y} e a h = subst (λ l. Opening (place_of l)) (sym e) (quoted_there y
 pub unquoted_to : {y z : Here} {b : Bool} → z ≡ y → b ≡ is_quoted (next_token Operator y) → b ≡ false → is_quoted (next_token Operator z) ≡ false
 unquoted_to e a h = subst (λ l. is_quoted (next_token Operator l) ≡ false) (sym e) (sym a ∙ h)
 
-pub no_template_begins : {v : Surroundings} {x : Place} → Opening x → NoTemplate v false x → NoneBegins v x
+pub no_template_begins : {v : Surroundings} {x : Place} {e : Fault} → Opening x → NoTemplate v false x e → NoneBegins v x (outer e)
 no_template_begins p n = unread_quoted p (λ k q. n.no k (of_quoted q))
 
 -- ---- behind a tag
@@ -457,16 +473,20 @@ tag_chosen q u = record { no_leaf = λ s t y w. let bad = w.reads.staged in cc; 
 pub tag_only : {v : Surroundings} {x y : Place} {t : Tree} → IsTemplate v true x t y → Only so_far v (Part TemplateOf) x (one t) y
 tag_only {y = y} q = let n = q.built in only_node of_so_far (tag_chosen q.of (loosen n.row.walk)) (tag_closed q.of) (tag_freed q.of) (λ ts. tag_home ts q.of) (record { parts = n.parts; is = n.is; row = n.row }) n.keeps (of_so_far.ends_there TemplateOf y (never_stops TemplateOf y refl))
 
-pub tag_barred : {v : Surroundings} {x : Place} → NoTemplate v true x → Barred so_far v (Part TemplateOf) x
-tag_barred {v} {x} n = record { no = at }
+tag_counted : {k : Kind} → IsOf true k → counts_as true k ≡ true
+tag_counted plain = refl
+tag_counted substituted = refl
+
+pub tag_barred : {v : Surroundings} {x : Place} {e : Fault} → NoTemplate v true x e → Barred so_far v (Part TemplateOf) x (outer e)
+tag_barred {v} {x} {e = e} n = record { no = at }
   where
-    at : (h : Given) (z : Place) → Past (Whole so_far) v (Part TemplateOf) x h z → ⊥
-    at h z (tree {t = leaf s t} q) = let bad = q.reads.staged in cc
-    at h z (tree {t = node k ts} q) =
+    at : (h : Given) (z : Place) → Past (Whole so_far) v (Part TemplateOf) x h z → Shallow (outer e) (given_depth h) → ⊥
+    at h z (tree {t = leaf s t} q) s' = let bad = q.reads.staged in cc
+    at h z (tree {t = node k ts} q) s' =
         let o = template_kind k ts q.reads in
         let read = of_so_far.from_node k q.reads in
-        (n.no k o).no ts z (moved (λ a i. free_around a ts v i) (tag_freed o) (whole_walk of_so_far TemplateOf (row_so_far k) (tag_closed o) q.ends_there read.walk)) read.keeps
-    at h z (tree {t = list ts} q) = no_list q.reads
+        (n.no k o).no ts z (moved (λ a i. free_around a ts v i) (tag_freed o) (whole_walk of_so_far TemplateOf (row_so_far k) (tag_closed o) q.ends_there read.walk)) read.keeps (node_shallow e true (tag_counted o) of_so_far q.reads s')
+    at h z (tree {t = list ts} q) s' = no_list q.reads
 
 -- ---- the same in the code
 

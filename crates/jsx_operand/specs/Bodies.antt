@@ -44,4 +44,4 @@ pub record ReadsBodies (bound : ℕ) (pre : Context → MutBor Here → Type 0)
   pub within : (c : Context) (x y : MutBor Here) (r : Result Body ParseError) → post c x r y
       → OnOk r (left y.now ≤ left x.now)
   pub refused : (c : Context) (x y : MutBor Here) (r : Result Body ParseError) → post c x r y
-      → Refused r (NoRow so_far (around_of c.around) body_row (place_of x.now))
+      → Refused c.levels r (NoRow so_far (around_of c.around) body_row (place_of x.now))

@@ -11,6 +11,7 @@ use Rattle.jsx_tree.specs.Answers.{Moves, Barred}
 use Rattle.jsx_tree.specs.Grows.{Follows, takes_target, seen}
 use Rattle.jsx_tree.specs.Language.{Whole}
 use Rattle.jsx_tree.specs.Walk.{Piece, Walk, steady, tail}
+use Rattle.jsx_tree.specs.Faults.{Fault, Unread, Shallow, deepest}
 use Rattle.jsx_operand.specs.SoFar.{Staged, so_far}
 use Rattle.jsx_token.specs.Marks.{row_so_far}
 use Rattle.jsx_token.specs.Growths.{OnLine, Rung, rung, callee, fits_by, is_chain, is_rung, level_of_kind, mark, past_line, seat, settled}
@@ -67,8 +68,8 @@ pub record Grown (v : Surroundings) (k : Kind) (t : Tree) (b : Place) (w : Tree)
   pub alone : (a : Place) → OnLine k a → Moves (mark k) a b → (us : Forest) (z : Place) → Walk (Whole so_far) (steady v) (tail (row_so_far k)) a us z → Ended k z → (parts ≡ us) × (y ≡ z)
 
 -- in none
-pub record NotGrown (v : Surroundings) (k : Kind) (b : Place) : Type 0 where
-  pub no : (a : Place) → OnLine k a → Moves (mark k) a b → (us : Forest) (z : Place) → Walk (Whole so_far) (steady v) (tail (row_so_far k)) a us z → Ended k z → ⊥
+pub record NotGrown (v : Surroundings) (k : Kind) (b : Place) (e : Fault) : Type 0 where
+  pub no : (a : Place) → OnLine k a → Moves (mark k) a b → (us : Forest) (z : Place) → Walk (Whole so_far) (steady v) (tail (row_so_far k)) a us z → Ended k z → Shallow e (deepest us) → ⊥
 
 -- ---- what a parser knows of an expression that it has read so far
 
@@ -81,8 +82,8 @@ pub record Climbs (v : Surroundings) (r : Rung) (x : Place) (t : Tree) (a : Plac
 -- so wherever the tree may stand, and elsewhere nothing is read; nowhere does anything stand there
 pub record Begins (v : Surroundings) (x : Place) (t : Tree) (a : Place) : Type 0 where
   pub on : (r : Rung) → is_rung r ≡ true → rises r t ≡ true → Climbs v r x t a
-  pub low : (r : Rung) → is_rung r ≡ true → rises r t ≡ false → Barred so_far v (Part (seat r)) x
+  pub low : (r : Rung) → is_rung r ≡ true → rises r t ≡ false → Barred so_far v (Part (seat r)) x Unread
   pub ended : settled a ≡ true
 
-pub record NoneBegins (v : Surroundings) (x : Place) : Type 0 where
-  pub on : (r : Rung) → is_rung r ≡ true → Barred so_far v (Part (seat r)) x
+pub record NoneBegins (v : Surroundings) (x : Place) (e : Fault) : Type 0 where
+  pub on : (r : Rung) → is_rung r ≡ true → Barred so_far v (Part (seat r)) x e

@@ -12,3 +12,4 @@ pub mod Patterns
 pub mod Turning
 pub mod Covers
 pub mod Taken
+pub mod Outgrown

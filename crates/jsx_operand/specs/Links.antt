@@ -12,6 +12,7 @@ use Rattle.jsx_tree.specs.Walk.{one}
 use Rattle.jsx_tree.specs.Answers.{Moves, Only, Barred}
 use Rattle.jsx_tree.specs.declared.text.LinkForm.{LinkForm}
 use Rattle.jsx_tree.specs.declared.text.LinkForm.TheVariants as form
+use Rattle.jsx_tree.specs.Faults.{Fault}
 use Rattle.jsx_token.specs.Here.{Here}
 use Rattle.jsx_token.specs.Places.{Takes, next_of}
 use Rattle.jsx_operand.specs.SoFar.{so_far}
@@ -37,8 +38,8 @@ pub record NoLink (y : Place) : Type 0 where
 pub record OnlyLink (v : Surroundings) (s : Sign) (b : Place) (t : Tree) (y : Place) : Type 0 where
   pub on : (a : Place) → Moves s a b → Only so_far v (Part ChainLink) a (one t) y
 
-pub record NoneLinked (v : Surroundings) (s : Sign) (b : Place) : Type 0 where
-  pub no : (a : Place) → Moves s a b → Barred so_far v (Part ChainLink) a
+pub record NoneLinked (v : Surroundings) (s : Sign) (b : Place) (e : Fault) : Type 0 where
+  pub no : (a : Place) → Moves s a b → Barred so_far v (Part ChainLink) a e
 
 -- from a sign on, or from the `?.` before it
 pub data Leads : LinkForm → Sign → Here → Here → Type 0 where

@@ -11,6 +11,7 @@ use Rattle.jsx_tree.specs.Walk.{is_found}
 use Rattle.jsx_tree.specs.Language.{Whole}
 use Rattle.jsx_tree.specs.declared.text.Placement.{Placement}
 use Rattle.jsx_tree.specs.declared.text.Placement.TheVariants as placement
+use Rattle.jsx_tree.specs.Faults.{Fault, Shallow, part_depth}
 use Rattle.jsx_operand.specs.SoFar.{Staged, so_far}
 
 -- a comma or the brace, one of which stands behind each member
@@ -23,8 +24,8 @@ pub record OnlyMember (v : Surroundings) (x : Place) (t : Tree) (y : Place) : Ty
   pub reads : Staged v false ObjectMember x t y
   pub alone : (u : Tree) (z : Place) → Closed z → Whole so_far v false ObjectMember x u z → (t ≡ u) × (y ≡ z)
 
-pub record NoMember (v : Surroundings) (x : Place) : Type 0 where
-  pub no : (u : Tree) (z : Place) → Closed z → Whole so_far v false ObjectMember x u z → ⊥
+pub record NoMember (v : Surroundings) (x : Place) (e : Fault) : Type 0 where
+  pub no : (u : Tree) (z : Place) → Closed z → Whole so_far v false ObjectMember x u z → Shallow e (part_depth u) → ⊥
 
 -- what stands behind the `{` of an object
 abbrev pub behind_brace : Production

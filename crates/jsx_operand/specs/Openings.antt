@@ -7,6 +7,7 @@ use Rattle.jsx_tree.specs.Reading.{Place}
 use Rattle.jsx_tree.specs.StaticRules.{Surroundings}
 use Rattle.jsx_tree.specs.Walk.{around, tail, Walk}
 use Rattle.jsx_tree.specs.Language.{Whole}
+use Rattle.jsx_tree.specs.Faults.{Fault, Shallow, deepest}
 use Rattle.jsx_token.specs.Stage.{has_kind}
 use Rattle.jsx_token.specs.Marks.{row_so_far}
 use Rattle.jsx_token.specs.Growths.{opening_sign, same_sign}
@@ -24,8 +25,8 @@ pub record OnlyParts (v : Surroundings) (k : Kind) (t : Tree) (x y : Place) : Ty
   pub keeps : so_far.keeps k v parts ≡ true
   pub alone : (us : Forest) (z : Place) → Walk (Whole so_far) (around v us) (tail (row_so_far k)) x us z → so_far.keeps k v us ≡ true → (parts ≡ us) × (y ≡ z)
 
-pub record NoParts (v : Surroundings) (k : Kind) (x : Place) : Type 0 where
-  pub no : (us : Forest) (z : Place) → Walk (Whole so_far) (around v us) (tail (row_so_far k)) x us z → so_far.keeps k v us ≡ true → ⊥
+pub record NoParts (v : Surroundings) (k : Kind) (x : Place) (e : Fault) : Type 0 where
+  pub no : (us : Forest) (z : Place) → Walk (Whole so_far) (around v us) (tail (row_so_far k)) x us z → so_far.keeps k v us ≡ true → Shallow e (deepest us) → ⊥
 
 -- behind the sign stands the rest of this node, and of no other that begins so
 pub record OnlyOpened (v : Surroundings) (s : Sign) (t : Tree) (x y : Place) : Type 0 where
@@ -35,5 +36,5 @@ pub record OnlyOpened (v : Surroundings) (s : Sign) (t : Tree) (x y : Place) : T
   pub alone : (k : Kind) (ts : Forest) (z : Place) → opens_with s k ≡ true → Walk (Whole so_far) (around v ts) (tail (row_so_far k)) x ts z → so_far.keeps k v ts ≡ true → (node k ts ≡ t) × (z ≡ y)
 
 -- and of none
-pub record NoneOpened (v : Surroundings) (s : Sign) (x : Place) : Type 0 where
-  pub no : (k : Kind) → opens_with s k ≡ true → NoParts v k x
+pub record NoneOpened (v : Surroundings) (s : Sign) (x : Place) (e : Fault) : Type 0 where
+  pub no : (k : Kind) → opens_with s k ≡ true → NoParts v k x e

@@ -17,12 +17,14 @@ use Rattle.jsx_tree.specs.View.{closing, inside, middles, template, text_of, vie
 use Rattle.jsx_tree.specs.Walk.{Piece, Walk, steady, tail}
 use Rattle.jsx_tree.specs.Language.{Whole}
 use Rattle.jsx_tree.specs.Answers.{BuiltNode, NoNode, OnlyRow, NoRow}
+use Rattle.jsx_tree.specs.Faults.{Fault, Shallow, deepest, inner}
 use Rattle.jsx_token.specs.Here.{Here}
 use Rattle.jsx_token.specs.Marks.{row_so_far}
 use Rattle.jsx_token.specs.Places.{end_of, next_of}
 use Rattle.jsx_make.specs.NodeSpans.{expr_at}
 use Rattle.jsx_operand.specs.SoFar.{so_far}
 use Rattle.jsx_operand.specs.Climbing.{fits}
+use Rattle.jsx_operand.specs.Outgrown.{Outgrown}
 use Rattle.jsx_operand.specs.Spans.{IsPlaced, Spans}
 
 -- whether a piece may be one of a template, which is tagged or not
@@ -55,12 +57,12 @@ pub record IsRest (v : Surroundings) (b : Bool) (head : Text) (x : Place) (ts : 
   pub keeps : so_far.keeps (expression (SubstitutedTemplate b)) v (part (leaf TemplateHead head) ts) ≡ true
 
 -- nothing does
-pub record NoRest (v : Surroundings) (b : Bool) (head : Text) (x : Place) : Type 0 where
-  pub no : (ts : Forest) (y : Place) → Walk (Whole so_far) (steady v) (behind_head b) x ts y → so_far.keeps (expression (SubstitutedTemplate b)) v (part (leaf TemplateHead head) ts) ≡ true → ⊥
+pub record NoRest (v : Surroundings) (b : Bool) (head : Text) (x : Place) (e : Fault) : Type 0 where
+  pub no : (ts : Forest) (y : Place) → Walk (Whole so_far) (steady v) (behind_head b) x ts y → so_far.keeps (expression (SubstitutedTemplate b)) v (part (leaf TemplateHead head) ts) ≡ true → Shallow e (deepest ts) → ⊥
 
 -- no piece stands there that may be one and that another follows
-pub record NoMiddle (b : Bool) (x : Place) : Type 0 where
-  pub no : (t : Text) → fits_tag b t ≡ true → forth (Tok Piece' TemplateMiddle t) x ≡ Lost
+pub record NoMiddle (b : Bool) (x : Place) (e : Fault) : Type 0 where
+  pub no : (t : Text) → fits_tag b t ≡ true → Shallow e 1 → forth (Tok Piece' TemplateMiddle t) x ≡ Lost
 
 -- pieces of which this is the first and another follows, with these expressions
 pub record IsDivided (b : Bool) (head : TreeText) (ps : List TreeText) (xs : List (Box Expr Global)) : Type 0 where
@@ -85,16 +87,17 @@ pub record IsTemplate (v : Surroundings) (b : Bool) (x : Place) (t : Tree) (y : 
   pub of : IsOf b kind
   pub built : BuiltNode so_far v (row_so_far kind) kind t x y
 
-pub record NoTemplate (v : Surroundings) (b : Bool) (x : Place) : Type 0 where
-  pub no : (k : Kind) → IsOf b k → NoNode so_far v (row_so_far k) k x
+pub record NoTemplate (v : Surroundings) (b : Bool) (x : Place) (e : Fault) : Type 0 where
+  pub no : (k : Kind) → IsOf b k → NoNode so_far v (row_so_far k) k x e
 
 -- its places, with a span from its begin to its end
 pub record IsPlacedTemplate (b : Bool) (ps : List TreeText) (xs : List (Box Expr Global)) (x y : Here) : Type 0 where
   pub on : (at : Option Span) → Spans at (next_of x) (end_of y) → IsPlaced (told_template at ps (map (inside told_expr) xs)) (template b ps (map (inside view_expr) xs)) x y
 
--- a template stands behind a tag that may not be one, or none does that may stand there
-pub record NotTagged (v : Surroundings) (t : Tree) (x : Place) : Type 0 where
-  pub no : fits (expression Tagged) t ≡ true → NoRow so_far v (tail (row_so_far (expression Tagged))) x
+-- a template stands behind a tag that may not be one or is too deep for it, or none does that may stand there
+pub data NotTagged (v : Surroundings) (t : Tree) (x : Place) (e : Fault) : Type 0 where
+  outgrown : Outgrown t e → NotTagged v t x e
+  unread : (fits (expression Tagged) t ≡ true → NoRow so_far v (tail (row_so_far (expression Tagged))) x (inner e)) → NotTagged v t x e
 
 -- a tag that stands before a place, with its template
 pub record IsPlacedTag (tag : Expr) (x : Here) (whole : Expr) (y : Here) : Type 0 where

@@ -10,6 +10,7 @@ ghost use Rattle.jsx_operand.specs.Around.{around_of, in_code, in_field, in_memb
 use crate::body::makes_strict;
 use jsx_tree::Text;
 use std::alloc::Global;
+use std::cell::Cell;
 
 /// The labels that enclose, the innermost first (ECMA-262 section 14.13).
 #[derive(Clone, Copy)]
@@ -84,12 +85,17 @@ impl<'a> Around<'a> {
 pub struct Context<'a> {
     pub alloc: Global,
     pub around: Around<'a>,
+    /// How deep what is read may be.
+    pub levels: u32,
+    /// How many levels are left below what stands deepest, since this was last measured: a hint, by which no tree is looked at again without need.
+    pub spare: &'a Cell<u32>,
 }
 
 impl<'a> Context<'a> {
     /// The same in the cases of a `switch`.
     pub fn of_switch(self) -> Context<'a>
-        ensures { around_of result.around ≡ record (around_of self.entry.around) { breakable = true } }
+        ensures around { around_of result.around ≡ record (around_of self.entry.around) { breakable = true } }
+        ensures levels { result.levels ≡ self.entry.levels }
     {
         let around = Around {
             breakable: true,
@@ -102,7 +108,8 @@ impl<'a> Context<'a> {
     pub fn of_label<'b>(self, labels: &'b Labels<'b>) -> Context<'b>
     where
         'a: 'b,
-        ensures { around_of result.around ≡ record (around_of self.entry.around) { labels = labels_of labels.now } }
+        ensures around { around_of result.around ≡ record (around_of self.entry.around) { labels = labels_of labels.now } }
+        ensures levels { result.levels ≡ self.entry.levels }
     {
         let around = Around {
             labels,
@@ -116,7 +123,8 @@ impl<'a> Context<'a> {
     where
         'a: 'b,
         requires { labels_of labels.now ≡ [] }
-        ensures { around_of result.around ≡ enter none InFunction (around_of self.entry.around) }
+        ensures around { around_of result.around ≡ enter none InFunction (around_of self.entry.around) }
+        ensures levels { result.levels ≡ self.entry.levels }
     {
         let around = Around {
             returns: true,
@@ -137,7 +145,8 @@ impl<'a> Context<'a> {
     where
         'a: 'b,
         requires { labels_of labels.now ≡ [] }
-        ensures { around_of result.around ≡ enter none InArrow (around_of self.entry.around) }
+        ensures around { around_of result.around ≡ enter none InArrow (around_of self.entry.around) }
+        ensures levels { result.levels ≡ self.entry.levels }
     {
         let around = Around {
             returns: true,
@@ -155,7 +164,8 @@ impl<'a> Context<'a> {
     where
         'a: 'b,
         requires { labels_of labels.now ≡ [] }
-        ensures { around_of result.around ≡ in_method is_constructor (around_of self.entry.around) }
+        ensures around { around_of result.around ≡ in_method is_constructor (around_of self.entry.around) }
+        ensures levels { result.levels ≡ self.entry.levels }
     {
         let around = Around {
             returns: true,
@@ -175,7 +185,8 @@ impl<'a> Context<'a> {
     where
         'a: 'b,
         requires { labels_of labels.now ≡ [] }
-        ensures { around_of result.around ≡ in_field (around_of self.entry.around) }
+        ensures around { around_of result.around ≡ in_field (around_of self.entry.around) }
+        ensures levels { result.levels ≡ self.entry.levels }
     {
         let around = Around {
             returns: false,
@@ -192,7 +203,8 @@ impl<'a> Context<'a> {
 
     /// The same behind the directives of a script or of a body, which may make it strict (ECMA-262 section 11.2.2).
     pub fn of_code(self, directives: &[Text]) -> Context<'a>
-        ensures { around_of result.around ≡ in_code (forest (map directive directives.now)) (around_of self.entry.around) }
+        ensures around { around_of result.around ≡ in_code (forest (map directive directives.now)) (around_of self.entry.around) }
+        ensures levels { result.levels ≡ self.entry.levels }
     {
         let is_strict = self.around.is_strict || makes_strict(directives);
         let around = Around {
@@ -204,7 +216,8 @@ impl<'a> Context<'a> {
 
     /// The same in a class, all parts of which are strict code (ECMA-262 section 11.2.2).
     pub fn of_class(self) -> Context<'a>
-        ensures { around_of result.around ≡ enter none InClassCode (around_of self.entry.around) }
+        ensures around { around_of result.around ≡ enter none InClassCode (around_of self.entry.around) }
+        ensures levels { result.levels ≡ self.entry.levels }
     {
         let around = Around {
             is_strict: true,
@@ -215,7 +228,8 @@ impl<'a> Context<'a> {
 
     /// The same in the members of a class, with `extends` or without (ECMA-262 section 15.7).
     pub fn of_members(self, is_derived: bool) -> Context<'a>
-        ensures { around_of result.around ≡ in_members is_derived (around_of self.entry.around) }
+        ensures around { around_of result.around ≡ in_members is_derived (around_of self.entry.around) }
+        ensures levels { result.levels ≡ self.entry.levels }
     {
         let around = Around {
             is_strict: true,
@@ -227,7 +241,8 @@ impl<'a> Context<'a> {
 
     /// The same in the body of a loop.
     pub fn of_loop(self) -> Context<'a>
-        ensures { around_of result.around ≡ record (around_of self.entry.around) { loop = true; breakable = true } }
+        ensures around { around_of result.around ≡ record (around_of self.entry.around) { loop = true; breakable = true } }
+        ensures levels { result.levels ≡ self.entry.levels }
     {
         let around = Around {
             in_loop: true,

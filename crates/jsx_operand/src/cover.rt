@@ -10,7 +10,7 @@ ghost use Rattle.jsx_tree.specs.Nonterminals as grammar;
 ghost use Rattle.jsx_tree.specs.Told.{told_expr, told_leaf};
 ghost use Rattle.jsx_tree.specs.View.{name_of, text_of, view_expr};
 ghost use Rattle.jsx_make.specs.NodeSpans.{expr_at};
-ghost use Rattle.jsx_operand.specs.Answers.{Refused};
+ghost use Rattle.jsx_operand.specs.Answers.{PlainRefused};
 ghost use Rattle.jsx_operand.specs.Turning as turning;
 ghost use Rattle.jsx_token.specs.Here.{place_of};
 
@@ -61,7 +61,7 @@ impl<'s> Cover<'s> {
 pub fn settle<'s>(cover: Cover<'s>, lexer: &Lexer<'s>) -> Result<Box<Expr<'s>>, ParseError>
     ensures expr { IfOk result (λ e. e ≡ cover.entry.expr) }
     ensures is { IfOk result (λ _. cover.entry.is_expr ≡ true) }
-    ensures refused { Refused result (cover.entry.is_expr ≡ false) }
+    ensures refused { PlainRefused result (cover.entry.is_expr ≡ false) }
 {
     if cover.is_expr {
         return Ok(cover.expr);
@@ -122,7 +122,7 @@ pub(crate) fn taken_bound<'s>(name: &mut Ident<'s>) -> Option<Ident<'s>>
 pub fn refuse_arrow(lexer: &mut Lexer, level: u8) -> Result<(), ParseError>
     ensures no_arrow { OnOk result (level ≤ 1 → forth (pun "=>") (place_of lexer.old) ≡ Lost) }
     ensures stays { lexer.new ≡ lexer.old }
-    ensures refused { Refused result ((level ≤ 1) × IsTrue (is_found (forth (pun "=>") (place_of lexer.old)))) }
+    ensures refused { PlainRefused result ((level ≤ 1) × IsTrue (is_found (forth (pun "=>") (place_of lexer.old)))) }
 {
     if level > ASSIGNMENT {
         return Ok(());

@@ -8,6 +8,8 @@ use std::alloc::{AllocError, AllocFailed};
 pub enum ParseError {
     /// No tree reads the text; the place, in bytes, at which the parser gave up.
     Syntax(BytePos),
+    /// A front of the text is deeper than it may be; the place, in bytes, of its last token.
+    TooDeep(BytePos),
     Memory,
 }
 

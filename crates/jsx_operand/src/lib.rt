@@ -5,6 +5,7 @@ pub mod argument;
 mod around;
 mod body;
 pub mod cover;
+pub mod depth;
 mod error;
 pub mod link;
 pub mod member;

@@ -73,7 +73,7 @@ pub fn name_link<'s>(
     ensures placed { IfOk result (λ l. IsPlacedBehind (lead (row_so_far (expression (NameLink (is_optional form))))) lexer.old (told_link l.value) (view_link l.value) lexer.new) }
     ensures shorter { OnOk result (left lexer.new < left lexer.old) }
     ensures ended { OnOk result (IsTrue (settled (place_of lexer.new))) }
-    ensures refused { Refused result (Barred so_far (around_of context.entry.around) (Part grammar.Name) (place_of lexer.old)) }
+    ensures refused { Refused context.entry.levels result (Barred so_far (around_of context.entry.around) (Part grammar.Name) (place_of lexer.old)) }
 {
     let lo = lexer.last_place();
     let raw = identifier_name(context, lexer)?;

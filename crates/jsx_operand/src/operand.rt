@@ -14,6 +14,7 @@ ghost use Rattle.jsx_tree.specs.Reading.{forth};
 ghost use Rattle.jsx_tree.specs.Grows.{as_target};
 ghost use Rattle.jsx_tree.specs.Walk.{is_found, one, tail};
 ghost use Rattle.jsx_tree.specs.Answers.{Only, Barred, NoRow, Built};
+ghost use Rattle.jsx_tree.specs.Faults.{inner, part_depth};
 ghost use Rattle.jsx_operand.specs.Around.{around_of};
 ghost use Rattle.jsx_operand.specs.SoFar.{so_far};
 ghost use Rattle.jsx_token.specs.Marks.{is_quoted, row_so_far};
@@ -30,6 +31,7 @@ ghost use Rattle.jsx_operand.specs.Spans.{Extends, IsPlaced, IsPlacedOn, Spans, 
 ghost use Rattle.jsx_token.specs.Places.{begin_of, end_of, next_of};
 
 use crate::around::Context;
+use crate::depth::{counted, within_leaf};
 use crate::error::ParseError;
 use crate::parser::{expect, give_up, identifier_name, span_to, tag_name};
 use crate::template::Template;
@@ -54,11 +56,12 @@ fn element<'s>(context: Context, lexer: &mut Lexer<'s>) -> Result<Box<Expr<'s>>,
     ensures placed { IfOk result (λ e. IsPlaced (told_expr e.value) (view_expr e.value) lexer.old lexer.new) }
     ensures shorter { OnOk result (left lexer.new < left lexer.old) }
     ensures ended { OnOk result (IsTrue (settled (place_of lexer.new))) }
-    ensures refused { Refused result (NoRow so_far (around_of context.entry.around) (row_so_far (jsx Element)) (place_of lexer.old)) }
+    ensures refused { Refused context.entry.levels result (λ e. NoRow so_far (around_of context.entry.around) (row_so_far (jsx Element)) (place_of lexer.old) (inner e)) }
 {
     expect(context, lexer, Fixed::Less)?;
     let lo = lexer.last_place();
     let name = tag_name(context, lexer)?;
+    within_leaf(context, lexer)?;
     expect(context, lexer, Fixed::TagSlash)?;
     expect(context, lexer, Fixed::TagGreater)?;
     let span = span_to(lo, lexer);
@@ -80,35 +83,41 @@ pub fn primary<'s>(context: Context, lexer: &mut Lexer<'s>) -> Result<Box<Expr<'
     ensures span { IfOk result (λ e. Spans (expr_at e.value) (next_of lexer.old) (end_of lexer.new)) }
     ensures placed { IfOk result (λ e. IsPlaced (told_expr e.value) (view_expr e.value) lexer.old lexer.new) }
     ensures shorter { OnOk result (left lexer.new < left lexer.old) }
-    ensures refused { Refused result (NoneBegins (around_of context.entry.around) (place_of lexer.old)) }
+    ensures refused { Refused context.entry.levels result (NoneBegins (around_of context.entry.around) (place_of lexer.old)) }
 {
     if let Some(raw) = lexer.leaf(Leaf::Name) {
         let lo = lexer.last_place();
         if let Some(word) = value_word(raw) {
+            counted(context, lexer)?;
             return Ok(make::constant(context.alloc, span_to(lo, lexer), word)?);
         }
         if is_reserved(raw) {
             return Err(give_up(lexer));
         }
+        counted(context, lexer)?;
         let text = Text::Read(raw, lo);
         return Ok(make::name(context.alloc, span_to(lo, lexer), Ident { text })?);
     }
     if let Some(raw) = lexer.leaf(Leaf::Str) {
+        counted(context, lexer)?;
         let lo = lexer.last_place();
         let text = Text::Read(raw, lo);
         return Ok(make::literal(context.alloc, span_to(lo, lexer), LiteralKind::Str, text)?);
     }
     if let Some(raw) = lexer.leaf(Leaf::Num) {
+        counted(context, lexer)?;
         let lo = lexer.last_place();
         let text = Text::Read(raw, lo);
         return Ok(make::literal(context.alloc, span_to(lo, lexer), LiteralKind::Num, text)?);
     }
     if let Some(raw) = lexer.leaf(Leaf::BigInt) {
+        counted(context, lexer)?;
         let lo = lexer.last_place();
         let text = Text::Read(raw, lo);
         return Ok(make::literal(context.alloc, span_to(lo, lexer), LiteralKind::BigInt, text)?);
     }
     if let Some(raw) = lexer.leaf(Leaf::RegExp) {
+        counted(context, lexer)?;
         let lo = lexer.last_place();
         let text = Text::Read(raw, lo);
         return Ok(make::literal(context.alloc, span_to(lo, lexer), LiteralKind::RegExp, text)?);
@@ -412,7 +421,7 @@ pub fn member<'s>(
     ensures placed { IfOk result (λ e. IsPlacedOn (sign_of fixed.Dot) object.entry.value lexer.old e.value lexer.new) }
     ensures shorter { OnOk result (left lexer.new < left lexer.old) }
     ensures ended { OnOk result (IsTrue (settled (place_of lexer.new))) }
-    ensures refused { Refused result (NoRow so_far (around_of context.entry.around) (tail (tail (row_so_far (expression Member)))) (place_of lexer.old)) }
+    ensures refused { Refused context.entry.levels result (NoRow so_far (around_of context.entry.around) (tail (tail (row_so_far (expression Member)))) (place_of lexer.old)) }
 {
     let raw = identifier_name(context, lexer)?;
     let span = span_to(start_of(&object), lexer);
@@ -425,20 +434,24 @@ pub fn literal_key<'s>(context: Context, lexer: &mut Lexer<'s>) -> Result<Key<'s
     requires { NoOtherKey (place_of lexer.old) }
     ensures read { IfOk result (λ k. Only so_far (around_of context.entry.around) (Part grammar.Key) (place_of lexer.old) (one (view_key k)) (place_of lexer.new)) }
     ensures literal { IfOk result (λ k. is_word (view_key k) ≡ false) }
+    ensures depth { IfOk result (λ k. part_depth (view_key k) ≡ 1) }
     ensures placed { IfOk result (λ k. IsPlaced (told_key k) (view_key k) lexer.old lexer.new) }
     ensures begins { OnOk result (begin_of lexer.new ≡ next_of lexer.old) }
     ensures shorter { OnOk result (left lexer.new < left lexer.old) }
-    ensures refused { Refused result (Barred so_far (around_of context.entry.around) (Part grammar.Key) (place_of lexer.old)) }
+    ensures refused { Refused context.entry.levels result (Barred so_far (around_of context.entry.around) (Part grammar.Key) (place_of lexer.old)) }
 {
     if let Some(raw) = lexer.leaf(Leaf::Str) {
+        counted(context, lexer)?;
         let text = Text::Read(raw, lexer.last_place());
         return Ok(make::literal_key(LiteralKind::Str, text));
     }
     if let Some(raw) = lexer.leaf(Leaf::Num) {
+        counted(context, lexer)?;
         let text = Text::Read(raw, lexer.last_place());
         return Ok(make::literal_key(LiteralKind::Num, text));
     }
     if let Some(raw) = lexer.leaf(Leaf::BigInt) {
+        counted(context, lexer)?;
         let text = Text::Read(raw, lexer.last_place());
         return Ok(make::literal_key(LiteralKind::BigInt, text));
     }
@@ -509,7 +522,7 @@ pub fn postfix_update<'s>(
     ensures read { IfOk result (λ e. Built so_far (around_of context.entry.around) (behind (expression (PostfixUpdate (step_of operator)))) (expression (PostfixUpdate (step_of operator))) (part (as_target (view_expr operand.entry.value))) (view_expr e.value) (place_of lexer.now) (place_of lexer.now)) }
     ensures span { IfOk result (λ e. Extends (expr_at operand.entry.value) (expr_at e.value) (end_of lexer.now)) }
     ensures placed { IfOk result (λ e. IsPlacedOn (mark (expression (PostfixUpdate (step_of operator)))) operand.entry.value lexer.now e.value lexer.now) }
-    ensures refused { Refused result (NoRow so_far (around_of context.entry.around) (behind (expression (PostfixUpdate (step_of operator)))) (place_of lexer.now)) }
+    ensures refused { Refused context.entry.levels result (NoRow so_far (around_of context.entry.around) (behind (expression (PostfixUpdate (step_of operator)))) (place_of lexer.now)) }
 {
     let span = span_to(start_of(&operand), lexer);
     let target = target_of(context.alloc, operand)?;

@@ -22,6 +22,7 @@ ghost use Rattle.jsx_operand.specs.Spans.{FailsAt, IsPlaced, Spans};
 ghost use Rattle.jsx_token.specs.Places.{Takes, begin_of, end_of, next_of};
 
 use crate::around::Context;
+use crate::depth::counted;
 use crate::error::ParseError;
 use jsx_base::{BytePos, Span};
 use jsx_make::make;
@@ -49,7 +50,7 @@ pub fn expect(context: Context, lexer: &mut Lexer, fixed: Fixed) -> Result<(), P
     ensures takes { OnOk result (Takes (sign_of fixed) lexer.old lexer.new) }
     ensures begins { OnOk result (begin_of lexer.new ≡ next_of lexer.old) }
     ensures shorter { OnOk result (left lexer.new < left lexer.old) }
-    ensures refused { Refused result (Barred so_far (around_of context.entry.around) (symbol.Fixed (sign_of fixed)) (place_of lexer.old)) }
+    ensures refused { Refused context.entry.levels result (Barred so_far (around_of context.entry.around) (symbol.Fixed (sign_of fixed)) (place_of lexer.old)) }
 {
     if lexer.take(fixed) {
         Ok(())
@@ -63,7 +64,7 @@ pub fn semicolon(context: Context, lexer: &mut Lexer) -> Result<(), ParseError>
     ensures read { IfOk result (λ _. Only so_far (around_of context.entry.around) semi (place_of lexer.old) nothing (place_of lexer.new)) }
     ensures takes { OnOk result (Takes Semicolon lexer.old lexer.new) }
     ensures within { OnOk result (left lexer.new ≤ left lexer.old) }
-    ensures refused { Refused result (Barred so_far (around_of context.entry.around) semi (place_of lexer.old)) }
+    ensures refused { Refused context.entry.levels result (Barred so_far (around_of context.entry.around) semi (place_of lexer.old)) }
 {
     if lexer.semicolon() {
         Ok(())
@@ -82,7 +83,7 @@ pub fn binding_identifier<'s>(
     ensures placed { IfOk result (λ p. IsPlaced (told_pat p.value) (view_pat p.value) lexer.old lexer.new) }
     ensures begins { OnOk result (begin_of lexer.new ≡ next_of lexer.old) }
     ensures shorter { OnOk result (left lexer.new < left lexer.old) }
-    ensures refused { Refused result (Barred so_far (around_of context.entry.around) (Part grammar.BindingIdent) (place_of lexer.old)) }
+    ensures refused { Refused context.entry.levels result (Barred so_far (around_of context.entry.around) (Part grammar.BindingIdent) (place_of lexer.old)) }
 {
     let Some(raw) = lexer.leaf(Leaf::Name) else {
         return Err(give_up(lexer));
@@ -90,6 +91,7 @@ pub fn binding_identifier<'s>(
     if !is_bound(raw) {
         return Err(give_up(lexer));
     }
+    counted(context, lexer)?;
     let lo = lexer.last_place();
     let text = Text::Read(raw, lo);
     Ok(make::bound_name(context.alloc, span_to(lo, lexer), Ident { text })?)
@@ -101,7 +103,7 @@ pub fn bound_name<'s>(context: Context, lexer: &mut Lexer<'s>) -> Result<Ident<'
     ensures placed { IfOk result (λ a. IsPlaced (told_text a.text) (name_of a) lexer.old lexer.new) }
     ensures begins { OnOk result (begin_of lexer.new ≡ next_of lexer.old) }
     ensures shorter { OnOk result (left lexer.new < left lexer.old) }
-    ensures refused { Refused result (Barred so_far (around_of context.entry.around) (Part grammar.BindingIdent) (place_of lexer.old)) }
+    ensures refused { Refused context.entry.levels result (Barred so_far (around_of context.entry.around) (Part grammar.BindingIdent) (place_of lexer.old)) }
 {
     let Some(raw) = lexer.leaf(Leaf::Name) else {
         return Err(give_up(lexer));
@@ -109,6 +111,7 @@ pub fn bound_name<'s>(context: Context, lexer: &mut Lexer<'s>) -> Result<Ident<'
     if !is_bound(raw) {
         return Err(give_up(lexer));
     }
+    counted(context, lexer)?;
     let text = Text::Read(raw, lexer.last_place());
     Ok(Ident { text })
 }
@@ -119,12 +122,14 @@ pub fn string<'s>(context: Context, lexer: &mut Lexer<'s>) -> Result<Text<'s>, P
     ensures placed { IfOk result (λ t. IsPlaced (told_text t) (leaf StringLiteral (text_of t)) lexer.old lexer.new) }
     ensures begins { OnOk result (begin_of lexer.new ≡ next_of lexer.old) }
     ensures shorter { OnOk result (left lexer.new < left lexer.old) }
-    ensures refused { Refused result (Barred so_far (around_of context.entry.around) (Part grammar.StringOnly) (place_of lexer.old)) }
+    ensures refused { Refused context.entry.levels result (Barred so_far (around_of context.entry.around) (Part grammar.StringOnly) (place_of lexer.old)) }
 {
-    match lexer.leaf(Leaf::Str) {
-        Some(raw) => Ok(Text::Read(raw, lexer.last_place())),
-        None => Err(give_up(lexer)),
-    }
+    let Some(raw) = lexer.leaf(Leaf::Str) else {
+        return Err(give_up(lexer));
+    };
+    counted(context, lexer)?;
+    let lo = lexer.last_place();
+    Ok(Text::Read(raw, lo))
 }
 
 /// The name of a tag.
@@ -133,7 +138,7 @@ pub fn tag_name<'s>(context: Context, lexer: &mut Lexer<'s>) -> Result<Text<'s>,
     ensures takes { IfOk result (λ t. Takes (Tok Tag JsxName (text_of t)) lexer.old lexer.new) }
     ensures place { IfOk result (λ t. Comes t (next_of lexer.old)) }
     ensures shorter { OnOk result (left lexer.new < left lexer.old) }
-    ensures refused { Refused result (Barred so_far (around_of context.entry.around) (Part grammar.TagName) (place_of lexer.old)) }
+    ensures refused { Refused context.entry.levels result (Barred so_far (around_of context.entry.around) (Part grammar.TagName) (place_of lexer.old)) }
 {
     let Some(raw) = lexer.leaf(Leaf::JsxName) else {
         return Err(give_up(lexer));
@@ -141,6 +146,7 @@ pub fn tag_name<'s>(context: Context, lexer: &mut Lexer<'s>) -> Result<Text<'s>,
     if !is_plain_tag(raw) {
         return Err(give_up(lexer));
     }
+    counted(context, lexer)?;
     Ok(Text::Read(raw, lexer.last_place()))
 }
 
@@ -150,10 +156,11 @@ pub fn identifier_name<'s>(context: Context, lexer: &mut Lexer<'s>) -> Result<&'
     ensures takes { IfOk result (λ raw. Takes (Tok Operator IdentifierName (chars raw.now)) lexer.old lexer.new) }
     ensures begins { OnOk result (begin_of lexer.new ≡ next_of lexer.old) }
     ensures shorter { OnOk result (left lexer.new < left lexer.old) }
-    ensures refused { Refused result (Barred so_far (around_of context.entry.around) (Part grammar.Name) (place_of lexer.old)) }
+    ensures refused { Refused context.entry.levels result (Barred so_far (around_of context.entry.around) (Part grammar.Name) (place_of lexer.old)) }
 {
-    match lexer.leaf(Leaf::Name) {
-        Some(raw) => Ok(raw),
-        None => Err(give_up(lexer)),
-    }
+    let Some(raw) = lexer.leaf(Leaf::Name) else {
+        return Err(give_up(lexer));
+    };
+    counted(context, lexer)?;
+    Ok(raw)
 }

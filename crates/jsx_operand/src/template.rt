@@ -13,12 +13,13 @@ ghost use Rattle.jsx_tree.specs.Answers.{Only};
 ghost use Rattle.jsx_token.specs.Here.{left, piece_sign, place_of};
 ghost use Rattle.jsx_token.specs.declared.lexer.Piece.TheVariants as kinds;
 ghost use Rattle.jsx_token.specs.Places.{Takes, begin_of, end_of};
-ghost use Rattle.jsx_operand.specs.Answers.{Refused};
+ghost use Rattle.jsx_operand.specs.Answers.{PlainRefused, Refused};
 ghost use Rattle.jsx_operand.specs.Around.{around_of};
 ghost use Rattle.jsx_operand.specs.SoFar.{so_far};
 ghost use Rattle.jsx_operand.specs.Templates.{IsPiece, NoMiddle, fits_tag};
 
 use crate::around::Context;
+use crate::depth::counted;
 use crate::error::ParseError;
 use crate::parser::give_up;
 use jsx_base::BytePos;
@@ -50,7 +51,7 @@ pub fn piece_text<'s>(
     ensures text { IfOk result (λ t. text_of t ≡ chars raw.now) }
     ensures place { IfOk result (λ t. Comes t (begin_of lexer.now)) }
     ensures fits { OnOk result (fits_tag is_tagged (chars raw.now) ≡ true) }
-    ensures refused { Refused result (fits_tag is_tagged (chars raw.now) ≡ false) }
+    ensures refused { PlainRefused result (fits_tag is_tagged (chars raw.now) ≡ false) }
 {
     if !fits(is_tagged, raw) {
         return Err(give_up(lexer));
@@ -69,12 +70,14 @@ pub fn middle<'s>(
     ensures takes { IfOk result (λ t. Takes (piece_sign kinds.Middle (text_of t)) lexer.old lexer.new) }
     ensures place { IfOk result (λ t. Comes t (end_of lexer.old)) }
     ensures shorter { OnOk result (left lexer.new < left lexer.old) }
-    ensures refused { Refused result (NoMiddle is_tagged (place_of lexer.old)) }
+    ensures refused { Refused context.entry.levels result (NoMiddle is_tagged (place_of lexer.old)) }
 {
     let Some(raw) = lexer.piece(Piece::Middle) else {
         return Err(give_up(lexer));
     };
-    Ok(piece_text(lexer, is_tagged, raw)?)
+    let piece = piece_text(lexer, is_tagged, raw)?;
+    counted(context, lexer)?;
+    Ok(piece)
 }
 
 /// A template of one piece, which was taken last.
@@ -88,7 +91,7 @@ pub fn whole_template<'s>(
     ensures piece { IfOk result (λ t. IsPiece t.pieces.items (chars raw.now) (begin_of lexer.now)) }
     ensures parts { IfOk result (λ t. t.parts.items ≡ []) }
     ensures fits { OnOk result (fits_tag is_tagged (chars raw.now) ≡ true) }
-    ensures refused { Refused result (fits_tag is_tagged (chars raw.now) ≡ false) }
+    ensures refused { PlainRefused result (fits_tag is_tagged (chars raw.now) ≡ false) }
 {
     let piece = piece_text(lexer, is_tagged, raw)?;
     let mut pieces = Vec::with_capacity(context.alloc, 1)?;

@@ -9,7 +9,7 @@ ghost use Rattle.jsx_tree.specs.View.{forest, inside, name_of, text_of, view_exp
 ghost use Rattle.jsx_tree.specs.Told.{told_expr, told_key, told_list, told_node, told_pat, told_prop, told_text};
 ghost use Rattle.jsx_make.specs.Members.{view_prop};
 ghost use Rattle.jsx_make.specs.NodeSpans.{expr_at, member_at};
-ghost use Rattle.jsx_operand.specs.Answers.{Refused};
+ghost use Rattle.jsx_operand.specs.Answers.{PlainRefused};
 ghost use Rattle.jsx_operand.specs.Covers.{IsParameter, IsTurned};
 ghost use Rattle.jsx_operand.specs.Taken.{IsPairOf, IsPresetOf, IsToldOf, behind_first, held, is_pair, is_preset, is_rest, is_short, is_word, paired};
 ghost use Rattle.jsx_operand.specs.Turning as turning;
@@ -229,7 +229,7 @@ fn taken_rest<'s>(member: &mut Prop<'s>) -> Option<Ident<'s>>
 pub fn turn<'s>(alloc: Global, at: BytePos, cover: Cover<'s>) -> Result<Box<Pat<'s>>, ParseError>
     ensures read { IfOk result (λ p. IsTurned cover.entry (view_target p.value)) }
     ensures told { IfOk result (λ p. told_pat p.value ≡ retold (view_expr cover.entry.expr.value) (told_expr cover.entry.expr.value)) }
-    ensures refused { Refused result ((p : Tree) → IsTurned cover.entry p → Prim.⊥) }
+    ensures refused { PlainRefused result ((p : Tree) → IsTurned cover.entry p → Prim.⊥) }
 {
     if !cover.may_turn {
         return Err(ParseError::Syntax(at));
@@ -242,7 +242,7 @@ pub fn turn<'s>(alloc: Global, at: BytePos, cover: Cover<'s>) -> Result<Box<Pat<
 fn turned<'s>(alloc: Global, at: BytePos, expr: Box<Expr<'s>>) -> Result<Box<Pat<'s>>, ParseError>
     ensures read { IfOk result (λ p. Turns (view_expr expr.entry.value) (view_target p.value)) }
     ensures told { IfOk result (λ p. told_pat p.value ≡ retold (view_expr expr.entry.value) (told_expr expr.entry.value)) }
-    ensures refused { Refused result ((p : Tree) → Turns (view_expr expr.entry.value) p → Prim.⊥) }
+    ensures refused { PlainRefused result ((p : Tree) → Turns (view_expr expr.entry.value) p → Prim.⊥) }
 {
     let mut expr = expr;
     let span = span_of(&expr);
@@ -269,7 +269,7 @@ fn turned_element<'s>(
 ) -> Result<Box<Pat<'s>>, ParseError>
     ensures read { IfOk result (λ p. TurnsElement (view_expr expr.entry.value) (view_target p.value)) }
     ensures told { IfOk result (λ p. told_pat p.value ≡ retold (view_expr expr.entry.value) (told_expr expr.entry.value)) }
-    ensures refused { Refused result ((p : Tree) → TurnsElement (view_expr expr.entry.value) p → Prim.⊥) }
+    ensures refused { PlainRefused result ((p : Tree) → TurnsElement (view_expr expr.entry.value) p → Prim.⊥) }
 {
     let mut expr = expr;
     let span = span_of(&expr);
@@ -291,7 +291,7 @@ fn turned_slot<'s>(
 ) -> Result<Box<Pat<'s>>, ParseError>
     ensures read { IfOk result (λ p. TurnsSlots (part (view_expr item.entry.value) none) (part (view_target p.value) none)) }
     ensures told { IfOk result (λ p. told_pat p.value ≡ retold (view_expr item.entry.value) (told_expr item.entry.value)) }
-    ensures refused { Refused result ((p : Tree) → TurnsSlots (part (view_expr item.entry.value) none) (part p none) → Prim.⊥) }
+    ensures refused { PlainRefused result ((p : Tree) → TurnsSlots (part (view_expr item.entry.value) none) (part p none) → Prim.⊥) }
 {
     if is_hole(&item) {
         return Ok(make::pattern_hole(alloc)?);
@@ -313,7 +313,7 @@ fn turned_slots<'s>(
 ) -> Result<Vec<Box<Pat<'s>>>, ParseError>
     ensures read { IfOk result (λ v. TurnsSlots (forest (map (inside view_expr) items.entry.items)) (forest (map (inside view_target) v.items))) }
     ensures told { IfOk result (λ v. told_list (map (inside told_pat) v.items) ≡ retold_list (forest (map (inside view_expr) items.entry.items)) (told_list (map (inside told_expr) items.entry.items))) }
-    ensures refused { Refused result ((ps : Forest) → TurnsSlots (forest (map (inside view_expr) items.entry.items)) ps → Prim.⊥) }
+    ensures refused { PlainRefused result ((ps : Forest) → TurnsSlots (forest (map (inside view_expr) items.entry.items)) ps → Prim.⊥) }
 {
     let mut slots = Vec::with_capacity(alloc, items.len())?;
     'items: for item in items {
@@ -332,7 +332,7 @@ fn turned_part<'s>(
 ) -> Result<Box<Pat<'s>>, ParseError>
     ensures read { IfOk result (λ p. TurnsParts (part (view_prop member.entry.value) none) (part (view_target p.value) none)) }
     ensures told { IfOk result (λ p. told_pat p.value ≡ retold_part (view_prop member.entry.value) (told_prop member.entry.value)) }
-    ensures refused { Refused result ((p : Tree) → TurnsParts (part (view_prop member.entry.value) none) (part p none) → Prim.⊥) }
+    ensures refused { PlainRefused result ((p : Tree) → TurnsParts (part (view_prop member.entry.value) none) (part p none) → Prim.⊥) }
 {
     let mut member = member;
     let span = span_of_member(&member);
@@ -355,7 +355,7 @@ fn turned_name<'s>(
     requires { is_pair (view_prop member.value) ≡ false }
     ensures read { IfOk result (λ p. TurnsParts (part (view_prop member.entry.value) none) (part (view_target p.value) none)) }
     ensures told { IfOk result (λ p. told_pat p.value ≡ retold_part (view_prop member.entry.value) (told_prop member.entry.value)) }
-    ensures refused { Refused result ((p : Tree) → TurnsParts (part (view_prop member.entry.value) none) (part p none) → Prim.⊥) }
+    ensures refused { PlainRefused result ((p : Tree) → TurnsParts (part (view_prop member.entry.value) none) (part p none) → Prim.⊥) }
 {
     let mut member = member;
     let span = span_of_member(&member);
@@ -382,7 +382,7 @@ fn turned_parts<'s>(
 ) -> Result<Vec<Box<Pat<'s>>>, ParseError>
     ensures read { IfOk result (λ v. TurnsParts (forest (map (inside view_prop) members.entry.items)) (forest (map (inside view_target) v.items))) }
     ensures told { IfOk result (λ v. told_list (map (inside told_pat) v.items) ≡ retold_parts_list (forest (map (inside view_prop) members.entry.items)) (told_list (map (inside told_prop) members.entry.items))) }
-    ensures refused { Refused result ((ps : Forest) → TurnsParts (forest (map (inside view_prop) members.entry.items)) ps → Prim.⊥) }
+    ensures refused { PlainRefused result ((ps : Forest) → TurnsParts (forest (map (inside view_prop) members.entry.items)) ps → Prim.⊥) }
 {
     let mut parts = Vec::with_capacity(alloc, members.len())?;
     'members: for member in members {
@@ -464,7 +464,7 @@ pub fn parameter_of<'s>(
 ) -> Result<Box<Pat<'s>>, ParseError>
     ensures read { IfOk result (λ p. IsParameter cover.entry (view_pat p.value)) }
     ensures told { IfOk result (λ p. told_pat p.value ≡ retold (view_expr cover.entry.expr.value) (told_expr cover.entry.expr.value)) }
-    ensures refused { Refused result ((p : Tree) → IsParameter cover.entry p → Prim.⊥) }
+    ensures refused { PlainRefused result ((p : Tree) → IsParameter cover.entry p → Prim.⊥) }
 {
     if !cover.may_turn {
         return Err(ParseError::Syntax(at));

@@ -1,5 +1,5 @@
 -- The cases of a `switch`, as a loop reads them up to the brace.
-use Rattle.std.proofs.Common.{◌≡◌, ◌+◌, ℕ, suc, arith, Bool, true, false, not, cond, List, [], ◌∷◌, refl, sym, ◌∙◌, ap, subst}
+use Rattle.std.proofs.Common.{◌≡◌, ◌≤◌, ◌+◌, ℕ, suc, arith, Bool, true, false, not, cond, List, [], ◌∷◌, refl, sym, ◌∙◌, ap, subst}
 use Rattle.std.specs.Prelude.{IsTrue, codes, nat_le, ◌&&◌, ◌||◌}
 use Rattle.std.proofs.lemmas.Bool.{leb-true}
 use Rattle.jsx_base.specs.Token.{IdentifierName, Punctuator}
@@ -13,6 +13,7 @@ use Rattle.jsx_tree.specs.StaticRules.{Surroundings, all_of, at_most, count_of, 
 use Rattle.jsx_tree.specs.Walk.{is_found, nothing, one, Given, Piece, piece, Items, nil, last, more, Past, sign, tree, many, tail, with, Walk, done, next, around, steady}
 use Rattle.jsx_tree.specs.Language.{Whole}
 use Rattle.jsx_tree.specs.Answers.{Moves, Missed, Only, Barred, OnlyRow, NoRow, NoNode, BuiltNode}
+use Rattle.jsx_tree.specs.Faults.{Fault, Shallow, deepest, given_depth, Unread, Below, outer, part_depth}
 use Rattle.jsx_tree.proofs.Tokens.{and_left, and_right, and_both, found_first}
 use Rattle.jsx_tree.proofs.Apart.{clash, never_both}
 use Rattle.jsx_tree.proofs.Rows.Bodies.{plain}
@@ -20,11 +21,11 @@ use Rattle.jsx_tree.proofs.Rows.Bridge.{found_at}
 use Rattle.jsx_tree.proofs.Rows.Closers.{closes}
 use Rattle.jsx_tree.proofs.Rows.Guarded.{loosen, to_grammar, whole_items_found, whole_walk}
 use Rattle.jsx_tree.proofs.Rows.Lists.{brace, closed}
-use Rattle.jsx_tree.proofs.Rows.Placing.{no_node}
-use Rattle.jsx_tree.proofs.Rows.Steps.{bar, both, on, only_sign, then'}
+use Rattle.jsx_tree.proofs.Rows.Placing.{no_node, node_shallow}
+use Rattle.jsx_tree.proofs.Rows.Steps.{bar, both, on, only_sign, then', both_up}
 use Rattle.jsx_declaration.proofs.Controls.{barred_in, only_in}
 use Rattle.jsx_tree.proofs.Rows.Stopping.{is_not, never_stops, or_cases}
-use Rattle.jsx_tree.proofs.Rows.Turns.{Turn, early, prepend, prepend_cons, turn_as, turn_both, turn_only, turn_symbol, whole_of}
+use Rattle.jsx_tree.proofs.Rows.Turns.{Turn, early, prepend, prepend_cons, turn_as, turn_both, turn_only, turn_symbol, whole_of, turn_shallow}
 use Rattle.jsx_statement.specs.Cases.{IsBody, IsCase, IsDefault, MoreCases, NoCase, NoCases, body_row, cases_row, default_row, one_default, with_case}
 use Rattle.jsx_token.specs.CaseEnds.{ends_case}
 use Rattle.jsx_token.specs.Growths.{is_code, same_sign}
@@ -39,13 +40,16 @@ use Rattle.jsx_token.proofs.Marks.{one_sign}
 use Rattle.jsx_operand.proofs.Homes.{Taken, no_list, taken_by, home_of}
 use Rattle.jsx_operand.proofs.Standing.{standing}
 use Rattle.jsx_tree.proofs.Rows.Firsts.{kind_home}
+use Rattle.jsx_tree.proofs.Depth.Shallow.{shallow_rest, shallow_first, shallow_head, shallow_nothing, shallow_up}
 use Rattle.jsx_operand.proofs.Values.{led_sign}
-use Rattle.jsx_statement.specs.Inners.{NoInner, NoInners, are_inner, first_inner, is_inner_list}
-use Rattle.jsx_statement.proofs.Inners.{first_line, next_inner, signed_inners}
+use Rattle.jsx_statement.specs.Inners.{NoInner, NoInners, are_inner, first_inner, is_inner_list, first_depth}
+use Rattle.jsx_statement.proofs.Inners.{first_line, next_inner, signed_inners, sign_inners}
 use Rattle.jsx_statement.proofs.Blocks.{both_none, no_heading, turn_line, turn_none_left}
 use Rattle.jsx_declaration.proofs.Heads.{as_front, as_turn, behind_both, head_of, items_of, rest_of}
 use Rattle.jsx_declaration.proofs.Statements.{KeySign, Spot, coded, heading_stands, keyed, named, spot_kind, unlabelled_word, worded_evaluation}
 use Rattle.jsx_statement.proofs.Statements.{none_begins, stmts}
+use Rattle.jsx_tree.proofs.Depth.Nodes.{counts_as}
+use Rattle.jsx_operand.proofs.Patterns.{deep_counted}
 
 -- ---- the words of cases
 
@@ -126,31 +130,31 @@ first_of {v} {x} {w} t us vs (next {y = z} (many n (more {y = y} {u = u} {us = w
 first_case : {v : Surroundings} {x w : Place} {t : Tree} {us vs : Forest} → Walk (Whole so_far) (steady v) cases_row x (part (list (part t us)) vs) w → FirstCase v x t us vs w
 first_case {t = t} {us = us} {vs = vs} walk = first_of t us vs walk refl
 
-no_cases_at : {v : Surroundings} {y : Place} → ends_case y ≡ false → NoRow so_far v cases_row y
-no_cases_at {v} {y} n = record { no = at }
+no_cases_at : {v : Surroundings} {y : Place} {o : Fault} → ends_case y ≡ false → NoRow so_far v cases_row y o
+no_cases_at {v} {y} {o = o} n = record { no = at }
   where
     split : (is_found (forth (pun "}") y) ≡ false) × (has_word y ≡ false)
     split = none_of _ _ n
 
-    at : (us : Forest) (w : Place) → Walk (Whole so_far) (steady v) cases_row y us w → ⊥
-    at us w (next (many m (nil f)) (next (sign e g) rest)) = clash _ (found_at e g) split.0
-    at us w (next (many m (last {t = t} r e f)) rest) = clash _ (clause_word (clause_of t r)) split.1
-    at us w (next (many m (more {t = t} p r e all)) rest) = clash _ (clause_word (clause_of t r)) split.1
+    at : (us : Forest) (w : Place) → Walk (Whole so_far) (steady v) cases_row y us w → Shallow o (deepest us) → ⊥
+    at us w (next (many m (nil f)) (next (sign e g) rest)) s = clash _ (found_at e g) split.0
+    at us w (next (many m (last {t = t} r e f)) rest) s = clash _ (clause_word (clause_of t r)) split.1
+    at us w (next (many m (more {t = t} p r e all)) rest) s = clash _ (clause_word (clause_of t r)) split.1
 
 -- ---- no statement stands where a case ends
 
-other_barred : {v : Surroundings} {c : Nonterminal} {x : Place} {s : Sign} → Spot c → KeySign s → every_heading (λ h. not (same_sign (heading_sign h) s)) headings ≡ true → named s ≡ false → is_code s ≡ true → IsTrue (is_found (forth s x)) → Barred so_far v (Part c) x
-other_barred {v} {c} {x} {s} spot k apart word code f = record { no = at }
+other_barred : {v : Surroundings} {c : Nonterminal} {x : Place} {s : Sign} {o : Fault} → Spot c → KeySign s → every_heading (λ h. not (same_sign (heading_sign h) s)) headings ≡ true → named s ≡ false → is_code s ≡ true → IsTrue (is_found (forth s x)) → Barred so_far v (Part c) x o
+other_barred {v} {c} {x} {s} {o = o} spot k apart word code f = record { no = at }
   where
-    at : (g : Given) (y : Place) → Past (Whole so_far) v (Part c) x g y → ⊥
-    at g y (tree {t = leaf j t} w) = spot.leafless j t w.reads.staged
-    at g y (tree {t = list ts} w) = no_list w.reads
-    at g y (tree {t = node l ts} w) = spot_kind spot l ts (taken_by w.reads) (home_of w.reads)
+    at : (g : Given) (y : Place) → Past (Whole so_far) v (Part c) x g y → Shallow o (given_depth g) → ⊥
+    at g y (tree {t = leaf j t} w) a = spot.leafless j t w.reads.staged
+    at g y (tree {t = list ts} w) a = no_list w.reads
+    at g y (tree {t = node l ts} w) a = spot_kind spot l ts (taken_by w.reads) (home_of w.reads)
         (λ h b. clash _ (one_sign (heading_sign h) s x (coded h) code (heading_stands b (of_so_far.from_node l w.reads).walk) f) (is_not _ (of_heading (λ j. not (same_sign (heading_sign j) s)) apart h)))
         (λ e. worded_evaluation k f (subst (λ j. Staged v false c x (node j ts) y) e w.reads))
         (λ e. unlabelled_word s code word f (of_so_far.from_node (statement Label) (subst (λ j. Staged v false c x (node j ts) y) e w.reads)).walk)
 
-ended_barred : {v : Surroundings} (y : Place) → ends_case y ≡ true → Barred so_far v (Part Stmt) y
+ended_barred : {v : Surroundings} {e : Fault} (y : Place) → ends_case y ≡ true → Barred so_far v (Part Stmt) y e
 ended_barred y h =
     or_cases (is_found (forth (pun "}") y)) (has_word y) h
     (λ f. none_begins stmts (record { on = no_heading {y = y} {z = forth (pun "}") y} (record { is = refl; found = f }) }) (closes brace f))
@@ -174,12 +178,12 @@ ahead_more {v} {x} {z = z} {t = t} ts us a o e = subst (λ vs. Ahead v x vs z) (
 pub body_more : {v : Surroundings} {x y z : Place} {t : Tree} (ts us : Forest) → Turn so_far v body_row body_row x y (prepend ts) → ends_case y ≡ false → Only so_far v (Part Stmt) y (one t) z → us ≡ both ts (part t none) → Turn so_far v body_row body_row x z (prepend us)
 body_more {t = t} ts us so n o e = turn_as (λ vs. prepend_cons ts t vs ∙ (λ i. prepend (sym e i) vs)) (turn_both so (turn_line of_so_far refl o (no_cases_at n)))
 
-pub body_barred : {v : Surroundings} {x y : Place} (ts : Forest) → Turn so_far v body_row body_row x y (prepend ts) → ends_case y ≡ false → NoInner v y → NoInners v body_row x
-body_barred {v} {x} {y} ts so n b = record { no = λ us w walk h. let f = so.from us w walk in at f.parts w f.walk (subst (λ vs. first_inner v vs ≡ true) (sym f.is) h) }
+pub body_barred : {v : Surroundings} {x y : Place} {e : Fault} (ts : Forest) → Turn so_far v body_row body_row x y (prepend ts) → ends_case y ≡ false → NoInner v y e → NoInners v body_row x e
+body_barred {v} {x} {y} {e = e} ts so n b = record { no = λ us w walk h a. let f = so.from us w walk in at f.parts w f.walk (subst (λ vs. first_inner v vs ≡ true) (sym f.is) h) (subst (λ vs. Shallow e (first_depth vs)) (sym f.is) a) }
   where
-    at : (us : Forest) (w : Place) → Walk (Whole so_far) (steady v) body_row y us w → first_inner v (prepend ts us) ≡ true → ⊥
-    at us w (next {ts = vs} (many m (nil f)) rest) h = (no_cases_at n).no vs w rest
-    at us w (next (many {ts = part t cs} m all) rest) h = let r = first_line all in b.no t r.end r.whole (next_inner v ts t cs h)
+    at : (us : Forest) (w : Place) → Walk (Whole so_far) (steady v) body_row y us w → first_inner v (prepend ts us) ≡ true → Shallow e (first_depth (prepend ts us)) → ⊥
+    at us w (next {ts = vs} (many m (nil f)) rest) h s = (no_cases_at {o = Unread} n).no vs w rest tt
+    at us w (next {ts = vs} (many {ts = part t cs} m all) rest) h s = let r = first_line all in b.no t r.end r.whole (next_inner v ts t cs h) (shallow_head e t cs (shallow_up e (deepest (part t cs)) (deepest (both ts (part t cs))) (both_up ts (part t cs)) s))
 
 pub body_ended : {v : Surroundings} {x y : Place} (ts : Forest) → are_inner v ts ≡ true → Ahead v x ts y → Turn so_far v body_row body_row x y (prepend ts) → ends_case y ≡ true → IsTrue (is_found y) → IsBody v x (list ts) y
 body_ended {v} {x} {y} ts i a so e f = record {
@@ -249,42 +253,74 @@ default_first : {v : Surroundings} {x x1 y w : Place} {t : Tree} (us vs : Forest
 default_first {x = x} us vs m (a_case ts f n) rest = absurd (never_both IdentifierName IdentifierName (codes "default") (codes "case") x refl (found_at (sym m.is) m.found) f)
 default_first us vs m (a_default ts f n) rest = let r = of_so_far.from_node (statement Default) n.reads in (ts, (refl, default_behind m (whole_walk of_so_far CaseClause (row_so_far (statement Default)) refl n.ends_there r.walk) r.keeps rest))
 
--- no case is there behind its word: no row; a row without statements that may stand there
-pub record NoneBehind (v : Surroundings) (x : Place) : Type 0 where
-  pub no : (t : Tree) (us : Forest) (w : Place) → Walk (Whole so_far) (steady v) case_row x (part t us) w → first_inner v us ≡ true → ⊥
+-- no case is there behind its word, whatever stands behind it
+pub record NoneBehind (v : Surroundings) (x : Place) (e : Fault) : Type 0 where
+  pub no : (t : Tree) (us : Forest) (w : Place) → Walk (Whole so_far) (steady v) case_row x (part t us) w → first_inner v us ≡ true → Shallow e (part_depth t) → Shallow e (first_depth us) → ⊥
 
-pub none_behind : {v : Surroundings} {x : Place} → NoRow so_far v case_row x → NoneBehind v x
-none_behind n = record { no = λ t us w walk h. n.no (part t us) w walk }
-
-pub none_inner : {v : Surroundings} {x y z : Place} {e : Tree} → Only so_far v (Part (Expr 0)) x (one e) y → Only so_far v (Fixed (pun ":")) y nothing z → NoInners v body_row z → NoneBehind v x
-none_inner {v} {x} {y} {z} {e} o c n = record { no = λ t us w walk h. at walk t us refl h }
+none_after : {v : Surroundings} {x y : Place} {e : Tree} {d : Fault} → Only so_far v (Part (Expr 0)) x (one e) y → NoInners v default_row y d → NoneBehind v x d
+none_after {v} {x} {y} {e} {d = d} o n = record { no = λ t us w walk h s r. at walk t us refl h r }
   where
-    at : {ts : Forest} {w : Place} → Walk (Whole so_far) (steady v) case_row x ts w → (t : Tree) (us : Forest) → ts ≡ part t us → first_inner v us ≡ true → ⊥
-    at {w = w} (next {y = y'} {ts = vs} (tree {t = u} q) walk) t us is h =
-        (signed_inners c n).no vs w (subst (λ p. Walk (Whole so_far) (steady v) default_row p vs w) (sym (o.alone (one u) y' (tree q)).1) walk) (subst (λ ws. first_inner v ws ≡ true) (sym (ap rest_of is)) h)
+    at : {ts : Forest} {w : Place} → Walk (Whole so_far) (steady v) case_row x ts w → (t : Tree) (us : Forest) → ts ≡ part t us → first_inner v us ≡ true → Shallow d (first_depth us) → ⊥
+    at {w = w} (next {y = y'} {ts = vs} (tree {t = u} q) walk) t us is h r =
+        let same = sym (ap rest_of is) in
+        n.no vs w (subst (λ p. Walk (Whole so_far) (steady v) default_row p vs w) (sym (o.alone (one u) y' (tree q)).1) walk) (subst (λ ws. first_inner v ws ≡ true) same h) (subst (λ ws. Shallow d (first_depth ws)) same r)
 
-pub no_case : {v : Surroundings} {x x1 : Place} → Moves (key "case") x x1 → NoneBehind v x1 → NoCase v x
-no_case m n = record {
-  no = λ t us vs w walk.
+pub no_test : {v : Surroundings} {x : Place} {d : Fault} → Barred so_far v (Part (Expr 0)) x d → NoneBehind v x d
+no_test {v} {x} {d} b = record { no = λ t us w walk h s r. at walk t us refl s }
+  where
+    at : {ts : Forest} {w : Place} → Walk (Whole so_far) (steady v) case_row x ts w → (t : Tree) (us : Forest) → ts ≡ part t us → Shallow d (part_depth t) → ⊥
+    at (next {y = y} (tree {t = u} q) walk) t us is s = b.no (one u) y (tree q) (subst (λ a. Shallow d (part_depth a)) (sym (ap head_of is)) s)
+
+pub no_colon : {v : Surroundings} {x y : Place} {e : Tree} {d : Fault} → Only so_far v (Part (Expr 0)) x (one e) y → Barred so_far v (Fixed (pun ":")) y d → NoneBehind v x d
+no_colon o b = none_after o (sign_inners b)
+
+pub none_inner : {v : Surroundings} {x y z : Place} {e : Tree} {d : Fault} → Only so_far v (Part (Expr 0)) x (one e) y → Only so_far v (Fixed (pun ":")) y nothing z → NoInners v body_row z d → NoneBehind v x d
+none_inner o c n = none_after o (signed_inners c n)
+
+-- the first case is as deep as all of them, and its parts are less deep
+abbrev depth_first : Tree → Forest → Forest → ℕ
+depth_first t us vs = deepest (part (list (part t us)) vs)
+
+case_shallow : (e : Fault) (t : Tree) (us vs : Forest) → Shallow e (depth_first t us vs) → Shallow e (part_depth t)
+case_shallow e t us vs s = shallow_head e t us (shallow_first e (one (list (part t us))) vs s)
+
+clause_shallow : {v : Surroundings} {x y : Place} {t : Tree} (e : Fault) (k : Kind) (ts : Forest) → counts_as true k ≡ true → t ≡ node k ts → Whole so_far v false CaseClause x t y → Shallow (outer e) (part_depth t) → Shallow e (deepest ts)
+clause_shallow {v} {x} {y} e k ts i is w s = node_shallow e true i of_so_far (subst (λ u. Staged v false CaseClause x u y) is w.reads) (subst (λ u. Shallow (outer e) (part_depth u)) is s)
+
+pub no_case : {v : Surroundings} {x x1 : Place} {e : Fault} → Moves (key "case") x x1 → NoneBehind v x1 e → NoCase v x (outer e)
+no_case {e = e} m n = record {
+  no = λ t us vs w walk s.
       let f = first_case walk in
       let c = case_first us vs m (clause_of t f.whole) f.walk in
-      n.no _ _ w c.1.1.walk c.1.1.inner;
+      let b = c.1.1 in
+      let d = subst (λ ts. Shallow e (deepest ts)) b.is (clause_shallow e (statement Case) c.0 refl c.1.0 f.whole (case_shallow (outer e) t us vs s)) in
+      n.no b.test (part b.body (part (list us) vs)) w b.walk b.inner (shallow_first e (one b.test) (part b.body none) d) (shallow_first e (one b.body) none (shallow_rest e (one b.test) (part b.body none) d));
 }
 
-pub no_default : {v : Surroundings} {x x1 : Place} → Moves (key "default") x x1 → NoInners v default_row x1 → NoCase v x
-no_default m n = record {
-  no = λ t us vs w walk.
+pub no_default : {v : Surroundings} {x x1 : Place} {e : Fault} → Moves (key "default") x x1 → NoInners v default_row x1 e → NoCase v x (outer e)
+no_default {e = e} m n = record {
+  no = λ t us vs w walk s.
       let f = first_case walk in
       let c = default_first us vs m (clause_of t f.whole) f.walk in
-      n.no _ w c.1.1.walk c.1.1.inner;
+      let b = c.1.1 in
+      let d = subst (λ ts. Shallow e (deepest ts)) b.is (clause_shallow e (statement Default) c.0 refl c.1.0 f.whole (case_shallow (outer e) t us vs s)) in
+      n.no (part b.body (part (list us) vs)) w b.walk b.inner (shallow_first e (one b.body) none d);
 }
 
+-- where no level is left
+pub deep_case : {v : Surroundings} {x : Place} {e : Fault} → Below 0 e → NoCase v x e
+deep_case {v} {x} {e} b = record { no = λ t us vs w walk s. let f = first_case walk in by (clause_of t f.whole) (case_shallow e t us vs s) }
+  where
+    by : {t : Tree} {y : Place} → Clause v x t y → Shallow e (part_depth t) → ⊥
+    by (a_case ts f w) s = deep_counted e refl w.reads b s
+    by (a_default ts f w) s = deep_counted e refl w.reads b s
+
 -- neither of the words
-pub no_clause : {v : Surroundings} {x : Place} → forth (key "default") x ≡ Lost → Barred so_far v (Fixed (key "case")) x → NoCase v x
-no_clause {v} {x} d b = record { no = λ t us vs w walk. let f = first_case walk in by (clause_of t f.whole) }
+pub no_clause : {v : Surroundings} {x : Place} {e : Fault} → forth (key "default") x ≡ Lost → Barred so_far v (Fixed (key "case")) x e → NoCase v x e
+no_clause {v} {x} {e = e} d b = record { no = λ t us vs w walk s. let f = first_case walk in by (clause_of t f.whole) }
   where
     by : {t : Tree} {y : Place} → Clause v x t y → ⊥
-    by (a_case ts f n) = b.no nothing _ (sign refl f)
+    by (a_case ts f n) = b.no nothing _ (sign refl f) (shallow_nothing e)
     by (a_default ts f n) = let bad : IsTrue (is_found Lost) = subst (λ p. IsTrue (is_found p)) d f in cc
 
 -- the cases behind one that was read
@@ -395,32 +431,39 @@ prepend_case ts t (part (leaf k r) vs) = refl
 prepend_case ts t (part (node k us) vs) = refl
 prepend_case ts t (part (list us) vs) = ap (λ ws. part (list ws) vs) (behind_both ts t us)
 
+-- a case before others
+case_up : (t : Tree) (us : Forest) → deepest us ≤ deepest (with_case t us)
+case_up t none = omega arith
+case_up t (part (list ts) us) = omega arith
+case_up t (part (leaf k s) us) = omega arith
+case_up t (part (node k ts) us) = omega arith
+
 case_turn : {v : Surroundings} {x y : Place} {t : Tree} → IsCase v x t y → Turn so_far v cases_row cases_row x y (with_case t)
-case_turn c = record { to = c.to; from = λ us w walk. let f = c.from us w walk in record { parts = f.parts; is = f.is; walk = f.walk } }
+case_turn {t = t} c = record { to = c.to; from = λ us w walk. let f = c.from us w walk in record { parts = f.parts; is = f.is; walk = f.walk }; rises = case_up t }
 
 pub cases_more : {v : Surroundings} {x y z : Place} {t : Tree} (ts us : Forest) → Turn so_far v cases_row cases_row x y (prepend ts) → IsCase v y t z → us ≡ both ts (part t none) → Turn so_far v cases_row cases_row x z (prepend us)
 cases_more {t = t} ts us so c e = turn_as (λ vs. prepend_case ts t vs ∙ (λ i. prepend (sym e i) vs)) (turn_both so (case_turn c))
 
-no_more : {v : Surroundings} {x : Place} → IsTrue (is_found (forth (pun "}") x)) → Barred so_far v (Part CaseClause) x
-no_more {v} {x} f = record { no = at }
+no_more : {v : Surroundings} {x : Place} {e : Fault} → IsTrue (is_found (forth (pun "}") x)) → Barred so_far v (Part CaseClause) x e
+no_more {v} {x} {e = e} f = record { no = at }
   where
-    at : (g : Given) (y : Place) → Past (Whole so_far) v (Part CaseClause) x g y → ⊥
-    at g y (tree {t = t} w) = word_brace x (clause_word (clause_of t w)) f
+    at : (g : Given) (y : Place) → Past (Whole so_far) v (Part CaseClause) x g y → Shallow e (given_depth g) → ⊥
+    at g y (tree {t = t} w) s = word_brace x (clause_word (clause_of t w)) f
 
 pub cases_ended : {v : Surroundings} {x y z : Place} (ts : Forest) → Turn so_far v cases_row cases_row x y (prepend ts) → Moves (pun "}") y z → OnlyRow so_far v cases_row x (part (list ts) none) z
 cases_ended {v} {x} {y} {z} ts so m =
     let there = found_at (sym m.is) m.found in
     subst (λ us. OnlyRow so_far v cases_row x (part (list us) none) z) (both_none ts) (turn_only so (turn_only (turn_none_left (found_first (pun "}" ∷ []) y there) (no_more there)) (closed m)))
 
-pub cases_barred : {v : Surroundings} {x y y' : Place} (ts : Forest) → Turn so_far v cases_row cases_row x y (prepend ts) → Missed (pun "}") y y' → NoCase v y' → NoCases v x
-cases_barred {v} {x} {y} ts so k n = record { no = λ us w walk h. let f = so.from us w walk in at f.parts w f.walk }
+pub cases_barred : {v : Surroundings} {x y y' : Place} {o : Fault} (ts : Forest) → Turn so_far v cases_row cases_row x y (prepend ts) → Missed (pun "}") y y' → NoCase v y' o → NoCases v x o
+cases_barred {v} {x} {y} {o = o} ts so k n = record { no = λ us w walk h a. let f = so.from us w walk in at f.parts w f.walk (turn_shallow o so us w walk a) }
   where
-    here : NoCase v y
-    here = subst (NoCase v) (sym k.same) n
+    here : NoCase v y o
+    here = subst (λ w. NoCase v w o) (sym k.same) n
 
-    at : (us : Forest) (w : Place) → Walk (Whole so_far) (steady v) cases_row y us w → ⊥
-    at us w (next (many m (nil f)) (next (sign e g) rest)) = let bad : IsTrue (is_found Lost) = subst (λ p. IsTrue (is_found p)) k.stuck.is (found_at e g) in cc
-    at us w (next {ts = vs} (many {ts = part t cs} m all) rest) = here.no t cs vs w (next (many m all) rest)
+    at : (us : Forest) (w : Place) → Walk (Whole so_far) (steady v) cases_row y us w → Shallow o (deepest us) → ⊥
+    at us w (next (many m (nil f)) (next (sign e g) rest)) s = let bad : IsTrue (is_found Lost) = subst (λ p. IsTrue (is_found p)) k.stuck.is (found_at e g) in cc
+    at us w (next {ts = vs} (many {ts = part t cs} m all) rest) s = here.no t cs vs w (next (many m all) rest) s
 
 -- ---- of which one is `default`
 
@@ -460,19 +503,19 @@ both_true true true h = (refl, refl)
 both_true true false h = cc
 both_true false b h = cc
 
-two_cases : {v : Surroundings} {x y z : Place} {t : Tree} (ts : Forest) → Turn so_far v cases_row cases_row x y (prepend ts) → IsCase v y t z → defaults ts ≡ 1 → is_default t ≡ true → NoCases v x
-two_cases {v} {x} {z = z} {t = t} ts so c n d = record { no = at }
+two_cases : {v : Surroundings} {x y z : Place} {t : Tree} {e : Fault} (ts : Forest) → Turn so_far v cases_row cases_row x y (prepend ts) → IsCase v y t z → defaults ts ≡ 1 → is_default t ≡ true → NoCases v x e
+two_cases {v} {x} {z = z} {t = t} {e = e} ts so c n d = record { no = at }
   where
     by : (vs : Forest) (w : Place) → Walk (Whole so_far) (steady v) cases_row z vs w → one_default (prepend ts (with_case t vs)) ≡ true → ⊥
     by vs w (next (many {ts = cs} m all) rest) h = two_defaults ts t cs n d h
 
-    at : (us : Forest) (w : Place) → Walk (Whole so_far) (steady v) cases_row x us w → one_default us ≡ true → ⊥
-    at us w walk h =
+    at : (us : Forest) (w : Place) → Walk (Whole so_far) (steady v) cases_row x us w → one_default us ≡ true → Shallow e (deepest us) → ⊥
+    at us w walk h s =
         let f = so.from us w walk in
         let g = c.from f.parts w f.walk in
         by g.parts w g.walk (subst (λ vs. one_default vs ≡ true) (sym f.is ∙ ap (prepend ts) (sym g.is)) h)
 
-pub second_default : {v : Surroundings} {x y z : Place} {t : Tree} (h : Bool) (ts : Forest) → Turn so_far v cases_row cases_row x y (prepend ts) → IsCase v y t z → defaults ts ≡ cond h 1 0 → (h && is_default t) ≡ true → NoCases v x
+pub second_default : {v : Surroundings} {x y z : Place} {t : Tree} {e : Fault} (h : Bool) (ts : Forest) → Turn so_far v cases_row cases_row x y (prepend ts) → IsCase v y t z → defaults ts ≡ cond h 1 0 → (h && is_default t) ≡ true → NoCases v x e
 second_default {t = t} h ts so c n b = let p = both_true h (is_default t) b in two_cases ts so c (n ∙ ap (λ a. cond a 1 0) p.0) p.1
 
 pub defaults_next : (h d : Bool) (n m : ℕ) → n ≡ cond h 1 0 → (h && d) ≡ false → m ≡ cond d (suc n) n → m ≡ cond (h || d) 1 0
@@ -500,29 +543,29 @@ pub switch_built : {v u : Surroundings} {x x1 x2 x3 x4 z : Place} {e t : Tree} {
     → OnlyRow so_far u cases_row x4 (part (list cs) none) z → at_most 1 is_default cs ≡ true → t ≡ node (statement Switch) (part e (part (list cs) none)) → BuiltNode so_far v (tail (row_so_far (statement Switch))) (statement Switch) t x z
 switch_built i a b c d o k is = record { parts = _; is = is; row = then' a (then' b (then' c (then' (only_in i d) (only_cases i o)))); keeps = and_both _ _ (and_both _ _ (rule_whole _ _ (whole_of b.past).reads) (and_both _ _ k refl)) refl }
 
-pub no_switch_brace : {v u : Surroundings} {x x1 x2 x3 : Place} {e : Tree} → u ≡ enter none InSwitch v → Only so_far v (Fixed (pun "(")) x nothing x1 → Only so_far v (Part (Expr 0)) x1 (one e) x2 → Only so_far v (Fixed (pun ")")) x2 nothing x3 → Barred so_far u (Fixed (pun "{")) x3 → NoNode so_far v (tail (row_so_far (statement Switch))) (statement Switch) x
+pub no_switch_brace : {v u : Surroundings} {x x1 x2 x3 : Place} {e : Tree} {o : Fault} → u ≡ enter none InSwitch v → Only so_far v (Fixed (pun "(")) x nothing x1 → Only so_far v (Part (Expr 0)) x1 (one e) x2 → Only so_far v (Fixed (pun ")")) x2 nothing x3 → Barred so_far u (Fixed (pun "{")) x3 o → NoNode so_far v (tail (row_so_far (statement Switch))) (statement Switch) x o
 no_switch_brace i a b c n = no_node (on a (on b (on c (bar (barred_in i n)))))
 
 -- no parts that pass a test stand there as the row says
-record NoneIf (v : Surroundings) (ps : List Piece) (p : Forest → Bool) (x : Place) : Type 0 where
-  no : (ts : Forest) (y : Place) → Walk (Whole so_far) (steady v) ps x ts y → p ts ≡ true → ⊥
+record NoneIf (v : Surroundings) (ps : List Piece) (p : Forest → Bool) (x : Place) (e : Fault) : Type 0 where
+  no : (ts : Forest) (y : Place) → Walk (Whole so_far) (steady v) ps x ts y → p ts ≡ true → Shallow e (deepest ts) → ⊥
 
-on_if : {v : Surroundings} {a : List Context} {q : Symbol} {ps : List Piece} {p : Forest → Bool} {x y : Place} {g : Given} → Only so_far (steady v a) q x g y → NoneIf v ps (λ ts. p (with g ts)) y → NoneIf v (piece a q ∷ ps) p x
-on_if {v} {a} {q} {ps} {p} {x} {y} {g} o n = record { no = at }
+on_if : {v : Surroundings} {a : List Context} {q : Symbol} {ps : List Piece} {p : Forest → Bool} {x y : Place} {g : Given} {e : Fault} → Only so_far (steady v a) q x g y → NoneIf v ps (λ ts. p (with g ts)) y e → NoneIf v (piece a q ∷ ps) p x e
+on_if {v} {a} {q} {ps} {p} {x} {y} {g} {e = e} o n = record { no = at }
   where
-    at : (ts : Forest) (z : Place) → Walk (Whole so_far) (steady v) (piece a q ∷ ps) x ts z → p ts ≡ true → ⊥
-    at ts z (next {ts = us} r w) k =
+    at : (ts : Forest) (z : Place) → Walk (Whole so_far) (steady v) (piece a q ∷ ps) x ts z → p ts ≡ true → Shallow e (deepest ts) → ⊥
+    at ts z (next {g = h'} {ts = us} r w) k s =
         let same = o.alone _ _ r in
-        n.no us z (subst (λ b. Walk (Whole so_far) (steady v) ps b us z) (sym same.1) w) (subst (λ h. p (with h us) ≡ true) (sym same.0) k)
+        n.no us z (subst (λ b. Walk (Whole so_far) (steady v) ps b us z) (sym same.1) w) (subst (λ h. p (with h us) ≡ true) (sym same.0) k) (shallow_rest e h' us s)
 
 switch_keeps : (v : Surroundings) (e : Tree) (cs : Forest) → so_far.keeps (statement Switch) v (part e (part (list cs) none)) ≡ true → at_most 1 is_default cs ≡ true
 switch_keeps v e cs k = and_left (at_most 1 is_default cs) _ (and_right (list_rule (at_most 1 is_default) e) _ (and_left (all_of (list_rule (at_most 1 is_default)) (part e (part (list cs) none))) _ k))
 
-pub no_switch_cases : {v u : Surroundings} {x x1 x2 x3 x4 : Place} {e : Tree} → u ≡ enter none InSwitch v → Only so_far v (Fixed (pun "(")) x nothing x1 → Only so_far v (Part (Expr 0)) x1 (one e) x2 → Only so_far v (Fixed (pun ")")) x2 nothing x3 → Only so_far u (Fixed (pun "{")) x3 nothing x4
-    → NoCases u x4 → NoNode so_far v (tail (row_so_far (statement Switch))) (statement Switch) x
-no_switch_cases {v} {u} {x4 = x4} {e = e} i a b c d n =
+pub no_switch_cases : {v u : Surroundings} {x x1 x2 x3 x4 : Place} {e : Tree} {o : Fault} → u ≡ enter none InSwitch v → Only so_far v (Fixed (pun "(")) x nothing x1 → Only so_far v (Part (Expr 0)) x1 (one e) x2 → Only so_far v (Fixed (pun ")")) x2 nothing x3 → Only so_far u (Fixed (pun "{")) x3 nothing x4
+    → NoCases u x4 o → NoNode so_far v (tail (row_so_far (statement Switch))) (statement Switch) x o
+no_switch_cases {v} {u} {x4 = x4} {e = e} {o = o} i a b c d n =
     let all = on_if {p = so_far.keeps (statement Switch) v} a (on_if b (on_if c (on_if (only_in i d) (record { no = last })))) in
     record { no = all.no }
   where
-    last : (us : Forest) (z : Place) → Walk (Whole so_far) (steady v) (piece (InSwitch ∷ []) (Many Lines CaseClause) ∷ piece (InSwitch ∷ []) (Fixed (pun "}")) ∷ []) x4 us z → so_far.keeps (statement Switch) v (part e us) ≡ true → ⊥
-    last us z (next (many {ts = cs} m all) (next (sign f g) (done h))) k = n.no (part (list cs) none) z (of_switch {v = v} {u = u} i (next (many m all) (next (sign f g) (done h)))) (switch_keeps v e cs k)
+    last : (us : Forest) (z : Place) → Walk (Whole so_far) (steady v) (piece (InSwitch ∷ []) (Many Lines CaseClause) ∷ piece (InSwitch ∷ []) (Fixed (pun "}")) ∷ []) x4 us z → so_far.keeps (statement Switch) v (part e us) ≡ true → Shallow o (deepest us) → ⊥
+    last us z (next (many {ts = cs} m all) (next (sign f g) (done h))) k s = n.no (part (list cs) none) z (of_switch {v = v} {u = u} i (next (many m all) (next (sign f g) (done h)))) (switch_keeps v e cs k) s

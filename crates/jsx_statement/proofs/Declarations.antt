@@ -13,10 +13,12 @@ use Rattle.jsx_tree.specs.declared.text.DeclareWord.TheVariants as declare_word
 use Rattle.jsx_tree.specs.Walk.{is_found, one, Given, Past, tree, tail}
 use Rattle.jsx_tree.specs.Language.{Whole}
 use Rattle.jsx_tree.specs.Answers.{Moves, Stuck, Only, Barred, NoNode, BuiltNode}
+use Rattle.jsx_tree.specs.Faults.{Fault, Shallow, given_depth, outer, Below}
 use Rattle.jsx_tree.proofs.Rows.Bridge.{found_at}
 use Rattle.jsx_tree.proofs.Rows.Firsts.{kind_home}
 use Rattle.jsx_tree.proofs.Rows.Guarded.{guarded}
 use Rattle.jsx_tree.proofs.Rows.Placing.{Chosen, free}
+use Rattle.jsx_tree.proofs.Depth.Nodes.{counts_as}
 use Rattle.jsx_token.specs.Growths.{opening_sign}
 use Rattle.jsx_token.specs.Headings.{Begins, own, heading_kind, heading_sign}
 use Rattle.jsx_token.specs.declared.heading.Heading.{Heading}
@@ -35,6 +37,7 @@ use Rattle.jsx_operand.proofs.Standing.{standing}
 use Rattle.jsx_declaration.specs.Heads.{NoDeclaring, declare_sign}
 use Rattle.jsx_declaration.proofs.PlacedNodes.{declaring_is}
 use Rattle.jsx_declaration.proofs.Statements.{heading_stands, lost_there, one_heading}
+use Rattle.jsx_statement.proofs.Statements.{deep_chosen}
 
 -- ---- which kinds declare, and with what they begin
 
@@ -74,17 +77,18 @@ pub record Opens (h : Heading) : Type 0 where
   pub guards : guarded Declaration (row_so_far (heading_kind h)) ≡ true
   pub is_signed : signed (row_so_far (heading_kind h)) ≡ true
   pub home : (ts : Forest) → admits Declaration (node (heading_kind h) ts) ≡ true
+  pub counts : counts_as true (heading_kind h) ≡ true
 
 pub function_opens : Opens heading.Function
-function_opens = record { single = refl; guards = refl; is_signed = refl; home = λ ts. refl }
+function_opens = record { single = refl; guards = refl; is_signed = refl; home = λ ts. refl; counts = refl }
 
 pub class_opens : Opens heading.Class
-class_opens = record { single = refl; guards = refl; is_signed = refl; home = λ ts. refl }
+class_opens = record { single = refl; guards = refl; is_signed = refl; home = λ ts. refl; counts = refl }
 
 pub word_opens : (w : code.DeclareWord) → Opens (heading.Var w)
-word_opens declare_word.Var = record { single = refl; guards = refl; is_signed = refl; home = λ ts. refl }
-word_opens declare_word.Let = record { single = refl; guards = refl; is_signed = refl; home = λ ts. refl }
-word_opens declare_word.Const = record { single = refl; guards = refl; is_signed = refl; home = λ ts. refl }
+word_opens declare_word.Var = record { single = refl; guards = refl; is_signed = refl; home = λ ts. refl; counts = refl }
+word_opens declare_word.Let = record { single = refl; guards = refl; is_signed = refl; home = λ ts. refl; counts = refl }
+word_opens declare_word.Const = record { single = refl; guards = refl; is_signed = refl; home = λ ts. refl; counts = refl }
 
 pub word_moves : {x y : Place} (w : code.DeclareWord) → Moves (declare_sign w) x y → Moves (heading_sign (heading.Var w)) x y
 word_moves {x} {y} w m = subst (λ s. Moves s x y) (declaring_is w) m
@@ -95,23 +99,27 @@ word_takes {x} {y} w k = subst (λ s. Takes s x y) (declaring_is w) k
 pub declared_parts : {v : Surroundings} {x y z : Place} {t : Tree} (h : Heading) → Opens h → Moves (heading_sign h) x y → OnlyParts v (heading_kind h) t y z → Only so_far v (Part Declaration) x (one t) z
 declared_parts h o m b = parts_only (chosen h o.single (found_at (sym m.is) m.found)) o.guards o.is_signed o.home refl m b
 
-pub no_declared_parts : {v : Surroundings} {x y : Place} (h : Heading) → Opens h → Moves (heading_sign h) x y → NoParts v (heading_kind h) y → Barred so_far v (Part Declaration) x
-no_declared_parts h o m n = parts_barred (chosen h o.single (found_at (sym m.is) m.found)) o.guards o.is_signed m n
+pub no_declared_parts : {v : Surroundings} {x y : Place} {e : Fault} (h : Heading) → Opens h → Moves (heading_sign h) x y → NoParts v (heading_kind h) y e → Barred so_far v (Part Declaration) x (outer e)
+no_declared_parts h o m n = parts_barred true o.counts (chosen h o.single (found_at (sym m.is) m.found)) o.guards o.is_signed m n
 
 -- where what its parts stand in doesn't hang on them
 pub declared_only : {v : Surroundings} {x y z : Place} {t : Tree} (h : Heading) → Opens h → free (tail (row_so_far (heading_kind h))) ≡ true → Moves (heading_sign h) x y → BuiltNode so_far v (tail (row_so_far (heading_kind h))) (heading_kind h) t y z → Only so_far v (Part Declaration) x (one t) z
 declared_only h o f m b = declared_parts h o m (free_parts (heading_kind h) f b)
 
-pub declared_barred : {v : Surroundings} {x y : Place} (h : Heading) → Opens h → free (tail (row_so_far (heading_kind h))) ≡ true → Moves (heading_sign h) x y → NoNode so_far v (tail (row_so_far (heading_kind h))) (heading_kind h) y → Barred so_far v (Part Declaration) x
+pub declared_barred : {v : Surroundings} {x y : Place} {e : Fault} (h : Heading) → Opens h → free (tail (row_so_far (heading_kind h))) ≡ true → Moves (heading_sign h) x y → NoNode so_far v (tail (row_so_far (heading_kind h))) (heading_kind h) y e → Barred so_far v (Part Declaration) x (outer e)
 declared_barred h o f m n = no_declared_parts h o m (free_none (heading_kind h) f n)
 
+-- where no level is left
+pub declared_deep : {v : Surroundings} {x y : Place} {e : Fault} (h : Heading) → Opens h → Moves (heading_sign h) x y → Below 0 e → Barred so_far v (Part Declaration) x e
+declared_deep {v} {x} {e = e} h o m l = deep_chosen o.counts (chosen h o.single (found_at (sym m.is) m.found)) l
+
 -- where none of their words stands
-pub undeclared : {v : Surroundings} {x : Place} → NoDeclaring x → Stuck (key "function") x → Stuck (key "class") x → Barred so_far v (Part Declaration) x
-undeclared {v} {x} n s c = record { no = at }
+pub undeclared : {v : Surroundings} {x : Place} {e : Fault} → NoDeclaring x → Stuck (key "function") x → Stuck (key "class") x → Barred so_far v (Part Declaration) x e
+undeclared {v} {x} {e = e} n s c = record { no = at }
   where
-    at : (g : Given) (y : Place) → Past (Whole so_far) v (Part Declaration) x g y → ⊥
-    at g y (tree {t = leaf k t} w) = let bad = w.reads.staged in cc
-    at g y (tree {t = list ts} w) = no_list w.reads
-    at g y (tree {t = node k ts} w) =
+    at : (g : Given) (y : Place) → Past (Whole so_far) v (Part Declaration) x g y → Shallow e (given_depth g) → ⊥
+    at g y (tree {t = leaf k t} w) h = let bad = w.reads.staged in cc
+    at g y (tree {t = list ts} w) h = no_list w.reads
+    at g y (tree {t = node k ts} w) h =
         let d = declares k (declared_kind k ts w) in
         lost_there (heading_sign d.head) x (d.missing x n s c) (heading_stands d.begun (of_so_far.from_node k w.reads).walk)

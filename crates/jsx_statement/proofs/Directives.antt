@@ -1,6 +1,6 @@
 -- Directives, in a program or in the body of a function: the strings that come first, and what stands behind them. A string reads alike as a statement and as a directive, whatever it stands in.
-use Rattle.std.proofs.Common.{◌≡◌, Bool, true, false, not, refl, sym, ◌∙◌, ap, subst}
-use Rattle.std.specs.Prelude.{IsTrue, codes}
+use Rattle.std.proofs.Common.{◌≡◌, ◌≤◌, arith, Bool, true, false, not, refl, sym, ◌∙◌, ap, subst}
+use Rattle.std.specs.Prelude.{IfNone, IfSome, IsTrue, None, Option, Some, codes}
 use Rattle.jsx_base.specs.Token.{Text, Operator, Punctuator, IdentifierName, StringLiteral}
 use Rattle.jsx_tree.specs.Signs.{Sign, Semicolon, Tok, Unless}
 use Rattle.jsx_tree.specs.Kinds.{Directive, FunctionBody, ExprStmt, Kind, program, statement, function, expression, Tree, leaf, node, list, Forest, none, part, FunctionExpr, ClassExpr, Object}
@@ -12,6 +12,7 @@ use Rattle.jsx_tree.specs.StaticRules.{Surroundings, first_of_list, is_string_st
 use Rattle.jsx_tree.specs.Walk.{is_found, one, Given, Past, Items, nil, last, more, sign, tree, many, Walk, done, next, around, steady}
 use Rattle.jsx_tree.specs.Language.{Whole}
 use Rattle.jsx_tree.specs.Answers.{Moves, Only, OnlyRow, NoRow, Stuck}
+use Rattle.jsx_tree.specs.Faults.{Fault, Unread, Shallow, given_depth, part_depth, deepest}
 use Rattle.jsx_tree.proofs.Tokens.{and_left, and_both}
 use Rattle.jsx_tree.proofs.Apart.{clash, never_both}
 use Rattle.jsx_tree.proofs.Rows.Bridge.{found_at}
@@ -38,13 +39,15 @@ use Rattle.jsx_operand.proofs.Standing.{standing}
 use Rattle.jsx_operand.proofs.Values.{leaf_forth, literal_follows, literal_opening, opener_of, same_both}
 use Rattle.jsx_operand.proofs.Headless.{no_heads}
 use Rattle.jsx_member.proofs.Sequences.{closed_of, comma_goes, whole_only}
-use Rattle.jsx_statement.specs.Directives.{IsDirective, NoDirective, Prologue, begun, ended}
+use Rattle.jsx_statement.specs.Directives.{IsDirective, NoDirective, NoPrologue, Prologue, begun, ended}
 use Rattle.jsx_declaration.specs.Labels.{NoLabel}
 use Rattle.jsx_statement.proofs.Blocks.{both_none, braced}
 use Rattle.jsx_declaration.proofs.Heads.{behind_both}
 use Rattle.jsx_declaration.proofs.Items.{statement_built}
 use Rattle.jsx_declaration.proofs.Statements.{lost_there}
 use Rattle.jsx_statement.proofs.Statements.{plain_only, stmts}
+use Rattle.jsx_tree.proofs.Depth.Shallow.{below_shallow, shallow_first, shallow_head, shallow_rest}
+use Rattle.jsx_tree.proofs.Rows.Placing.{flat_shallow}
 
 -- what may stand behind directives: a statement, or an item
 pub record Listing (c : Nonterminal) : Type 0 where
@@ -229,16 +232,16 @@ directive_there {v} {x} {y} (node k ts) r = at (of_so_far.from_node (program Dir
     at : {V : _} {z : Place} {us : Forest} → Walk Staged V (row_so_far (program Directive)) x us z → StringThere x
     at (next (tree {t = u} q) (next (sign e f) (done h))) = text_there u q e f
 
-none_there : {x : Place} → (StringThere x → ⊥) → NoDirective x
-none_there {x} n = record { on = λ v. record { no = λ g y p. at p } }
+none_there : {x : Place} {e : Fault} → (StringThere x → ⊥) → NoDirective x e
+none_there {x} {e = e} n = record { on = λ v. record { no = λ g y p. at p } }
   where
-    at : {v : Surroundings} {g : Given} {y : Place} → Past (Whole so_far) v (Part DirectiveOnly) x g y → ⊥
-    at (tree {t = t} q) = n (directive_there t q.reads)
+    at : {v : Surroundings} {g : Given} {y : Place} → Past (Whole so_far) v (Part DirectiveOnly) x g y → Shallow e (given_depth g) → ⊥
+    at (tree {t = t} q) s = n (directive_there t q.reads)
 
-pub no_text : {h x : Here} → h ≡ x → ((t : Text) → forth (Tok Operator StringLiteral t) (place_of h) ≡ Lost) → NoDirective (place_of x)
+pub no_text : {h x : Here} {o : Fault} → h ≡ x → ((t : Text) → forth (Tok Operator StringLiteral t) (place_of h) ≡ Lost) → NoDirective (place_of x) o
 no_text {h} {x} e n = none_there (λ s. lost_there (Tok Operator StringLiteral s.raw) (place_of x) (subst (λ k. forth (Tok Operator StringLiteral s.raw) (place_of k) ≡ Lost) e (n s.raw)) s.found)
 
-pub no_end : {h x : Here} (k : Here) (t : Text) → h ≡ x → place_of k ≡ forth (Tok Operator StringLiteral t) (place_of h) → forth Semicolon (place_of k) ≡ Lost → NoDirective (place_of x)
+pub no_end : {h x : Here} {o : Fault} (k : Here) (t : Text) → h ≡ x → place_of k ≡ forth (Tok Operator StringLiteral t) (place_of h) → forth Semicolon (place_of k) ≡ Lost → NoDirective (place_of x) o
 no_end {h} {x} k t e s n = none_there (λ d. lost_there Semicolon (place_of k) n (subst (λ p. IsTrue (is_found (forth Semicolon p))) (there d) d.ended))
   where
     here : place_of k ≡ forth (Tok Operator StringLiteral t) (place_of x)
@@ -296,10 +299,27 @@ ahead_none {x} ds e = subst (λ es. Ahead x es x) (sym e) (record { on = λ es z
 pub ahead_more : {x y z : Place} {t : Tree} (ds es : Forest) → Ahead x ds y → IsDirective y t z → es ≡ both ds (part t none) → Ahead x es z
 ahead_more {x} {z = z} {t = t} ds es a d e = subst (λ us. Ahead x us z) (sym e) (record { on = λ us w p. subst (λ vs. Prologue x vs w) (behind_both ds t us) (a.on (part t us) w (begun d p)) })
 
-pub ahead_end : {x y : Place} (ds : Forest) → Ahead x ds y → NoDirective y → Prologue x ds y
+-- what is said of an answer that may be none, where it is known
+pub of_some : {A : Type 0} (P : A → Type 0) {o : Option A} {a : A} → o ≡ Some a → IfSome o P → P a
+of_some P e p = subst (λ q. IfSome q P) e p
+
+pub of_none : {A P : Type 0} {o : Option A} → o ≡ None → IfNone o P → P
+of_none {A} {P} e p = subst (λ q. IfNone q P) e p
+
+-- and whatever stands behind them, the first of all stands there
+pub record Led (x y : Place) : Type 0 where
+  pub on : {e : Fault} → NoPrologue y e → NoPrologue x e
+
+pub led_none : {x : Place} → Led x x
+led_none = record { on = λ p. p }
+
+pub led_more : {x y z : Place} {t : Tree} → Led x y → IsDirective y t z → Led x z
+led_more l d = record { on = λ p. l.on (record { below = p.below; directive = _; behind = _; first = d }) }
+
+pub ahead_end : {x y : Place} (ds : Forest) → Ahead x ds y → NoDirective y Unread → Prologue x ds y
 ahead_end {x} {y} ds a n = subst (λ us. Prologue x us y) (both_none ds) (a.on none y (ended n))
 
-pub prologue_end : {x m : Place} {ds : Forest} → Prologue x ds m → NoDirective m
+pub prologue_end : {x m : Place} {ds : Forest} → Prologue x ds m → NoDirective m Unread
 prologue_end (ended n) = n
 prologue_end (begun d p) = prologue_end p
 
@@ -317,7 +337,7 @@ no_string_at {x} f = record { on = λ t l g. never_both Punctuator StringLiteral
 -- so whatever is read there has the same directives
 pub prologue_same : {v : Surroundings} {c : Nonterminal} {x m n y : Place} {ds es ts : Forest} → Strings c → Prologue x ds m → Run v DirectiveOnly x es n → Run v c n ts y → first_of_list is_string_stmt ts ≡ false → NoString y → (ds ≡ es) × (m ≡ n)
 prologue_same k (ended n) (run_end f) rest h s = (refl, refl)
-prologue_same {v} k (ended n) (run_on {t = t} r all) rest h s = absurd ((n.on v).no (one t) _ (tree r))
+prologue_same {v} k (ended n) (run_on {t = t} r all) rest h s = absurd ((n.on v).no (one t) _ (tree r) tt)
 prologue_same k (begun d p) (run_end f) (run_end g) h s = absurd (s.on d.raw d.whole (found_at (sym d.string.is) d.string.found))
 prologue_same k (begun d p) (run_end f) (run_on {t = u} r all) h s = absurd (clash (is_string_stmt u) (k.string d r) h)
 prologue_same {v} {n = n} k (begun d p) (run_on {y = b} {t = u} {ts = us} r all) rest h s =
@@ -326,13 +346,35 @@ prologue_same {v} {n = n} k (begun d p) (run_on {y = b} {t = u} {ts = us} r all)
     (λ i. part (item_of (e.0 i)) (q.0 i), q.1)
 
 -- and what stands behind them is no string first
-pub behind_first : {v : Surroundings} {c : Nonterminal} {m y : Place} {ts : Forest} → NoDirective m → Run v c m ts y → first_of_list is_string_stmt ts ≡ false
+pub behind_first : {v : Surroundings} {c : Nonterminal} {m y : Place} {ts : Forest} → NoDirective m Unread → Run v c m ts y → first_of_list is_string_stmt ts ≡ false
 behind_first n (run_end f) = refl
 behind_first {v} n (run_on {t = t} r all) = by (is_string_stmt t) refl
   where
     by : (b : Bool) → is_string_stmt t ≡ b → is_string_stmt t ≡ false
-    by true e = absurd ((n.on v).no (one (as_directive t)) _ (tree (never_whole refl (directive_of t e r.reads))))
+    by true e = absurd ((n.on v).no (one (as_directive t)) _ (tree (never_whole refl (directive_of t e r.reads))) tt)
     by false e = e
+
+-- ---- where no level is left for a string
+
+string_deep : (u : Tree) → is_string_stmt u ≡ true → 1 ≤ part_depth u
+string_deep (node (statement ExprStmt) (part (leaf StringLiteral t) none)) h = let d : part_depth (node (statement ExprStmt) (part (leaf StringLiteral t) none)) ≡ 1 = refl in omega (arith, d)
+string_deep _ h = cc
+
+directive_deep : (t : Text) → 1 ≤ part_depth (node (program Directive) (part (leaf StringLiteral t) none))
+directive_deep t = let d : part_depth (node (program Directive) (part (leaf StringLiteral t) none)) ≡ 1 = refl in omega (arith, d)
+
+-- what is read where a directive stands has it first, or the statement of its string
+pub deep_run : {v : Surroundings} {c : Nonterminal} {x n y : Place} {es ts : Forest} {o : Fault} → Strings c → NoPrologue x o → Run v DirectiveOnly x es n → Run v c n ts y → NoString y → Shallow o (deepest es) → Shallow o (deepest ts) → ⊥
+deep_run k p (run_end f) (run_end g) h a b = h.on p.first.raw p.first.whole (found_at (sym p.first.string.is) p.first.string.found)
+deep_run {o = o} k p (run_end f) (run_on {t = u} {ts = us} r all) h a b =
+    let deep = string_deep u (k.string p.first r) in
+    let low = below_shallow 0 o (part_depth u) p.below (shallow_head o u us b) in
+    omega (arith, deep, low)
+deep_run {v} {o = o} k p (run_on {y = z} {t = u} {ts = us} r all) rest h a b =
+    let same : p.directive ≡ u = ap item_of ((at_directive {v = v} p.first).alone (one u) z (tree r)).0 in
+    let deep = subst (λ t. 1 ≤ part_depth t) (sym p.first.is ∙ same) (directive_deep p.first.raw) in
+    let low = below_shallow 0 o (part_depth u) p.below (shallow_head o u us a) in
+    omega (arith, deep, low)
 
 -- ---- the body of a function: its directives say what its statements stand in
 
@@ -393,11 +435,16 @@ abbrev listed_first : Forest → Forest
 listed_first (part (list ts) us) = ts
 listed_first ts = ts
 
+-- it is no less deep than its directives and its statements
+body_shallow : {v : Surroundings} {x y : Place} {t : Tree} {ds ts : Forest} → Staged v false Body x t y → t ≡ body_of ds ts → (e : Fault) → Shallow e (part_depth t) → Shallow e (deepest (part (list ds) (part (list ts) none)))
+body_shallow {v} {x} {y} r is e s = flat_shallow e of_so_far (subst (λ u. Staged v false Body x u y) is r) (subst (λ u. Shallow e (part_depth u)) is s)
+
 -- what is read of a body and its brace, behind the directives that come first
 record Behind (v : Surroundings) (ds : Forest) (m : Place) (us : Forest) (w : Place) : Type 0 where
   rest : Forest
   is : us ≡ part (body_of ds rest) none
   walk : Walk (Whole so_far) (steady (in_code ds v)) braced m (part (list rest) none) w
+  shallow : (o : Fault) → Shallow o (deepest us) → Shallow o (deepest (part (list rest) none))
 
 behind_prologue : {v : Surroundings} {x m w : Place} {ds us : Forest} → Prologue x ds m → Walk (Whole so_far) (steady v) body_row x us w → Behind v ds m us w
 behind_prologue {v} {m = m} {w} {ds} p (next {y = z} (tree {t = t} q) (next (sign e f) (done g))) =
@@ -408,6 +455,7 @@ behind_prologue {v} {m = m} {w} {ds} p (next {y = z} (tree {t = t} q) (next (sig
       is = ap (λ u. part u none) (b.is ∙ ap (λ es. body_of es b.rest) (sym s.0));
       walk = subst (λ es. Walk (Whole so_far) (steady (in_code es v)) braced m (part (list b.rest) none) w) (sym s.0)
           (subst (λ a. Walk (Whole so_far) (steady (in_code b.directives v)) braced a (part (list b.rest) none) w) (sym s.1) (next (many refl (to_lines refl b.second)) (next (sign e f) (done g))));
+      shallow = λ o a. shallow_rest o (one (list b.directives)) (part (list b.rest) none) (body_shallow q.reads b.is o (shallow_first o (one t) none a));
     }
 
 pub body_only : {v : Surroundings} {x m y : Place} {ds ts : Forest} → Prologue x ds m → OnlyRow so_far (in_code ds v) braced m (part (list ts) none) y → OnlyRow so_far v body_row x (part (body_of ds ts) none) y
@@ -425,12 +473,23 @@ body_only {v} {x} {m} {y} {ds} {ts} p o = record { walk = to o.walk refl; alone 
         let same = o.alone (part (list b.rest) none) w b.walk in
         (ap (λ es. part (body_of ds (listed_first es)) none) same.0 ∙ sym b.is, same.1)
 
-pub no_body : {v : Surroundings} {x m : Place} {ds : Forest} → Prologue x ds m → NoRow so_far (in_code ds v) braced m → NoRow so_far v body_row x
-no_body p n = record { no = λ us w walk. let b = behind_prologue p walk in n.no (part (list b.rest) none) w b.walk }
+pub no_body : {v : Surroundings} {x m : Place} {ds : Forest} {e : Fault} → Prologue x ds m → NoRow so_far (in_code ds v) braced m e → NoRow so_far v body_row x e
+no_body p n = record { no = λ us w walk s. let b = behind_prologue p walk in n.no (part (list b.rest) none) w b.walk (b.shallow _ s) }
+
+-- where no level is left for the first
+pub deep_body : {v : Surroundings} {x : Place} {e : Fault} → NoPrologue x e → NoRow so_far v body_row x e
+deep_body {v} {x} {e} p = record { no = at }
+  where
+    at : (us : Forest) (w : Place) → Walk (Whole so_far) (steady v) body_row x us w → Shallow e (deepest us) → ⊥
+    at us w (next (tree {t = t} q) (next (sign d f) (done g))) s =
+        let b = parts_of t q.reads in
+        let all = body_shallow q.reads b.is e (shallow_first e (one t) none s) in
+        let rest = shallow_rest e (one (list b.directives)) (part (list b.rest) none) all in
+        deep_run string_statements p b.first b.second (no_string_at (found_at d f)) (shallow_first e (one (list b.directives)) (part (list b.rest) none) all) (shallow_first e (one (list b.rest)) none rest)
 
 -- where they say that
 pub body_in : {u v : Surroundings} {x y : Place} {ts : Forest} → u ≡ v → OnlyRow so_far u braced x ts y → OnlyRow so_far v braced x ts y
 body_in {x = x} {y} {ts} e o = subst (λ w. OnlyRow so_far w braced x ts y) e o
 
-pub no_body_in : {u v : Surroundings} {x : Place} → u ≡ v → NoRow so_far u braced x → NoRow so_far v braced x
-no_body_in {x = x} e n = subst (λ w. NoRow so_far w braced x) e n
+pub no_body_in : {u v : Surroundings} {x : Place} {o : Fault} → u ≡ v → NoRow so_far u braced x o → NoRow so_far v braced x o
+no_body_in {x = x} {o = o} e n = subst (λ w. NoRow so_far w braced x o) e n

@@ -1,7 +1,7 @@
 -- What an `if` has behind its first statement, and which `if` an `else` belongs to: the nearest.
 use Rattle.std.proofs.Common.{◌≡◌, Bool, true, false, not, List, [], ◌∷◌, refl, sym, ◌∙◌, ap, subst, Option, Some, None, Box, Global}
 use Rattle.std.specs.Prelude.{IsTrue, codes, ◌&&◌, ◌||◌}
-use Rattle.jsx_base.specs.Token.{IdentifierName, token}
+use Rattle.jsx_base.specs.Token.{IdentifierName}
 use Rattle.jsx_tree.specs.Signs.{Unless}
 use Rattle.jsx_tree.specs.Kinds.{If, Try, Kind, statement, Tree, leaf, node, list, Forest, none, part, Label}
 use Rattle.jsx_tree.specs.Nonterminals.{Nonterminal, Expr, SubStmt}
@@ -12,6 +12,7 @@ use Rattle.jsx_tree.specs.View.{optional_of, view_stmt}
 use Rattle.jsx_tree.specs.declared.tree.Stmt.{Stmt}
 use Rattle.jsx_tree.specs.Walk.{is_found, one, nothing, Piece, piece, tail, sign, tree, absent, present, Walk, done, next}
 use Rattle.jsx_tree.specs.Answers.{Moves, Only, Barred, OnlyRow, NoRow, BuiltNode}
+use Rattle.jsx_tree.specs.Faults.{Fault}
 use Rattle.jsx_tree.proofs.Tokens.{and_left, and_right}
 use Rattle.jsx_tree.proofs.Rows.Bridge.{found_at}
 use Rattle.jsx_tree.proofs.Rows.Stopping.{is_not, or_cases, stays}
@@ -38,7 +39,7 @@ no_else n f = then' (absent_word of_else n f) (end f)
 pub some_else : {v : Surroundings} {x y z : Place} {t : Tree} → Moves (key "else") x y → Only so_far v (Part SubStmt) y (one t) z → OnlyRow so_far v alternative_row x (part (list (part t none)) none) z
 some_else m o = then' (present_word of_else m o) (end (end_found of_so_far (whole_of o.past).reads))
 
-pub none_else : {v : Surroundings} {x y : Place} → Moves (key "else") x y → Barred so_far v (Part SubStmt) y → NoRow so_far v alternative_row x
+pub none_else : {v : Surroundings} {x y : Place} {e : Fault} → Moves (key "else") x y → Barred so_far v (Part SubStmt) y e → NoRow so_far v alternative_row x e
 none_else m b = bar (barred_word of_else m b)
 
 -- ---- a statement before an `else` ends with no `if` that it could belong to

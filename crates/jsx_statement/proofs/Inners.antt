@@ -10,7 +10,8 @@ use Rattle.jsx_tree.specs.StaticRules.{Surroundings, all_of, at_most, count_of, 
 use Rattle.jsx_tree.specs.Signs.{Sign}
 use Rattle.jsx_tree.specs.Walk.{is_found, nothing, one, Piece, piece, Items, nil, last, more, many, sign, tree, Walk, next, steady}
 use Rattle.jsx_tree.specs.Language.{Whole}
-use Rattle.jsx_tree.specs.Answers.{Missed, Only, Barred, OnlyRow, NoRow, NoNode, BuiltNode}
+use Rattle.jsx_tree.specs.Answers.{Missed, Only, Barred, OnlyRow, NoNode, BuiltNode}
+use Rattle.jsx_tree.specs.Faults.{Fault, Shallow, deepest}
 use Rattle.jsx_tree.proofs.Tokens.{and_both, and_right}
 use Rattle.jsx_tree.proofs.Apart.{clash}
 use Rattle.jsx_tree.proofs.Rows.Bodies.{plain}
@@ -18,17 +19,19 @@ use Rattle.jsx_tree.proofs.Rows.Bridge.{found_at}
 use Rattle.jsx_tree.proofs.Rows.Guarded.{to_grammar}
 use Rattle.jsx_tree.proofs.Rows.Steps.{both}
 use Rattle.jsx_tree.proofs.Rows.Stopping.{is_not}
-use Rattle.jsx_tree.proofs.Rows.Turns.{Turn, prepend, whole_of}
+use Rattle.jsx_tree.proofs.Rows.Turns.{Turn, prepend, whole_of, turn_shallow}
+use Rattle.jsx_tree.proofs.Depth.Shallow.{shallow_first, shallow_head, shallow_nothing}
 use Rattle.jsx_token.specs.declared.heading.Heading.TheVariants as heading
 use Rattle.jsx_token.specs.Headings.{own}
 use Rattle.jsx_token.proofs.Headings.{its_kind}
 use Rattle.jsx_operand.specs.SoFar.{Staged, so_far}
 use Rattle.jsx_operand.proofs.Homes.{no_list}
 use Rattle.jsx_operand.proofs.OfSoFar.{of_so_far}
-use Rattle.jsx_statement.specs.Inners.{NoInner, NoInners, are_inner, first_inner, is_inner}
+use Rattle.jsx_statement.specs.Inners.{NoInner, NoInners, are_inner, first_depth, first_inner, is_inner}
 use Rattle.jsx_statement.proofs.Blocks.{braced}
 use Rattle.jsx_declaration.proofs.Statements.{headed_kind, heading_stands, lost_there}
 use Rattle.jsx_statement.proofs.Statements.{stmts}
+use Rattle.jsx_token.specs.Here.{Here, place_of}
 
 -- ---- a function begins with its word, and nothing else does
 
@@ -69,11 +72,14 @@ strict_inner v t s = in_strict v.strict (not (is_function t)) s
 pub other_inner : {v : Surroundings} {x y : Place} {t : Tree} → forth (key "function") x ≡ Lost → Only so_far v (Part Stmt) x (one t) y → is_inner v t ≡ true
 other_inner {v} {t = t} n o = in_any v.strict (not (is_function t)) (ap not (no_function n (whole_of o.past)))
 
-pub no_inner : {v : Surroundings} {x : Place} → v.strict ≡ false → IsTrue (is_found (forth (key "function") x)) → NoInner v x
-no_inner {v} s f = record { no = λ t z w h. clash (is_inner v t) h (ap (λ b. b || not (is_function t)) s ∙ ap not (function_there t f w)) }
+pub no_inner : {v : Surroundings} {x : Place} {e : Fault} → v.strict ≡ false → IsTrue (is_found (forth (key "function") x)) → NoInner v x e
+no_inner {v} s f = record { no = λ t z w h a. clash (is_inner v t) h (ap (λ b. b || not (is_function t)) s ∙ ap not (function_there t f w)) }
 
-pub barred_inner : {v : Surroundings} {x : Place} → Barred so_far v (Part Stmt) x → NoInner v x
-barred_inner b = record { no = λ t z w h. b.no (one t) z (tree w) }
+pub barred_inner : {v : Surroundings} {x : Place} {e : Fault} → Barred so_far v (Part Stmt) x e → NoInner v x e
+barred_inner b = record { no = λ t z w h s. b.no (one t) z (tree w) s }
+
+pub inner_from : {v : Surroundings} {h g : Here} {e : Fault} → g ≡ h → NoInner v (place_of g) e → NoInner v (place_of h) e
+inner_from {v} {e = e} s n = subst (λ k. NoInner v (place_of k) e) s n
 
 -- ---- of some statements
 
@@ -147,24 +153,27 @@ pub block_built : {v : Surroundings} {x y : Place} {ts : Forest} {t : Tree} → 
 block_built {v} {ts = ts} i o is = record { parts = _; is = is; row = o; keeps = and_both _ _ (plain braced refl (to_grammar of_so_far o.walk)) (to_list v.strict (at_most 0 is_function ts) i) }
 
 -- a statement that may not stand there
-pub block_barred : {v : Surroundings} {x y y' : Place} (ts : Forest) → Turn so_far v braced braced x y (prepend ts) → Missed (pun "}") y y' → NoInner v y' → NoNode so_far v braced (statement Block) x
-block_barred {v} {x} {y} ts so k n = record { no = λ us w walk h. let f = so.from us w walk in at f.parts w f.walk (subst (λ vs. so_far.keeps (statement Block) v vs ≡ true) (sym f.is) h) }
+pub block_barred : {v : Surroundings} {x y y' : Place} {o : Fault} (ts : Forest) → Turn so_far v braced braced x y (prepend ts) → Missed (pun "}") y y' → NoInner v y' o → NoNode so_far v braced (statement Block) x o
+block_barred {v} {x} {y} {o = o} ts so k n = record { no = λ us w walk h a. let f = so.from us w walk in at f.parts w f.walk (subst (λ vs. so_far.keeps (statement Block) v vs ≡ true) (sym f.is) h) (turn_shallow o so us w walk a) }
   where
-    here : NoInner v y
-    here = subst (NoInner v) (sym k.same) n
+    here : NoInner v y o
+    here = subst (λ w. NoInner v w o) (sym k.same) n
 
-    at : (us : Forest) (w : Place) → Walk (Whole so_far) (steady v) braced y us w → so_far.keeps (statement Block) v (prepend ts us) ≡ true → ⊥
-    at us w (next (many m (nil f)) (next (sign e g) rest)) h = let bad : IsTrue (is_found Lost) = subst (λ p. IsTrue (is_found p)) k.stuck.is (found_at e g) in cc
-    at us w (next {ts = vs} (many {ts = part t cs} m all) rest) h = let r = first_line all in here.no t r.end r.whole (next_inner v ts t cs (block_inner v (both ts (part t cs)) vs h))
+    at : (us : Forest) (w : Place) → Walk (Whole so_far) (steady v) braced y us w → so_far.keeps (statement Block) v (prepend ts us) ≡ true → Shallow o (deepest us) → ⊥
+    at us w (next (many m (nil f)) (next (sign e g) rest)) h s = let bad : IsTrue (is_found Lost) = subst (λ p. IsTrue (is_found p)) k.stuck.is (found_at e g) in cc
+    at us w (next {ts = vs} (many {ts = part t cs} m all) rest) h s = let r = first_line all in here.no t r.end r.whole (next_inner v ts t cs (block_inner v (both ts (part t cs)) vs h)) (shallow_head o t cs (shallow_first o (one (list (part t cs))) vs s))
 
 -- ---- rows that begin with such statements
 
-pub none_inners : {v : Surroundings} {ps : List Piece} {x : Place} → NoRow so_far v ps x → NoInners v ps x
-none_inners n = record { no = λ ts y walk h. n.no ts y walk }
+pub sign_inners : {v : Surroundings} {ps : List Piece} {s : Sign} {x : Place} {e : Fault} → Barred so_far v (Fixed s) x e → NoInners v (piece [] (Fixed s) ∷ ps) x e
+sign_inners {v} {ps} {s} {x} {e = e} b = record { no = at }
+  where
+    at : (ts : Forest) (z : Place) → Walk (Whole so_far) (steady v) (piece [] (Fixed s) ∷ ps) x ts z → first_inner v ts ≡ true → Shallow e (first_depth ts) → ⊥
+    at ts z (next {y = w} (sign f g) walk) h a = b.no nothing w (sign f g) (shallow_nothing e)
 
 -- behind a sign
-pub signed_inners : {v : Surroundings} {ps : List Piece} {s : Sign} {x y : Place} → Only so_far v (Fixed s) x nothing y → NoInners v ps y → NoInners v (piece [] (Fixed s) ∷ ps) x
-signed_inners {v} {ps} {s} {x} {y} o n = record { no = at }
+pub signed_inners : {v : Surroundings} {ps : List Piece} {s : Sign} {x y : Place} {d : Fault} → Only so_far v (Fixed s) x nothing y → NoInners v ps y d → NoInners v (piece [] (Fixed s) ∷ ps) x d
+signed_inners {v} {ps} {s} {x} {y} {d = d} o n = record { no = at }
   where
-    at : (ts : Forest) (z : Place) → Walk (Whole so_far) (steady v) (piece [] (Fixed s) ∷ ps) x ts z → first_inner v ts ≡ true → ⊥
-    at ts z (next {ts = us} (sign {y = w} e f) walk) h = n.no us z (subst (λ p. Walk (Whole so_far) (steady v) ps p us z) (sym (o.alone nothing w (sign e f)).1) walk) h
+    at : (ts : Forest) (z : Place) → Walk (Whole so_far) (steady v) (piece [] (Fixed s) ∷ ps) x ts z → first_inner v ts ≡ true → Shallow d (first_depth ts) → ⊥
+    at ts z (next {ts = us} (sign {y = w} e f) walk) h a = n.no us z (subst (λ p. Walk (Whole so_far) (steady v) ps p us z) (sym (o.alone nothing w (sign e f)).1) walk) h a

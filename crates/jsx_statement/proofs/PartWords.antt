@@ -13,11 +13,13 @@ use Rattle.jsx_tree.specs.StaticRules.{Surroundings}
 use Rattle.jsx_tree.specs.Walk.{Given, Past, is_found, one, tree, absent, present}
 use Rattle.jsx_tree.specs.Language.{Whole}
 use Rattle.jsx_tree.specs.Answers.{Moves, Only, Barred}
+use Rattle.jsx_tree.specs.Faults.{Fault, Shallow, given_depth, Unread}
 use Rattle.jsx_tree.proofs.Tokens.{and_both, same_is, same_self}
 use Rattle.jsx_tree.proofs.Apart.{by_not, clash}
 use Rattle.jsx_tree.proofs.Rows.Bridge.{found_at}
 use Rattle.jsx_tree.proofs.Rows.Laws.{end_found, lost_barred}
 use Rattle.jsx_tree.proofs.Rows.Turns.{item_of, whole_of}
+use Rattle.jsx_tree.proofs.Depth.Shallow.{shallow_head}
 use Rattle.jsx_operand.specs.SoFar.{so_far}
 use Rattle.jsx_operand.proofs.OfSoFar.{of_so_far}
 use Rattle.jsx_declaration.proofs.Statements.{unless_lost}
@@ -131,7 +133,7 @@ absent_word {v} {c} {d} {t} {x} w n f = record { past = absent (unless_word w x 
   where
     at : (g : Given) (y : Place) → Past (Whole so_far) v (led_by d t c) x g y → (one (list none) ≡ g) × (x ≡ y)
     at g y (absent e h) = (refl, sym (unless_word w x n f) ∙ e)
-    at g y (present {t = u} p q e h) = absurd ((lost_barred of_so_far (sym p ∙ n)).no (one u) _ (tree q))
+    at g y (present {t = u} p q e h) = absurd ((lost_barred {e = Unread} of_so_far (sym p ∙ n)).no (one u) _ (tree q) tt)
 
 no_absent : {d : ℕ} {t : Text} {x y z : Place} → PartWord d t → Moves (Tok Operator IdentifierName (d ∷ t)) x y → forth (Unless ((d ∷ t) ∷ [])) x ≡ z → IsTrue (is_found z) → ⊥
 no_absent {d} {t} {x} w m e f =
@@ -146,9 +148,9 @@ present_word {v} {c} {d} {t} {x} {y} {z} {b} w m o = record { past = present (sy
         let same' = o.alone (one u) z' (tree (subst (λ s. Whole so_far v false c s u z') (sym a ∙ sym m.is) q)) in
         ((λ i. one (list (part (item_of (same'.0 i)) none))), same'.1 ∙ e)
 
-pub barred_word : {v : Surroundings} {c : Nonterminal} {d : ℕ} {t : Text} {x y : Place} → PartWord d t → Moves (Tok Operator IdentifierName (d ∷ t)) x y → Barred so_far v (Part c) y → Barred so_far v (led_by d t c) x
-barred_word {v} {c} {d} {t} {x} {y} w m b = record { no = at }
+pub barred_word : {v : Surroundings} {c : Nonterminal} {d : ℕ} {t : Text} {x y : Place} {o : Fault} → PartWord d t → Moves (Tok Operator IdentifierName (d ∷ t)) x y → Barred so_far v (Part c) y o → Barred so_far v (led_by d t c) x o
+barred_word {v} {c} {d} {t} {x} {y} {o = o} w m b = record { no = at }
   where
-    at : (g : Given) (p : Place) → Past (Whole so_far) v (led_by d t c) x g p → ⊥
-    at g p (absent e h) = no_absent w m e h
-    at g p (present {z = z} {t = u} a q e h) = b.no (one u) z (tree (subst (λ s. Whole so_far v false c s u z) (sym a ∙ sym m.is) q))
+    at : (g : Given) (p : Place) → Past (Whole so_far) v (led_by d t c) x g p → Shallow o (given_depth g) → ⊥
+    at g p (absent e h) s' = no_absent w m e h
+    at g p (present {z = z} {t = u} a q e h) s' = b.no (one u) z (tree (subst (λ s. Whole so_far v false c s u z) (sym a ∙ sym m.is) q)) (shallow_head o u none s')

@@ -16,6 +16,7 @@ use Rattle.jsx_tree.specs.declared.tree.Stmt.{Stmt}
 use Rattle.jsx_tree.specs.Walk.{Given, is_found, nothing, one, Past, sign, tree, absent, present, tail, Walk, done, next, steady}
 use Rattle.jsx_tree.specs.Language.{Whole}
 use Rattle.jsx_tree.specs.Answers.{Moves, Only, Barred, OnlyRow, NoRow, NoNode, BuiltNode}
+use Rattle.jsx_tree.specs.Faults.{Fault, Unread, Shallow, deepest, given_depth, outer, Below}
 use Rattle.jsx_tree.proofs.Apart.{never_both}
 use Rattle.jsx_tree.proofs.Rows.Bodies.{plain}
 use Rattle.jsx_tree.proofs.Rows.Guarded.{to_grammar}
@@ -24,7 +25,7 @@ use Rattle.jsx_tree.proofs.Rows.Bridge.{found_at}
 use Rattle.jsx_tree.proofs.Rows.Firsts.{kind_home}
 use Rattle.jsx_tree.proofs.Rows.Laws.{end_found, lost_barred, start_found}
 use Rattle.jsx_tree.proofs.Rows.Optionals.{turn_absent, turn_present}
-use Rattle.jsx_tree.proofs.Rows.Placing.{Chosen, only_node, barred_node, no_node}
+use Rattle.jsx_tree.proofs.Rows.Placing.{Chosen, only_node, barred_node}
 use Rattle.jsx_tree.proofs.Rows.Steps.{bar, end, then'}
 use Rattle.jsx_tree.proofs.Rows.Turns.{turn_only, whole_of}
 use Rattle.jsx_token.specs.Here.{Here, place_of}
@@ -37,8 +38,9 @@ use Rattle.jsx_operand.proofs.Values.{led_sign}
 use Rattle.jsx_statement.specs.Tries.{IsCatch, catch_row, catch_symbol, finally_symbol}
 use Rattle.jsx_operand.proofs.Standing.{standing}
 use Rattle.jsx_declaration.proofs.Items.{unless_none}
-use Rattle.jsx_statement.proofs.Statements.{signed_none, signed_row}
+use Rattle.jsx_statement.proofs.Statements.{signed_none, signed_row, deep_chosen}
 use Rattle.jsx_tree.proofs.Rows.Stopping.{stays}
+use Rattle.jsx_tree.proofs.Depth.Shallow.{shallow_first, shallow_nothing, shallow_rest, shallow_opened}
 
 -- ---- a block where nothing else may stand
 
@@ -63,11 +65,12 @@ body_ends (At q e text) = refl
 pub block_only : {v : Surroundings} {x y z : Place} {t : Tree} → Moves (pun "{") x y → BuiltNode so_far v (tail (row_so_far (statement Block))) (statement Block) t y z → Only so_far v (Part BlockOnly) x (one t) z
 block_only {z = z} m b = only_node of_so_far body_chosen refl refl (λ ts. refl) (record { parts = b.parts; is = b.is; row = signed_row (row_so_far (statement Block)) refl m b.row }) b.keeps (body_ends z)
 
-pub block_barred : {v : Surroundings} {x y : Place} → Moves (pun "{") x y → NoNode so_far v (tail (row_so_far (statement Block))) (statement Block) y → Barred so_far v (Part BlockOnly) x
-block_barred m n = barred_node of_so_far body_chosen refl refl (signed_none (statement Block) (row_so_far (statement Block)) refl m n)
+pub block_barred : {v : Surroundings} {x y : Place} {e : Fault} → Moves (pun "{") x y → NoNode so_far v (tail (row_so_far (statement Block))) (statement Block) y e → Barred so_far v (Part BlockOnly) x (outer e)
+block_barred m n = barred_node true refl of_so_far body_chosen refl refl (signed_none (statement Block) (row_so_far (statement Block)) refl m n)
 
-pub no_body : {v : Surroundings} {x : Place} → Barred so_far v (Fixed (pun "{")) x → Barred so_far v (Part BlockOnly) x
-no_body b = barred_node of_so_far body_chosen refl refl (no_node (bar b))
+-- where no level is left
+pub block_deep : {v : Surroundings} {x : Place} {e : Fault} → Below 0 e → Barred so_far v (Part BlockOnly) x e
+block_deep l = deep_chosen refl body_chosen l
 
 body_sign : {v : Surroundings} {x y : Place} (t : Tree) → Staged v false BlockOnly x t y → IsTrue (is_found (forth (pun "{") x))
 body_sign (leaf k s) r = let bad = r.staged in cc
@@ -76,6 +79,12 @@ body_sign {v} {x} {y} (node l ts) r =
     let r' : Staged v false BlockOnly x (node (statement Block) ts) y = subst (λ k. Staged v false BlockOnly x (node k ts) y) (body_kind l ts (taken_by r) (home_of r)) r in
     led_sign (row_so_far (statement Block)) refl (of_so_far.from_node (statement Block) r').walk
 
+pub no_body : {v : Surroundings} {x : Place} {e : Fault} → Barred so_far v (Fixed (pun "{")) x e → Barred so_far v (Part BlockOnly) x e
+no_body {v} {x} {e} b = record { no = at }
+  where
+    at : (g : Given) (y : Place) → Past (Whole so_far) v (Part BlockOnly) x g y → Shallow e (given_depth g) → ⊥
+    at g y (tree {t = t} w) s = b.no nothing (forth (pun "{") x) (sign refl (body_sign t w.reads)) (shallow_nothing e)
+
 -- it ends with no `if` that an `else` could belong to
 body_closed : {v : Surroundings} {x y : Place} (t : Tree) → Staged v false BlockOnly x t y → open_if t ≡ false
 body_closed (leaf k s) r = refl
@@ -83,11 +92,11 @@ body_closed (list ts) r = absurd (no_list r)
 body_closed (node l ts) r = ap (λ k. open_if (node k ts)) (body_kind l ts (taken_by r) (home_of r))
 
 -- no block begins with a bracket
-no_body_there : {v : Surroundings} {x : Place} → IsTrue (is_found (forth (pun "(") x)) → Barred so_far v (Part BlockOnly) x
-no_body_there {v} {x} f = record { no = at }
+no_body_there : {v : Surroundings} {x : Place} {e : Fault} → IsTrue (is_found (forth (pun "(") x)) → Barred so_far v (Part BlockOnly) x e
+no_body_there {v} {x} {e = e} f = record { no = at }
   where
-    at : (g : Given) (y : Place) → Past (Whole so_far) v (Part BlockOnly) x g y → ⊥
-    at g y (tree {t = t} w) = never_both Punctuator Punctuator (codes "(") (codes "{") x refl f (body_sign t w.reads)
+    at : (g : Given) (y : Place) → Past (Whole so_far) v (Part BlockOnly) x g y → Shallow e (given_depth g) → ⊥
+    at g y (tree {t = t} w) s = never_both Punctuator Punctuator (codes "(") (codes "{") x refl f (body_sign t w.reads)
 
 -- ---- what is caught
 
@@ -129,9 +138,9 @@ moved_from {x = At q e text} m = refl
 pub caught_named : {v : Surroundings} {x x1 y : Place} {t : Tree} → Moves (pun "(") x x1 → IsCatch v x1 t y → Only so_far v (Part CatchClause) x (one t) y
 caught_named {v} {x} {y = y} m c =
     let close = sign_leads c.closed.past in
-    let none_there : NoRow so_far v (tail (row_so_far (statement Catch))) x = bar (no_body_there (found_at (sym m.is) m.found)) in
+    let none_there : NoRow so_far v (tail (row_so_far (statement Catch))) x Unread = bar (no_body_there (found_at (sym m.is) m.found)) in
     let rest : OnlyRow so_far v (tail (row_so_far (statement Catch))) c.brace (part c.body none) y = then' c.block (end (end_found of_so_far (whole_of c.block.past).reads)) in
-    let row : OnlyRow so_far v (row_so_far (statement Catch)) x (part (list (part c.name none)) (part c.body none)) y = turn_only (turn_present (sym m.is) c.named close.0 close.1 (subst (λ p. NoRow so_far v (tail (row_so_far (statement Catch))) p) (sym (unless_none x (moved_from m))) none_there)) rest in
+    let row : OnlyRow so_far v (row_so_far (statement Catch)) x (part (list (part c.name none)) (part c.body none)) y = turn_only (turn_present (sym m.is) c.named close.0 close.1 (subst (λ p. NoRow so_far v (tail (row_so_far (statement Catch))) p Unread) (sym (unless_none x (moved_from m))) none_there)) rest in
     subst (λ t. Only so_far v (Part CatchClause) x (one t) y) (sym c.is) (only_caught row)
 
 pub caught_bare : {v : Surroundings} {x y : Place} {b t : Tree} → forth (pun "(") x ≡ Lost → Only so_far v (Part BlockOnly) x (one b) y → t ≡ node (statement Catch) (part (list none) (part b none)) → Only so_far v (Part CatchClause) x (one t) y
@@ -142,21 +151,21 @@ caught_bare {v} {x} {y} {b = t} n b is =
     let row : OnlyRow so_far v (row_so_far (statement Catch)) x (part (list none) (part t none)) y = turn_only (turn_absent (unless_none x f) f (lost_barred of_so_far n)) rest in
     subst (λ t. Only so_far v (Part CatchClause) x (one t) y) (sym is) (only_caught row)
 
-pub no_caught : {v : Surroundings} {x x1 : Place} → Moves (pun "(") x x1 → NoRow so_far v catch_row x1 → Barred so_far v (Part CatchClause) x
-no_caught {v} {x} m n = barred_node of_so_far caught_chosen refl refl (record { no = at })
+pub no_caught : {v : Surroundings} {x x1 : Place} {o : Fault} → Moves (pun "(") x x1 → NoRow so_far v catch_row x1 o → Barred so_far v (Part CatchClause) x o
+no_caught {v} {x} {o = o} m n = barred_node false refl of_so_far caught_chosen refl refl (record { no = at })
   where
-    at : (ts : Forest) (y : Place) → Walk (Whole so_far) (steady v) (row_so_far (statement Catch)) x ts y → so_far.keeps (statement Catch) v ts ≡ true → ⊥
-    at ts y (next (absent e f) (next {y = z} (tree {t = t} q) w)) h =
-        (no_body_there (found_at (sym m.is) m.found)).no (one t) z (tree (subst (λ p. Whole so_far v false BlockOnly p t z) (found_before x e f) q))
-    at ts y (next (present {z = z} {t = t} p q e f) (next (tree {t = u} b) (done g))) h =
-        n.no (part t (part u none)) y (next (tree (subst (λ a. Whole so_far v false (Pat Binds) a t z) (sym p ∙ sym m.is) q)) (next (sign e f) (next (tree b) (done g))))
+    at : (ts : Forest) (y : Place) → Walk (Whole so_far) (steady v) (row_so_far (statement Catch)) x ts y → so_far.keeps (statement Catch) v ts ≡ true → Shallow o (deepest ts) → ⊥
+    at ts y (next (absent e f) (next {y = z} {ts = vs} (tree {t = t} q) w)) h s =
+        (no_body_there (found_at (sym m.is) m.found)).no (one t) z (tree (subst (λ p. Whole so_far v false BlockOnly p t z) (found_before x e f) q)) (shallow_first o (one t) vs (shallow_rest o (one (list none)) (part t vs) s))
+    at ts y (next (present {z = z} {t = t} p q e f) (next (tree {t = u} b) (done g))) h s =
+        n.no (part t (part u none)) y (next (tree (subst (λ a. Whole so_far v false (Pat Binds) a t z) (sym p ∙ sym m.is) q)) (next (sign e f) (next (tree b) (done g)))) (shallow_opened o t (part u none) s)
 
-pub no_caught_bare : {v : Surroundings} {x : Place} → forth (pun "(") x ≡ Lost → Barred so_far v (Part BlockOnly) x → Barred so_far v (Part CatchClause) x
-no_caught_bare {v} {x} n b = barred_node of_so_far caught_chosen refl refl (record { no = at })
+pub no_caught_bare : {v : Surroundings} {x : Place} {o : Fault} → forth (pun "(") x ≡ Lost → Barred so_far v (Part BlockOnly) x o → Barred so_far v (Part CatchClause) x o
+no_caught_bare {v} {x} {o = o} n b = barred_node false refl of_so_far caught_chosen refl refl (record { no = at })
   where
-    at : (ts : Forest) (y : Place) → Walk (Whole so_far) (steady v) (row_so_far (statement Catch)) x ts y → so_far.keeps (statement Catch) v ts ≡ true → ⊥
-    at ts y (next (absent e f) (next {y = z} (tree {t = t} q) w)) h = b.no (one t) z (tree (subst (λ p. Whole so_far v false BlockOnly p t z) (found_before x e f) q))
-    at ts y (next (present {z = z} {t = t} p q e f) w) h = (lost_barred of_so_far (sym p ∙ n)).no (one t) z (tree q)
+    at : (ts : Forest) (y : Place) → Walk (Whole so_far) (steady v) (row_so_far (statement Catch)) x ts y → so_far.keeps (statement Catch) v ts ≡ true → Shallow o (deepest ts) → ⊥
+    at ts y (next (absent e f) (next {y = z} {ts = vs} (tree {t = t} q) w)) h s = b.no (one t) z (tree (subst (λ p. Whole so_far v false BlockOnly p t z) (found_before x e f) q)) (shallow_first o (one t) vs (shallow_rest o (one (list none)) (part t vs) s))
+    at ts y (next (present {z = z} {t = t} p q e f) w) h s = (lost_barred {e = Unread} of_so_far (sym p ∙ n)).no (one t) z (tree q) tt
 
 -- ---- a `try` behind its word
 
@@ -171,9 +180,9 @@ pub try_built : {v : Surroundings} {x x1 x2 z : Place} {b t : Tree} (h : Option 
 try_built {v} {b = b} h f o c d e is = record { parts = _; is = is; row = then' o (then' c (then' d (end (part_found d.past)))); keeps = try_keeps v b h f e }
 
 -- with neither part
-pub no_try : {v : Surroundings} {x x1 x2 z : Place} {b : Tree} (h : Option (Box Control Global)) (f : Option (Box Stmt Global)) → Only so_far v (Part BlockOnly) x (one b) x1 → Only so_far v catch_symbol x1 (one (optional_of view_control h)) x2 → Only so_far v finally_symbol x2 (one (optional_of view_stmt f)) z
-    → (is_here (optional_of view_control h) || is_here (optional_of view_stmt f)) ≡ false → NoNode so_far v (tail (row_so_far (statement Try))) (statement Try) x
-no_try {v} {x} {z = z} {b} h f o c d e = record { no = at }
+pub no_try : {v : Surroundings} {x x1 x2 z : Place} {b : Tree} {q : Fault} (h : Option (Box Control Global)) (f : Option (Box Stmt Global)) → Only so_far v (Part BlockOnly) x (one b) x1 → Only so_far v catch_symbol x1 (one (optional_of view_control h)) x2 → Only so_far v finally_symbol x2 (one (optional_of view_stmt f)) z
+    → (is_here (optional_of view_control h) || is_here (optional_of view_stmt f)) ≡ false → NoNode so_far v (tail (row_so_far (statement Try))) (statement Try) x q
+no_try {v} {x} {z = z} {b} {q = q} h f o c d e = record { no = at }
   where
     bad : (h : Option (Box Control Global)) (f : Option (Box Stmt Global)) → (is_here (optional_of view_control h) || is_here (optional_of view_stmt f)) ≡ false → so_far.keeps (statement Try) v (part b (part (optional_of view_control h) (part (optional_of view_stmt f) none))) ≡ true → ⊥
     bad None None e k = false≢true k
@@ -183,8 +192,8 @@ no_try {v} {x} {z = z} {b} h f o c d e = record { no = at }
     row : OnlyRow so_far v (tail (row_so_far (statement Try))) x (part b (part (optional_of view_control h) (part (optional_of view_stmt f) none))) z
     row = then' o (then' c (then' d (end (part_found d.past))))
 
-    at : (us : Forest) (w : Place) → Walk (Whole so_far) (steady v) (tail (row_so_far (statement Try))) x us w → so_far.keeps (statement Try) v us ≡ true → ⊥
-    at us w r k = bad h f e (subst (λ ts. so_far.keeps (statement Try) v ts ≡ true) (sym (row.alone us w r).0) k)
+    at : (us : Forest) (w : Place) → Walk (Whole so_far) (steady v) (tail (row_so_far (statement Try))) x us w → so_far.keeps (statement Try) v us ≡ true → Shallow q (deepest us) → ⊥
+    at us w r k s = bad h f e (subst (λ ts. so_far.keeps (statement Try) v ts ≡ true) (sym (row.alone us w r).0) k)
 
 -- a `try` ends with a block, so with no `if` that an `else` could belong to
 pub try_closed : {V : List Context → Surroundings} {x y : Place} {us : Forest} → Walk Staged V (row_so_far (statement Try)) x us y → open_if (node (statement Try) us) ≡ false

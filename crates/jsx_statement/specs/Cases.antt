@@ -9,6 +9,7 @@ use Rattle.jsx_tree.specs.Reading.{Place, forth}
 use Rattle.jsx_tree.specs.StaticRules.{Surroundings, at_most, is_default}
 use Rattle.jsx_tree.specs.Walk.{Piece, piece, pieces, one, Past, Walk, steady}
 use Rattle.jsx_tree.specs.Language.{Whole}
+use Rattle.jsx_tree.specs.Faults.{Fault, Shallow, deepest}
 use Rattle.jsx_operand.specs.SoFar.{so_far}
 use Rattle.jsx_declaration.specs.Heads.{Front}
 use Rattle.jsx_statement.specs.Inners.{is_inner_list}
@@ -58,13 +59,13 @@ pub record IsDefault (v : Surroundings) (x : Place) (t : Tree) (y : Place) : Typ
   pub reads : IsBody v begin body y
 
 -- no case stands there with others and the brace behind it
-pub record NoCase (v : Surroundings) (x : Place) : Type 0 where
-  pub no : (t : Tree) (us vs : Forest) (w : Place) → Walk (Whole so_far) (steady v) cases_row x (part (list (part t us)) vs) w → ⊥
+pub record NoCase (v : Surroundings) (x : Place) (e : Fault) : Type 0 where
+  pub no : (t : Tree) (us vs : Forest) (w : Place) → Walk (Whole so_far) (steady v) cases_row x (part (list (part t us)) vs) w → Shallow e (deepest (part (list (part t us)) vs)) → ⊥
 
 abbrev pub one_default : Forest → Bool
 one_default (part (list ts) us) = at_most 1 is_default ts
 one_default ts = true
 
 -- no cases stand there with the brace behind them, of which at most one is `default`
-pub record NoCases (v : Surroundings) (x : Place) : Type 0 where
-  pub no : (ts : Forest) (w : Place) → Walk (Whole so_far) (steady v) cases_row x ts w → one_default ts ≡ true → ⊥
+pub record NoCases (v : Surroundings) (x : Place) (e : Fault) : Type 0 where
+  pub no : (ts : Forest) (w : Place) → Walk (Whole so_far) (steady v) cases_row x ts w → one_default ts ≡ true → Shallow e (deepest ts) → ⊥

@@ -9,6 +9,7 @@ use Rattle.jsx_tree.specs.Grammar.{Part, Production, semi}
 use Rattle.jsx_tree.specs.Reading.{Place}
 use Rattle.jsx_tree.specs.StaticRules.{Surroundings}
 use Rattle.jsx_tree.specs.Answers.{Barred, Moves}
+use Rattle.jsx_tree.specs.Faults.{Fault, Unread, Below}
 use Rattle.jsx_operand.specs.SoFar.{so_far}
 
 -- a string with its semicolon, written or missing: no other token goes on with it
@@ -21,8 +22,15 @@ pub record IsDirective (x : Place) (t : Tree) (y : Place) : Type 0 where
   pub semicolon : Moves Semicolon behind y
 
 -- none stands there, whatever that stands in
-pub record NoDirective (x : Place) : Type 0 where
-  pub on : (v : Surroundings) → Barred so_far v (Part DirectiveOnly) x
+pub record NoDirective (x : Place) (e : Fault) : Type 0 where
+  pub on : (v : Surroundings) → Barred so_far v (Part DirectiveOnly) x e
+
+-- no level is left for the directive that stands there
+pub record NoPrologue (x : Place) (e : Fault) : Type 0 where
+  pub below : Below 0 e
+  pub directive : Tree
+  pub behind : Place
+  pub first : IsDirective x directive behind
 
 -- its row, as places are told
 abbrev pub directive_symbols : Production
@@ -30,5 +38,5 @@ directive_symbols = Part StringOnly ∷ semi ∷ []
 
 -- directives one behind another, up to where none stands
 pub data Prologue : Place → Forest → Place → Type 0 where
-  ended : {x : Place} → NoDirective x → Prologue x none x
+  ended : {x : Place} → NoDirective x Unread → Prologue x none x
   begun : {x y z : Place} {t : Tree} {ts : Forest} → IsDirective x t y → Prologue y ts z → Prologue x (part t ts) z

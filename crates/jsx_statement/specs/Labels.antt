@@ -10,6 +10,7 @@ use Rattle.jsx_tree.specs.Spans.{Told}
 use Rattle.jsx_tree.specs.Walk.{one}
 use Rattle.jsx_tree.specs.Language.{Whole}
 use Rattle.jsx_tree.specs.Answers.{Only}
+use Rattle.jsx_tree.specs.Faults.{Fault, Shallow, part_depth}
 use Rattle.jsx_token.specs.Here.{Here}
 use Rattle.jsx_token.specs.Places.{next_of}
 use Rattle.jsx_operand.specs.SoFar.{so_far}
@@ -24,8 +25,8 @@ pub record BuiltLabel (v : Surroundings) (name : Text) (t : Tree) (x y : Place) 
   pub loop : IsBeforeLoop (labels_loop body) x
   pub read : Only so_far (labelled_in name (labels_loop body) v) (Part SubStmt) x (one body) y
 
-pub record NoBody (v : Surroundings) (name : Text) (x : Place) : Type 0 where
-  pub no : (t : Tree) (y : Place) → has_label name false v.labels ≡ false → Whole so_far (labelled_in name (labels_loop t) v) false SubStmt x t y → ⊥
+pub record NoBody (v : Surroundings) (name : Text) (x : Place) (e : Fault) : Type 0 where
+  pub no : (t : Tree) (y : Place) → has_label name false v.labels ≡ false → Whole so_far (labelled_in name (labels_loop t) v) false SubStmt x t y → Shallow e (part_depth t) → ⊥
 
 -- a labelled statement, behind its label; it is told from where the label begins
 pub record IsPlacedLabelled (name : Text) (at : ℕ) (x : Here) (d : Told) (t : Tree) (y : Here) : Type 0 where

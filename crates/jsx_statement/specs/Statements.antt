@@ -22,6 +22,7 @@ use Rattle.jsx_token.specs.Marks.{row_so_far}
 use Rattle.jsx_token.specs.Headings.{Begins}
 use Rattle.jsx_token.specs.declared.heading.Heading.{Heading}
 use Rattle.jsx_tree.specs.Walk.{tail}
+use Rattle.jsx_tree.specs.Faults.{Fault}
 
 -- the row of a block, behind its `{`
 abbrev pub block_symbols : Production
@@ -57,9 +58,9 @@ pub record OnlyStatement (v : Surroundings) (x : Place) (t : Tree) (y : Place) :
   pub nested : Only so_far v (Part grammar.SubStmt) x (one t) y
   pub listed : Only so_far v (Part grammar.Stmt) x (one t) y
 
-pub record NoStatement (v : Surroundings) (x : Place) : Type 0 where
-  pub nested : Barred so_far v (Part grammar.SubStmt) x
-  pub listed : Barred so_far v (Part grammar.Stmt) x
+pub record NoStatement (v : Surroundings) (x : Place) (e : Fault) : Type 0 where
+  pub nested : Barred so_far v (Part grammar.SubStmt) x e
+  pub listed : Barred so_far v (Part grammar.Stmt) x e
 
 -- The same of what begins with a heading, behind it: of the kinds that it begins the tree is the one node that does. A `try` can be read along its row as far as its block too, but no such parts keep its rule.
 pub record OnlyHeaded (v : Surroundings) (h : Heading) (t : Tree) (x y : Place) : Type 0 where
@@ -69,5 +70,5 @@ pub record OnlyHeaded (v : Surroundings) (h : Heading) (t : Tree) (x y : Place) 
   pub others : (k : Kind) → Begins h k → (us : Forest) (z : Place) → Walk (Whole so_far) (around v us) (tail (row_so_far k)) x us z → so_far.keeps k v us ≡ true → k ≡ kind
 
 -- of those no node does
-pub record NoneHeaded (v : Surroundings) (h : Heading) (x : Place) : Type 0 where
-  pub on : (k : Kind) → Begins h k → NoParts v k x
+pub record NoneHeaded (v : Surroundings) (h : Heading) (x : Place) (e : Fault) : Type 0 where
+  pub on : (k : Kind) → Begins h k → NoParts v k x e

@@ -1,5 +1,5 @@
 -- What the function keeps that reads the statements within another: it may be called where less than a bound is left.
-use Rattle.std.specs.Prelude.{◌≡◌, ◌<◌, ℕ, Result, Box, IfOk, OnOk}
+use Rattle.std.specs.Prelude.{◌<◌, ℕ, Result, Box, IfOk, OnOk}
 use Rattle.std.specs.Global.{Global}
 use denote.Ref.{MutBor}
 use Rattle.jsx_tree.specs.Grammar.{Part}
@@ -32,4 +32,4 @@ pub record ReadsStatements (bound : ℕ) (pre : Context → MutBor Here → Seat
   pub shorter : (c : Context) (x y : MutBor Here) (seat : Seat) (r : Result (Box Stmt Global) ParseError) → post c x seat r y
       → OnOk r (left y.now < left x.now)
   pub refused : (c : Context) (x y : MutBor Here) (seat : Seat) (r : Result (Box Stmt Global) ParseError) → post c x seat r y
-      → Refused r (Barred so_far (around_of c.around) (Part (symbol_of seat)) (place_of x.now))
+      → Refused c.levels r (Barred so_far (around_of c.around) (Part (symbol_of seat)) (place_of x.now))

@@ -3,6 +3,7 @@
 ghost use Rattle.std.specs.Prelude.{◌≡◌, ◌<◌, ◌≤◌, IfNone, IfOk, IfSome, OnOk, map, suc};
 ghost use Rattle.jsx_base.specs.Token.{StringLiteral};
 ghost use Rattle.jsx_tree.specs.Kinds.{leaf, none, part};
+ghost use Rattle.jsx_tree.specs.Faults.{Unread};
 ghost use Rattle.jsx_tree.specs.Grammar.{Lines, TopLines};
 ghost use Rattle.jsx_tree.specs.Spans.{no_tales, tale};
 ghost use Rattle.jsx_tree.specs.Told.{tales, told_directive, told_text};
@@ -14,46 +15,52 @@ ghost use Rattle.jsx_operand.specs.Around.{around_of};
 ghost use Rattle.jsx_operand.specs.Bodies.{ReadsBodies, body_row, body_symbols, told_of, view_body};
 ghost use Rattle.jsx_operand.specs.SoFar.{so_far};
 ghost use Rattle.jsx_operand.specs.Spans.{IsPlacedList, IsPlacedRow};
-ghost use Rattle.jsx_statement.specs.Directives.{IsDirective, NoDirective, Prologue, directive_symbols};
+ghost use Rattle.jsx_statement.specs.Directives.{NoPrologue, IsDirective, NoDirective, Prologue, directive_symbols};
 ghost use Rattle.jsx_statement.specs.Within.{ReadsStatements};
 
 use crate::grammar::Statements;
 use crate::statement::Seat;
+use jsx_operand::depth::within_at;
 use jsx_operand::{Body, Context, ParseError};
 use jsx_token::{Leaf, Lexer};
 use jsx_tree::{Stmt, Text};
-use std::alloc::{AllocError, Global};
 
 /// Takes a directive if one comes next: a string that is a statement alone, without parentheses. In `"a" + b` and in `"a"` before
 /// `.b`, on whichever line, none does.
-fn take_directive<'s>(lexer: &mut Lexer<'s>) -> Option<Text<'s>>
-    ensures taken { IfSome result (λ t. IsDirective (place_of lexer.old) (directive t) (place_of lexer.new)) }
-    ensures placed { IfSome result (λ t. IsPlacedRow directive_symbols (tale (told_text t) no_tales) (part (leaf StringLiteral (text_of t)) none) lexer.old lexer.new) }
-    ensures shorter { IfSome result (λ _. left lexer.new < left lexer.old) }
-    ensures missing { IfNone result (NoDirective (place_of lexer.old)) }
-    ensures stays { IfNone result (lexer.new ≡ lexer.old) }
+fn take_directive<'s>(
+    context: Context,
+    lexer: &mut Lexer<'s>,
+) -> Result<Option<Text<'s>>, ParseError>
+    ensures taken { IfOk result (λ o. IfSome o (λ t. IsDirective (place_of lexer.old) (directive t) (place_of lexer.new))) }
+    ensures placed { IfOk result (λ o. IfSome o (λ t. IsPlacedRow directive_symbols (tale (told_text t) no_tales) (part (leaf StringLiteral (text_of t)) none) lexer.old lexer.new)) }
+    ensures shorter { IfOk result (λ o. IfSome o (λ _. left lexer.new < left lexer.old)) }
+    ensures missing { IfOk result (λ o. IfNone o (NoDirective (place_of lexer.old) Unread)) }
+    ensures stays { IfOk result (λ o. IfNone o (lexer.new ≡ lexer.old)) }
+    ensures refused { Refused context.entry.levels result (NoPrologue (place_of lexer.old)) }
 {
     let mut ahead = lexer.fork();
     let Some(raw) = ahead.leaf(Leaf::Str) else {
-        return None;
+        return Ok(None);
     };
-    let text = Text::Read(raw, ahead.last_place());
+    let at = ahead.last_place();
     if !ahead.semicolon() {
-        return None;
+        return Ok(None);
     }
+    within_at(context, at)?;
     *lexer = ahead;
-    Some(text)
+    Ok(Some(Text::Read(raw, at)))
 }
 
 /// The directives that come first: `"use strict"; 'a'; b`.
-pub fn directives<'s>(alloc: Global, lexer: &mut Lexer<'s>) -> Result<Vec<Text<'s>>, AllocError>
+pub fn directives<'s>(context: Context, lexer: &mut Lexer<'s>) -> Result<Vec<Text<'s>>, ParseError>
     ensures read { IfOk result (λ ds. Prologue (place_of lexer.old) (forest (map directive ds.items)) (place_of lexer.new)) }
     ensures lines { IfOk result (λ ds. IsPlacedList Lines (tales (map told_directive ds.items)) (forest (map directive ds.items)) lexer.old lexer.new) }
     ensures top_lines { IfOk result (λ ds. IsPlacedList TopLines (tales (map told_directive ds.items)) (forest (map directive ds.items)) lexer.old lexer.new) }
     ensures within { OnOk result (left lexer.new ≤ left lexer.old) }
+    ensures refused { Refused context.entry.levels result (NoPrologue (place_of lexer.old)) }
 {
-    let mut all = Vec::new(alloc);
-    'directives: while let Some(text) = take_directive(lexer) {
+    let mut all = Vec::new(context.alloc);
+    'directives: while let Some(text) = take_directive(context, lexer)? {
         all.push(text)?;
     }
     Ok(all)
@@ -75,9 +82,9 @@ impl<
         ensures read { IfOk result (λ b. OnlyRow so_far (around_of context.entry.around) body_row (place_of lexer.old) (part (view_body b) none) (place_of lexer.new)) }
         ensures placed { IfOk result (λ b. IsPlacedRow body_symbols (tale (told_of b) no_tales) (part (view_body b) none) lexer.old lexer.new) }
         ensures within { OnOk result (left lexer.new ≤ left lexer.old) }
-        ensures refused { Refused result (NoRow so_far (around_of context.entry.around) body_row (place_of lexer.old)) }
+        ensures refused { Refused context.entry.levels result (NoRow so_far (around_of context.entry.around) body_row (place_of lexer.old)) }
     {
-        let directives = directives(context.alloc, lexer)?;
+        let directives = directives(context, lexer)?;
         let statements = self.lines(context.of_code(&directives), lexer)?;
         Ok(Body {
             directives,

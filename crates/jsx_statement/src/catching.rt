@@ -27,6 +27,7 @@ use crate::statement::Seat;
 use jsx_declaration::statement::has_part;
 use jsx_expression::function::binding;
 use jsx_make::make;
+use jsx_operand::depth::within;
 use jsx_operand::{Body, Context, ParseError, expect, give_up, span_to};
 use jsx_token::{Fixed, Lexer, Word};
 use jsx_tree::{Control, Stmt};
@@ -46,10 +47,11 @@ impl<
         ensures read { IfOk result (λ s. Only so_far (around_of context.entry.around) (Part grammar.BlockOnly) (place_of lexer.old) (one (view_stmt s.value)) (place_of lexer.new)) }
         ensures placed { IfOk result (λ s. IsPlaced (told_stmt s.value) (view_stmt s.value) lexer.old lexer.new) }
         ensures shorter { OnOk result (left lexer.new < left lexer.old) }
-        ensures refused { Refused result (Barred so_far (around_of context.entry.around) (Part grammar.BlockOnly) (place_of lexer.old)) }
+        ensures refused { Refused context.entry.levels result (Barred so_far (around_of context.entry.around) (Part grammar.BlockOnly) (place_of lexer.old)) }
     {
         expect(context, lexer, Fixed::OpenBrace)?;
-        Ok(self.block(context, lexer)?)
+        let levels = within(context, lexer)?;
+        Ok(self.block(Context { levels, ..context }, lexer)?)
     }
 
     /// What is caught, behind the `(` of its name or its pattern: `(a) { b; }`.
@@ -63,7 +65,7 @@ impl<
         ensures read { IfOk result (λ s. IsCatch (around_of context.entry.around) (place_of lexer.old) (view_control s.value) (place_of lexer.new)) }
         ensures placed { IfOk result (λ s. IsPlacedBehind (pun "(") lexer.old (told_control s.value) (view_control s.value) lexer.new) }
         ensures shorter { OnOk result (left lexer.new < left lexer.old) }
-        ensures refused { Refused result (NoRow so_far (around_of context.entry.around) catch_row (place_of lexer.old)) }
+        ensures refused { Refused context.entry.levels result (NoRow so_far (around_of context.entry.around) catch_row (place_of lexer.old)) }
     {
         let lo = lexer.last_place();
         let name = binding(context, lexer, self.body)?;
@@ -84,14 +86,15 @@ impl<
         ensures read { IfOk result (λ s. Only so_far (around_of context.entry.around) (Part grammar.CatchClause) (place_of lexer.old) (one (view_control s.value)) (place_of lexer.new)) }
         ensures placed { IfOk result (λ s. IsPlaced (told_control s.value) (view_control s.value) lexer.old lexer.new) }
         ensures shorter { OnOk result (left lexer.new < left lexer.old) }
-        ensures refused { Refused result (Barred so_far (around_of context.entry.around) (Part grammar.CatchClause) (place_of lexer.old)) }
+        ensures refused { Refused context.entry.levels result (Barred so_far (around_of context.entry.around) (Part grammar.CatchClause) (place_of lexer.old)) }
     {
         if lexer.take(Fixed::Open) {
             return Ok(self.catch_name(context, lexer)?);
         }
         expect(context, lexer, Fixed::OpenBrace)?;
         let lo = lexer.last_place();
-        let body = self.block(context, lexer)?;
+        let levels = within(context, lexer)?;
+        let body = self.block(Context { levels, ..context }, lexer)?;
         let span = span_to(lo, lexer);
         Ok(make::catch_clause(context.alloc, span, None, body)?)
     }
@@ -107,7 +110,7 @@ impl<
         ensures read { IfOk result (λ o. Only so_far (around_of context.entry.around) catch_symbol (place_of lexer.old) (one (optional_of view_control o)) (place_of lexer.new)) }
         ensures placed { IfOk result (λ o. IsPlacedFront catch_symbols (told_optional told_control o) (optional_of view_control o) lexer.old lexer.new) }
         ensures within { OnOk result (left lexer.new ≤ left lexer.old) }
-        ensures refused { Refused result (Barred so_far (around_of context.entry.around) catch_symbol (place_of lexer.old)) }
+        ensures refused { Refused context.entry.levels result (Barred so_far (around_of context.entry.around) catch_symbol (place_of lexer.old)) }
     {
         if !lexer.take(Fixed::Word(Word::Catch)) {
             return Ok(None);
@@ -127,7 +130,7 @@ impl<
         ensures read { IfOk result (λ o. Only so_far (around_of context.entry.around) finally_symbol (place_of lexer.old) (one (optional_of view_stmt o)) (place_of lexer.new)) }
         ensures placed { IfOk result (λ o. IsPlacedFront finally_symbols (told_optional told_stmt o) (optional_of view_stmt o) lexer.old lexer.new) }
         ensures within { OnOk result (left lexer.new ≤ left lexer.old) }
-        ensures refused { Refused result (Barred so_far (around_of context.entry.around) finally_symbol (place_of lexer.old)) }
+        ensures refused { Refused context.entry.levels result (Barred so_far (around_of context.entry.around) finally_symbol (place_of lexer.old)) }
     {
         if !lexer.take(Fixed::Word(Word::Finally)) {
             return Ok(None);
@@ -149,7 +152,7 @@ impl<
         ensures span { IfOk result (λ s. Spans (stmt_at s.value) (begin_of lexer.old) (end_of lexer.new)) }
         ensures placed { IfOk result (λ s. IsPlacedBehind (opening_sign (statement Try)) lexer.old (told_stmt s.value) (view_stmt s.value) lexer.new) }
         ensures within { OnOk result (left lexer.new ≤ left lexer.old) }
-        ensures refused { Refused result (NoNode so_far (around_of context.entry.around) (tail (row_so_far (statement Try))) (statement Try) (place_of lexer.old)) }
+        ensures refused { Refused context.entry.levels result (NoNode so_far (around_of context.entry.around) (tail (row_so_far (statement Try))) (statement Try) (place_of lexer.old)) }
     {
         let lo = lexer.last_place();
         let body = self.block_only(context, lexer)?;

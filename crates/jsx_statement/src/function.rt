@@ -19,6 +19,7 @@ use crate::statement::body;
 use jsx_declaration::for_head::declare_word;
 use jsx_declaration::function::{class_declaration, function_declaration};
 use jsx_declaration::statement::declaration;
+use jsx_operand::depth::within;
 use jsx_operand::{Context, ParseError, give_up};
 use jsx_token::{Fixed, Lexer, Word};
 use jsx_tree::Stmt;
@@ -29,16 +30,19 @@ pub fn declared<'s>(context: Context, lexer: &mut Lexer<'s>) -> Result<Box<Stmt<
     ensures span { IfOk result (λ s. Spans (stmt_at s.value) (next_of lexer.old) (end_of lexer.new)) }
     ensures placed { IfOk result (λ s. IsPlaced (told_stmt s.value) (view_stmt s.value) lexer.old lexer.new) }
     ensures shorter { OnOk result (left lexer.new < left lexer.old) }
-    ensures refused { Refused result (Barred so_far (around_of context.entry.around) (Part grammar.Declaration) (place_of lexer.old)) }
+    ensures refused { Refused context.entry.levels result (Barred so_far (around_of context.entry.around) (Part grammar.Declaration) (place_of lexer.old)) }
 {
     if lexer.take(Fixed::Word(Word::Function)) {
-        return Ok(function_declaration(context, lexer, body)?);
+        let levels = within(context, lexer)?;
+        return Ok(function_declaration(Context { levels, ..context }, lexer, body)?);
     }
     if lexer.take(Fixed::Word(Word::Class)) {
-        return Ok(class_declaration(context, lexer, body)?);
+        let levels = within(context, lexer)?;
+        return Ok(class_declaration(Context { levels, ..context }, lexer, body)?);
     }
     let Some(word) = declare_word(lexer) else {
         return Err(give_up(lexer));
     };
-    Ok(declaration(context, lexer, word, body)?)
+    let levels = within(context, lexer)?;
+    Ok(declaration(Context { levels, ..context }, lexer, word, body)?)
 }

@@ -35,6 +35,7 @@ use jsx_declaration::statement::{
     expression_statement, throw_statement,
 };
 use jsx_make::make;
+use jsx_operand::depth::{within, within_at, within_leaf};
 use jsx_operand::{Body, Context, Labels, ParseError, give_up, span_to};
 use jsx_token::{Fixed, Heading, Lexer, Word};
 use jsx_tree::Stmt;
@@ -64,7 +65,7 @@ impl<
         ensures span { IfOk result (λ s. Spans (stmt_at s.value) (next_of lexer.old) (end_of lexer.new)) }
         ensures placed { IfOk result (λ s. IsPlaced (told_stmt s.value) (view_stmt s.value) lexer.old lexer.new) }
         ensures shorter { OnOk result (left lexer.new < left lexer.old) }
-        ensures refused { Refused result (Barred so_far (around_of context.entry.around) (Part grammar.Stmt) (place_of lexer.old)) }
+        ensures refused { Refused context.entry.levels result (Barred so_far (around_of context.entry.around) (Part grammar.Stmt) (place_of lexer.old)) }
     {
         (self.inner)(context, lexer, Seat::Listed)
     }
@@ -81,7 +82,7 @@ impl<
         ensures span { IfOk result (λ s. Spans (stmt_at s.value) (next_of lexer.old) (end_of lexer.new)) }
         ensures placed { IfOk result (λ s. IsPlaced (told_stmt s.value) (view_stmt s.value) lexer.old lexer.new) }
         ensures shorter { OnOk result (left lexer.new < left lexer.old) }
-        ensures refused { Refused result (Barred so_far (around_of context.entry.around) (Part grammar.SubStmt) (place_of lexer.old)) }
+        ensures refused { Refused context.entry.levels result (Barred so_far (around_of context.entry.around) (Part grammar.SubStmt) (place_of lexer.old)) }
     {
         (self.inner)(context, lexer, Seat::Part)
     }
@@ -98,12 +99,13 @@ impl<
         ensures span { IfOk result (λ s. Spans (stmt_at s.value) (next_of lexer.old) (end_of lexer.new)) }
         ensures placed { IfOk result (λ s. IsPlaced (told_stmt s.value) (view_stmt s.value) lexer.old lexer.new) }
         ensures shorter { OnOk result (left lexer.new < left lexer.old) }
-        ensures refused { Refused result (Barred so_far (around_of context.entry.around) (Part grammar.Stmt) (place_of lexer.old)) }
+        ensures refused { Refused context.entry.levels result (Barred so_far (around_of context.entry.around) (Part grammar.Stmt) (place_of lexer.old)) }
     {
         let Some(heading) = lexer.heading() else {
             return Ok(self.unheaded(context, lexer)?);
         };
-        Ok(self.headed(context, lexer, heading)?)
+        let levels = within(context, lexer)?;
+        Ok(self.headed(Context { levels, ..context }, lexer, heading)?)
     }
 
     /// A statement that is a part of another, as the body of a loop: neither a lexical declaration nor a function.
@@ -118,7 +120,7 @@ impl<
         ensures span { IfOk result (λ s. Spans (stmt_at s.value) (next_of lexer.old) (end_of lexer.new)) }
         ensures placed { IfOk result (λ s. IsPlaced (told_stmt s.value) (view_stmt s.value) lexer.old lexer.new) }
         ensures shorter { OnOk result (left lexer.new < left lexer.old) }
-        ensures refused { Refused result (Barred so_far (around_of context.entry.around) (Part grammar.SubStmt) (place_of lexer.old)) }
+        ensures refused { Refused context.entry.levels result (Barred so_far (around_of context.entry.around) (Part grammar.SubStmt) (place_of lexer.old)) }
     {
         let Some(heading) = lexer.heading() else {
             return Ok(self.unheaded(context, lexer)?);
@@ -126,7 +128,8 @@ impl<
         if heading.is_lexical() {
             return Err(give_up(lexer));
         }
-        Ok(self.headed(context, lexer, heading)?)
+        let levels = within(context, lexer)?;
+        Ok(self.headed(Context { levels, ..context }, lexer, heading)?)
     }
 
     /// A statement that begins with no token of its own: a labelled one, or an expression.
@@ -142,12 +145,14 @@ impl<
         ensures span { IfOk result (λ s. Spans (stmt_at s.value) (next_of lexer.old) (end_of lexer.new)) }
         ensures placed { IfOk result (λ s. IsPlaced (told_stmt s.value) (view_stmt s.value) lexer.old lexer.new) }
         ensures shorter { OnOk result (left lexer.new < left lexer.old) }
-        ensures refused { Refused result (NoStatement (around_of context.entry.around) (place_of lexer.old)) }
+        ensures refused { Refused context.entry.levels result (NoStatement (around_of context.entry.around) (place_of lexer.old)) }
     {
         let Some(label) = take_label(lexer) else {
             return Ok(expression_statement(context, lexer, self.body)?);
         };
-        Ok(self.labelled(context, lexer, label)?)
+        within_at(context, label.place)?;
+        let levels = within_leaf(context, lexer)?;
+        Ok(self.labelled(Context { levels, ..context }, lexer, label)?)
     }
 
     /// A statement behind its label, which encloses it then: `a: b;` (ECMA-262 section 14.13).
@@ -163,7 +168,7 @@ impl<
         ensures span { IfOk result (λ s. Spans (stmt_at s.value) label.entry.place.0 (end_of lexer.new)) }
         ensures placed { IfOk result (λ s. IsPlacedLabelled (chars label.entry.name.now) label.entry.place.0 lexer.old (told_stmt s.value) (view_stmt s.value) lexer.new) }
         ensures within { OnOk result (left lexer.new ≤ left lexer.old) }
-        ensures refused { Refused result (NoBody (around_of context.entry.around) (chars label.entry.name.now) (place_of lexer.old)) }
+        ensures refused { Refused context.entry.levels result (NoBody (around_of context.entry.around) (chars label.entry.name.now) (place_of lexer.old)) }
     {
         if has_label(context.around.labels, label.name, false) {
             return Err(give_up(lexer));
@@ -188,7 +193,7 @@ impl<
         ensures span { IfOk result (λ s. Spans (stmt_at s.value) (begin_of lexer.old) (end_of lexer.new)) }
         ensures placed { IfOk result (λ s. IsPlacedBehind (heading_sign heading) lexer.old (told_stmt s.value) (view_stmt s.value) lexer.new) }
         ensures within { OnOk result (left lexer.new ≤ left lexer.old) }
-        ensures refused { Refused result (NoneHeaded (around_of context.entry.around) heading (place_of lexer.old)) }
+        ensures refused { Refused context.entry.levels result (NoneHeaded (around_of context.entry.around) heading (place_of lexer.old)) }
     {
         match heading {
             Heading::Empty => Ok(empty_statement(context, lexer)?),
@@ -221,7 +226,7 @@ impl<
         ensures read { IfOk result (λ v. OnlyRow so_far (around_of context.entry.around) (tail (row_so_far (statement Block))) (place_of lexer.old) (part (list (forest (map (inside view_stmt) v.items))) none) (place_of lexer.new)) }
         ensures placed { IfOk result (λ v. IsPlacedLines (tales (map (inside told_stmt) v.items)) (forest (map (inside view_stmt) v.items)) lexer.old lexer.new) }
         ensures within { OnOk result (left lexer.new ≤ left lexer.old) }
-        ensures refused { Refused result (NoRow so_far (around_of context.entry.around) (tail (row_so_far (statement Block))) (place_of lexer.old)) }
+        ensures refused { Refused context.entry.levels result (NoRow so_far (around_of context.entry.around) (tail (row_so_far (statement Block))) (place_of lexer.old)) }
     {
         let mut all = Vec::new(context.alloc);
         'statements: while !lexer.take(Fixed::CloseBrace) {
@@ -244,7 +249,7 @@ impl<
         ensures inner { IfOk result (λ s. is_inner (around_of context.entry.around) (view_stmt s.value) ≡ true) }
         ensures placed { IfOk result (λ s. IsPlaced (told_stmt s.value) (view_stmt s.value) lexer.old lexer.new) }
         ensures shorter { OnOk result (left lexer.new < left lexer.old) }
-        ensures refused { Refused result (NoInner (around_of context.entry.around) (place_of lexer.old)) }
+        ensures refused { Refused context.entry.levels result (NoInner (around_of context.entry.around) (place_of lexer.old)) }
     {
         if context.around.is_strict {
             return Ok(self.statement(context, lexer)?);
@@ -267,7 +272,7 @@ impl<
         ensures inner { IfOk result (λ v. are_inner (around_of context.entry.around) (forest (map (inside view_stmt) v.items)) ≡ true) }
         ensures placed { IfOk result (λ v. IsPlacedRow block_symbols (tale (told_list (map (inside told_stmt) v.items)) no_tales) (part (list (forest (map (inside view_stmt) v.items))) none) lexer.old lexer.new) }
         ensures within { OnOk result (left lexer.new ≤ left lexer.old) }
-        ensures refused { Refused result (NoNode so_far (around_of context.entry.around) (tail (row_so_far (statement Block))) (statement Block) (place_of lexer.old)) }
+        ensures refused { Refused context.entry.levels result (NoNode so_far (around_of context.entry.around) (tail (row_so_far (statement Block))) (statement Block) (place_of lexer.old)) }
     {
         let mut all = Vec::new(context.alloc);
         'statements: while !lexer.take(Fixed::CloseBrace) {
@@ -289,7 +294,7 @@ impl<
         ensures span { IfOk result (λ s. Spans (stmt_at s.value) (begin_of lexer.old) (end_of lexer.new)) }
         ensures placed { IfOk result (λ s. IsPlacedBehind (opening_sign (statement Block)) lexer.old (told_stmt s.value) (view_stmt s.value) lexer.new) }
         ensures within { OnOk result (left lexer.new ≤ left lexer.old) }
-        ensures refused { Refused result (NoNode so_far (around_of context.entry.around) (tail (row_so_far (statement Block))) (statement Block) (place_of lexer.old)) }
+        ensures refused { Refused context.entry.levels result (NoNode so_far (around_of context.entry.around) (tail (row_so_far (statement Block))) (statement Block) (place_of lexer.old)) }
     {
         let lo = lexer.last_place();
         let body = self.statements(context, lexer)?;

@@ -48,7 +48,7 @@ impl<
         ensures closed { IfOk result (λ o. Closes o (place_of lexer.old)) }
         ensures placed { IfOk result (λ o. IsPlacedRow alternative_symbols (tale (told_optional told_stmt o) no_tales) (part (optional_of view_stmt o) none) lexer.old lexer.new) }
         ensures within { OnOk result (left lexer.new ≤ left lexer.old) }
-        ensures refused { Refused result (NoRow so_far (around_of context.entry.around) alternative_row (place_of lexer.old)) }
+        ensures refused { Refused context.entry.levels result (NoRow so_far (around_of context.entry.around) alternative_row (place_of lexer.old)) }
     {
         if !lexer.take(Fixed::Word(Word::Else)) {
             return Ok(None);
@@ -69,7 +69,7 @@ impl<
         ensures span { IfOk result (λ s. Spans (stmt_at s.value) (begin_of lexer.old) (end_of lexer.new)) }
         ensures placed { IfOk result (λ s. IsPlacedBehind (opening_sign (statement If)) lexer.old (told_stmt s.value) (view_stmt s.value) lexer.new) }
         ensures within { OnOk result (left lexer.new ≤ left lexer.old) }
-        ensures refused { Refused result (NoNode so_far (around_of context.entry.around) (tail (row_so_far (statement If))) (statement If) (place_of lexer.old)) }
+        ensures refused { Refused context.entry.levels result (NoNode so_far (around_of context.entry.around) (tail (row_so_far (statement If))) (statement If) (place_of lexer.old)) }
     {
         let lo = lexer.last_place();
         expect(context, lexer, Fixed::Open)?;
@@ -93,7 +93,7 @@ impl<
         ensures span { IfOk result (λ s. Spans (stmt_at s.value) (begin_of lexer.old) (end_of lexer.new)) }
         ensures placed { IfOk result (λ s. IsPlacedBehind (opening_sign (statement Do)) lexer.old (told_stmt s.value) (view_stmt s.value) lexer.new) }
         ensures within { OnOk result (left lexer.new ≤ left lexer.old) }
-        ensures refused { Refused result (NoNode so_far (around_of context.entry.around) (tail (row_so_far (statement Do))) (statement Do) (place_of lexer.old)) }
+        ensures refused { Refused context.entry.levels result (NoNode so_far (around_of context.entry.around) (tail (row_so_far (statement Do))) (statement Do) (place_of lexer.old)) }
     {
         let lo = lexer.last_place();
         let context = context.of_loop();
@@ -120,7 +120,7 @@ impl<
         ensures span { IfOk result (λ s. Spans (stmt_at s.value) (begin_of lexer.old) (end_of lexer.new)) }
         ensures placed { IfOk result (λ s. IsPlacedBehind (opening_sign (statement While)) lexer.old (told_stmt s.value) (view_stmt s.value) lexer.new) }
         ensures within { OnOk result (left lexer.new ≤ left lexer.old) }
-        ensures refused { Refused result (NoNode so_far (around_of context.entry.around) (tail (row_so_far (statement While))) (statement While) (place_of lexer.old)) }
+        ensures refused { Refused context.entry.levels result (NoNode so_far (around_of context.entry.around) (tail (row_so_far (statement While))) (statement While) (place_of lexer.old)) }
     {
         let lo = lexer.last_place();
         expect(context, lexer, Fixed::Open)?;
@@ -142,7 +142,7 @@ impl<
         ensures read { IfOk result (λ s. OnlyRow so_far (around_of context.entry.around) loop_row (place_of lexer.old) (part (view_stmt s.value) none) (place_of lexer.new)) }
         ensures placed { IfOk result (λ s. IsPlacedRow loop_symbols (tale (told_stmt s.value) no_tales) (part (view_stmt s.value) none) lexer.old lexer.new) }
         ensures within { OnOk result (left lexer.new ≤ left lexer.old) }
-        ensures refused { Refused result (NoRow so_far (around_of context.entry.around) loop_row (place_of lexer.old)) }
+        ensures refused { Refused context.entry.levels result (NoRow so_far (around_of context.entry.around) loop_row (place_of lexer.old)) }
     {
         expect(context, lexer, Fixed::Close)?;
         Ok(self.nested(context.of_loop(), lexer)?)
@@ -161,7 +161,7 @@ impl<
         ensures span { IfOk result (λ s. Spans (stmt_at s.value) (begin_of lexer.old) (end_of lexer.new)) }
         ensures placed { IfOk result (λ s. IsPlacedBehind (opening_sign (statement For)) lexer.old (told_stmt s.value) (view_stmt s.value) lexer.new) }
         ensures within { OnOk result (left lexer.new ≤ left lexer.old) }
-        ensures refused { Refused result (NoneHeaded (around_of context.entry.around) headings.For (place_of lexer.old)) }
+        ensures refused { Refused context.entry.levels result (NoneHeaded (around_of context.entry.around) headings.For (place_of lexer.old)) }
     {
         let lo = lexer.last_place();
         expect(context, lexer, Fixed::Open)?;

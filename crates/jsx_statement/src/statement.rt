@@ -43,7 +43,7 @@ pub fn statement<'s>(
     ensures span { IfOk result (λ s. Spans (stmt_at s.value) (next_of lexer.old) (end_of lexer.new)) }
     ensures placed { IfOk result (λ s. IsPlaced (told_stmt s.value) (view_stmt s.value) lexer.old lexer.new) }
     ensures shorter { OnOk result (left lexer.new < left lexer.old) }
-    ensures refused { Refused result (Barred so_far (around_of context.entry.around) (Part (symbol_of seat)) (place_of lexer.old)) }
+    ensures refused { Refused context.entry.levels result (Barred so_far (around_of context.entry.around) (Part (symbol_of seat)) (place_of lexer.old)) }
 {
     let within = Statements {
         inner: statement,
@@ -61,7 +61,7 @@ pub fn body<'s>(context: Context, lexer: &mut Lexer<'s>) -> Result<Body<'s>, Par
     ensures read { IfOk result (λ b. OnlyRow so_far (around_of context.entry.around) body_row (place_of lexer.old) (part (view_body b) none) (place_of lexer.new)) }
     ensures placed { IfOk result (λ b. IsPlacedRow body_symbols (tale (told_of b) no_tales) (part (view_body b) none) lexer.old lexer.new) }
     ensures within { OnOk result (left lexer.new ≤ left lexer.old) }
-    ensures refused { Refused result (NoRow so_far (around_of context.entry.around) body_row (place_of lexer.old)) }
+    ensures refused { Refused context.entry.levels result (NoRow so_far (around_of context.entry.around) body_row (place_of lexer.old)) }
 {
     let within = Statements {
         inner: statement,

@@ -29,6 +29,7 @@ use crate::statement::Seat;
 use jsx_declaration::statement::one_default;
 use jsx_expression::expression::sequence;
 use jsx_make::make;
+use jsx_operand::depth::within;
 use jsx_operand::{Body, Context, ParseError, expect, span_to};
 use jsx_token::{Fixed, Lexer, Word};
 use jsx_tree::{Control, Stmt};
@@ -48,7 +49,7 @@ impl<
         ensures read { IfOk result (λ v. IsBody (around_of context.entry.around) (place_of lexer.old) (list (forest (map (inside view_stmt) v.items))) (place_of lexer.new)) }
         ensures placed { IfOk result (λ v. IsPlacedList Lines (tales (map (inside told_stmt) v.items)) (forest (map (inside view_stmt) v.items)) lexer.old lexer.new) }
         ensures within { OnOk result (left lexer.new ≤ left lexer.old) }
-        ensures refused { Refused result (NoInners (around_of context.entry.around) body_row (place_of lexer.old)) }
+        ensures refused { Refused context.entry.levels result (NoInners (around_of context.entry.around) body_row (place_of lexer.old)) }
     {
         let mut all = Vec::new(context.alloc);
         'statements: while !lexer.ends_case() {
@@ -69,7 +70,7 @@ impl<
         ensures read { IfOk result (λ s. IsDefault (around_of context.entry.around) (place_of lexer.old) (view_control s.value) (place_of lexer.new)) }
         ensures placed { IfOk result (λ s. IsPlacedBehind (key "default") lexer.old (told_control s.value) (view_control s.value) lexer.new) }
         ensures shorter { OnOk result (left lexer.new < left lexer.old) }
-        ensures refused { Refused result (NoInners (around_of context.entry.around) default_row (place_of lexer.old)) }
+        ensures refused { Refused context.entry.levels result (NoInners (around_of context.entry.around) default_row (place_of lexer.old)) }
     {
         let lo = lexer.last_place();
         expect(context, lexer, Fixed::Colon)?;
@@ -89,13 +90,16 @@ impl<
         ensures read { IfOk result (λ s. IsCase (around_of context.entry.around) (place_of lexer.old) (view_control s.value) (place_of lexer.new)) }
         ensures placed { IfOk result (λ s. IsPlaced (told_control s.value) (view_control s.value) lexer.old lexer.new) }
         ensures shorter { OnOk result (left lexer.new < left lexer.old) }
-        ensures refused { Refused result (NoCase (around_of context.entry.around) (place_of lexer.old)) }
+        ensures refused { Refused context.entry.levels result (NoCase (around_of context.entry.around) (place_of lexer.old)) }
     {
         if lexer.take(Fixed::Word(Word::Default)) {
-            return Ok(self.default_clause(context, lexer)?);
+            let levels = within(context, lexer)?;
+            return Ok(self.default_clause(Context { levels, ..context }, lexer)?);
         }
         expect(context, lexer, Fixed::Word(Word::Case))?;
         let lo = lexer.last_place();
+        let levels = within(context, lexer)?;
+        let context = Context { levels, ..context };
         let test = sequence(context, lexer, self.body)?;
         expect(context, lexer, Fixed::Colon)?;
         let body = self.case_body(context, lexer)?;
@@ -115,7 +119,7 @@ impl<
         ensures one_default { IfOk result (λ v. IsTrue (at_most 1 is_default (forest (map (inside view_control) v.items)))) }
         ensures placed { IfOk result (λ v. IsPlacedRow cases_symbols (tale (told_list (map (inside told_control) v.items)) no_tales) (part (list (forest (map (inside view_control) v.items))) none) lexer.old lexer.new) }
         ensures within { OnOk result (left lexer.new ≤ left lexer.old) }
-        ensures refused { Refused result (NoCases (around_of context.entry.around) (place_of lexer.old)) }
+        ensures refused { Refused context.entry.levels result (NoCases (around_of context.entry.around) (place_of lexer.old)) }
     {
         let mut all = Vec::new(context.alloc);
         let mut has_default = false;
@@ -139,7 +143,7 @@ impl<
         ensures span { IfOk result (λ s. Spans (stmt_at s.value) (begin_of lexer.old) (end_of lexer.new)) }
         ensures placed { IfOk result (λ s. IsPlacedBehind (opening_sign (statement Switch)) lexer.old (told_stmt s.value) (view_stmt s.value) lexer.new) }
         ensures within { OnOk result (left lexer.new ≤ left lexer.old) }
-        ensures refused { Refused result (NoNode so_far (around_of context.entry.around) (tail (row_so_far (statement Switch))) (statement Switch) (place_of lexer.old)) }
+        ensures refused { Refused context.entry.levels result (NoNode so_far (around_of context.entry.around) (tail (row_so_far (statement Switch))) (statement Switch) (place_of lexer.old)) }
     {
         let lo = lexer.last_place();
         expect(context, lexer, Fixed::Open)?;

@@ -1,17 +1,18 @@
 -- Imports: names of a module, what an import binds up to its `from`, and an import behind its word.
-use Rattle.std.proofs.Common.{◌≡◌, Bool, true, false, List, [], ◌∷◌, refl, sym, ◌∙◌, ap, subst}
-use Rattle.std.specs.Prelude.{IsTrue, codes, ◌&&◌}
-use Rattle.jsx_base.specs.Token.{Text, Operator, Punctuator, TokenKind, IdentifierName, StringLiteral, same}
-use Rattle.jsx_tree.specs.Signs.{AfterWord, Ends, Semicolon, Sign, Tok}
+use Rattle.std.proofs.Common.{◌≡◌, arith, Bool, true, false, List, refl, sym, ◌∙◌, ap, subst}
+use Rattle.std.specs.Prelude.{IsTrue, codes}
+use Rattle.jsx_base.specs.Token.{Text, Operator, Punctuator, IdentifierName, StringLiteral}
+use Rattle.jsx_tree.specs.Signs.{AfterWord, Ends, Tok}
 use Rattle.jsx_tree.specs.Kinds.{ImportBare, Import, ImportAll, ImportList, ImportBoth, Kind, program, Tree, leaf, node, list, Forest, none, part}
 use Rattle.jsx_tree.specs.Nonterminals.{BindingIdent, ImportBindings, ImportClause, StringOnly, is_bound}
-use Rattle.jsx_tree.specs.Grammar.{Fixed, Part, key, pun, semi}
-use Rattle.jsx_tree.specs.Form.{admits, is_leaf}
+use Rattle.jsx_tree.specs.Grammar.{Part, key, pun, semi}
+use Rattle.jsx_tree.specs.Form.{is_leaf}
 use Rattle.jsx_tree.specs.Reading.{Place, Lost, forth}
 use Rattle.jsx_tree.specs.StaticRules.{Surroundings}
 use Rattle.jsx_tree.specs.Walk.{Given, Past, Piece, Walk, around, done, is_found, next, nothing, one, sign, steady, tail, tree}
 use Rattle.jsx_tree.specs.Language.{Whole}
 use Rattle.jsx_tree.specs.Answers.{Moves, Stuck, Only, Barred, OnlyRow, NoRow, NoNode, Built}
+use Rattle.jsx_tree.specs.Faults.{Below, Fault, Shallow, deepest, given_depth, part_depth}
 use Rattle.jsx_tree.proofs.Tokens.{and_both, and_left, one_text}
 use Rattle.jsx_tree.proofs.Apart.{clash, never_both}
 use Rattle.jsx_tree.proofs.Rows.Bodies.{plain as plain_row}
@@ -19,15 +20,16 @@ use Rattle.jsx_tree.proofs.Rows.Bridge.{found_at}
 use Rattle.jsx_tree.proofs.Rows.Firsts.{kind_home}
 use Rattle.jsx_tree.proofs.Rows.Guarded.{loosen, to_grammar}
 use Rattle.jsx_tree.proofs.Rows.Laws.{end_found}
-use Rattle.jsx_tree.proofs.Rows.Placing.{Chosen, barred_node, free_around, moved, no_node, only_node}
-use Rattle.jsx_tree.proofs.Rows.Steps.{bar, end, no_sign, on, only_sign, then'}
+use Rattle.jsx_tree.proofs.Rows.Placing.{Chosen, barred_node, flat_shallow, free_around, moved, no_node, only_node}
+use Rattle.jsx_tree.proofs.Rows.Steps.{bar, end, on, only_sign, then'}
 use Rattle.jsx_tree.proofs.Rows.Stopping.{never_stops}
 use Rattle.jsx_tree.proofs.Rows.Turns.{item_of, turn_as, turn_none, turn_only, turn_symbol, whole_of}
+use Rattle.jsx_tree.proofs.Depth.Shallow.{below_shallow, shallow_first, shallow_head, shallow_tail}
 use Rattle.jsx_token.specs.Marks.{ends_so_far, row_so_far}
 use Rattle.jsx_operand.specs.SoFar.{Staged, so_far}
 use Rattle.jsx_operand.proofs.OfSoFar.{of_so_far}
 use Rattle.jsx_operand.proofs.Climbing.{signed_built, signed_none}
-use Rattle.jsx_operand.proofs.Homes.{IsName, IsString, bindings, home_of, no_leaf, no_list, only_leaf, staged_leaf, strings, taken_by}
+use Rattle.jsx_operand.proofs.Homes.{IsName, IsString, bindings, deep_leaf, home_of, no_leaf, no_list, only_leaf, staged_leaf, strings, taken_by}
 use Rattle.jsx_operand.proofs.Keys.{mark_none}
 use Rattle.jsx_operand.proofs.Standing.{standing}
 use Rattle.jsx_operand.proofs.Values.{led_sign, leaf_forth, node_to}
@@ -45,7 +47,7 @@ ends_found (sign e f) = f
 pub source_read : {v : Surroundings} {x y z w : Place} {t : Tree} → Only so_far v (Part StringOnly) x (one t) y → Moves (Ends AfterWord) y z → Only so_far v semi z nothing w → OnlyRow so_far v source_row x (part t none) w
 source_read s e o = then' s (then' (only_sign e) (then' o (end (ends_found o.past))))
 
-pub source_unread : {v : Surroundings} {x y z : Place} {t : Tree} → Only so_far v (Part StringOnly) x (one t) y → Moves (Ends AfterWord) y z → Barred so_far v semi z → NoRow so_far v source_row x
+pub source_unread : {v : Surroundings} {x y z : Place} {t : Tree} {o : Fault} → Only so_far v (Part StringOnly) x (one t) y → Moves (Ends AfterWord) y z → Barred so_far v semi z o → NoRow so_far v source_row x o
 source_unread s e b = on s (on (only_sign e) (bar b))
 
 -- ---- names of a module
@@ -82,25 +84,25 @@ all_read {y = y} m b =
     let w = signed_built (row_so_far (program ImportAll)) refl m b in
     only_node of_so_far (all_chosen m) refl refl (λ ts. refl) w (and_both _ _ (plain_row (row_so_far (program ImportAll)) refl (to_grammar of_so_far w.row.walk)) refl) (bindings_ends y)
 
-pub all_unread : {v : Surroundings} {x a : Place} → Moves (pun "*") x a → NoRow so_far v (tail (row_so_far (program ImportAll))) a → Barred so_far v (Part ImportBindings) x
-all_unread m n = barred_node of_so_far (all_chosen m) refl refl (no_node (signed_none (row_so_far (program ImportAll)) refl m n))
+pub all_unread : {v : Surroundings} {x a : Place} {e : Fault} → Moves (pun "*") x a → NoRow so_far v (tail (row_so_far (program ImportAll))) a e → Barred so_far v (Part ImportBindings) x e
+all_unread m n = barred_node false refl of_so_far (all_chosen m) refl refl (no_node (signed_none (row_so_far (program ImportAll)) refl m n))
 
 pub list_read : {v : Surroundings} {x a y : Place} {t : Tree} → Moves (pun "{") x a → Built so_far v (tail (row_so_far (program ImportList))) (program ImportList) (λ ts. ts) t a y → Only so_far v (Part ImportBindings) x (one t) y
 list_read {y = y} m b =
     let w = signed_built (row_so_far (program ImportList)) refl m b in
     only_node of_so_far (list_chosen m) refl refl (λ ts. refl) w (and_both _ _ (plain_row (row_so_far (program ImportList)) refl (to_grammar of_so_far w.row.walk)) refl) (bindings_ends y)
 
-pub list_unread : {v : Surroundings} {x a : Place} → Moves (pun "{") x a → NoRow so_far v (tail (row_so_far (program ImportList))) a → Barred so_far v (Part ImportBindings) x
-list_unread m n = barred_node of_so_far (list_chosen m) refl refl (no_node (signed_none (row_so_far (program ImportList)) refl m n))
+pub list_unread : {v : Surroundings} {x a : Place} {e : Fault} → Moves (pun "{") x a → NoRow so_far v (tail (row_so_far (program ImportList))) a e → Barred so_far v (Part ImportBindings) x e
+list_unread m n = barred_node false refl of_so_far (list_chosen m) refl refl (no_node (signed_none (row_so_far (program ImportList)) refl m n))
 
 -- neither mark stands there
-pub none_read : {v : Surroundings} {x : Place} → forth (pun "*") x ≡ Lost → forth (pun "{") x ≡ Lost → Barred so_far v (Part ImportBindings) x
-none_read {v} {x} e f = record { no = at }
+pub none_read : {v : Surroundings} {x : Place} {o : Fault} → forth (pun "*") x ≡ Lost → forth (pun "{") x ≡ Lost → Barred so_far v (Part ImportBindings) x o
+none_read {v} {x} {o = o} e f = record { no = at }
   where
-    at : (g : Given) (y : Place) → Past (Whole so_far) v (Part ImportBindings) x g y → ⊥
-    at g y (tree {t = leaf k t} w) = let bad = w.reads.staged in cc
-    at g y (tree {t = list ts} w) = no_list w.reads
-    at g y (tree {t = node k ts} w) = by_mark k (binding_kind k w.reads) w.reads (λ h e'. lost_there (pun "*") x e h) (λ h e'. lost_there (pun "{") x f h)
+    at : (g : Given) (y : Place) → Past (Whole so_far) v (Part ImportBindings) x g y → Shallow o (given_depth g) → ⊥
+    at g y (tree {t = leaf k t} w) s = let bad = w.reads.staged in cc
+    at g y (tree {t = list ts} w) s = no_list w.reads
+    at g y (tree {t = node k ts} w) s = by_mark k (binding_kind k w.reads) w.reads (λ h e'. lost_there (pun "*") x e h) (λ h e'. lost_there (pun "{") x f h)
 
 -- ---- what an import binds
 
@@ -208,11 +210,11 @@ clause_names {v} {x} {y} {t} n o = as_front (turn_as (λ ts. refl) (turn_symbol 
     only' : Only so_far v (Part ImportClause) x (one t) y
     only' = record { past = tree (whole_clause (as_clause t (whole_of o.past).reads)); alone = at }
 
-pub no_names : {v : Surroundings} {x : Place} → ((n : Text) → forth (Tok Operator IdentifierName n) x ≡ Lost) → Barred so_far v (Part ImportBindings) x → NoRow so_far v clause_row x
-no_names {v} {x} n b = record { no = at }
+pub no_names : {v : Surroundings} {x : Place} {e : Fault} → ((n : Text) → forth (Tok Operator IdentifierName n) x ≡ Lost) → Barred so_far v (Part ImportBindings) x e → NoRow so_far v clause_row x e
+no_names {v} {x} {e = e} n b = record { no = at }
   where
-    at : (us : Forest) (w : Place) → Walk (Whole so_far) (steady v) clause_row x us w → ⊥
-    at us w (next {y = z} (tree {t = u} q) walk) = nameless n (at_clause u q.reads) q.reads (λ r. b.no (one u) z (tree (whole_names r)))
+    at : (us : Forest) (w : Place) → Walk (Whole so_far) (steady v) clause_row x us w → Shallow e (deepest us) → ⊥
+    at us w (next {y = z} {ts = vs} (tree {t = u} q) walk) s = nameless n (at_clause u q.reads) q.reads (λ r. b.no (one u) z (tree (whole_names r)) (shallow_first e (one u) vs s))
 
 -- a name alone
 pub clause_name : {v : Surroundings} {x y : Place} (t : Text) → is_bound t ≡ true → is_leaf IdentifierName t ≡ true → y ≡ forth (Tok Operator IdentifierName t) x → IsTrue (is_found y) → Stuck (pun ",") y → Front v clause_row from_row x (leaf IdentifierName t) y
@@ -226,15 +228,29 @@ clause_name {v} {x} {y} t b l e f s = record { to = λ ts w walk. next (tree (wh
     at us w (next (tree q) walk) = by (name_clause t e f q.reads) walk
 
 -- one that may not be bound
-pub unbound : {v : Surroundings} {x y : Place} (t : Text) → is_bound t ≡ false → y ≡ forth (Tok Operator IdentifierName t) x → IsTrue (is_found y) → NoRow so_far v clause_row x
-unbound {v} {x} {y} t n e f = record { no = at }
+pub unbound : {v : Surroundings} {x y : Place} {o : Fault} (t : Text) → is_bound t ≡ false → y ≡ forth (Tok Operator IdentifierName t) x → IsTrue (is_found y) → NoRow so_far v clause_row x o
+unbound {v} {x} {y} {o = o} t n e f = record { no = at }
   where
     by : {u : Tree} {z : Place} → NameClause v t y u z → ⊥
     by (alone' h) = clash _ h n
     by (goes h g i r) = clash _ h n
 
-    at : (us : Forest) (w : Place) → Walk (Whole so_far) (steady v) clause_row x us w → ⊥
-    at us w (next (tree q) walk) = by (name_clause t e f q.reads)
+    at : (us : Forest) (w : Place) → Walk (Whole so_far) (steady v) clause_row x us w → Shallow o (deepest us) → ⊥
+    at us w (next (tree q) walk) s = by (name_clause t e f q.reads)
+
+-- one for which no level is left
+pub clause_deep : {v : Surroundings} {x y : Place} {o : Fault} (t : Text) → y ≡ forth (Tok Operator IdentifierName t) x → IsTrue (is_found y) → Below 0 o → NoRow so_far v clause_row x o
+clause_deep {v} {x} {y} {o = o} t e f b = record { no = at }
+  where
+    one_deep : Shallow o (part_depth (leaf IdentifierName t)) → ⊥
+    one_deep s = let w = below_shallow 0 o 1 b s in omega (arith, w)
+
+    by : {u : Tree} {z : Place} → NameClause v t y u z → Staged v false ImportClause x u z → Shallow o (part_depth u) → ⊥
+    by (alone' h) r s = one_deep s
+    by (goes {n = k} h g i q) r s = one_deep (shallow_head o (leaf IdentifierName t) (part k none) (flat_shallow o of_so_far r s))
+
+    at : (us : Forest) (w : Place) → Walk (Whole so_far) (steady v) clause_row x us w → Shallow o (deepest us) → ⊥
+    at us w (next {ts = vs} (tree {t = u} q) walk) s = by (name_clause t e f q.reads) q.reads (shallow_first o (one u) vs s)
 
 -- a name, and names of the module
 pub clause_both : {v : Surroundings} {x y a z : Place} {n u : Tree} (t : Text) → is_bound t ≡ true → is_leaf IdentifierName t ≡ true → y ≡ forth (Tok Operator IdentifierName t) x → IsTrue (is_found y) → Moves (pun ",") y a → Only so_far v (Part ImportBindings) a (one n) z → u ≡ node (program ImportBoth) (part (leaf IdentifierName t) (part n none)) → Front v clause_row from_row x u z
@@ -255,15 +271,16 @@ clause_both {v} {x} {y} {a} {z} {n} {u} t b l e f m o is = record { to = λ ts w
     at : (us : Forest) (w : Place) → Walk (Whole so_far) (steady v) clause_row x us w → Rest v from_row z u us w
     at us w (next (tree q) walk) = by (name_clause t e f q.reads) walk
 
-pub no_second : {v : Surroundings} {x y a : Place} (t : Text) → y ≡ forth (Tok Operator IdentifierName t) x → IsTrue (is_found y) → Moves (pun ",") y a → Barred so_far v (Part ImportBindings) a → NoRow so_far v clause_row x
-no_second {v} {x} {y} {a} t e f m b = record { no = at }
+pub no_second : {v : Surroundings} {x y a : Place} {o : Fault} (t : Text) → y ≡ forth (Tok Operator IdentifierName t) x → IsTrue (is_found y) → Moves (pun ",") y a → Barred so_far v (Part ImportBindings) a o → NoRow so_far v clause_row x o
+no_second {v} {x} {y} {a} {o = o} t e f m b = record { no = at }
   where
-    by : {q : Tree} {p w : Place} {vs : Forest} → NameClause v t y q p → Walk (Whole so_far) (steady v) from_row p vs w → ⊥
-    by (alone' h) walk = from_comma m walk
-    by {p = p} (goes {n = k} h g i r) walk = b.no (one k) p (tree (whole_names (subst (λ c. Staged v false ImportBindings c k p) (sym g ∙ sym m.is) r)))
+    by : {q : Tree} {p w : Place} {vs : Forest} → NameClause v t y q p → Staged v false ImportClause x q p → Walk (Whole so_far) (steady v) from_row p vs w → Shallow o (part_depth q) → ⊥
+    by (alone' h) q walk a = from_comma m walk
+    by {p = p} (goes {n = k} h g i r) q walk a =
+        b.no (one k) p (tree (whole_names (subst (λ c. Staged v false ImportBindings c k p) (sym g ∙ sym m.is) r))) (shallow_head o k none (shallow_tail o (leaf IdentifierName t) (part k none) (flat_shallow o of_so_far q a)))
 
-    at : (us : Forest) (w : Place) → Walk (Whole so_far) (steady v) clause_row x us w → ⊥
-    at us w (next (tree q) walk) = by (name_clause t e f q.reads) walk
+    at : (us : Forest) (w : Place) → Walk (Whole so_far) (steady v) clause_row x us w → Shallow o (deepest us) → ⊥
+    at us w (next {ts = vs} (tree {t = u} q) walk) s = by (name_clause t e f q.reads) q.reads walk (shallow_first o (one u) vs s)
 
 -- ---- an import behind its word
 
@@ -274,13 +291,13 @@ of_import P a b (program _) h = cc
 of_import P a b _ h = cc
 
 -- no string stands where something is bound
-unquoted : {v : Surroundings} {x : Place} (s : Text) → IsTrue (is_found (forth (Tok Operator StringLiteral s) x)) → NoRow so_far v clause_row x
-unquoted {v} {x} s f = record { no = at }
+unquoted : {v : Surroundings} {x : Place} {e : Fault} (s : Text) → IsTrue (is_found (forth (Tok Operator StringLiteral s) x)) → NoRow so_far v clause_row x e
+unquoted {v} {x} {e = e} s f = record { no = at }
   where
-    at : (us : Forest) (w : Place) → Walk (Whole so_far) (steady v) clause_row x us w → ⊥
-    at us w (next (tree {t = u} q) walk) = unquoted_start s (clause_starts (at_clause u q.reads) q.reads) f
+    at : (us : Forest) (w : Place) → Walk (Whole so_far) (steady v) clause_row x us w → Shallow e (deepest us) → ⊥
+    at us w (next (tree {t = u} q) walk) h = unquoted_start s (clause_starts (at_clause u q.reads) q.reads) f
 
-unnamed : {v : Surroundings} {x : Place} → ((s : Text) → forth (Tok Operator StringLiteral s) x ≡ Lost) → NoRow so_far v source_row x
+unnamed : {v : Surroundings} {x : Place} {e : Fault} → ((s : Text) → forth (Tok Operator StringLiteral s) x ≡ Lost) → NoRow so_far v source_row x e
 unnamed n = bar (no_leaf strings n)
 
 string_found : {v : Surroundings} {x y : Place} {s : Text} → Only so_far v (Part StringOnly) x (one (leaf StringLiteral s)) y → IsTrue (is_found (forth (Tok Operator StringLiteral s) x))
@@ -289,16 +306,20 @@ string_found o = let r = (whole_of o.past).reads in found_at (leaf_forth IsStrin
 pub bare_built : {v : Surroundings} {x y z : Place} {s : Text} {t : Tree} → Only so_far v (Part StringOnly) x (one (leaf StringLiteral s)) y → OnlyRow so_far v source_row x (part (leaf StringLiteral s) none) z → t ≡ node (program ImportBare) (part (leaf StringLiteral s) none) → OnlyBehind (key "import") v t x z
 bare_built {v} {x} {s = s} o r is = only_of (program ImportBare) refl (record { parts = part (leaf StringLiteral s) none; is = is; row = r; keeps = refl }) (of_import (Other behind_word v x (program ImportBare)) itself (barred (no_node (unquoted s (string_found o)))))
 
-pub bare_unread : {v : Surroundings} {x y : Place} {s : Text} → Only so_far v (Part StringOnly) x (one (leaf StringLiteral s)) y → NoRow so_far v source_row x → NoneBehind (key "import") v x
-bare_unread {v} {x} {s = s} o n = record { no = of_import (λ k. NoNode so_far v (behind_word k) k x) (no_node n) (no_node (unquoted s (string_found o))) }
+pub bare_unread : {v : Surroundings} {x y : Place} {s : Text} {e : Fault} → Only so_far v (Part StringOnly) x (one (leaf StringLiteral s)) y → NoRow so_far v source_row x e → NoneBehind (key "import") v x e
+bare_unread {v} {x} {s = s} {e = e} o n = record { no = of_import (λ k. NoNode so_far v (behind_word k) k x e) (no_node n) (no_node (unquoted s (string_found o))) }
+
+-- the string counts
+pub bare_deep : {v : Surroundings} {x y : Place} {s : Text} {e : Fault} → Only so_far v (Part StringOnly) x (one (leaf StringLiteral s)) y → Below 0 e → NoneBehind (key "import") v x e
+bare_deep {v} {x} {s = s} {e = e} o b = record { no = of_import (λ k. NoNode so_far v (behind_word k) k x e) (no_node (bar (deep_leaf strings b))) (no_node (unquoted s (string_found o))) }
 
 pub import_built : {v : Surroundings} {x y z : Place} {c t : Tree} {s : Text} → ((s : Text) → forth (Tok Operator StringLiteral s) x ≡ Lost) → Front v clause_row from_row x c y → OnlyRow so_far v from_row y (part (leaf StringLiteral s) none) z → t ≡ node (program Import) (part c (part (leaf StringLiteral s) none)) → OnlyBehind (key "import") v t x z
 import_built {v} {x} {z = z} {c} {s = s} n f r is =
     let row = turn_only (as_turn f) r in
     only_of (program Import) refl (record { parts = part c (part (leaf StringLiteral s) none); is = is; row = row; keeps = and_both _ _ (plain_row clause_row refl (to_grammar of_so_far row.walk)) refl }) (of_import (Other behind_word v x (program Import)) (barred (no_node (unnamed n))) itself)
 
-pub import_unread : {v : Surroundings} {x : Place} → ((s : Text) → forth (Tok Operator StringLiteral s) x ≡ Lost) → NoRow so_far v clause_row x → NoneBehind (key "import") v x
-import_unread {v} {x} n m = record { no = of_import (λ k. NoNode so_far v (behind_word k) k x) (no_node (unnamed n)) (no_node m) }
+pub import_unread : {v : Surroundings} {x : Place} {e : Fault} → ((s : Text) → forth (Tok Operator StringLiteral s) x ≡ Lost) → NoRow so_far v clause_row x e → NoneBehind (key "import") v x e
+import_unread {v} {x} {e = e} n m = record { no = of_import (λ k. NoNode so_far v (behind_word k) k x e) (no_node (unnamed n)) (no_node m) }
 
-pub import_unended : {v : Surroundings} {x y : Place} {c : Tree} → ((s : Text) → forth (Tok Operator StringLiteral s) x ≡ Lost) → Front v clause_row from_row x c y → NoRow so_far v from_row y → NoneBehind (key "import") v x
+pub import_unended : {v : Surroundings} {x y : Place} {c : Tree} {e : Fault} → ((s : Text) → forth (Tok Operator StringLiteral s) x ≡ Lost) → Front v clause_row from_row x c y → NoRow so_far v from_row y e → NoneBehind (key "import") v x e
 import_unended n f m = import_unread n (turn_none (as_turn f) m)

@@ -1,28 +1,30 @@
 -- The items of a module: a statement, or what begins with `import` or `export`; which of them stands somewhere, by the words and signs with which they begin.
 use Rattle.std.proofs.Common.{◌≡◌, nat_eq, Bool, true, false, not, List, [], ◌∷◌, refl, sym, ◌∙◌, ap, subst}
-use Rattle.std.specs.Prelude.{IsTrue, codes, ◌&&◌, ◌||◌}
-use Rattle.jsx_base.specs.Token.{Text, Operator, Punctuator, TokenKind, IdentifierName, StringLiteral, same}
+use Rattle.std.specs.Prelude.{IsTrue, codes, ◌||◌}
+use Rattle.jsx_base.specs.Token.{Text, Operator, Punctuator, IdentifierName, StringLiteral, same}
 use Rattle.jsx_tree.specs.Signs.{Sign, Tok, Unless}
-use Rattle.jsx_tree.specs.Kinds.{ExprStmt, ImportBare, Import, ImportAll, ImportList, ImportBoth, ExportNames, ExportFrom, ExportAll, ExportAllAs, ExportDecl, ExportDefaultFn, ExportDefaultClass, ExportDefaultExpr, ImportCall, ImportMeta, Label, Seq, Kind, program, statement, expression, Tree, leaf, node, list, Forest, none, part}
-use Rattle.jsx_tree.specs.Nonterminals.{Nonterminal, BindingIdent, Expr, ImportClause, Item, Stmt, StringOnly}
-use Rattle.jsx_tree.specs.Grammar.{Context, Fixed, ListShape, Part, TwoOrMore, heads, key, pun}
+use Rattle.jsx_tree.specs.Kinds.{ExprStmt, ImportBare, Import, ImportAll, ImportList, ImportBoth, ExportNames, ExportFrom, ExportAll, ExportAllAs, ExportDecl, ExportDefaultFn, ExportDefaultClass, ExportDefaultExpr, ImportCall, ImportMeta, Label, Seq, Kind, program, statement, expression, Tree, leaf, node, list, Forest}
+use Rattle.jsx_tree.specs.Nonterminals.{BindingIdent, Expr, ImportClause, Item, Stmt, StringOnly}
+use Rattle.jsx_tree.specs.Grammar.{Context, Fixed, ListShape, Part, Symbol, TwoOrMore, heads, key, pun}
 use Rattle.jsx_tree.specs.Form.{admits, enough}
 use Rattle.jsx_tree.specs.Reading.{Place, Lost, At, forth, ended_at}
 use Rattle.jsx_tree.specs.StaticRules.{Surroundings, is_string_stmt}
 use Rattle.jsx_tree.specs.Walk.{Given, Items, Past, Piece, Relation, Walk, around, is_found, is_text, last, many, more, next, nil, one, piece, sign, steady, tail, tree}
 use Rattle.jsx_tree.specs.Language.{Whole}
 use Rattle.jsx_tree.specs.Answers.{Moves, Stuck, Only, Barred, OnlyRow, NoRow, NoNode, BuiltNode}
-use Rattle.jsx_tree.proofs.Tokens.{and_both, and_left, and_right}
+use Rattle.jsx_tree.specs.Faults.{Below, Fault, Unread, Shallow, given_depth, outer}
+use Rattle.jsx_tree.proofs.Tokens.{and_both, and_left}
+use Rattle.jsx_tree.proofs.Depth.Nodes.{counts_as}
 use Rattle.jsx_tree.proofs.Apart.{clash, never_both}
 use Rattle.jsx_tree.proofs.Rows.Bridge.{found_at}
 use Rattle.jsx_tree.proofs.Rows.Firsts.{kind_home}
 use Rattle.jsx_tree.proofs.Rows.Guarded.{guarded, loosen, whole_walk}
 use Rattle.jsx_tree.proofs.Rows.Optionals.{end_shut}
-use Rattle.jsx_tree.proofs.Rows.Placing.{free, free_around, moved}
+use Rattle.jsx_tree.proofs.Rows.Placing.{free, free_around, moved, node_shallow}
 use Rattle.jsx_tree.proofs.Rows.Stopping.{is_not, never_stops, or_cases, stays}
 use Rattle.jsx_tree.proofs.Rows.Turns.{item_of}
 use Rattle.jsx_token.specs.Growths.{is_code, lead, opening_sign, same_sign}
-use Rattle.jsx_token.specs.Headings.{Begins, heading_sign}
+use Rattle.jsx_token.specs.Headings.{heading_sign}
 use Rattle.jsx_token.specs.Marks.{ends_so_far, row_so_far}
 use Rattle.jsx_token.proofs.Headings.{every_heading, headings, of_heading}
 use Rattle.jsx_token.proofs.Levels.{signed}
@@ -31,15 +33,16 @@ use Rattle.jsx_token.proofs.Lives.{lives}
 use Rattle.jsx_token.proofs.Marks.{one_sign}
 use Rattle.jsx_operand.specs.SoFar.{Staged, so_far}
 use Rattle.jsx_operand.proofs.OfSoFar.{of_so_far}
-use Rattle.jsx_operand.proofs.Homes.{AtWhole, IsName, IsString, Taken, at_whole, bindings, home_of, no_list, several, single, strings, taken_by}
+use Rattle.jsx_operand.proofs.Homes.{AtWhole, IsName, IsString, at_whole, bindings, home_of, no_list, several, single, strings, taken_by}
 use Rattle.jsx_operand.proofs.Keys.{mark_none}
+use Rattle.jsx_operand.proofs.Patterns.{deep_counted}
 use Rattle.jsx_operand.proofs.Standing.{standing}
 use Rattle.jsx_operand.proofs.Values.{First, at_one, begun, led_sign, leaf_forth, literal_opening, move, name, one_opening, opened, opened_sign, opener, opener_of, opener_piece, piece_of, quoted, bracketed, bracket_none}
 use Rattle.jsx_statement.specs.Directives.{IsDirective}
 use Rattle.jsx_statement.proofs.Directives.{Strings, string_only}
 use Rattle.jsx_declaration.proofs.Statements.{coded, end_lost, heading_stands, keyed, lost_if, lost_there, named, spot_kind, unlabelled_word, worded_evaluation}
 use Rattle.jsx_statement.proofs.Statements.{none_begins, signed_row, stmts}
-use Rattle.jsx_syntax.specs.Items.{IsImport, NoImport, elsewhere, called, dotted, NoneBehind, NoneOf, OnlyBehind, OnlyOf, begins_with, behind_word, is_portal}
+use Rattle.jsx_syntax.specs.Items.{IsImport, NoImport, elsewhere, called, dotted, NoneBehind, OnlyBehind, OnlyOf, begins_with, behind_word, is_portal}
 
 -- ---- signs
 
@@ -67,18 +70,27 @@ only_from {v} {z = z} {g} e o = subst (λ p. Only so_far v (Part Item) p g z) e 
 pub behind_from : {s : Sign} {v : Surroundings} {x y z : Place} {t : Tree} → x ≡ y → OnlyBehind s v t x z → OnlyBehind s v t y z
 behind_from {s} {v} {z = z} {t} e o = subst (λ p. OnlyBehind s v t p z) e o
 
+pub none_from : {s : Sign} {v : Surroundings} {x y : Place} {e : Fault} → x ≡ y → NoneBehind s v x e → NoneBehind s v y e
+none_from {s} {v} {e = e} q n = subst (λ p. NoneBehind s v p e) q n
+
+pub barred_from : {v : Surroundings} {s : Symbol} {x y : Place} {e : Fault} → x ≡ y → Barred so_far v s x e → Barred so_far v s y e
+barred_from {v} {s} {e = e} q b = subst (λ p. Barred so_far v s p e) q b
+
+pub row_from : {v : Surroundings} {ps : List Piece} {x y : Place} {e : Fault} → x ≡ y → NoRow so_far v ps x e → NoRow so_far v ps y e
+row_from {v} {ps} {e = e} q n = subst (λ p. NoRow so_far v ps p e) q n
+
 -- ---- one of some kinds
 
 pub data Other (r : Kind → List Piece) (v : Surroundings) (x : Place) : Kind → Kind → Type 0 where
   itself : {k : Kind} → Other r v x k k
-  barred : {k j : Kind} → NoNode so_far v (r j) j x → Other r v x k j
+  barred : {k j : Kind} → NoNode so_far v (r j) j x Unread → Other r v x k j
 
 pub only_of : {p : Kind → Bool} {r : Kind → List Piece} {v : Surroundings} {t : Tree} {x y : Place} (k : Kind) → p k ≡ true → BuiltNode so_far v (r k) k t x y → ((j : Kind) → p j ≡ true → Other r v x k j) → OnlyOf p r v t x y
 only_of {p} {r} {v} {t} {x} {y} k e b others = record { kind = k; begins = e; built = b; alone = λ j ts z o w keeps. by (others j o) w keeps }
   where
     by : {j : Kind} {ts : Forest} {z : Place} → Other r v x k j → Walk (Whole so_far) (steady v) (r j) x ts z → so_far.keeps j v ts ≡ true → (node j ts ≡ t) × (z ≡ y)
     by {ts = ts} {z} itself w keeps = let e = b.row.alone ts z w in (ap (node k) (sym e.0) ∙ sym b.is, sym e.1)
-    by {ts = ts} {z} (barred n) w keeps = absurd (n.no ts z w keeps)
+    by {ts = ts} {z} (barred n) w keeps = absurd (n.no ts z w keeps tt)
 
 -- ---- the words of imports and exports
 
@@ -274,16 +286,28 @@ item_behind {v} {s} {x} {a} {y} {t} o m none' b = record {
             let e = b.alone k us z w (behind_so o m w q.reads) (of_so_far.from_node k q.reads).keeps in
             (ap one (sym e.0), sym e.1)
 
-pub item_unread : {v : Surroundings} {s : Sign} {x a : Place} → IsOpening s → Moves s x a → ((k : Kind) (ts : Forest) (z : Place) → Staged v false Stmt x (node k ts) z → ⊥) → NoneBehind s v a → Barred so_far v (Part Item) x
-item_unread {v} {s} {x} {a} o m none' n = record { no = at }
+-- each of them counts from its word
+portal_counts : (k : Kind) → is_portal k ≡ true → counts_as true k ≡ true
+portal_counts = of_portal (λ k. counts_as true k ≡ true) refl refl refl refl refl refl refl refl refl refl
+
+pub item_deep : {v : Surroundings} {x : Place} {e : Fault} → ((k : Kind) (ts : Forest) (z : Place) → Staged v false Stmt x (node k ts) z → ⊥) → Below 0 e → Barred so_far v (Part Item) x e
+item_deep {v} {x} {e} none' b = record { no = at }
   where
-    at : (g : Given) (z : Place) → Past (Whole so_far) v (Part Item) x g z → ⊥
-    at g z (tree {t = leaf k r} q) = let bad = q.reads.staged in cc
-    at g z (tree {t = list us} q) = no_list q.reads
-    at g z (tree {t = node k us} q) = item_kind k q.reads (λ h. none' k us z (from_item h q.reads)) (λ h. at_portal h)
+    at : (g : Given) (z : Place) → Past (Whole so_far) v (Part Item) x g z → Shallow e (given_depth g) → ⊥
+    at g z (tree {t = leaf k r} q) s = let bad = q.reads.staged in cc
+    at g z (tree {t = list us} q) s = no_list q.reads
+    at g z (tree {t = node k us} q) s = item_kind k q.reads (λ h. none' k us z (from_item h q.reads)) (λ h. deep_counted e (portal_counts k h) q.reads b s)
+
+pub item_unread : {v : Surroundings} {s : Sign} {x a : Place} {e : Fault} → IsOpening s → Moves s x a → ((k : Kind) (ts : Forest) (z : Place) → Staged v false Stmt x (node k ts) z → ⊥) → NoneBehind s v a e → Barred so_far v (Part Item) x (outer e)
+item_unread {v} {s} {x} {a} {e = e} o m none' n = record { no = at }
+  where
+    at : (g : Given) (z : Place) → Past (Whole so_far) v (Part Item) x g z → Shallow (outer e) (given_depth g) → ⊥
+    at g z (tree {t = leaf k r} q) s = let bad = q.reads.staged in cc
+    at g z (tree {t = list us} q) s = no_list q.reads
+    at g z (tree {t = node k us} q) s = item_kind k q.reads (λ h. none' k us z (from_item h q.reads)) (λ h. at_portal h)
       where
         at_portal : is_portal k ≡ true → ⊥
-        at_portal h = let w = begins_so o m h q.reads in (n.no k w).no us z (behind_so o m w q.reads) (of_so_far.from_node k q.reads).keeps
+        at_portal h = let w = begins_so o m h q.reads in (n.no k w).no us z (behind_so o m w q.reads) (of_so_far.from_node k q.reads).keeps (node_shallow e true (portal_counts k h) of_so_far q.reads s)
 
 -- ---- what an import binds, and with what it begins
 
@@ -418,14 +442,14 @@ item_statement {v} {x} {y} {t} e n o = record { past = to o.past; alone = at }
         (λ h. o.alone (one (node k us)) z (tree (record { reads = from_item h q.reads; ends_there = of_so_far.ends_there Stmt z (never_stops Stmt z refl) })))
         (λ h. absurd (no_portal e n h q.reads))
 
-pub no_statement_item : {v : Surroundings} {x : Place} → forth (key "export") x ≡ Lost → NoImport x → Barred so_far v (Part Stmt) x → Barred so_far v (Part Item) x
-no_statement_item {v} {x} e n b = record { no = at }
+pub no_statement_item : {v : Surroundings} {x : Place} {o : Fault} → forth (key "export") x ≡ Lost → NoImport x → Barred so_far v (Part Stmt) x o → Barred so_far v (Part Item) x o
+no_statement_item {v} {x} {o = o} e n b = record { no = at }
   where
-    at : (g : Given) (z : Place) → Past (Whole so_far) v (Part Item) x g z → ⊥
-    at g z (tree {t = leaf k r} q) = let bad = q.reads.staged in cc
-    at g z (tree {t = list us} q) = no_list q.reads
-    at g z (tree {t = node k us} q) = item_kind k q.reads
-        (λ h. b.no (one (node k us)) z (tree (record { reads = from_item h q.reads; ends_there = of_so_far.ends_there Stmt z (never_stops Stmt z refl) })))
+    at : (g : Given) (z : Place) → Past (Whole so_far) v (Part Item) x g z → Shallow o (given_depth g) → ⊥
+    at g z (tree {t = leaf k r} q) s = let bad = q.reads.staged in cc
+    at g z (tree {t = list us} q) s = no_list q.reads
+    at g z (tree {t = node k us} q) s = item_kind k q.reads
+        (λ h. b.no (one (node k us)) z (tree (record { reads = from_item h q.reads; ends_there = of_so_far.ends_there Stmt z (never_stops Stmt z refl) })) s)
         (λ h. no_portal e n h q.reads)
 
 -- ---- a string is an item as it is a statement
@@ -442,5 +466,5 @@ string_items = record {
 
 -- ---- nothing stands at the end
 
-pub none_at_end : {v : Surroundings} {x : Place} → ended_at x ≡ true → Barred so_far v (Part Item) x
+pub none_at_end : {v : Surroundings} {x : Place} {o : Fault} → ended_at x ≡ true → Barred so_far v (Part Item) x o
 none_at_end {x = x} e = no_statement_item (end_lost (key "export") x refl e) (elsewhere (end_lost (key "import") x refl e)) (none_begins stmts (record { on = λ h. end_lost (heading_sign h) x (coded h) e }) (end_shut x e))

@@ -4,7 +4,7 @@ use Rattle.jsx_base.specs.Token.{Text, Operator, StringLiteral}
 use Rattle.jsx_tree.specs.declared.text.Goal.{Goal}
 use Rattle.jsx_tree.specs.declared.text.Goal.TheVariants as goals
 use Rattle.jsx_tree.specs.Signs.{Tok}
-use Rattle.jsx_tree.specs.Kinds.{Module, Script, program, Tree, node, list, Forest, part}
+use Rattle.jsx_tree.specs.Kinds.{Module, Script, program, Tree, leaf, node, list, Forest, none, part}
 use Rattle.jsx_tree.specs.Nonterminals.{Nonterminal, Item, Stmt, DirectiveOnly, WholeProgram}
 use Rattle.jsx_tree.specs.Grammar.{Part, TopLines}
 use Rattle.jsx_tree.specs.Form.{is, is_leaf}
@@ -15,7 +15,11 @@ use Rattle.jsx_tree.specs.Texts.{start}
 use Rattle.jsx_tree.specs.Walk.{Items, many, Walk, done, next, around, steady}
 use Rattle.jsx_tree.specs.Language.{Whole}
 use Rattle.jsx_tree.specs.Answers.{Barred, ToEnd, OnlyToEnd, NoneToEnd}
+use Rattle.jsx_tree.specs.Depth.{depth}
+use Rattle.jsx_tree.specs.Faults.{Fault, Shallow, deepest}
 use Rattle.jsx_tree.proofs.Tokens.{and_left, and_right, and_both}
+use Rattle.jsx_tree.proofs.Depth.Shallow.{shallow_head, shallow_nothing, shallow_tail}
+use Rattle.jsx_tree.proofs.Rows.Placing.{flat_shallow}
 use Rattle.jsx_tree.proofs.Rows.Texts.{program_walk}
 use Rattle.jsx_tree.proofs.Rows.Stopping.{is_not, not_is, never_stops}
 use Rattle.jsx_tree.proofs.Rows.Guarded.{weaken_items, whole_items, whole_items_found}
@@ -28,8 +32,8 @@ use Rattle.jsx_token.specs.Stage.{ReadsSoFar}
 use Rattle.jsx_operand.specs.Around.{in_code}
 use Rattle.jsx_operand.specs.SoFar.{Staged, so_far, in_module}
 use Rattle.jsx_operand.proofs.OfSoFar.{of_so_far}
-use Rattle.jsx_statement.specs.Directives.{Prologue}
-use Rattle.jsx_statement.proofs.Directives.{NoString, Strings, behind_first, of_top, prologue_end, prologue_run, prologue_same, to_top}
+use Rattle.jsx_statement.specs.Directives.{NoPrologue, Prologue}
+use Rattle.jsx_statement.proofs.Directives.{NoString, Strings, behind_first, deep_run, of_top, prologue_end, prologue_run, prologue_same, to_top}
 use Rattle.jsx_declaration.proofs.Statements.{coded, end_lost, lost_there}
 use Rattle.jsx_statement.proofs.Statements.{none_begins, stmts}
 use Rattle.jsx_syntax.specs.Programs.{IsProgram, NoProgram, OnlyProgram, program_parts, program_row}
@@ -43,7 +47,7 @@ string_coded (d ∷ t) l = refl
 no_string_end : {x : Place} → ended_at x ≡ true → NoString x
 no_string_end {x} e = record { on = λ t l f. lost_there (Tok Operator StringLiteral t) x (end_lost (Tok Operator StringLiteral t) x (string_coded t l) e) f }
 
-pub no_statement_at_end : {v : Surroundings} {x : Place} → ended_at x ≡ true → Barred so_far v (Part Stmt) x
+pub no_statement_at_end : {v : Surroundings} {x : Place} {o : Fault} → ended_at x ≡ true → Barred so_far v (Part Stmt) x o
 no_statement_at_end {x = x} e = none_begins stmts (record { on = λ h. end_lost (heading_sign h) x (coded h) e }) (end_shut x e)
 
 -- ---- the rows of a program
@@ -106,12 +110,21 @@ program_only {V} k p o = record {
   alone = λ es us i. let b = behind {V = V} k p i in (b.0, o.alone us b.1);
 }
 
-pub no_program : {V : Forest → Surroundings} {c : Nonterminal} {x m : Place} {ds : Forest} → Strings c → Prologue x ds m → NoneToEnd so_far (V ds) c m → NoProgram c V x
-no_program {V} k p n = record { no = λ es us i. n.no us (behind {V = V} k p i).1 }
+pub no_program : {V : Forest → Surroundings} {c : Nonterminal} {x m : Place} {ds : Forest} {e : Fault} → Strings c → Prologue x ds m → NoneToEnd so_far (V ds) c m e → NoProgram c V x e
+no_program {V} {e = e} k p n = record { no = λ es us i s. n.no us (behind {V = V} k p i).1 (shallow_head e (list us) none (shallow_tail e (list es) (part (list us) none) s)) }
+
+-- where no level is left for the directive that stands there, no program does
+pub deep_program : {V : Forest → Surroundings} {c : Nonterminal} {x : Place} {e : Fault} → Strings c → NoPrologue x e → NoProgram c V x e
+deep_program {V} {c} {x} {e} k p = record { no = at }
+  where
+    at : (ds ts : Forest) → IsProgram c V x ds ts → Shallow e (deepest (program_parts ds ts)) → ⊥
+    at ds ts i s =
+        let q = parts_of i.walk in
+        deep_run k p (of_top q.first) (of_top q.second) (no_string_end i.ended) (shallow_head e (list ds) (part (list ts) none) s) (shallow_head e (list ts) none (shallow_tail e (list ds) (part (list ts) none) s))
 
 -- where these say what it stands in
-pub none_in : {u v : Surroundings} {c : Nonterminal} {x : Place} → u ≡ v → NoneToEnd so_far u c x → NoneToEnd so_far v c x
-none_in {c = c} {x} e n = subst (λ w. NoneToEnd so_far w c x) e n
+pub none_in : {u v : Surroundings} {c : Nonterminal} {x : Place} {o : Fault} → u ≡ v → NoneToEnd so_far u c x o → NoneToEnd so_far v c x o
+none_in {c = c} {x} {o = o} e n = subst (λ w. NoneToEnd so_far w c x o) e n
 
 pub only_in : {u v : Surroundings} {c : Nonterminal} {x : Place} {ts : Forest} → u ≡ v → OnlyToEnd so_far u c x ts → OnlyToEnd so_far v c x ts
 only_in {c = c} {x} {ts} e o = subst (λ w. OnlyToEnd so_far w c x ts) e o
@@ -143,10 +156,15 @@ script_reads {text} {ds} {ts} m = record { reads = record { of_goal = refl; read
     })
 
 -- and the other way
-pub record Reading (c : Nonterminal) (V : Forest → Surroundings) (x : Place) : Type 0 where
+pub record Reading (c : Nonterminal) (V : Forest → Surroundings) (x : Place) (us : Forest) : Type 0 where
   pub directives : Forest
   pub rest : Forest
+  pub is : us ≡ program_parts directives rest
   pub leads : IsProgram c V x directives rest
+
+abbrev pub tree_parts : Tree → Forest
+tree_parts (node k ts) = ts
+tree_parts t = none
 
 text_ended : {goal : Goal} {text : Text} {t : Tree} → ReadsSoFar goal text t → ended_at (scan (start text) (spelled t)) ≡ true
 text_ended {text = text} {t} r = and_right (is WholeProgram t) (ended_at (scan (start text) (spelled t))) r.reads.read
@@ -155,10 +173,11 @@ whole_text : {goal : Goal} {text : Text} {t : Tree} → ReadsSoFar goal text t �
 whole_text {goal} {text} {t} r =
     record { reads = record { is = and_left (is WholeProgram t) (ended_at (scan (start text) (spelled t))) r.reads.read; is_legal = r.reads.is_legal; scans = refl; found = found_end _ (text_ended r) }; staged = r.staged }
 
-module_parts : {x y : Place} {us : Forest} → Walk Staged (around outside us) (row_so_far (program Module)) x us y → so_far.keeps (program Module) outside us ≡ true → ended_at y ≡ true → Reading Item module_code x
+module_parts : {x y : Place} {us : Forest} → Walk Staged (around outside us) (row_so_far (program Module)) x us y → so_far.keeps (program Module) outside us ≡ true → ended_at y ≡ true → Reading Item module_code x us
 module_parts {y = y} (next {y = m} (many {ts = ds} e first) (next (many {ts = ts} e' lines) (done f))) k h = record {
   directives = ds;
   rest = ts;
+  is = refl;
   leads = record {
     end = y;
     walk = next (many e (whole_items of_so_far refl (of_so_far.ends_there DirectiveOnly m (never_stops DirectiveOnly m refl)) first)) (next (many e' (whole_items of_so_far refl (of_so_far.ends_there Item y (never_stops Item y refl)) lines)) (done f));
@@ -167,10 +186,11 @@ module_parts {y = y} (next {y = m} (many {ts = ds} e first) (next (many {ts = ts
   };
 }
 
-script_parts : {x y : Place} {us : Forest} → Walk Staged (around outside us) (row_so_far (program Script)) x us y → so_far.keeps (program Script) outside us ≡ true → ended_at y ≡ true → Reading Stmt script_code x
+script_parts : {x y : Place} {us : Forest} → Walk Staged (around outside us) (row_so_far (program Script)) x us y → so_far.keeps (program Script) outside us ≡ true → ended_at y ≡ true → Reading Stmt script_code x us
 script_parts {y = y} (next {y = m} (many {ts = ds} e first) (next (many {ts = ts} e' lines) (done f))) k h = record {
   directives = ds;
   rest = ts;
+  is = refl;
   leads = record {
     end = y;
     walk = next (many e (whole_items of_so_far refl (of_so_far.ends_there DirectiveOnly m (never_stops DirectiveOnly m refl)) first)) (next (many e' (whole_items of_so_far refl (of_so_far.ends_there Stmt y (never_stops Stmt y refl)) lines)) (done f));
@@ -179,16 +199,22 @@ script_parts {y = y} (next {y = m} (many {ts = ds} e first) (next (many {ts = ts
   };
 }
 
-pub module_read : {text : Text} {t : Tree} → ReadsSoFar goals.Module text t → Reading Item module_code (start text)
+-- what a program has in it is no deeper than the program
+pub text_shallow : {goal : Goal} {text : Text} (t : Tree) (e : Fault) → ReadsSoFar goal text t → Shallow e (depth t) → Shallow e (deepest (tree_parts t))
+text_shallow (leaf k s) e r h = shallow_nothing e
+text_shallow (node k ts) e r h = flat_shallow e of_so_far (whole_text r) h
+text_shallow (list ts) e r h = shallow_nothing e
+
+pub module_read : {text : Text} {t : Tree} → ReadsSoFar goals.Module text t → Reading Item module_code (start text) (tree_parts t)
 module_read {text} {t} r =
     let p = program_walk {goal = goals.Module} t r.reads in
     let q = subst (λ u. ReadsSoFar goals.Module text u) p.is r in
     let n = of_so_far.from_node (program Module) (whole_text q) in
-    module_parts n.walk n.keeps (text_ended q)
+    subst (λ u. Reading Item module_code (start text) (tree_parts u)) (sym p.is) (module_parts n.walk n.keeps (text_ended q))
 
-pub script_read : {text : Text} {t : Tree} → ReadsSoFar goals.Script text t → Reading Stmt script_code (start text)
+pub script_read : {text : Text} {t : Tree} → ReadsSoFar goals.Script text t → Reading Stmt script_code (start text) (tree_parts t)
 script_read {text} {t} r =
     let p = program_walk {goal = goals.Script} t r.reads in
     let q = subst (λ u. ReadsSoFar goals.Script text u) p.is r in
     let n = of_so_far.from_node (program Script) (whole_text q) in
-    script_parts n.walk n.keeps (text_ended q)
+    subst (λ u. Reading Stmt script_code (start text) (tree_parts u)) (sym p.is) (script_parts n.walk n.keeps (text_ended q))

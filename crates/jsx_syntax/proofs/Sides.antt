@@ -1,21 +1,22 @@
 -- The lists of the three sides: what is written in each is read with any names, and then it is asked which may stand there.
-use Rattle.std.proofs.Common.{◌≡◌, Bool, List, [], ◌∷◌, ◌++◌, true, false, map, refl, sym, ◌∙◌, ap, subst}
+use Rattle.std.proofs.Common.{◌≡◌, max, Bool, List, [], ◌∷◌, ◌++◌, true, false, map, refl, sym, ◌∙◌, ap, subst}
 use Rattle.std.specs.Prelude.{IsTrue, ◌&&◌}
-use Rattle.jsx_base.specs.Token.{Text, Operator, TokenKind, IdentifierName}
-use Rattle.jsx_tree.specs.Signs.{Tok}
+use Rattle.jsx_base.specs.Token.{Text, TokenKind, IdentifierName}
 use Rattle.jsx_tree.specs.declared.program.Specifier.{Specifier as Written}
 use Rattle.jsx_tree.specs.declared.program.Specifier.TheVariants as specifier
 use Rattle.jsx_tree.specs.Kinds.{Kind, Side, Imported, Exported, From, Specifier, SpecifierAs, program, Tree, leaf, node, list, Forest, none, part}
 use Rattle.jsx_tree.specs.Nonterminals.{Nonterminal, Name, Ident, BindingIdent, Specifiers, word_in}
-use Rattle.jsx_tree.specs.Grammar.{Commas, Fixed, Many, Part, inner, key, only, outer, pun}
+use Rattle.jsx_tree.specs.Grammar.{Commas, inner, only, outer, pun}
 use Rattle.jsx_tree.specs.Form.{admits, is_leaf}
 use Rattle.jsx_tree.specs.Reading.{Place, forth}
 use Rattle.jsx_tree.specs.StaticRules.{Surroundings, all_of, has_plain_params}
 use Rattle.jsx_tree.specs.View.{forest}
 use Rattle.jsx_tree.specs.ViewProgram.{view_specifier}
-use Rattle.jsx_tree.specs.Walk.{is_found, Piece, piece, Items, nil, last, more, Past, sign, tree, many, Walk, done, next, around, steady}
+use Rattle.jsx_tree.specs.Walk.{is_found, one, Piece, Items, nil, last, more, sign, tree, many, Walk, done, next, around, steady}
 use Rattle.jsx_tree.specs.Language.{Whole}
 use Rattle.jsx_tree.specs.Answers.{OnlyRow, NoRow}
+use Rattle.jsx_tree.specs.Faults.{Fault, Shallow, deepest, part_depth}
+use Rattle.jsx_tree.proofs.Depth.Shallow.{shallow_alone, shallow_head, shallow_tail}
 use Rattle.jsx_tree.proofs.Tokens.{and_both, and_left, and_right}
 use Rattle.jsx_tree.proofs.Apart.{clash}
 use Rattle.jsx_tree.proofs.Rows.Stopping.{is_never, never_stops}
@@ -251,6 +252,16 @@ list_to s h (more {t = t} n r e all) =
     let q = from_written s t (and_left (fits s t) _ h) r.reads in
     more (early (Specifiers s) (as_side s t) (lists s).restless q.reads.is) (whole_at s q) e (list_to s (and_right (fits s t) _ h) all)
 
+-- a specifier is as deep on either side
+same_deep : (s : Side) (t : Tree) → fits s t ≡ true → part_depth (as_side s t) ≡ part_depth t
+same_deep s (node (program (Specifier From)) (part (leaf IdentifierName a) none)) h = refl
+same_deep s (node (program (SpecifierAs From)) (part (leaf IdentifierName a) (part (leaf IdentifierName b) none))) h = refl
+same_deep s _ h = cc
+
+each_deep : (s : Side) (ts : Forest) → all_of (fits s) ts ≡ true → deepest (each (as_side s) ts) ≡ deepest ts
+each_deep s none h = refl
+each_deep s (part t ts) h = λ i. max (same_deep s t (and_left (fits s t) _ h) i) (each_deep s ts (and_right (fits s t) _ h) i)
+
 -- ---- rows that begin with a list and its brace
 
 record Parted (s : Side) (v : Surroundings) (qs : List Piece) (x : Place) (us : Forest) (w : Place) : Type 0 where
@@ -286,14 +297,22 @@ side_then {v} {qs} {x} {y} {z} {ts} {us} s o h r = record { walk = joined s h o.
         let second = r.alone p.rest w (subst (λ q. Walk (Whole so_far) (steady v) qs q p.rest w) (sym first.1) p.back) in
         ((λ i. part (list (each (as_side s) (listed (first.0 i)))) (second.0 i)) ∙ p.is, second.1)
 
-pub side_on : {v : Surroundings} {qs : List Piece} {x y : Place} {ts : Forest} (s : Side) → OnlyRow so_far v (specifier_row From) x ts y → NoRow so_far v qs y → NoRow so_far v (specifier_row s ++ qs) x
-side_on {v} {qs} s o n = record { no = λ us w walk. let p = parted s walk in n.no p.rest w (subst (λ q. Walk (Whole so_far) (steady v) qs q p.rest w) (sym (o.alone _ p.place p.front).1) p.back) }
+pub side_on : {v : Surroundings} {qs : List Piece} {x y : Place} {ts : Forest} {e : Fault} (s : Side) → OnlyRow so_far v (specifier_row From) x ts y → NoRow so_far v qs y e → NoRow so_far v (specifier_row s ++ qs) x e
+side_on {v} {qs} {e = e} s o n = record {
+  no = λ us w walk h.
+      let p = parted s walk in
+      n.no p.rest w (subst (λ q. Walk (Whole so_far) (steady v) qs q p.rest w) (sym (o.alone _ p.place p.front).1) p.back) (shallow_tail e (list (each (as_side s) p.trees)) p.rest (subst (λ vs. Shallow e (deepest vs)) (sym p.is) h));
+}
 
-pub side_none : {v : Surroundings} {qs : List Piece} {x : Place} (s : Side) → NoRow so_far v (specifier_row From) x → NoRow so_far v (specifier_row s ++ qs) x
-side_none s n = record { no = λ us w walk. let p = parted s walk in n.no _ p.place p.front }
+pub side_none : {v : Surroundings} {qs : List Piece} {x : Place} {e : Fault} (s : Side) → NoRow so_far v (specifier_row From) x e → NoRow so_far v (specifier_row s ++ qs) x e
+side_none {e = e} s n = record {
+  no = λ us w walk h.
+      let p = parted s walk in
+      n.no _ p.place p.front (shallow_alone e (one (list p.trees)) (subst (λ d. Shallow e d) (each_deep s p.trees p.fits') (shallow_head e (list (each (as_side s) p.trees)) p.rest (subst (λ vs. Shallow e (deepest vs)) (sym p.is) h))));
+}
 
-pub side_unfit : {v : Surroundings} {qs : List Piece} {x y : Place} {ts : Forest} (s : Side) → OnlyRow so_far v (specifier_row From) x (part (list ts) none) y → all_of (fits s) ts ≡ false → NoRow so_far v (specifier_row s ++ qs) x
-side_unfit s o h = record { no = λ us w walk. let p = parted s walk in clash _ (ap (λ vs. all_of (fits s) (listed vs)) (o.alone _ p.place p.front).0 ∙ p.fits') h }
+pub side_unfit : {v : Surroundings} {qs : List Piece} {x y : Place} {ts : Forest} {e : Fault} (s : Side) → OnlyRow so_far v (specifier_row From) x (part (list ts) none) y → all_of (fits s) ts ≡ false → NoRow so_far v (specifier_row s ++ qs) x e
+side_unfit s o h = record { no = λ us w walk a. let p = parted s walk in clash _ (ap (λ vs. all_of (fits s) (listed vs)) (o.alone _ p.place p.front).0 ∙ p.fits') h }
 
 -- ---- what the code has of them
 

@@ -1,19 +1,20 @@
 -- What stands in a list of specifiers, up to its `}`, with names as they are written: as a loop of the parser reads it. A name alone begins a name with another, so it is `as` behind it that tells.
 use Rattle.std.proofs.Common.{◌≡◌, Bool, List, [], ◌∷◌, true, false, refl, sym, ◌∙◌, ap, subst}
 use Rattle.std.specs.Prelude.{IsTrue, codes}
-use Rattle.jsx_base.specs.Token.{Text, Operator, Punctuator, IdentifierName, same}
+use Rattle.jsx_base.specs.Token.{Text, Operator, Punctuator}
 use Rattle.jsx_tree.specs.Signs.{Sign, Tok, TrailingComma}
 use Rattle.jsx_tree.specs.Kinds.{Kind, From, Specifier, SpecifierAs, program, Tree, leaf, node, list, Forest, none, part}
 use Rattle.jsx_tree.specs.Nonterminals.{Name, Specifiers}
-use Rattle.jsx_tree.specs.Grammar.{Commas, Fixed, Many, Part, key, pun}
+use Rattle.jsx_tree.specs.Grammar.{Commas, Fixed, Part, key, pun}
 use Rattle.jsx_tree.specs.Form.{admits}
 use Rattle.jsx_tree.specs.Reading.{Place, Lost, At, forth}
 use Rattle.jsx_tree.specs.StaticRules.{Surroundings}
-use Rattle.jsx_tree.specs.Walk.{is_found, nothing, one, Piece, piece, Items, nil, last, more, Past, sign, tree, many, Walk, done, next, steady}
+use Rattle.jsx_tree.specs.Walk.{is_found, nothing, one, Piece, piece, Items, nil, last, more, sign, tree, many, Walk, done, next, steady}
 use Rattle.jsx_tree.specs.Language.{Whole}
 use Rattle.jsx_tree.specs.Answers.{Moves, Stuck, Missed, Only, Barred, OnlyRow, NoRow}
+use Rattle.jsx_tree.specs.Faults.{Fault, Shallow, part_depth, deepest}
 use Rattle.jsx_tree.proofs.Tokens.{and_both}
-use Rattle.jsx_tree.proofs.Apart.{clash, never_both}
+use Rattle.jsx_tree.proofs.Apart.{clash}
 use Rattle.jsx_tree.proofs.Rows.Bridge.{found_first, found_at}
 use Rattle.jsx_tree.proofs.Rows.Stopping.{never_stops}
 use Rattle.jsx_tree.proofs.Rows.Guarded.{whole_walk, whole_items_found, loosen, to_grammar}
@@ -21,9 +22,11 @@ use Rattle.jsx_tree.proofs.Rows.Bodies.{plain as plain_row}
 use Rattle.jsx_tree.proofs.Rows.Firsts.{kind_home}
 use Rattle.jsx_tree.proofs.Rows.Laws.{end_found}
 use Rattle.jsx_tree.proofs.Rows.Lists.{closed, ended_sign}
-use Rattle.jsx_tree.proofs.Rows.Placing.{free_around, moved}
-use Rattle.jsx_tree.proofs.Rows.Steps.{bar, both, end, only_sign, then'}
-use Rattle.jsx_tree.proofs.Rows.Turns.{From as Behind, Turn, turn_only, turn_none, turn_as, turn_both, cons, early, item_of, whole_of, comma_trails, nothing_trails, prepend, prepend_cons}
+use Rattle.jsx_tree.proofs.Rows.Placing.{free_around, moved, flat_shallow}
+use Rattle.jsx_tree.proofs.Rows.Steps.{bar, both}
+use Rattle.jsx_tree.proofs.Rows.Turns.{From as Behind, Turn, turn_only, turn_none, turn_as, turn_both, cons, early, item_of, whole_of, comma_trails, nothing_trails, prepend, prepend_cons, cons_up}
+use Rattle.jsx_tree.proofs.Depth.Shallow.{shallow_first, shallow_rest, shallow_head, shallow_tail, part_up}
+use Rattle.jsx_function.proofs.Functions.{shallow_behind}
 use Rattle.jsx_token.specs.Marks.{ends_so_far, row_so_far}
 use Rattle.jsx_operand.specs.SoFar.{Staged, so_far}
 use Rattle.jsx_operand.proofs.OfSoFar.{of_so_far}
@@ -130,22 +133,22 @@ renamed_read {v} {x} {y} {a} {z} {n} {m} {t} o k p is = record {
         (is ∙ (λ i. node (program (SpecifierAs From)) (part n (part (item_of (same'.0 i)) none))), same'.1)
 
 -- no name stands behind `as`, or before it
-pub no_second : {v : Surroundings} {x y a : Place} {n : Tree} → Only so_far v (Part Name) x (one n) y → Moves (key "as") y a → Barred so_far v (Part Name) a → NoSpecifier v x
-no_second {v} {x} {y} {a} {n} o k b = record { no = λ u z s q. at s (begun o q.reads) }
+pub no_second : {v : Surroundings} {x y a : Place} {n : Tree} {d : Fault} → Only so_far v (Part Name) x (one n) y → Moves (key "as") y a → Barred so_far v (Part Name) a d → NoSpecifier v x d
+no_second {v} {x} {y} {a} {n} {d} o k b = record { no = λ u z s q h. at s (begun o q.reads) q.reads h }
   where
-    at : {u : Tree} {w : Place} → Stuck (key "as") w → Begun v y n u w → ⊥
-    at s alone' = stuck_not s (found_at (sym k.is) k.found)
-    at {w = w} s (goes {m = u} e f q) = b.no (one u) w (tree (subst (λ b. Whole so_far v false Name b u w) (sym e ∙ sym k.is) q))
+    at : {u : Tree} {w : Place} → Stuck (key "as") w → Begun v y n u w → Staged v false (Specifiers From) x u w → Shallow d (part_depth u) → ⊥
+    at s alone' r h = stuck_not s (found_at (sym k.is) k.found)
+    at {w = w} s (goes {m = u} e f q) r h = b.no (one u) w (tree (subst (λ b. Whole so_far v false Name b u w) (sym e ∙ sym k.is) q)) (shallow_head d u none (shallow_tail d n (part u none) (flat_shallow d of_so_far r h)))
 
-pub no_name : {v : Surroundings} {x : Place} → Barred so_far v (Part Name) x → NoSpecifier v x
-no_name {v} {x} b = record { no = λ u z s q. at (at_specifier u q.reads) q.reads }
+pub no_name : {v : Surroundings} {x : Place} {e : Fault} → Barred so_far v (Part Name) x e → NoSpecifier v x e
+no_name {v} {x} {e = e} b = record { no = λ u z s q a. at (at_specifier u q.reads) q.reads a }
   where
-    first : {ps : List Piece} {ts : Forest} {z : Place} → Walk (Whole so_far) (steady v) (piece [] (Part Name) ∷ ps) x ts z → ⊥
-    first (next q w) = b.no _ _ q
+    first : {ps : List Piece} {ts : Forest} {z : Place} → Walk (Whole so_far) (steady v) (piece [] (Part Name) ∷ ps) x ts z → Shallow e (deepest ts) → ⊥
+    first (next {g = g'} {ts = us'} q w) h = b.no _ _ q (shallow_first e g' us' h)
 
-    at : {u : Tree} {w : Place} → AtSpecifier u → Staged v false (Specifiers From) x u w → ⊥
-    at single q = first (single_walk q)
-    at renamed q = first (renamed_walk q)
+    at : {u : Tree} {w : Place} → AtSpecifier u → Staged v false (Specifiers From) x u w → Shallow e (part_depth u) → ⊥
+    at single q s = first (single_walk q) (flat_shallow e of_so_far q s)
+    at renamed q s = first (renamed_walk q) (flat_shallow e of_so_far q s)
 
 -- ---- the list, and what closes it
 
@@ -189,7 +192,7 @@ whole_before {y = y} o = record { reads = o.reads; ends_there = specifier_ends y
 -- ---- a specifier and a comma
 
 turn_specifier : {v : Surroundings} {x y z : Place} {t : Tree} → OnlySpecifier v x t y → Stuck (pun "}") x → Moves (pun ",") y z → Turn so_far v inside inside x z (cons t)
-turn_specifier {v} {x} {y} {z} {t} o c m = record { to = forward; from = back }
+turn_specifier {v} {x} {y} {z} {t} o c m = record { to = forward; from = back; rises = cons_up t }
   where
     ahead : (ts : Forest) (p : Place) → Items (Whole so_far) v Commas (Specifiers From) z ts p → Items (Whole so_far) v Commas (Specifiers From) x (part t ts) p
     ahead none p (nil f) = last (whole_before o) (comma_trails m) m.found
@@ -230,12 +233,12 @@ last_from {v} {x} {y} {t} o c n us w (next {ts = vs} (many {ts = ts} e all) walk
         absurd (stuck_not n (subst (λ q. IsTrue (is_found (forth (pun ",") q))) (sym s.1) (found_at e (whole_items_found of_so_far all))))
 
 turn_end : {v : Surroundings} {x y : Place} {t : Tree} → OnlySpecifier v x t y → Stuck (pun "}") x → Stuck (pun ",") y → Turn so_far v inside closing x y (part (list (part t none)))
-turn_end {y = y} o c n = record { to = λ ts w walk. next (many refl (last (whole_before o) (nothing_trails y n) (end_found of_so_far o.reads))) walk; from = last_from o c n }
+turn_end {y = y} {t = t} o c n = record { to = λ ts w walk. next (many refl (last (whole_before o) (nothing_trails y n) (end_found of_so_far o.reads))) walk; from = last_from o c n; rises = part_up (list (part t none)) }
 
 -- ---- where nothing more stands
 
 turn_shut : {v : Surroundings} {x z : Place} → Moves (pun "}") x z → Turn so_far v inside closing x x (part (list none))
-turn_shut {v} {x} {z} m = record { to = λ ts w walk. next (many refl (nil (found_first (pun "}" ∷ []) x there))) walk; from = back }
+turn_shut {v} {x} {z} m = record { to = λ ts w walk. next (many refl (nil (found_first (pun "}" ∷ []) x there))) walk; from = back; rises = part_up (list none) }
   where
     there : IsTrue (is_found (forth (pun "}") x))
     there = found_at (sym m.is) m.found
@@ -257,19 +260,19 @@ both_none (part t ts) = ap (part t) (both_none ts)
 pub shut : {v : Surroundings} {x y z : Place} (ts : Forest) → Turn so_far v inside inside x y (prepend ts) → Moves (pun "}") y z → OnlyRow so_far v inside x (part (list ts) none) z
 shut {v} {x} {z = z} ts so m = subst (λ us. OnlyRow so_far v inside x (part (list us) none) z) (both_none ts) (turn_only so (turn_only (turn_shut m) (closed m)))
 
-pub none_more : {v : Surroundings} {x y y' : Place} (ts : Forest) → Turn so_far v inside inside x y (prepend ts) → Missed (pun "}") y y' → NoSpecifier v y' → NoRow so_far v inside x
-none_more {v} {y = y} ts so m n = turn_none so (record { no = back })
+pub none_more : {v : Surroundings} {x y y' : Place} {o : Fault} (ts : Forest) → Turn so_far v inside inside x y (prepend ts) → Missed (pun "}") y y' → NoSpecifier v y' o → NoRow so_far v inside x o
+none_more {v} {y = y} {o = o} ts so m n = turn_none so (record { no = back })
   where
-    here : NoSpecifier v y
-    here = subst (NoSpecifier v) (sym m.same) n
+    here : NoSpecifier v y o
+    here = subst (λ w. NoSpecifier v w o) (sym m.same) n
 
-    inner : (ts : Forest) (p : Place) → Items (Whole so_far) v Commas (Specifiers From) y ts p → (us : Forest) (w : Place) → Walk (Whole so_far) (steady v) closing p us w → ⊥
-    inner ts p (nil f) us w walk = stuck_not m.stuck (closing_found walk)
-    inner ts p (last {y = y'} {t = t'} r e f) us w walk = here.no t' y' (before_close e (closing_found walk)) r
-    inner ts p (more {y = y'} {t = t'} k r e all) us w walk = here.no t' y' (before_comma e (whole_items_found of_so_far all)) r
+    inner : (ts : Forest) (p : Place) → Items (Whole so_far) v Commas (Specifiers From) y ts p → (us : Forest) (w : Place) → Walk (Whole so_far) (steady v) closing p us w → Shallow o (deepest ts) → Shallow o (deepest us) → ⊥
+    inner ts p (nil f) us w walk h q' = stuck_not m.stuck (closing_found walk)
+    inner ts p (last {y = y'} {t = t'} r e f) us w walk h q' = here.no t' y' (before_close e (closing_found walk)) r (shallow_head o t' none h)
+    inner ts p (more {y = y'} {t = t'} {u = u'} {us = vs'} k r e all) us w walk h q' = here.no t' y' (before_comma e (whole_items_found of_so_far all)) r (shallow_head o t' (part u' vs') h)
 
-    back : (us : Forest) (w : Place) → Walk (Whole so_far) (steady v) inside y us w → ⊥
-    back us w (next {ts = vs} (many {ts = ts} e all) walk) = inner ts _ all vs w walk
+    back : (us : Forest) (w : Place) → Walk (Whole so_far) (steady v) inside y us w → Shallow o (deepest us) → ⊥
+    back us w (next {ts = vs} (many {ts = ts} e all) walk) s = inner ts _ all vs w walk (shallow_first o (one (list ts)) vs s) (shallow_rest o (one (list ts)) vs s)
 
 specifier_at : {v : Surroundings} {y y' z : Place} {t : Tree} → Missed (pun "}") y y' → OnlySpecifier v y' t z → OnlySpecifier v y t z
 specifier_at {v} {z = z} {t} n o = subst (λ p. OnlySpecifier v p t z) (sym n.same) o
@@ -285,8 +288,8 @@ shut_behind {v} {x} {z = z} {z'} {w} {t} ts us so n o m k e =
     here : Only so_far v (Fixed (pun "}")) z nothing w
     here = subst (λ p. Only so_far v (Fixed (pun "}")) p nothing w) (sym m.same) k
 
-pub unshut : {v : Surroundings} {x y y' z z' : Place} {t : Tree} (ts : Forest) → Turn so_far v inside inside x y (prepend ts) → Missed (pun "}") y y' → OnlySpecifier v y' t z → Missed (pun ",") z z' → Barred so_far v (Fixed (pun "}")) z' → NoRow so_far v inside x
-unshut {v} {y = y} {z = z} ts so n o m b = turn_none so (record { no = λ us w walk. let f = last_from (specifier_at n o) n.stuck m.stuck us w walk in here.no f.parts w f.walk })
+pub unshut : {v : Surroundings} {x y y' z z' : Place} {t : Tree} {e : Fault} (ts : Forest) → Turn so_far v inside inside x y (prepend ts) → Missed (pun "}") y y' → OnlySpecifier v y' t z → Missed (pun ",") z z' → Barred so_far v (Fixed (pun "}")) z' e → NoRow so_far v inside x e
+unshut {v} {y = y} {z = z} {t = t} {e = e} ts so n o m b = turn_none so (record { no = λ us w walk s. let f = last_from (specifier_at n o) n.stuck m.stuck us w walk in here.no f.parts w f.walk (shallow_behind e (list (part t none)) f.parts us f.is s) })
   where
-    here : NoRow so_far v closing z
-    here = bar (subst (λ p. Barred so_far v (Fixed (pun "}")) p) (sym m.same) b)
+    here : NoRow so_far v closing z e
+    here = bar (subst (λ p. Barred so_far v (Fixed (pun "}")) p e) (sym m.same) b)

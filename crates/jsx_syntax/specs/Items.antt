@@ -11,6 +11,7 @@ use Rattle.jsx_tree.specs.Spans.{Told}
 use Rattle.jsx_tree.specs.Walk.{Piece, Walk, is_found, pieces, steady, tail}
 use Rattle.jsx_tree.specs.Language.{Whole}
 use Rattle.jsx_tree.specs.Answers.{BuiltNode, Moves, NoNode, Stuck}
+use Rattle.jsx_tree.specs.Faults.{Fault}
 use Rattle.jsx_token.specs.Growths.{lead, opening_sign, same_sign}
 use Rattle.jsx_token.specs.Here.{Here}
 use Rattle.jsx_token.specs.Marks.{row_so_far}
@@ -78,22 +79,22 @@ pub record OnlyOf (p : Kind → Bool) (r : Kind → List Piece) (v : Surrounding
   pub built : BuiltNode so_far v (r kind) kind t x y
   pub alone : (k : Kind) (ts : Forest) (z : Place) → p k ≡ true → Walk (Whole so_far) (steady v) (r k) x ts z → so_far.keeps k v ts ≡ true → (node k ts ≡ t) × (z ≡ y)
 
-pub record NoneOf (p : Kind → Bool) (r : Kind → List Piece) (v : Surroundings) (x : Place) : Type 0 where
-  pub no : (k : Kind) → p k ≡ true → NoNode so_far v (r k) k x
+pub record NoneOf (p : Kind → Bool) (r : Kind → List Piece) (v : Surroundings) (x : Place) (e : Fault) : Type 0 where
+  pub no : (k : Kind) → p k ≡ true → NoNode so_far v (r k) k x e
 
 -- behind the word
 abbrev pub OnlyBehind : Sign → Surroundings → Tree → Place → Place → Type 0
 OnlyBehind s v t x y = OnlyOf (begins_with s) behind_word v t x y
 
-abbrev pub NoneBehind : Sign → Surroundings → Place → Type 0
-NoneBehind s v x = NoneOf (begins_with s) behind_word v x
+abbrev pub NoneBehind : Sign → Surroundings → Place → Fault → Type 0
+NoneBehind s v x e = NoneOf (begins_with s) behind_word v x e
 
 -- behind `export` and another sign
 abbrev pub OnlyExport : Sign → Surroundings → Tree → Place → Place → Type 0
 OnlyExport u v t x y = OnlyOf (goes_with (key "export") u) behind_both v t x y
 
-abbrev pub NoneExport : Sign → Surroundings → Place → Type 0
-NoneExport u v x = NoneOf (goes_with (key "export") u) behind_both v x
+abbrev pub NoneExport : Sign → Surroundings → Place → Fault → Type 0
+NoneExport u v x e = NoneOf (goes_with (key "export") u) behind_both v x e
 
 -- it is told from where its `export` begins
 pub record IsPlacedExport (u : Sign) (lo : ℕ) (x : Here) (d : Told) (t : Tree) (y : Here) : Type 0 where

@@ -5,6 +5,7 @@ use Rattle.jsx_tree.specs.Kinds.{list, Forest, none, part}
 use Rattle.jsx_tree.specs.Nonterminals.{Nonterminal, DirectiveOnly}
 use Rattle.jsx_tree.specs.Grammar.{TopLines, Many, Production}
 use Rattle.jsx_tree.specs.Reading.{Place, ended_at}
+use Rattle.jsx_tree.specs.Faults.{Fault, Shallow, deepest}
 use Rattle.jsx_tree.specs.StaticRules.{Surroundings, first_of_list, is_string_stmt}
 use Rattle.jsx_tree.specs.Spans.{Tales, Told}
 use Rattle.jsx_tree.specs.Told.{tales, told_directive, told_list}
@@ -37,5 +38,5 @@ pub record OnlyProgram (c : Nonterminal) (V : Forest → Surroundings) (x : Plac
   pub leads : IsProgram c V x ds ts
   pub alone : (es us : Forest) → IsProgram c V x es us → (ds ≡ es) × (ts ≡ us)
 
-pub record NoProgram (c : Nonterminal) (V : Forest → Surroundings) (x : Place) : Type 0 where
-  pub no : (ds ts : Forest) → IsProgram c V x ds ts → ⊥
+pub record NoProgram (c : Nonterminal) (V : Forest → Surroundings) (x : Place) (e : Fault) : Type 0 where
+  pub no : (ds ts : Forest) → IsProgram c V x ds ts → Shallow e (deepest (program_parts ds ts)) → ⊥

@@ -14,6 +14,7 @@ use Rattle.jsx_tree.specs.ViewProgram.{view_specifier}
 use Rattle.jsx_tree.specs.Walk.{Piece, pieces}
 use Rattle.jsx_tree.specs.Language.{Whole}
 use Rattle.jsx_tree.specs.Answers.{Stuck}
+use Rattle.jsx_tree.specs.Faults.{Fault, Shallow, part_depth}
 use Rattle.jsx_operand.specs.SoFar.{Staged, so_far}
 use Rattle.jsx_syntax.specs.declared.specifier.Side as code
 use Rattle.jsx_syntax.specs.declared.specifier.Side.TheVariants as side
@@ -30,8 +31,8 @@ pub record OnlySpecifier (v : Surroundings) (x : Place) (t : Tree) (y : Place) :
   pub reads : Staged v false (Specifiers From) x t y
   pub alone : (u : Tree) (z : Place) → Stuck (key "as") z → Whole so_far v false (Specifiers From) x u z → (t ≡ u) × (y ≡ z)
 
-pub record NoSpecifier (v : Surroundings) (x : Place) : Type 0 where
-  pub no : (u : Tree) (z : Place) → Stuck (key "as") z → Whole so_far v false (Specifiers From) x u z → ⊥
+pub record NoSpecifier (v : Surroundings) (x : Place) (e : Fault) : Type 0 where
+  pub no : (u : Tree) (z : Place) → Stuck (key "as") z → Whole so_far v false (Specifiers From) x u z → Shallow e (part_depth u) → ⊥
 
 -- ---- which names may stand in a list: with `from` behind it any, else the module's own are bound by an import, and referred to by an export
 

@@ -16,6 +16,7 @@ use jsx_base::BytePos;
 use jsx_expression::expression::expression;
 use jsx_expression::function::{class_expression, named_function};
 use jsx_function::function::{FunctionCode, NamedFunction};
+use jsx_operand::depth::within;
 use jsx_operand::operand::ASSIGNMENT;
 use jsx_operand::parser::identifier_name;
 use jsx_operand::{Body, Context, ParseError, semicolon, span_to};
@@ -33,7 +34,7 @@ fn export_list<'s>(
     ensures read { IfOk result (λ i. OnlyExport (pun "{") (around_of context.entry.around) (view_item i) (place_of lexer.old) (place_of lexer.new)) }
     ensures placed { IfOk result (λ i. IsPlacedExport (pun "{") lo.0 lexer.old (told_item i) (view_item i) lexer.new) }
     ensures within { OnOk result (left lexer.new ≤ left lexer.old) }
-    ensures refused { Refused result (NoneExport (pun "{") (around_of context.entry.around) (place_of lexer.old)) }
+    ensures refused { Refused context.entry.levels result (NoneExport (pun "{") (around_of context.entry.around) (place_of lexer.old)) }
 {
     let all = specifiers(context, lexer)?;
     if lexer.take(Fixed::Word(Word::From)) {
@@ -57,7 +58,7 @@ fn export_all<'s>(
     ensures read { IfOk result (λ i. OnlyExport (pun "*") (around_of context.entry.around) (view_item i) (place_of lexer.old) (place_of lexer.new)) }
     ensures placed { IfOk result (λ i. IsPlacedExport (pun "*") lo.0 lexer.old (told_item i) (view_item i) lexer.new) }
     ensures within { OnOk result (left lexer.new ≤ left lexer.old) }
-    ensures refused { Refused result (NoneExport (pun "*") (around_of context.entry.around) (place_of lexer.old)) }
+    ensures refused { Refused context.entry.levels result (NoneExport (pun "*") (around_of context.entry.around) (place_of lexer.old)) }
 {
     if lexer.take(Fixed::Word(Word::As)) {
         let raw = identifier_name(context, lexer)?;
@@ -79,7 +80,7 @@ fn export_default<'s>(
     ensures read { IfOk result (λ i. OnlyExport (key "default") (around_of context.entry.around) (view_item i) (place_of lexer.old) (place_of lexer.new)) }
     ensures placed { IfOk result (λ i. IsPlacedExport (key "default") lo.0 lexer.old (told_item i) (view_item i) lexer.new) }
     ensures within { OnOk result (left lexer.new ≤ left lexer.old) }
-    ensures refused { Refused result (NoneExport (key "default") (around_of context.entry.around) (place_of lexer.old)) }
+    ensures refused { Refused context.entry.levels result (NoneExport (key "default") (around_of context.entry.around) (place_of lexer.old)) }
 {
     if lexer.take(Fixed::Word(Word::Function)) {
         let function = named_function(context, lexer, body)?;
@@ -93,7 +94,8 @@ fn export_default<'s>(
         return Ok(Item::ExportDefaultFn(span, name, params, directives, statements));
     }
     if lexer.take(Fixed::Word(Word::Class)) {
-        let class = class_expression(context, lexer, body)?;
+        let levels = within(context, lexer)?;
+        let class = class_expression(Context { levels, ..context }, lexer, body)?;
         return Ok(Item::ExportDefaultClass(span_to(lo, lexer), class));
     }
     let value = expression(context, lexer, ASSIGNMENT, body)?;
@@ -106,7 +108,7 @@ pub(crate) fn export<'s>(context: Context, lexer: &mut Lexer<'s>) -> Result<Item
     ensures read { IfOk result (λ i. OnlyBehind (key "export") (around_of context.entry.around) (view_item i) (place_of lexer.old) (place_of lexer.new)) }
     ensures placed { IfOk result (λ i. IsPlacedBehind (key "export") lexer.old (told_item i) (view_item i) lexer.new) }
     ensures within { OnOk result (left lexer.new ≤ left lexer.old) }
-    ensures refused { Refused result (NoneBehind (key "export") (around_of context.entry.around) (place_of lexer.old)) }
+    ensures refused { Refused context.entry.levels result (NoneBehind (key "export") (around_of context.entry.around) (place_of lexer.old)) }
 {
     let lo = lexer.last_place();
     if lexer.take(Fixed::OpenBrace) {

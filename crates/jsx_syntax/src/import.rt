@@ -21,6 +21,7 @@ ghost use Rattle.jsx_declaration.specs.Heads.{Front};
 ghost use Rattle.jsx_syntax.specs.Items.{IsImport, NoImport, NoneBehind, OnlyBehind, from_row, from_symbols, source_row, source_symbols};
 
 use crate::specifier::{Side, misfit, specifiers};
+use jsx_operand::depth::counted;
 use jsx_operand::parser::{bound_name, string};
 use jsx_operand::{Context, ParseError, expect, give_up, semicolon, span_to};
 use jsx_token::{Ending, Fixed, Leaf, Lexer, Word, is_bound};
@@ -31,7 +32,7 @@ pub(crate) fn source<'s>(context: Context, lexer: &mut Lexer<'s>) -> Result<Text
     ensures read { IfOk result (λ t. OnlyRow so_far (around_of context.entry.around) source_row (place_of lexer.old) (part (source_of t) none) (place_of lexer.new)) }
     ensures placed { IfOk result (λ t. IsPlacedRow source_symbols (tale (told_text t) no_tales) (part (source_of t) none) lexer.old lexer.new) }
     ensures shorter { OnOk result (left lexer.new < left lexer.old) }
-    ensures refused { Refused result (NoRow so_far (around_of context.entry.around) source_row (place_of lexer.old)) }
+    ensures refused { Refused context.entry.levels result (NoRow so_far (around_of context.entry.around) source_row (place_of lexer.old)) }
 {
     let text = string(context, lexer)?;
     lexer.ends(Ending::Word);
@@ -47,7 +48,7 @@ pub(crate) fn from_source<'s>(
     ensures read { IfOk result (λ t. OnlyRow so_far (around_of context.entry.around) from_row (place_of lexer.old) (part (source_of t) none) (place_of lexer.new)) }
     ensures placed { IfOk result (λ t. IsPlacedRow from_symbols (tale (told_text t) no_tales) (part (source_of t) none) lexer.old lexer.new) }
     ensures shorter { OnOk result (left lexer.new < left lexer.old) }
-    ensures refused { Refused result (NoRow so_far (around_of context.entry.around) from_row (place_of lexer.old)) }
+    ensures refused { Refused context.entry.levels result (NoRow so_far (around_of context.entry.around) from_row (place_of lexer.old)) }
 {
     expect(context, lexer, Fixed::Word(Word::From))?;
     Ok(source(context, lexer)?)
@@ -58,7 +59,7 @@ fn import_all<'s>(context: Context, lexer: &mut Lexer<'s>) -> Result<ImportNames
     ensures read { IfOk result (λ n. Built so_far (around_of context.entry.around) (tail (row_so_far (program kinds.ImportAll))) (program kinds.ImportAll) (λ ts. ts) (view_import_names n) (place_of lexer.old) (place_of lexer.new)) }
     ensures placed { IfOk result (λ n. IsPlacedBehind (pun "*") lexer.old (told_import_names n) (view_import_names n) lexer.new) }
     ensures shorter { OnOk result (left lexer.new < left lexer.old) }
-    ensures refused { Refused result (NoRow so_far (around_of context.entry.around) (tail (row_so_far (program kinds.ImportAll))) (place_of lexer.old)) }
+    ensures refused { Refused context.entry.levels result (NoRow so_far (around_of context.entry.around) (tail (row_so_far (program kinds.ImportAll))) (place_of lexer.old)) }
 {
     let lo = lexer.last_place();
     expect(context, lexer, Fixed::Word(Word::As))?;
@@ -71,7 +72,7 @@ fn import_list<'s>(context: Context, lexer: &mut Lexer<'s>) -> Result<ImportName
     ensures read { IfOk result (λ n. Built so_far (around_of context.entry.around) (tail (row_so_far (program kinds.ImportList))) (program kinds.ImportList) (λ ts. ts) (view_import_names n) (place_of lexer.old) (place_of lexer.new)) }
     ensures placed { IfOk result (λ n. IsPlacedBehind (pun "{") lexer.old (told_import_names n) (view_import_names n) lexer.new) }
     ensures shorter { OnOk result (left lexer.new < left lexer.old) }
-    ensures refused { Refused result (NoRow so_far (around_of context.entry.around) (tail (row_so_far (program kinds.ImportList))) (place_of lexer.old)) }
+    ensures refused { Refused context.entry.levels result (NoRow so_far (around_of context.entry.around) (tail (row_so_far (program kinds.ImportList))) (place_of lexer.old)) }
 {
     let lo = lexer.last_place();
     let all = specifiers(context, lexer)?;
@@ -86,7 +87,7 @@ fn import_names<'s>(context: Context, lexer: &mut Lexer<'s>) -> Result<ImportNam
     ensures read { IfOk result (λ n. Only so_far (around_of context.entry.around) (Part grammar.ImportBindings) (place_of lexer.old) (one (view_import_names n)) (place_of lexer.new)) }
     ensures placed { IfOk result (λ n. IsPlaced (told_import_names n) (view_import_names n) lexer.old lexer.new) }
     ensures shorter { OnOk result (left lexer.new < left lexer.old) }
-    ensures refused { Refused result (Barred so_far (around_of context.entry.around) (Part grammar.ImportBindings) (place_of lexer.old)) }
+    ensures refused { Refused context.entry.levels result (Barred so_far (around_of context.entry.around) (Part grammar.ImportBindings) (place_of lexer.old)) }
 {
     if lexer.take(Fixed::Star) {
         return Ok(import_all(context, lexer)?);
@@ -105,7 +106,7 @@ fn import_clause<'s>(
     ensures read { IfOk result (λ c. Front (around_of context.entry.around) (tail (row_so_far (program kinds.Import))) from_row (place_of lexer.old) (view_import_clause c) (place_of lexer.new)) }
     ensures placed { IfOk result (λ c. IsPlaced (told_import_clause c) (view_import_clause c) lexer.old lexer.new) }
     ensures shorter { OnOk result (left lexer.new < left lexer.old) }
-    ensures refused { Refused result (NoRow so_far (around_of context.entry.around) (tail (row_so_far (program kinds.Import))) (place_of lexer.old)) }
+    ensures refused { Refused context.entry.levels result (NoRow so_far (around_of context.entry.around) (tail (row_so_far (program kinds.Import))) (place_of lexer.old)) }
 {
     let Some(raw) = lexer.leaf(Leaf::Name) else {
         return Ok(ImportClause::Names(import_names(context, lexer)?));
@@ -113,6 +114,7 @@ fn import_clause<'s>(
     if !is_bound(raw) {
         return Err(give_up(lexer));
     }
+    counted(context, lexer)?;
     let lo = lexer.last_place();
     let text = Text::Read(raw, lo);
     if !lexer.take(Fixed::Comma) {
@@ -150,10 +152,11 @@ pub(crate) fn import<'s>(context: Context, lexer: &mut Lexer<'s>) -> Result<Item
     ensures read { IfOk result (λ i. OnlyBehind (key "import") (around_of context.entry.around) (view_item i) (place_of lexer.old) (place_of lexer.new)) }
     ensures placed { IfOk result (λ i. IsPlacedBehind (key "import") lexer.old (told_item i) (view_item i) lexer.new) }
     ensures within { OnOk result (left lexer.new ≤ left lexer.old) }
-    ensures refused { Refused result (NoneBehind (key "import") (around_of context.entry.around) (place_of lexer.old)) }
+    ensures refused { Refused context.entry.levels result (NoneBehind (key "import") (around_of context.entry.around) (place_of lexer.old)) }
 {
     let lo = lexer.last_place();
     if let Some(raw) = lexer.leaf(Leaf::Str) {
+        counted(context, lexer)?;
         let text = Text::Read(raw, lexer.last_place());
         lexer.ends(Ending::Word);
         semicolon(context, lexer)?;

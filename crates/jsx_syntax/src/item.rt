@@ -15,6 +15,7 @@ ghost use Rattle.jsx_operand.specs.Spans.{IsPlaced};
 
 use crate::export::export;
 use crate::import::{import, take_import};
+use jsx_operand::depth::within;
 use jsx_operand::{Context, ParseError};
 use jsx_statement::statement::{Seat, statement};
 use jsx_token::{Fixed, Lexer, Word};
@@ -25,13 +26,15 @@ pub(crate) fn item<'s>(context: Context, lexer: &mut Lexer<'s>) -> Result<Item<'
     ensures read { IfOk result (λ i. Only so_far (around_of context.entry.around) (Part grammar.Item) (place_of lexer.old) (one (view_item i)) (place_of lexer.new)) }
     ensures placed { IfOk result (λ i. IsPlaced (told_item i) (view_item i) lexer.old lexer.new) }
     ensures shorter { OnOk result (left lexer.new < left lexer.old) }
-    ensures refused { Refused result (Barred so_far (around_of context.entry.around) (Part grammar.Item) (place_of lexer.old)) }
+    ensures refused { Refused context.entry.levels result (Barred so_far (around_of context.entry.around) (Part grammar.Item) (place_of lexer.old)) }
 {
     if lexer.take(Fixed::Word(Word::Export)) {
-        return Ok(export(context, lexer)?);
+        let levels = within(context, lexer)?;
+        return Ok(export(Context { levels, ..context }, lexer)?);
     }
     if take_import(lexer) {
-        return Ok(import(context, lexer)?);
+        let levels = within(context, lexer)?;
+        return Ok(import(Context { levels, ..context }, lexer)?);
     }
     Ok(Item::Stmt(statement(context, lexer, Seat::Listed)?))
 }

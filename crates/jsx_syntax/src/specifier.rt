@@ -85,7 +85,7 @@ fn specifier<'s>(context: Context, lexer: &mut Lexer<'s>) -> Result<Specifier<'s
     ensures read { IfOk result (λ s. OnlySpecifier (around_of context.entry.around) (place_of lexer.old) (view_specifier kinds.From s) (place_of lexer.new)) }
     ensures placed { IfOk result (λ s. (side : kinds.Side) → IsPlaced (told_specifier s) (view_specifier side s) lexer.old lexer.new) }
     ensures shorter { OnOk result (left lexer.new < left lexer.old) }
-    ensures refused { Refused result (NoSpecifier (around_of context.entry.around) (place_of lexer.old)) }
+    ensures refused { Refused context.entry.levels result (NoSpecifier (around_of context.entry.around) (place_of lexer.old)) }
 {
     let raw = identifier_name(context, lexer)?;
     let lo = lexer.last_place();
@@ -107,7 +107,7 @@ pub(crate) fn specifiers<'s>(
     ensures read { IfOk result (λ v. OnlyRow so_far (around_of context.entry.around) (specifier_row kinds.From) (place_of lexer.old) (part (list (written v.items)) none) (place_of lexer.new)) }
     ensures placed { IfOk result (λ v. (side : kinds.Side) → IsPlacedFront (specifier_symbols side) (told_list (map told_specifier v.items)) (list (forest (map (view_specifier side) v.items))) lexer.old lexer.new) }
     ensures shorter { OnOk result (left lexer.new < left lexer.old) }
-    ensures refused { Refused result (NoRow so_far (around_of context.entry.around) (specifier_row kinds.From) (place_of lexer.old)) }
+    ensures refused { Refused context.entry.levels result (NoRow so_far (around_of context.entry.around) (specifier_row kinds.From) (place_of lexer.old)) }
 {
     let mut all = Vec::new(context.alloc);
     'specifiers: while !lexer.take(Fixed::CloseBrace) {

@@ -205,7 +205,7 @@ comma_first (At q _ text) h f = cc
 pub one_more : {L : Language} {v : Surroundings} {a b : List Context} {c : Nonterminal} {s : Sign} {x y z w : Place} {t : Tree} (ts us : Forest) → Lawful L → no_rest c ≡ true → forth s z ≡ Lost
     → Turn L v (piece a (Many NoTrailing c) ∷ piece b (Fixed s) ∷ []) (piece a (Many NoTrailing c) ∷ piece b (Fixed s) ∷ []) x y (prepend ts)
     → Only L (steady v a) (Part c) y (one t) z → Moves (pun ",") z w → us ≡ both ts (part t none) → Turn L v (piece a (Many NoTrailing c) ∷ piece b (Fixed s) ∷ []) (piece a (Many NoTrailing c) ∷ piece b (Fixed s) ∷ []) x w (prepend us)
-one_more {L} {v} {a} {b} {c = c} {s = s} {z = z} {t = t} ts us l n lost so o m e = turn_as (λ vs. prepend_cons ts t vs ∙ (λ i. prepend (sym e i) vs)) (turn_both so (turn_next l n o m (record { no = at })))
+one_more {L} {v} {a} {b} {c = c} {s = s} {z = z} {t = t} ts us l n lost so o m e = turn_as (λ vs. prepend_cons ts t vs ∙ (λ i. prepend (sym e i) vs)) (turn_both so (turn_next l n o m (record { no = λ us w walk h. at us w walk })))
   where
     at : (us : Forest) (w : Place) → Walk (Whole L) (steady v) (piece b (Fixed s) ∷ []) z us w → ⊥
     at us w (next (sign g f) walk) = let bad : true ≡ false = sym (found_at g f) ∙ ap is_found lost in cc

@@ -15,6 +15,14 @@ pub fn bytes(text: &str) -> usize
     text.len()
 }
 
+/// Whether texts of one length are the same. It is kept apart from the test of the lengths, which then takes no memory.
+#[inline(never)]
+fn is_equal(text: &str, other: &str) -> bool
+    ensures { result ≡ bytes_eq text.now other.now }
+{
+    text == other
+}
+
 /// Whether the texts are the same. Most differ in length, which costs less to ask.
 #[inline(always)]
 pub fn is_same(text: &str, other: &str) -> bool
@@ -23,7 +31,7 @@ pub fn is_same(text: &str, other: &str) -> bool
     if text.len() != other.len() {
         return false;
     }
-    text == other
+    is_equal(text, other)
 }
 
 /// Whether the text is one of these.

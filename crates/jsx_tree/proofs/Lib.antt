@@ -18,6 +18,7 @@ mod Semicolons
 mod Modules
 mod JsxForms
 mod Depths
+pub mod Depth
 mod Layouts
 mod Programs
 mod Corners

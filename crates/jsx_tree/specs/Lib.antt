@@ -24,6 +24,9 @@ pub mod Stops
 pub mod Language
 pub mod Answers
 pub mod Texts
+pub mod Fronts
+pub mod Faults
+pub mod Reach
 pub mod Grows
 pub mod Scopes
 pub mod Clashes

@@ -1,10 +1,12 @@
--- A source that reads isn't refused.
-use Rattle.std.proofs.Common.{◌≡◌, ◌⊎◌, ℕ, ◌≤◌, List, ◌++◌, append-nil, arith, length, length-append, inl, inr, ap, ◌∙◌, subst, Option, Some, None}
+-- A source that reads and isn't too deep isn't refused.
+use Rattle.std.proofs.Common.{◌≡◌, ◌⊎◌, ℕ, ◌<◌, ◌≤◌, List, ◌++◌, append-nil, arith, length, length-append, inl, inr, ap, ◌∙◌, subst, Option, Some, None}
 use Rattle.jsx_base.specs.Faults.{Rose}
 use Rattle.jsx_base.specs.Source.{Gives}
 use Rattle.jsx_tree.specs.Kinds.{Tree}
+use Rattle.jsx_tree.specs.Depth.{depth}
 use Rattle.jsx_tree.specs.declared.text.Goal.TheVariants as goals
 use Rattle.react_compile.specs.Compiles.{IsSource}
+use Rattle.react_compile.specs.Lines.{max_depth}
 use Rattle.react_compile.specs.Run.{IsAtEnd, TakesAll, TakesTooMany, IsValid}
 use Rattle.react_compile.specs.declared.program.Status.{Status}
 use Rattle.react_compile.specs.declared.program.Status.TheVariants.{Done, Fault, Write, Memory}
@@ -18,10 +20,11 @@ some_taken : (bytes taken : List ℕ) (rest : Option (List ℕ)) → Gives (Some
 some_taken bytes taken None e = absurd (cc)
 some_taken bytes taken (Some more) e = let f : bytes ≡ taken ++ more = cc in omega (arith, ap length f, length-append taken more)
 
-pub not_refused : (left rest : Option (List ℕ)) (source : List ℕ) (a b c d e f : ℕ) → IsValid left a b c d e f → TakesAll left rest source → ((tree : Tree) → IsSource goals.Module source tree → ⊥) → ⊥
-not_refused left rest source a b c d e f v t none_reads =
+pub not_refused : (left rest : Option (List ℕ)) (source : List ℕ) (a b c d e f : ℕ) → IsValid left a b c d e f → TakesAll left rest source → ((tree : Tree) → IsSource goals.Module source tree → max_depth < depth tree) → ⊥
+not_refused left rest source a b c d e f v t deep_trees =
     let g : Gives (Some v.bytes) rest source = subst (λ l. Gives l rest source) v.told t.gives in
-    none_reads v.tree (subst (λ xs. IsSource goals.Module xs v.tree) (taken_all v.bytes source rest g t.to_end) v.is_source)
+    let deep = deep_trees v.tree (subst (λ xs. IsSource goals.Module xs v.tree) (taken_all v.bytes source rest g t.to_end) v.is_source) in
+    omega (arith, deep, v.shallow)
 
 pub not_too_big : (left rest : Option (List ℕ)) (a b c d e f : ℕ) → IsValid left a b c d e f → TakesTooMany left rest → ⊥
 not_too_big left rest a b c d e f v t =

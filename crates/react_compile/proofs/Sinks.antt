@@ -1,13 +1,14 @@
 -- What a sink gains.
-use Rattle.std.proofs.Common.{◌≡◌, ℕ, ◌≤◌, List, [], ◌∷◌, ◌++◌, append-nil, length, refl, sym, ap, subst, ◌∙◌, inl, inr, Option, Some, None, ◌⊎◌}
+use Rattle.std.proofs.Common.{◌≡◌, ℕ, ◌<◌, ◌≤◌, List, [], ◌∷◌, ◌++◌, append-nil, length, refl, sym, ap, subst, ◌∙◌, inl, inr, Option, Some, None, ◌⊎◌}
 use Rattle.std.specs.Io.KnownBytes.{append_known}
 use Rattle.jsx_base.specs.Faults.{Rose}
 use Rattle.jsx_base.specs.Sink.{Gains, GainsPrefix}
 use Rattle.std.specs.Str.{IsUtf8, IsValidUpTo}
 use Rattle.jsx_tree.specs.Kinds.{Tree}
+use Rattle.jsx_tree.specs.Depth.{depth}
 use Rattle.jsx_tree.specs.declared.text.Goal.TheVariants as goals
 use Rattle.react_compile.specs.Compiles.{IsSource}
-use Rattle.react_compile.specs.Lines.{bad_words, read_fault, out_of_memory, input_too_big, not_utf8, syntax_error}
+use Rattle.react_compile.specs.Lines.{bad_words, read_fault, out_of_memory, input_too_big, max_depth, not_utf8, syntax_error, too_deep}
 use Rattle.react_compile.specs.Run.{TakesAll, TakesTooMany, KeepsTold, TellsWhy, TellsTooBig, TellsPrefix, GainsWhy, GainsWhyPrefix, max_source}
 
 pub gains_nothing : (held : Option (List ℕ)) → Gains held held []
@@ -59,13 +60,25 @@ gains_not_utf8_prefix source held holds n v (inr g) = inl g
 
 pub gains_syntax : (source : List ℕ) (held holds : Option (List ℕ)) (at : ℕ) → IsUtf8 source → ((tree : Tree) → IsSource goals.Module source tree → ⊥) → at ≤ length source → Gains held holds (syntax_error source at) → GainsWhy source held holds
 gains_syntax source held holds at u none_reads within g =
-    record { line = syntax_error source at; why = inr (record { at = at; utf8 = u; no_tree = none_reads; within = within; line_is = refl }); gains = g }
+    record { line = syntax_error source at; why = inr (inl (record { at = at; utf8 = u; no_tree = none_reads; within = within; line_is = refl })); gains = g }
 
 pub gains_syntax_prefix : (source : List ℕ) (held holds : Option (List ℕ)) (at : ℕ) → IsUtf8 source → ((tree : Tree) → IsSource goals.Module source tree → ⊥) → at ≤ length source → Either held holds (syntax_error source at)
     → GainsPrefix held holds out_of_memory ⊎ GainsWhyPrefix source held holds
 gains_syntax_prefix source held holds at u none_reads within (inl g) =
-    inr (record { line = syntax_error source at; why = inr (record { at = at; utf8 = u; no_tree = none_reads; within = within; line_is = refl }); gains = g })
+    inr (record { line = syntax_error source at; why = inr (inl (record { at = at; utf8 = u; no_tree = none_reads; within = within; line_is = refl })); gains = g })
 gains_syntax_prefix source held holds at u none_reads within (inr g) = inl g
+
+-- the line of a source that nests too deep, whole or as far as it went out
+
+pub gains_too_deep : (source : List ℕ) (held holds : Option (List ℕ)) (at : ℕ) → IsUtf8 source → ((tree : Tree) → IsSource goals.Module source tree → max_depth < depth tree) → at ≤ length source → Gains held holds (too_deep source at) → GainsWhy source held holds
+gains_too_deep source held holds at u deep_trees within g =
+    record { line = too_deep source at; why = inr (inr (record { at = at; utf8 = u; deep_tree = deep_trees; within = within; line_is = refl })); gains = g }
+
+pub gains_too_deep_prefix : (source : List ℕ) (held holds : Option (List ℕ)) (at : ℕ) → IsUtf8 source → ((tree : Tree) → IsSource goals.Module source tree → max_depth < depth tree) → at ≤ length source → Either held holds (too_deep source at)
+    → GainsPrefix held holds out_of_memory ⊎ GainsWhyPrefix source held holds
+gains_too_deep_prefix source held holds at u deep_trees within (inl g) =
+    inr (record { line = too_deep source at; why = inr (inr (record { at = at; utf8 = u; deep_tree = deep_trees; within = within; line_is = refl })); gains = g })
+gains_too_deep_prefix source held holds at u deep_trees within (inr g) = inl g
 
 -- a line that was made is the one that is promised
 

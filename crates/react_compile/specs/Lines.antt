@@ -1,8 +1,9 @@
 -- The lines that a run writes to its second sink.
-use Rattle.std.specs.Prelude.{◌≡◌, ◌⊎◌, ℕ, ◌+◌, ◌≤◌, List, ◌++◌, codes, decimal, length}
+use Rattle.std.specs.Prelude.{◌≡◌, ◌⊎◌, ℕ, ◌+◌, ◌<◌, ◌≤◌, List, ◌++◌, codes, decimal, length}
 use Rattle.std.specs.Str.{IsUtf8, IsValidUpTo, chars}
 use Rattle.jsx_base.specs.Lines.{front, line_of, col_of}
 use Rattle.jsx_tree.specs.Kinds.{Tree}
+use Rattle.jsx_tree.specs.Depth.{depth}
 use Rattle.jsx_tree.specs.declared.text.Goal.TheVariants as goals
 use Rattle.react_compile.specs.Compiles.{IsSource}
 
@@ -30,6 +31,17 @@ placed_error line column = codes "input.js:" ++ (decimal line ++ (codes ":" ++ (
 abbrev pub syntax_error : List ℕ → ℕ → List ℕ
 syntax_error source at = placed_error (line_of (front (chars source) at)) (col_of (front (chars source) at) + 1)
 
+-- the same of what nests too deep: there stands the token with which it comes to that
+abbrev pub placed_depth : ℕ → ℕ → List ℕ
+placed_depth line column = codes "input.js:" ++ (decimal line ++ (codes ":" ++ (decimal column ++ codes ": nested too deep\n")))
+
+abbrev pub too_deep : List ℕ → ℕ → List ℕ
+too_deep source at = placed_depth (line_of (front (chars source) at)) (col_of (front (chars source) at) + 1)
+
+-- how deep the tree of a source may be
+abbrev pub max_depth : ℕ
+max_depth = 500
+
 -- the bytes aren't UTF-8, and the line says where
 pub record SaysNotUtf8 (source line : List ℕ) : Type 0 where
   pub at : ℕ
@@ -44,6 +56,14 @@ pub record SaysSyntaxError (source line : List ℕ) : Type 0 where
   pub within : at ≤ length source
   pub line_is : line ≡ syntax_error source at
 
+-- no tree that reads the text is as shallow as it must be, and the line names a place in it
+pub record SaysTooDeep (source line : List ℕ) : Type 0 where
+  pub at : ℕ
+  pub utf8 : IsUtf8 source
+  pub deep_tree : (tree : Tree) → IsSource goals.Module source tree → max_depth < depth tree
+  pub within : at ≤ length source
+  pub line_is : line ≡ too_deep source at
+
 -- the line says why the bytes aren't compiled
 abbrev pub SaysWhy : List ℕ → List ℕ → Type 0
-SaysWhy source line = SaysNotUtf8 source line ⊎ SaysSyntaxError source line
+SaysWhy source line = SaysNotUtf8 source line ⊎ (SaysSyntaxError source line ⊎ SaysTooDeep source line)

@@ -8,10 +8,12 @@ use Rattle.react_compile.specs.declared.compiler.CompileError.TheVariants as com
 
 abbrev pub compile_error : ParseError → CompileError
 compile_error (parse.Syntax at) = compile.Syntax at.0
+compile_error (parse.TooDeep at) = compile.TooDeep at.0
 compile_error parse.Memory = compile.Memory
 
 -- the error of bytes that aren't UTF-8, with the length of their longest front that is
 abbrev pub IsNotUtf8 : List ℕ → CompileError → Type 0
 IsNotUtf8 bytes (compile.NotUtf8 n) = IsValidUpTo bytes n
 IsNotUtf8 bytes (compile.Syntax at) = ⊥
+IsNotUtf8 bytes (compile.TooDeep at) = ⊥
 IsNotUtf8 bytes compile.Memory = ⊥

@@ -4,9 +4,10 @@ use Rattle.jsx_base.specs.Faults.{Rose}
 use Rattle.jsx_base.specs.Source.{Gives}
 use Rattle.jsx_base.specs.Sink.{Gains, GainsPrefix}
 use Rattle.jsx_tree.specs.Kinds.{Tree}
+use Rattle.jsx_tree.specs.Depth.{depth}
 use Rattle.jsx_tree.specs.declared.text.Goal.TheVariants as goals
 use Rattle.react_compile.specs.Compiles.{IsSource, Compiles}
-use Rattle.react_compile.specs.Lines.{SaysWhy, bad_words, read_fault, out_of_memory, input_too_big}
+use Rattle.react_compile.specs.Lines.{SaysWhy, max_depth, bad_words, read_fault, out_of_memory, input_too_big}
 
 -- the greatest number of bytes that a source may have
 abbrev pub max_source : ℕ
@@ -50,16 +51,22 @@ pub record KeepsTold (held holds : Option (List ℕ)) : Type 0 where
   pub old : held ≡ Some bytes
   pub new : holds ≡ Some bytes
 
--- the sink gained the code of these bytes and nothing else
+-- no tree that reads them is too deep
+abbrev pub IsShallow : List ℕ → Type 0
+IsShallow source = (tree : Tree) → IsSource goals.Module source tree → depth tree ≤ max_depth
+
+-- the sink gained the code of these bytes, which aren't too deep, and nothing else
 pub record GainsCode (source : List ℕ) (held holds : Option (List ℕ)) : Type 0 where
   pub code : List ℕ
   pub compiles : Compiles goals.Module source code
+  pub shallow : IsShallow source
   pub gains : Gains held holds code
 
 -- the same of a prefix of the code
 pub record GainsCodePrefix (source : List ℕ) (held holds : Option (List ℕ)) : Type 0 where
   pub code : List ℕ
   pub compiles : Compiles goals.Module source code
+  pub shallow : IsShallow source
   pub gains : GainsPrefix held holds code
 
 -- the whole source was taken, and the sink gained its code and nothing else
@@ -111,13 +118,14 @@ pub record GainsWhyPrefix (source : List ℕ) (held holds : Option (List ℕ)) :
   pub why : SaysWhy source line
   pub gains : GainsPrefix held holds line
 
--- what a run without words is given so that it has to give code: a source that tells its bytes, few enough, which read, and no fault in this call
+-- what a run without words is given so that it has to give code: a source that tells its bytes, few enough, which read as a tree that isn't too deep, and no fault in this call
 pub record IsValid (left : Option (List ℕ)) (reads_old reads_new out_old out_new err_old err_new : ℕ) : Type 0 where
   pub bytes : List ℕ
   pub told : left ≡ Some bytes
   pub few : length bytes ≤ max_source
   pub tree : Tree
   pub is_source : IsSource goals.Module bytes tree
+  pub shallow : depth tree ≤ max_depth
   pub read : Rose reads_old reads_new → ⊥
   pub out : Rose out_old out_new → ⊥
   pub err : Rose err_old err_new → ⊥

@@ -4,6 +4,7 @@ ghost use Rattle.std.specs.Prelude.{◌≡◌, ◌<◌, ◌≤◌, ℕ, IfOk, If
 ghost use Rattle.std.specs.Str.{IsUtf8, IsValidUpTo};
 ghost use Rattle.react_compile.specs.ParseErrors.{IsNotUtf8};
 ghost use Rattle.jsx_tree.specs.Kinds.{Tree};
+ghost use Rattle.jsx_tree.specs.Depth.{depth as tree_depth};
 ghost use Rattle.jsx_base.specs.Token as token;
 ghost use Rattle.jsx_tree.specs.declared.text.Goal as goals;
 ghost use Rattle.jsx_token.specs.Stage.{ReadsSoFar};
@@ -32,6 +33,8 @@ pub enum CompileError {
     NotUtf8(usize),
     /// No tree reads the text. The number is the place, in bytes, at which this was seen.
     Syntax(u32),
+    /// What stands in one another nests too deep. The number is the place, in bytes, of the token with which it comes to that.
+    TooDeep(u32),
     /// There was too little memory.
     Memory,
 }
@@ -56,6 +59,7 @@ impl From<ParseError> for CompileError {
     fn from(e: ParseError) -> CompileError {
         match e {
             ParseError::Syntax(at) => CompileError::Syntax(at.0),
+            ParseError::TooDeep(at) => CompileError::TooDeep(at.0),
             ParseError::Memory => CompileError::Memory,
         }
     }
@@ -88,9 +92,9 @@ fn code_of(alloc: Global, program: &mut Program<'_>) -> Result<String, AllocErro
 ///
 /// # Errors
 ///
-/// `NotUtf8` exactly where the bytes aren't UTF-8, before the text is looked at; `Syntax` where no tree reads the text, and
-/// `Memory` for want of memory.
-pub fn compile(alloc: Global, source: &[u8], goal: Goal) -> Result<Output, CompileError>
+/// `NotUtf8` exactly where the bytes aren't UTF-8, before the text is looked at; `Syntax` where no tree reads the text, `TooDeep` where
+/// none does that is no deeper than is said, and `Memory` for want of memory.
+pub fn compile(alloc: Global, source: &[u8], goal: Goal, depth: u32) -> Result<Output, CompileError>
     requires { length source.now < 4294901760 }
     ensures compiled { IfOk result (λ output. Compiles goal source.now (string_bytes output.code)) }
     ensures not_utf8 { (n : ℕ) → result ≡ Err (CompileError.NotUtf8 n) → IsValidUpTo source.now n }
@@ -98,10 +102,14 @@ pub fn compile(alloc: Global, source: &[u8], goal: Goal) -> Result<Output, Compi
     ensures text { (at : ℕ) → result ≡ Err (CompileError.Syntax at) → IsUtf8 source.now }
     ensures refused { (at : ℕ) → result ≡ Err (CompileError.Syntax at) → (tree : Tree) → IsSource goal source.now tree → ⊥ }
     ensures place { (at : ℕ) → result ≡ Err (CompileError.Syntax at) → at ≤ length source.now }
-    ensures complete { (tree : Tree) → IsSource goal source.now tree → IsOkUnless result CompileError.Memory }
+    ensures deep_text { (at : ℕ) → result ≡ Err (CompileError.TooDeep at) → IsUtf8 source.now }
+    ensures too_deep { (at : ℕ) → result ≡ Err (CompileError.TooDeep at) → (tree : Tree) → IsSource goal source.now tree → depth < tree_depth tree }
+    ensures deep_place { (at : ℕ) → result ≡ Err (CompileError.TooDeep at) → at ≤ length source.now }
+    ensures shallow { OnOk result ((tree : Tree) → IsSource goal source.now tree → tree_depth tree ≤ depth) }
+    ensures complete { (tree : Tree) → IsSource goal source.now tree → tree_depth tree ≤ depth → IsOkUnless result CompileError.Memory }
 {
     let text = text_of(source)?;
-    let mut program = parse(alloc, text, goal)?;
+    let mut program = parse(alloc, text, goal, depth)?;
     let code = code_of(alloc, &mut program)?;
     Ok(Output { code })
 }

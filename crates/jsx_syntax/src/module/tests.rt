@@ -1,6 +1,7 @@
 //! Whole texts: what of them is read, and how tightly it binds.
 
 mod covers;
+mod depths;
 mod goals;
 mod inexact;
 mod refusals;
@@ -11,12 +12,15 @@ use jsx_operand::operand::level;
 use jsx_tree::{Access, Control, Expr, Goal, Item, Operation, Pat, Program, Stmt};
 use std::alloc::Global;
 
+/// A depth that no text of these tables comes to.
+const DEEP: u32 = 100;
+
 /// The number of statements, or the place of the error.
 fn read(alloc: Global, text: &str) -> Result<usize, ParseError> {
     if text.len() >= 1000 {
         return Err(ParseError::Memory);
     }
-    match parse(alloc, text, Goal::Module)? {
+    match parse(alloc, text, Goal::Module, DEEP)? {
         Program::Module(module) => Ok(module.body.len()),
         Program::Script(script) => Ok(script.body.len()),
     }
@@ -27,7 +31,7 @@ fn parts(alloc: Global, text: &str) -> Result<(usize, usize), ParseError> {
     if text.len() >= 1000 {
         return Err(ParseError::Memory);
     }
-    match parse(alloc, text, Goal::Module)? {
+    match parse(alloc, text, Goal::Module, DEEP)? {
         Program::Module(module) => Ok((module.directives.len(), module.body.len())),
         Program::Script(_) => Err(ParseError::Memory),
     }
@@ -407,7 +411,7 @@ fn sides(alloc: Global, text: &str) -> (u8, u8) {
     if text.len() >= 1000 {
         return (0, 0);
     }
-    match parse(alloc, text, Goal::Module) {
+    match parse(alloc, text, Goal::Module, DEEP) {
         Ok(Program::Module(module)) => sides_of_first(&module.body),
         _ => (0, 0),
     }

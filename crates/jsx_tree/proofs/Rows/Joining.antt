@@ -12,6 +12,7 @@ use Rattle.jsx_tree.specs.Grows.{operator_sign}
 use Rattle.jsx_tree.specs.Language.{grammar, Whole}
 use Rattle.jsx_tree.specs.Grows.{Joins}
 use Rattle.jsx_tree.specs.Answers.{Only, Barred, NoRow, Built}
+use Rattle.jsx_tree.specs.Faults.{Fault}
 use Rattle.jsx_tree.proofs.Rows.Steps.{on, bar, then', end}
 use Rattle.jsx_tree.proofs.Rows.Turns.{whole_of}
 use Rattle.jsx_tree.proofs.Rows.Stopping.{deaf}
@@ -112,8 +113,8 @@ way o p = each (λ o. gives_way o p ≡ true)
 pub binary_row : (o : BinaryOp) → piece [] (Fixed (operator_sign o)) ∷ piece [] (Part (Expr (right_of o))) ∷ [] ≡ tail (row false (expression (Binary o)))
 binary_row = each (λ o. piece [] (Fixed (operator_sign o)) ∷ piece [] (Part (Expr (right_of o))) ∷ [] ≡ tail (row false (expression (Binary o)))) refl refl refl refl refl refl refl refl refl refl refl refl refl refl refl refl refl refl refl refl refl refl refl refl refl
 
-pub step_none : (o : BinaryOp) {v : Surroundings} {m : ℕ} {x y : Place} → m ≡ right_of o → Only grammar v (Fixed (operator_sign o)) x nothing y → Barred grammar v (Part (Expr m)) y → NoRow grammar v (tail (row false (expression (Binary o)))) x
-step_none o {v} {x = x} {y = y} e q b = subst (λ ps. NoRow grammar v ps x) (binary_row o) (on q (bar (subst (λ n. Barred grammar v (Part (Expr n)) y) e b)))
+pub step_none : (o : BinaryOp) {v : Surroundings} {m : ℕ} {x y : Place} {f : Fault} → m ≡ right_of o → Only grammar v (Fixed (operator_sign o)) x nothing y → Barred grammar v (Part (Expr m)) y f → NoRow grammar v (tail (row false (expression (Binary o)))) x f
+step_none o {v} {x = x} {y = y} {f = f} e q b = subst (λ ps. NoRow grammar v ps x f) (binary_row o) (on q (bar (subst (λ n. Barred grammar v (Part (Expr n)) y f) e b)))
 
 pub step_built : (o : BinaryOp) {v : Surroundings} {m : ℕ} {x y z : Place} {t u w : Tree} → m ≡ right_of o → Only grammar v (Fixed (operator_sign o)) x nothing y → Only grammar v (Part (Expr m)) y (one u) z → w ≡ node (expression (Binary o)) (part t (part u none)) → Built grammar v (tail (row false (expression (Binary o)))) (expression (Binary o)) (part t) w x z
 step_built o {v} {x = x} {y = y} {z = z} {t = t} {u = u} {w = w} e q r is = subst (λ ps. Built grammar v ps (expression (Binary o)) (part t) w x z) (binary_row o)

@@ -8,6 +8,7 @@ use Rattle.jsx_tree.specs.Grammar.{Part}
 use Rattle.jsx_tree.specs.Spelling.{spelled}
 use Rattle.jsx_tree.specs.Reading.{Place, Lost, scan}
 use Rattle.jsx_tree.specs.Answers.{Barred}
+use Rattle.jsx_tree.specs.Faults.{Fault, Shallow, given_depth}
 use Rattle.jsx_tree.specs.StaticRules.{Surroundings, rule, stands}
 use Rattle.jsx_tree.specs.Stops.{level_asked, stops}
 use Rattle.jsx_tree.specs.Language.{Language, grammar, Whole}
@@ -47,17 +48,17 @@ of_grammar = record {
 }
 
 -- no expression stands where nothing of what one begins with stands; from nowhere nothing is read
-pub shut_out : {L : Language} {v : Surroundings} {c : Nonterminal} {x : Place} → Lawful L → is_operand c ≡ true → Shut x → Barred L v (Part c) x
-shut_out {L} {v} {c} {x} l m s = record { no = at }
+pub shut_out : {L : Language} {v : Surroundings} {c : Nonterminal} {x : Place} {e : Fault} → Lawful L → is_operand c ≡ true → Shut x → Barred L v (Part c) x e
+shut_out {L} {v} {c} {x} {e} l m s = record { no = at }
   where
-    at : (g : Given) (y : Place) → Past (Whole L) v (Part c) x g y → ⊥
-    at g y (tree w) = shut_reading m s (l.is_read w.reads)
+    at : (g : Given) (y : Place) → Past (Whole L) v (Part c) x g y → Shallow e (given_depth g) → ⊥
+    at g y (tree w) q = shut_reading m s (l.is_read w.reads)
 
-pub lost_barred : {L : Language} {v : Surroundings} {c : Nonterminal} {x : Place} → Lawful L → x ≡ Lost → Barred L v (Part c) x
-lost_barred {L} {v} {c} {x} l e = record { no = at }
+pub lost_barred : {L : Language} {v : Surroundings} {c : Nonterminal} {x : Place} {e : Fault} → Lawful L → x ≡ Lost → Barred L v (Part c) x e
+lost_barred {L} {v} {c} {x} {e = f} l e = record { no = at }
   where
-    at : (g : Given) (y : Place) → Past (Whole L) v (Part c) x g y → ⊥
-    at g y (tree {t = t} w) =
+    at : (g : Given) (y : Place) → Past (Whole L) v (Part c) x g y → Shallow f (given_depth g) → ⊥
+    at g y (tree {t = t} w) s =
         let r = l.is_read w.reads in
         let bad : IsTrue (is_found Lost) = subst (λ p. IsTrue (is_found p)) (sym r.scans ∙ (ap (λ p. scan p (spelled t)) e ∙ scan_lost (spelled t))) r.found in cc
 

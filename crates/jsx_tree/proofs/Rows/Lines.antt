@@ -1,5 +1,5 @@
 -- Trees on lines of their own, up to the end of the text.
-use Rattle.std.proofs.Common.{◌≡◌, true, false, refl, sym, ◌∙◌, ap, subst}
+use Rattle.std.proofs.Common.{◌≡◌, ◌≤◌, true, false, refl, sym, ◌∙◌, ap, subst}
 use Rattle.std.specs.Prelude.{IsTrue}
 use Rattle.jsx_tree.specs.Kinds.{Tree, Forest, none, part}
 use Rattle.jsx_tree.specs.Nonterminals.{Nonterminal}
@@ -9,9 +9,11 @@ use Rattle.jsx_tree.specs.StaticRules.{Surroundings}
 use Rattle.jsx_tree.specs.Walk.{is_found, one, Items, nil, last, more, tree}
 use Rattle.jsx_tree.specs.Language.{Language, Whole}
 use Rattle.jsx_tree.specs.Answers.{Only, Barred, ToEnd, OnlyToEnd, NoneToEnd}
+use Rattle.jsx_tree.specs.Faults.{Fault, Unread, Shallow, deepest}
+use Rattle.jsx_tree.proofs.Depth.Shallow.{shallow_up, shallow_head}
 use Rattle.jsx_tree.proofs.Apart.{clash}
 use Rattle.jsx_tree.proofs.Rows.Laws.{Lawful}
-use Rattle.jsx_tree.proofs.Rows.Steps.{both}
+use Rattle.jsx_tree.proofs.Rows.Steps.{both, both_up}
 use Rattle.jsx_tree.proofs.Rows.Turns.{no_rest, early, item_of, whole_of}
 
 -- what leads to the end from one place is what leads to it from a later one, with more in front
@@ -65,23 +67,27 @@ both_none : (ts : Forest) → both ts none ≡ ts
 both_none none = refl
 both_none (part t ts) = ap (part t) (both_none ts)
 
-none_behind : {L : Language} {v : Surroundings} {c : Nonterminal} {y w : Place} {us : Forest} → Barred L v (Part c) y → Items (Whole L) v TopLines c y us w → us ≡ none
+none_behind : {L : Language} {v : Surroundings} {c : Nonterminal} {y w : Place} {us : Forest} → Barred L v (Part c) y Unread → Items (Whole L) v TopLines c y us w → us ≡ none
 none_behind b (nil f) = refl
-none_behind b (last r d f) = absurd (b.no _ _ (tree r))
-none_behind b (more m r d all) = absurd (b.no _ _ (tree r))
+none_behind b (last r d f) = absurd (b.no _ _ (tree r) tt)
+none_behind b (more m r d all) = absurd (b.no _ _ (tree r) tt)
 
 -- the text ends
-pub onto_end : {L : Language} {v : Surroundings} {c : Nonterminal} {x y : Place} (ts : Forest) → Onto L v c x y ts → ended_at y ≡ true → Barred L v (Part c) y → OnlyToEnd L v c x ts
+pub onto_end : {L : Language} {v : Surroundings} {c : Nonterminal} {x y : Place} (ts : Forest) → Onto L v c x y ts → ended_at y ≡ true → Barred L v (Part c) y Unread → OnlyToEnd L v c x ts
 onto_end {L} {v} {c} {x} {y} ts o e b = record {
   leads = subst (λ us. ToEnd L v c x us) (both_none ts) (o.to none (record { end = y; items = nil (found_end y e); ended = e }));
   alone = λ ws a. let l = o.from ws a in sym (both_none ts) ∙ (ap (both ts) (sym (none_behind b l.leads.items)) ∙ l.is);
 }
 
 -- nothing stands where the text doesn't end
-pub onto_barred : {L : Language} {v : Surroundings} {c : Nonterminal} {x y : Place} (ts : Forest) → Onto L v c x y ts → ended_at y ≡ false → Barred L v (Part c) y → NoneToEnd L v c x
-onto_barred {L} {v} {c} {x} {y} ts o e b = record { no = λ ws a. let l = o.from ws a in at l.rest l.leads.end l.leads.items l.leads.ended }
+pub onto_barred : {L : Language} {v : Surroundings} {c : Nonterminal} {x y : Place} {e : Fault} (ts : Forest) → Onto L v c x y ts → ended_at y ≡ false → Barred L v (Part c) y e → NoneToEnd L v c x e
+onto_barred {L} {v} {c} {x} {y} {e} ts o n b = record {
+  no = λ ws a s.
+      let l = o.from ws a in
+      at l.rest l.leads.end l.leads.items l.leads.ended (shallow_up e (deepest l.rest) (deepest ws) (subst (λ vs. deepest l.rest ≤ deepest vs) l.is (both_up ts l.rest)) s);
+}
   where
-    at : (us : Forest) (w : Place) → Items (Whole L) v TopLines c y us w → ended_at w ≡ true → ⊥
-    at us w (nil f) h = clash _ h e
-    at us w (last r d f) h = b.no _ _ (tree r)
-    at us w (more m r d all) h = b.no _ _ (tree r)
+    at : (us : Forest) (w : Place) → Items (Whole L) v TopLines c y us w → ended_at w ≡ true → Shallow e (deepest us) → ⊥
+    at us w (nil f) h s = clash _ h n
+    at us w (last {t = t} r d f) h s = b.no _ _ (tree r) (shallow_head e t none s)
+    at us w (more {t = t} {u = u} {us = vs} m r d all) h s = b.no _ _ (tree r) (shallow_head e t (part u vs) s)

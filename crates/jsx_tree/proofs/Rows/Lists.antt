@@ -14,6 +14,8 @@ use Rattle.jsx_base.specs.Token.{Operand, RegExpLiteral}
 use Rattle.jsx_tree.specs.Walk.{is_found, is_text, Given, nothing, one, Piece, piece, Items, nil, last, more, Past, sign, tree, many, Walk, next, steady}
 use Rattle.jsx_tree.specs.Language.{Language, Whole}
 use Rattle.jsx_tree.specs.Answers.{Moves, Stuck, Missed, Only, Barred, OnlyRow, NoRow}
+use Rattle.jsx_tree.specs.Faults.{Fault, Unread, Shallow, deepest}
+use Rattle.jsx_tree.proofs.Depth.Shallow.{shallow_first, shallow_rest, shallow_head}
 use Rattle.jsx_tree.proofs.Apart.{never_both}
 use Rattle.jsx_tree.proofs.Rows.Bridge.{found_first, found_at}
 use Rattle.jsx_tree.specs.Grows.{is_operand}
@@ -45,22 +47,26 @@ closed m = then' (only_sign m) (end m.found)
 pub ended_sign : {L : Language} {v : Surroundings} {b : List Context} {s : Sign} {x y : Place} → Only L (steady v b) (Fixed s) x nothing y → OnlyRow L v (piece b (Fixed s) ∷ []) x none y
 ended_sign o = then' o (end (sign_found o.past))
 
-unclosed : {L : Language} {v : Surroundings} {b : List Context} {s : Sign} {x : Place} → Stuck s x → NoRow L v (piece b (Fixed s) ∷ []) x
+unclosed : {L : Language} {v : Surroundings} {b : List Context} {s : Sign} {x : Place} {e : Fault} → Stuck s x → NoRow L v (piece b (Fixed s) ∷ []) x e
 unclosed n = bar (no_sign n)
 
-none_behind : {L : Language} {v : Surroundings} {b : List Context} {s : Sign} {x : Place} → Barred L (steady v b) (Fixed s) x → NoRow L v (piece b (Fixed s) ∷ []) x
+none_behind : {L : Language} {v : Surroundings} {b : List Context} {s : Sign} {x : Place} {e : Fault} → Barred L (steady v b) (Fixed s) x e → NoRow L v (piece b (Fixed s) ∷ []) x e
 none_behind n = bar n
 
-no_list : {L : Language} {v : Surroundings} {a : List Context} {c : Nonterminal} {ps : List Piece} {x : Place} → Barred L (steady v a) (Part c) x → NoRow L v ps x → NoRow L v (piece a (Many Commas c) ∷ ps) x
-no_list {L} {v} {a} {c} {ps} {x} b n = record { no = back }
+-- of a list that may be empty neither its first tree nor what stands behind it
+pub no_items : {L : Language} {v : Surroundings} {a : List Context} {s : ListShape} {c : Nonterminal} {ps : List Piece} {x : Place} {e : Fault} → ((t : Tree) (y : Place) → Whole L (steady v a) (is_text s) c x t y → Whole L (steady v a) false c x t y) → Barred L (steady v a) (Part c) x e → NoRow L v ps x e → NoRow L v (piece a (Many s c) ∷ ps) x e
+no_items {L} {v} {a} {s = shape} {c} {ps} {x} {e} g b n = record { no = back }
   where
-    inner : (ts : Forest) (y : Place) → Items (Whole L) (steady v a) Commas c x ts y → (us : Forest) (w : Place) → Walk (Whole L) (steady v) ps y us w → ⊥
-    inner ts y (nil f) us w walk = n.no us w walk
-    inner ts y (last r e f) us w walk = b.no _ _ (tree r)
-    inner ts y (more m r e all) us w walk = b.no _ _ (tree r)
+    inner : (ts : Forest) (y : Place) → Items (Whole L) (steady v a) shape c x ts y → (us : Forest) (w : Place) → Walk (Whole L) (steady v) ps y us w → Shallow e (deepest ts) → Shallow e (deepest us) → ⊥
+    inner ts y (nil f) us w walk s q = n.no us w walk q
+    inner ts y (last {t = t} r d f) us w walk s q = b.no _ _ (tree (g t _ r)) (shallow_head e t none s)
+    inner ts y (more {t = t} {u = u} {us = vs} m r d all) us w walk s q = b.no _ _ (tree (g t _ r)) (shallow_head e t (part u vs) s)
 
-    back : (us : Forest) (w : Place) → Walk (Whole L) (steady v) (piece a (Many Commas c) ∷ ps) x us w → ⊥
-    back us w (next {ts = vs} (many {ts = ts} e all) walk) = inner ts _ all vs w walk
+    back : (us : Forest) (w : Place) → Walk (Whole L) (steady v) (piece a (Many shape c) ∷ ps) x us w → Shallow e (deepest us) → ⊥
+    back us w (next {ts = vs} (many {ts = ts} n all) walk) s = inner ts _ all vs w walk (shallow_first e (one (list ts)) vs s) (shallow_rest e (one (list ts)) vs s)
+
+no_list : {L : Language} {v : Surroundings} {a : List Context} {c : Nonterminal} {ps : List Piece} {x : Place} {e : Fault} → Barred L (steady v a) (Part c) x e → NoRow L v ps x e → NoRow L v (piece a (Many Commas c) ∷ ps) x e
+no_list b n = no_items (λ t y r. r) b n
 
 both_none : (ts : Forest) → both ts none ≡ ts
 both_none none = refl
@@ -79,8 +85,8 @@ ended {L} {v} {a} {b} {c} {d} {t} {x} {y} {z} ts l f k so m =
     subst (λ us. OnlyRow L v (piece a (Many Commas c) ∷ piece b (Fixed (Tok Operator Punctuator (d ∷ t))) ∷ []) x (part (list us) none) z) (both_none ts)
     (turn_only so (turn_only (turn_empty (behind m) (shut_out l f (closes k (found_at (sym m.is) m.found)))) (closed m)))
 
-pub no_more : {L : Language} {v : Surroundings} {a b : List Context} {c : Nonterminal} {s : Sign} {x y z : Place} (ts : Forest) → Turn L v (piece a (Many Commas c) ∷ piece b (Fixed s) ∷ []) (piece a (Many Commas c) ∷ piece b (Fixed s) ∷ []) x y (prepend ts) → Missed s y z → Barred L (steady v a) (Part c) z → NoRow L v (piece a (Many Commas c) ∷ piece b (Fixed s) ∷ []) x
-no_more {L} {v} {a} {c = c} ts so m b = turn_none so (no_list (subst (λ p. Barred L (steady v a) (Part c) p) (sym m.same) b) (unclosed m.stuck))
+pub no_more : {L : Language} {v : Surroundings} {a b : List Context} {c : Nonterminal} {s : Sign} {x y z : Place} {e : Fault} (ts : Forest) → Turn L v (piece a (Many Commas c) ∷ piece b (Fixed s) ∷ []) (piece a (Many Commas c) ∷ piece b (Fixed s) ∷ []) x y (prepend ts) → Missed s y z → Barred L (steady v a) (Part c) z e → NoRow L v (piece a (Many Commas c) ∷ piece b (Fixed s) ∷ []) x e
+no_more {L} {v} {a} {c = c} {e = e} ts so m b = turn_none so (no_list (subst (λ p. Barred L (steady v a) (Part c) p e) (sym m.same) b) (unclosed m.stuck))
 
 -- a part with no comma behind it
 last_part : {L : Language} {v : Surroundings} {a b : List Context} {c : Nonterminal} {s : Sign} {x x' y z : Place} {t : Tree} → Lawful L → Missed s x x' → Only L (steady v a) (Part c) x' (one t) y → Missed (pun ",") y z → Turn L v (piece a (Many Commas c) ∷ piece b (Fixed s) ∷ []) (piece b (Fixed s) ∷ []) x z (part (list (part t none)))
@@ -92,8 +98,8 @@ pub ended_behind : {L : Language} {v : Surroundings} {a b : List Context} {c : N
     → Missed s y y' → Only L (steady v a) (Part c) y' (one t) z → Missed (pun ",") z z' → Only L (steady v b) (Fixed s) z' nothing w → us ≡ both ts (part t none) → OnlyRow L v (piece a (Many Commas c) ∷ piece b (Fixed s) ∷ []) x (part (list us) none) w
 ended_behind {L} {v} {a} {b} {c} {s} {x} {w = w} ts us l so n o m k e = subst (λ vs. OnlyRow L v (piece a (Many Commas c) ∷ piece b (Fixed s) ∷ []) x (part (list vs) none) w) (sym e) (turn_only so (turn_only (last_part l n o m) (then' k (end (sign_found k.past)))))
 
-pub not_closed : {L : Language} {v : Surroundings} {a b : List Context} {c : Nonterminal} {s : Sign} {x y y' z z' : Place} {t : Tree} (ts : Forest) → Lawful L → Turn L v (piece a (Many Commas c) ∷ piece b (Fixed s) ∷ []) (piece a (Many Commas c) ∷ piece b (Fixed s) ∷ []) x y (prepend ts)
-    → Missed s y y' → Only L (steady v a) (Part c) y' (one t) z → Missed (pun ",") z z' → Barred L (steady v b) (Fixed s) z' → NoRow L v (piece a (Many Commas c) ∷ piece b (Fixed s) ∷ []) x
+pub not_closed : {L : Language} {v : Surroundings} {a b : List Context} {c : Nonterminal} {s : Sign} {x y y' z z' : Place} {t : Tree} {e : Fault} (ts : Forest) → Lawful L → Turn L v (piece a (Many Commas c) ∷ piece b (Fixed s) ∷ []) (piece a (Many Commas c) ∷ piece b (Fixed s) ∷ []) x y (prepend ts)
+    → Missed s y y' → Only L (steady v a) (Part c) y' (one t) z → Missed (pun ",") z z' → Barred L (steady v b) (Fixed s) z' e → NoRow L v (piece a (Many Commas c) ∷ piece b (Fixed s) ∷ []) x e
 not_closed ts l so n o m k = turn_none so (turn_none (last_part l n o m) (bar k))
 
 -- a part and a comma
@@ -103,23 +109,23 @@ item_more {L} {v} {a} {c = c} {z = z} {t = t} ts us l r so n o m e = turn_as (λ
 
 -- ---- the same where no comma may trail and one part at least stands
 
-no_first : {L : Language} {v : Surroundings} {a : List Context} {c : Nonterminal} {ps : List Piece} {x : Place} → Barred L (steady v a) (Part c) x → NoRow L v (piece a (Many NoTrailing c) ∷ ps) x
-no_first {L} {v} {a} {c} {ps} {x} b = record { no = back }
+no_first : {L : Language} {v : Surroundings} {a : List Context} {c : Nonterminal} {ps : List Piece} {x : Place} {e : Fault} → Barred L (steady v a) (Part c) x e → NoRow L v (piece a (Many NoTrailing c) ∷ ps) x e
+no_first {L} {v} {a} {c} {ps} {x} {e} b = record { no = back }
   where
-    inner : (ts : Forest) (y : Place) → enough NoTrailing ts ≡ true → Items (Whole L) (steady v a) NoTrailing c x ts y → ⊥
-    inner ts y e (nil f) = cc
-    inner ts y e (last r g f) = b.no _ _ (tree r)
-    inner ts y e (more m r g all) = b.no _ _ (tree r)
+    inner : (ts : Forest) (y : Place) → enough NoTrailing ts ≡ true → Items (Whole L) (steady v a) NoTrailing c x ts y → Shallow e (deepest ts) → ⊥
+    inner ts y n (nil f) s = cc
+    inner ts y n (last {t = t} r g f) s = b.no _ _ (tree r) (shallow_head e t none s)
+    inner ts y n (more {t = t} {u = u} {us = vs} m r g all) s = b.no _ _ (tree r) (shallow_head e t (part u vs) s)
 
-    back : (us : Forest) (w : Place) → Walk (Whole L) (steady v) (piece a (Many NoTrailing c) ∷ ps) x us w → ⊥
-    back us w (next (many {ts = ts} e all) walk) = inner ts _ e all
+    back : (us : Forest) (w : Place) → Walk (Whole L) (steady v) (piece a (Many NoTrailing c) ∷ ps) x us w → Shallow e (deepest us) → ⊥
+    back us w (next {ts = vs} (many {ts = ts} n all) walk) s = inner ts _ n all (shallow_first e (one (list ts)) vs s)
 
-pub none_next : {L : Language} {v : Surroundings} {a : List Context} {c : Nonterminal} {ps : List Piece} {x y : Place} (ts : Forest) → Turn L v (piece a (Many NoTrailing c) ∷ ps) (piece a (Many NoTrailing c) ∷ ps) x y (prepend ts) → Barred L (steady v a) (Part c) y → NoRow L v (piece a (Many NoTrailing c) ∷ ps) x
+pub none_next : {L : Language} {v : Surroundings} {a : List Context} {c : Nonterminal} {ps : List Piece} {x y : Place} {e : Fault} (ts : Forest) → Turn L v (piece a (Many NoTrailing c) ∷ ps) (piece a (Many NoTrailing c) ∷ ps) x y (prepend ts) → Barred L (steady v a) (Part c) y e → NoRow L v (piece a (Many NoTrailing c) ∷ ps) x e
 none_next ts so b = turn_none so (no_first b)
 
-pub not_shut : {L : Language} {v : Surroundings} {a b : List Context} {c : Nonterminal} {s : Sign} {x y z z' : Place} {t : Tree} (ts : Forest) → Lawful L → Turn L v (piece a (Many NoTrailing c) ∷ piece b (Fixed s) ∷ []) (piece a (Many NoTrailing c) ∷ piece b (Fixed s) ∷ []) x y (prepend ts)
-    → Only L (steady v a) (Part c) y (one t) z → Missed (pun ",") z z' → Barred L (steady v b) (Fixed s) z' → NoRow L v (piece a (Many NoTrailing c) ∷ piece b (Fixed s) ∷ []) x
-not_shut {L} {v} {b = b} {s = s} ts l so o m k = turn_none so (turn_none (turn_final l o m.stuck) (bar (subst (λ p. Barred L (steady v b) (Fixed s) p) (sym m.same) k)))
+pub not_shut : {L : Language} {v : Surroundings} {a b : List Context} {c : Nonterminal} {s : Sign} {x y z z' : Place} {t : Tree} {e : Fault} (ts : Forest) → Lawful L → Turn L v (piece a (Many NoTrailing c) ∷ piece b (Fixed s) ∷ []) (piece a (Many NoTrailing c) ∷ piece b (Fixed s) ∷ []) x y (prepend ts)
+    → Only L (steady v a) (Part c) y (one t) z → Missed (pun ",") z z' → Barred L (steady v b) (Fixed s) z' e → NoRow L v (piece a (Many NoTrailing c) ∷ piece b (Fixed s) ∷ []) x e
+not_shut {L} {v} {b = b} {s = s} {e = e} ts l so o m k = turn_none so (turn_none (turn_final l o m.stuck) (bar (subst (λ p. Barred L (steady v b) (Fixed s) p e) (sym m.same) k)))
 
 pub shut : {L : Language} {v : Surroundings} {a b : List Context} {c : Nonterminal} {s : Sign} {x y z z' w : Place} {t : Tree} (ts us : Forest) → Lawful L → Turn L v (piece a (Many NoTrailing c) ∷ piece b (Fixed s) ∷ []) (piece a (Many NoTrailing c) ∷ piece b (Fixed s) ∷ []) x y (prepend ts)
     → Only L (steady v a) (Part c) y (one t) z → Missed (pun ",") z z' → Only L (steady v b) (Fixed s) z' nothing w → us ≡ both ts (part t none) → OnlyRow L v (piece a (Many NoTrailing c) ∷ piece b (Fixed s) ∷ []) x (part (list us) none) w
@@ -131,8 +137,8 @@ pub one_next : {L : Language} {v : Surroundings} {a b : List Context} {c : Nonte
     → Only L (steady v a) (Part c) y (one t) z → Moves (pun ",") z w → us ≡ both ts (part t none) → Turn L v (piece a (Many NoTrailing c) ∷ piece b (Fixed (Tok Operator Punctuator (d ∷ r))) ∷ []) (piece a (Many NoTrailing c) ∷ piece b (Fixed (Tok Operator Punctuator (d ∷ r))) ∷ []) x w (prepend us)
 one_next {L} {v} {a} {b} {c = c} {d = d} {r = r} {z = z} {t = t} ts us l n ne so o m e = turn_as (λ vs. prepend_cons ts t vs ∙ (λ i. prepend (sym e i) vs)) (turn_both so (turn_next l n o m (record { no = at })))
   where
-    at : (us : Forest) (w : Place) → Walk (Whole L) (steady v) (piece b (Fixed (Tok Operator Punctuator (d ∷ r))) ∷ []) z us w → ⊥
-    at us w (next (sign g f) walk) = never_both Punctuator Punctuator (codes ",") (d ∷ r) z ne (found_at (sym m.is) m.found) (found_at g f)
+    at : (us : Forest) (w : Place) → Walk (Whole L) (steady v) (piece b (Fixed (Tok Operator Punctuator (d ∷ r))) ∷ []) z us w → Shallow Unread (deepest us) → ⊥
+    at us w (next (sign g f) walk) s = never_both Punctuator Punctuator (codes ",") (d ∷ r) z ne (found_at (sym m.is) m.found) (found_at g f)
 
 -- what is said of the next part alone is said of every list that begins with those before
 pub all_with : {L : Language} {v : Surroundings} {a : List Context} {c : Nonterminal} {ps : List Piece} {x y z : Place} {t : Tree} (ts : Forest) → Turn L v (piece a (Many NoTrailing c) ∷ ps) (piece a (Many NoTrailing c) ∷ ps) x y (prepend ts) → Only L (steady v a) (Part c) y (one t) z
@@ -151,13 +157,13 @@ all_with {L} {v} {a} {c} {ps} {x} {y} {z} {t} ts so o us w walk =
     back vs p (next {ts = ws} (many {ts = ts'} e all) walk) = inner ts' _ ws e all
 
 -- no part can stand in it
-pub only_none : {L : Language} {v : Surroundings} {s : ListShape} {c : Nonterminal} {x : Place} → enough s none ≡ true → IsTrue (is_found x) → Barred L v (Part c) x → ((t : Tree) (y : Place) → Whole L v (is_text s) c x t y → Whole L v false c x t y) → Only L v (Many s c) x (one (list none)) x
+pub only_none : {L : Language} {v : Surroundings} {s : ListShape} {c : Nonterminal} {x : Place} → enough s none ≡ true → IsTrue (is_found x) → Barred L v (Part c) x Unread → ((t : Tree) (y : Place) → Whole L v (is_text s) c x t y → Whole L v false c x t y) → Only L v (Many s c) x (one (list none)) x
 only_none {L} {v} {s} {c} {x} n f b g = record { past = many n (nil f); alone = at }
   where
     inner : (ts : Forest) (y : Place) → Items (Whole L) v s c x ts y → (one (list none) ≡ one (list ts)) × (x ≡ y)
     inner ts y (nil f) = (refl, refl)
-    inner ts y (last {t = t} r e f) = absurd (b.no _ _ (tree (g t _ r)))
-    inner ts y (more {t = t} m r e all) = absurd (b.no _ _ (tree (g t _ r)))
+    inner ts y (last {t = t} r e f) = absurd (b.no _ _ (tree (g t _ r)) tt)
+    inner ts y (more {t = t} m r e all) = absurd (b.no _ _ (tree (g t _ r)) tt)
 
     at : (h : Given) (z : Place) → Past (Whole L) v (Many s c) x h z → (one (list none) ≡ h) × (x ≡ z)
     at h z (many {ts = ts} e all) = inner ts z all

@@ -16,6 +16,8 @@ use Rattle.jsx_base.proofs.Fronts.{none_ahead, other_ahead}
 use Rattle.jsx_tree.specs.Walk.{is_found, Given, nothing, one, Piece, piece, Past, sign, tree, absent, present, Walk, done, next, steady}
 use Rattle.jsx_tree.specs.Language.{Language, Whole}
 use Rattle.jsx_tree.specs.Answers.{Moves, Stuck, Missed, Only, Barred, NoRow}
+use Rattle.jsx_tree.specs.Faults.{Fault, Unread, Shallow, deepest}
+use Rattle.jsx_tree.proofs.Depth.Shallow.{shallow_first, shallow_rest, shallow_head, part_up}
 use Rattle.jsx_tree.proofs.Rows.Bridge.{found_first, found_at}
 use Rattle.jsx_tree.proofs.Rows.Stopping.{or_cases, found_if, is_not, semi_cases, raw_of, stays}
 use Rattle.jsx_tree.specs.Grows.{is_operand}
@@ -34,18 +36,18 @@ unless_found x r f = found_first (Unless r ∷ []) x f
 
 -- ---- an optional part is absent, or present
 
-pub turn_absent : {L : Language} {v : Surroundings} {a : List Context} {c : Nonterminal} {l m : List Sign} {r : List Text} {ps : List Piece} {x y : Place} → forth (Unless r) x ≡ y → IsTrue (is_found y) → Barred L (steady v a) (Part c) (scan x l) → Turn L v (piece a (Optional l c m r) ∷ ps) ps x y (part (list none))
-turn_absent {L} {v} {a} {c} {l} {m} {r} {ps} {x} {y} e f b = record { to = λ ts w walk. next (absent e f) walk; from = back }
+pub turn_absent : {L : Language} {v : Surroundings} {a : List Context} {c : Nonterminal} {l m : List Sign} {r : List Text} {ps : List Piece} {x y : Place} → forth (Unless r) x ≡ y → IsTrue (is_found y) → Barred L (steady v a) (Part c) (scan x l) Unread → Turn L v (piece a (Optional l c m r) ∷ ps) ps x y (part (list none))
+turn_absent {L} {v} {a} {c} {l} {m} {r} {ps} {x} {y} e f b = record { to = λ ts w walk. next (absent e f) walk; from = back; rises = part_up (list none) }
   where
     back : (us : Forest) (w : Place) → Walk (Whole L) (steady v) (piece a (Optional l c m r) ∷ ps) x us w → From L v ps y (part (list none)) us w
     back us w (next {z = z} {ts = vs} (absent e' f') walk) = record { parts = vs; is = refl; walk = subst (λ p. Walk (Whole L) (steady v) ps p vs w) (sym e' ∙ e) walk }
-    back us w (next (present {y = y'} d q e' f') walk) = absurd ((subst (λ p. Barred L (steady v a) (Part c) p) d b).no _ _ (tree q))
+    back us w (next (present {y = y'} d q e' f') walk) = absurd ((subst (λ p. Barred L (steady v a) (Part c) p Unread) d b).no _ _ (tree q) tt)
 
-pub turn_present : {L : Language} {v : Surroundings} {a : List Context} {c : Nonterminal} {l m : List Sign} {r : List Text} {ps : List Piece} {x y z w : Place} {t : Tree} → scan x l ≡ y → Only L (steady v a) (Part c) y (one t) z → scan z m ≡ w → IsTrue (is_found w) → NoRow L v ps (forth (Unless r) x) → Turn L v (piece a (Optional l c m r) ∷ ps) ps x w (part (list (part t none)))
-turn_present {L} {v} {a} {c} {l} {m} {r} {ps} {x} {y} {z} {w} {t} d o e f n = record { to = λ ts u walk. next (present d (whole_of o.past) e f) walk; from = back }
+pub turn_present : {L : Language} {v : Surroundings} {a : List Context} {c : Nonterminal} {l m : List Sign} {r : List Text} {ps : List Piece} {x y z w : Place} {t : Tree} → scan x l ≡ y → Only L (steady v a) (Part c) y (one t) z → scan z m ≡ w → IsTrue (is_found w) → NoRow L v ps (forth (Unless r) x) Unread → Turn L v (piece a (Optional l c m r) ∷ ps) ps x w (part (list (part t none)))
+turn_present {L} {v} {a} {c} {l} {m} {r} {ps} {x} {y} {z} {w} {t} d o e f n = record { to = λ ts u walk. next (present d (whole_of o.past) e f) walk; from = back; rises = part_up (list (part t none)) }
   where
     back : (us : Forest) (u : Place) → Walk (Whole L) (steady v) (piece a (Optional l c m r) ∷ ps) x us u → From L v ps w (part (list (part t none))) us u
-    back us u (next {ts = vs} (absent e' f') walk) = absurd (n.no vs u (subst (λ p. Walk (Whole L) (steady v) ps p vs u) (sym e') walk))
+    back us u (next {ts = vs} (absent e' f') walk) = absurd (n.no vs u (subst (λ p. Walk (Whole L) (steady v) ps p vs u) (sym e') walk) tt)
     back us u (next {z = w'} {ts = vs} (present {y = y'} {z = z'} {t = t'} d' q e' f') walk) =
         let same = o.alone (one t') z' (tree (subst (λ p. Whole L (steady v a) false c p t' z') (sym d' ∙ d) q)) in
         record { parts = vs; is = λ i. part (list (part (item_of (same.0 i)) none)) vs; walk = subst (λ p. Walk (Whole L) (steady v) ps p vs u) (sym e' ∙ (ap (λ p. scan p m) (sym same.1) ∙ e)) walk }
@@ -61,9 +63,9 @@ present_last {L} {v} {o} {a} {c} {l} {m} {x} {y} {z} {w} {t} n d q e f = record 
         ((λ i. part (list (part (item_of (same.0 i)) none)) none), sym e ∙ (ap (λ p. scan p m) same.1 ∙ e'))
 
 -- and one that can't be read
-pub none_last : {L : Language} {v : Surroundings} {o : Nonterminal} {a : List Context} {c : Nonterminal} {l m : List Sign} {x y : Place} → L.ends o x ≡ false → scan x l ≡ y → Barred L (steady v a) (Part c) y → (us : Forest) (u : Place) → Walk (Whole L) (steady v) (piece a (Optional l c m []) ∷ []) x us u → L.ends o u ≡ true → ⊥
-none_last {L} {v} {o} {a} {c} {l} {m} {x} {y} n d b us u (next (absent e' f') (done g)) h = clash _ (subst (λ p. L.ends o p ≡ true) (sym e' ∙ unless_none x (unless_found x [] (found_at e' f'))) h) n
-none_last {L} {v} {o} {a} {c} {l} {m} {x} {y} n d b us u (next (present d' r e' f') w) h = (subst (λ p. Barred L (steady v a) (Part c) p) (sym d ∙ d') b).no _ _ (tree r)
+pub none_last : {L : Language} {v : Surroundings} {o : Nonterminal} {a : List Context} {c : Nonterminal} {l m : List Sign} {x y : Place} {e : Fault} → L.ends o x ≡ false → scan x l ≡ y → Barred L (steady v a) (Part c) y e → (us : Forest) (u : Place) → Walk (Whole L) (steady v) (piece a (Optional l c m []) ∷ []) x us u → L.ends o u ≡ true → Shallow e (deepest us) → ⊥
+none_last {L} {v} {o} {a} {c} {l} {m} {x} {y} n d b us u (next (absent e' f') (done g)) h s = clash _ (subst (λ p. L.ends o p ≡ true) (sym e' ∙ unless_none x (unless_found x [] (found_at e' f'))) h) n
+none_last {L} {v} {o} {a} {c} {l} {m} {x} {y} {e} n d b us u (next {ts = vs} (present {t = t} d' r e' f') w) h s = (subst (λ p. Barred L (steady v a) (Part c) p e) (sym d ∙ d') b).no _ _ (tree r) (shallow_head e t none (shallow_head e (list (part t none)) vs s))
 
 -- ---- a place before a character with which no expression begins
 
@@ -179,13 +181,13 @@ abbrev word_row : List Context → Nonterminal → List Piece
 word_row a c = piece a (Fixed (Ends AfterWord)) ∷ piece a (Optional (SameLine ∷ []) c [] []) ∷ piece a (Fixed Semicolon) ∷ []
 
 -- behind such a word, where a semicolon stands or is missing, no expression stands on the line; where none is missing, no line ends
-word_end : {c : Nonterminal} {L : Language} {v : Surroundings} (x : Place) → Lawful L → is_operand c ≡ true → IsTrue (is_found (forth Semicolon (forth (Ends AfterWord) x))) → Barred L v (Part c) (forth SameLine (forth (Ends AfterWord) x))
+word_end : {c : Nonterminal} {L : Language} {v : Surroundings} {e : Fault} (x : Place) → Lawful L → is_operand c ≡ true → IsTrue (is_found (forth Semicolon (forth (Ends AfterWord) x))) → Barred L v (Part c) (forth SameLine (forth (Ends AfterWord) x)) e
 word_end Lost l k f = lost_barred l refl
-word_end {c} {L} {v} (At q e text) l k f = by (breaks text) refl
+word_end {c} {L} {v} {e = g} (At q e text) l k f = by (breaks text) refl
   where
-    by : (b : Bool) → breaks text ≡ b → Barred L v (Part c) (go_if (not (breaks text)) (At q AfterWord text))
+    by : (b : Bool) → breaks text ≡ b → Barred L v (Part c) (go_if (not (breaks text)) (At q AfterWord text)) g
     by true h = lost_barred l (ap (λ b. go_if (not b) (At q AfterWord text)) h)
-    by false h = subst (λ b. Barred L v (Part c) (go_if (not b) (At q AfterWord text))) (sym h) (shut_out l k (semicolon_shut q AfterWord text refl h f))
+    by false h = subst (λ b. Barred L v (Part c) (go_if (not b) (At q AfterWord text)) g) (sym h) (shut_out l k (semicolon_shut q AfterWord text refl h f))
 
 found_sign : {L : Language} {v : Surroundings} {s : Sign} {x y : Place} {g : Given} → Past (Whole L) v (Fixed s) x g y → IsTrue (is_found y)
 found_sign (sign e f) = f
@@ -196,7 +198,7 @@ ends_at (sign e f) = e
 pub word_absent : {L : Language} {v : Surroundings} {c : Nonterminal} {x y z : Place} → Lawful L → is_operand c ≡ true → Only L v (Fixed (Ends AfterWord)) x nothing y → Moves Semicolon y z → Turn L v (piece [] (Optional (SameLine ∷ []) c [] []) ∷ piece [] (Fixed Semicolon) ∷ []) (piece [] (Fixed Semicolon) ∷ []) y y (part (list none))
 word_absent {L} {v} {c} {x} {y} l k o m =
     let f = found_first (Semicolon ∷ []) y (found_at (sym m.is) m.found) in
-    turn_absent (unless_none y f) f (subst (λ p. Barred L v (Part c) (forth SameLine p)) (ends_at o.past) (word_end x l k (subst (λ p. IsTrue (is_found (forth Semicolon p))) (sym (ends_at o.past)) (found_at (sym m.is) m.found))))
+    turn_absent (unless_none y f) f (subst (λ p. Barred L v (Part c) (forth SameLine p) Unread) (ends_at o.past) (word_end x l k (subst (λ p. IsTrue (is_found (forth Semicolon p))) (sym (ends_at o.past)) (found_at (sym m.is) m.found))))
 
 -- where none is missing, no line ends
 found_not : {x y : Place} → x ≡ y → is_found x ≡ true → y ≡ Lost → ⊥
@@ -222,7 +224,7 @@ word_line {L} {v} {c} (At q g text) {y} {z} {t} l k e s o = ap (forth SameLine) 
     apart false h = h
     apart true h =
         let shut = by_front q AfterWord text (λ m k t g. front_none 59 m k t g (skip text) at_semicolon (raw_front 59 [] (breaks text) (skip text) (same_is (token Operator false text).raw (codes ";") h))) in
-        absurd ((shut_out l k (subst (λ p. Shut p) e shut)).no (one t) z o.past)
+        absurd ((shut_out {e = Unread} l k (subst (λ p. Shut p) e shut)).no (one t) z o.past tt)
 
     by : (b : Bool) → breaks text ≡ b → go_if (not (breaks text)) (At q AfterWord text) ≡ At q AfterWord text
     by false h = ap (λ b. go_if (not b) (At q AfterWord text)) h
@@ -232,19 +234,19 @@ word_line {L} {v} {c} (At q g text) {y} {z} {t} l k e s o = ap (forth SameLine) 
 pub word_present : {L : Language} {v : Surroundings} {c : Nonterminal} {x y y' z : Place} {t : Tree} → Lawful L → is_operand c ≡ true → Only L v (Fixed (Ends AfterWord)) x nothing y → Missed Semicolon y y' → Only L v (Part c) y' (one t) z → Turn L v (piece [] (Optional (SameLine ∷ []) c [] []) ∷ piece [] (Fixed Semicolon) ∷ []) (piece [] (Fixed Semicolon) ∷ []) y z (part (list (part t none)))
 word_present {L} {v} {c} {x} {y} {z = z} {t = t} l k o m p =
     let p' : Only L v (Part c) y (one t) z = subst (λ q. Only L v (Part c) q (one t) z) (sym m.same) p in
-    turn_present (word_line x l k (ends_at o.past) m.stuck p') p' refl (end_found l (whole_of p.past).reads) (subst (λ q. NoRow L v (piece [] (Fixed Semicolon) ∷ []) q) (sym (unless_none y (found_sign o.past))) (bar (no_sign m.stuck)))
+    turn_present (word_line x l k (ends_at o.past) m.stuck p') p' refl (end_found l (whole_of p.past).reads) (subst (λ q. NoRow L v (piece [] (Fixed Semicolon) ∷ []) q Unread) (sym (unless_none y (found_sign o.past))) (bar (no_sign m.stuck)))
 
-pub word_none : {L : Language} {v : Surroundings} {c : Nonterminal} {x y y' : Place} → Lawful L → Only L v (Fixed (Ends AfterWord)) x nothing y → Missed Semicolon y y' → Barred L v (Part c) y' → NoRow L v (piece [] (Optional (SameLine ∷ []) c [] []) ∷ piece [] (Fixed Semicolon) ∷ []) y
-word_none {L} {v} {c} {x} {y} l o m b = record { no = at }
+pub word_none : {L : Language} {v : Surroundings} {c : Nonterminal} {x y y' : Place} {e : Fault} → Lawful L → Only L v (Fixed (Ends AfterWord)) x nothing y → Missed Semicolon y y' → Barred L v (Part c) y' e → NoRow L v (piece [] (Optional (SameLine ∷ []) c [] []) ∷ piece [] (Fixed Semicolon) ∷ []) y e
+word_none {L} {v} {c} {x} {y} {e = e} l o m b = record { no = at }
   where
-    semi : NoRow L v (piece [] (Fixed Semicolon) ∷ []) y
+    semi : NoRow L v (piece [] (Fixed Semicolon) ∷ []) y e
     semi = bar (no_sign m.stuck)
 
-    here : Barred L v (Part c) y
-    here = subst (λ q. Barred L v (Part c) q) (sym m.same) b
+    here : Barred L v (Part c) y e
+    here = subst (λ q. Barred L v (Part c) q e) (sym m.same) b
 
-    at : (us : Forest) (w : Place) → Walk (Whole L) (steady v) (piece [] (Optional (SameLine ∷ []) c [] []) ∷ piece [] (Fixed Semicolon) ∷ []) y us w → ⊥
-    at us w (next {ts = vs} (absent e f) walk) = semi.no vs w (subst (λ p. Walk (Whole L) (steady v) (piece [] (Fixed Semicolon) ∷ []) p vs w) (sym e ∙ unless_none y (found_sign o.past)) walk)
-    at us w (next (present {y = y1} {z = z1} {t = t} d q e f) walk) =
+    at : (us : Forest) (w : Place) → Walk (Whole L) (steady v) (piece [] (Optional (SameLine ∷ []) c [] []) ∷ piece [] (Fixed Semicolon) ∷ []) y us w → Shallow e (deepest us) → ⊥
+    at us w (next {ts = vs} (absent i f) walk) s = semi.no vs w (subst (λ p. Walk (Whole L) (steady v) (piece [] (Fixed Semicolon) ∷ []) p vs w) (sym i ∙ unless_none y (found_sign o.past)) walk) (shallow_rest e (one (list none)) vs s)
+    at us w (next {ts = vs} (present {y = y1} {z = z1} {t = t} d q i f) walk) s =
         let g = found_at d (start_found l q.reads) in
-        here.no (one t) z1 (tree (subst (λ p. Whole L v false c p t z1) (sym d ∙ stays SameLine y refl g) q))
+        here.no (one t) z1 (tree (subst (λ p. Whole L v false c p t z1) (sym d ∙ stays SameLine y refl g) q)) (shallow_head e t none (shallow_first e (one (list (part t none))) vs s))

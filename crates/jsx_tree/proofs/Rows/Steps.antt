@@ -1,5 +1,5 @@
 -- The steps of a parser along a row.
-use Rattle.std.proofs.Common.{◌≡◌, List, [], ◌∷◌, ◌++◌, refl, sym, ◌∙◌, ap, subst}
+use Rattle.std.proofs.Common.{◌≡◌, ◌≤◌, List, [], ◌∷◌, ◌++◌, refl, sym, ◌∙◌, ap, subst, arith}
 use Rattle.std.specs.Prelude.{IsTrue}
 use Rattle.jsx_tree.specs.Signs.{Sign}
 use Rattle.jsx_tree.specs.Kinds.{Kind, Tree, Forest, node, none, part}
@@ -13,6 +13,8 @@ use Rattle.jsx_tree.proofs.Rows.Bridge.{fit, symbols, found_first, found_at}
 use Rattle.jsx_tree.proofs.Rows.Guarded.{to_grammar}
 use Rattle.jsx_tree.proofs.Rows.Laws.{Lawful}
 use Rattle.jsx_tree.specs.Answers.{Moves, Stuck, Only, Barred, OnlyRow, NoRow, Built}
+use Rattle.jsx_tree.specs.Faults.{Fault, Unread, outer, inner, Shallow, deepest, given_depth}
+use Rattle.jsx_tree.proofs.Depth.Shallow.{shallow_first, shallow_rest, shallow_up, shallow_inner, shallow_outer}
 
 -- ---- signs
 
@@ -22,25 +24,37 @@ only_sign {L} {v} {s} {x} {y} m = record { past = sign (sym m.is) m.found; alone
     at : (h : Given) (z : Place) → Past (Whole L) v (Fixed s) x h z → (nothing ≡ h) × (y ≡ z)
     at h z (sign e f) = (refl, m.is ∙ e)
 
-pub no_sign : {L : Language} {v : Surroundings} {s : Sign} {x : Place} → Stuck s x → Barred L v (Fixed s) x
-no_sign {L} {v} {s} {x} n = record { no = at }
+-- one that doesn't stand there is no question of depth
+pub no_sign : {L : Language} {v : Surroundings} {s : Sign} {x : Place} {e : Fault} → Stuck s x → Barred L v (Fixed s) x e
+no_sign {L} {v} {s} {x} {e} n = record { no = at }
   where
-    at : (h : Given) (z : Place) → Past (Whole L) v (Fixed s) x h z → ⊥
-    at h z (sign e f) = let bad : IsTrue (is_found Lost) = subst (λ p. IsTrue (is_found p)) (sym e ∙ n.is) f in cc
+    at : (h : Given) (z : Place) → Past (Whole L) v (Fixed s) x h z → Shallow e (given_depth h) → ⊥
+    at h z (sign q f) a = let bad : IsTrue (is_found Lost) = subst (λ p. IsTrue (is_found p)) (sym q ∙ n.is) f in cc
 
 -- ---- a symbol, and the rest of its row
 
-pub bar : {L : Language} {v : Surroundings} {a : List Context} {p : Symbol} {ps : List Piece} {x : Place} → Barred L (steady v a) p x → NoRow L v (piece a p ∷ ps) x
-bar {L} {v} {a} {p} {ps} {x} b = record { no = at }
+pub bar : {L : Language} {v : Surroundings} {a : List Context} {p : Symbol} {ps : List Piece} {x : Place} {e : Fault} → Barred L (steady v a) p x e → NoRow L v (piece a p ∷ ps) x e
+bar {L} {v} {a} {p} {ps} {x} {e} b = record { no = at }
   where
-    at : (ts : Forest) (y : Place) → Walk (Whole L) (steady v) (piece a p ∷ ps) x ts y → ⊥
-    at ts y (next q w) = b.no _ _ q
+    at : (ts : Forest) (y : Place) → Walk (Whole L) (steady v) (piece a p ∷ ps) x ts y → Shallow e (deepest ts) → ⊥
+    at ts y (next {g = g} {ts = us} q w) s = b.no _ _ q (shallow_first e g us s)
 
-pub on : {L : Language} {v : Surroundings} {a : List Context} {p : Symbol} {ps : List Piece} {x y : Place} {g : Given} → Only L (steady v a) p x g y → NoRow L v ps y → NoRow L v (piece a p ∷ ps) x
-on {L} {v} {a} {p} {ps} {x} {y} {g} o n = record { no = at }
+pub on : {L : Language} {v : Surroundings} {a : List Context} {p : Symbol} {ps : List Piece} {x y : Place} {g : Given} {e : Fault} → Only L (steady v a) p x g y → NoRow L v ps y e → NoRow L v (piece a p ∷ ps) x e
+on {L} {v} {a} {p} {ps} {x} {y} {g} {e} o n = record { no = at }
   where
-    at : (ts : Forest) (r : Place) → Walk (Whole L) (steady v) (piece a p ∷ ps) x ts r → ⊥
-    at ts r (next {z = z} {ts = us} q w) = n.no us z (subst (λ y. Walk (Whole L) (steady v) ps y us z) (sym (o.alone _ _ q).1) w)
+    at : (ts : Forest) (r : Place) → Walk (Whole L) (steady v) (piece a p ∷ ps) x ts r → Shallow e (deepest ts) → ⊥
+    at ts r (next {z = z} {g = h} {ts = us} q w) s = n.no us z (subst (λ y. Walk (Whole L) (steady v) ps y us z) (sym (o.alone _ _ q).1) w) (shallow_rest e h us s)
+
+-- nor with fewer levels
+pub inner_row : {L : Language} {v : Surroundings} {ps : List Piece} {x : Place} {e : Fault} → NoRow L v ps x e → NoRow L v ps x (inner e)
+inner_row {e = e} n = record { no = λ ts y w s. n.no ts y w (shallow_inner e (deepest ts) s) }
+
+pub outer_barred : {L : Language} {v : Surroundings} {p : Symbol} {x : Place} {e : Fault} → Barred L v p x (outer (inner e)) → Barred L v p x e
+outer_barred {e = e} b = record { no = λ g y q s. b.no g y q (shallow_outer e (given_depth g) s) }
+
+-- what can't be read at all can't be read that shallow
+pub any_barred : {L : Language} {v : Surroundings} {p : Symbol} {x : Place} {e : Fault} → Barred L v p x Unread → Barred L v p x e
+any_barred b = record { no = λ g y q s. b.no g y q tt }
 
 pub end : {L : Language} {v : Surroundings} {x : Place} → IsTrue (is_found x) → OnlyRow L v [] x none x
 end {L} {v} {x} f = record { walk = done f; alone = at }
@@ -106,6 +120,10 @@ abbrev pub both : Forest → Forest → Forest
 both none us = us
 both (part t ts) us = part t (both ts us)
 
+pub both_up : (ts us : Forest) → deepest us ≤ deepest (both ts us)
+both_up none us = omega arith
+both_up (part t ts) us = let h = both_up ts us in omega (arith, h)
+
 record Parted (L : Language) (v : Surroundings) (ps qs : List Piece) (x : Place) (ts : Forest) (y : Place) : Type 0 where
   front : Forest
   back : Forest
@@ -129,8 +147,13 @@ parted : {L : Language} {v : Surroundings} → Lawful L → (ps : List Piece) {q
 parted l [] {x = x} {ts = ts} w = record { front = none; back = ts; place = x; is = refl; first = done (walk_found l w); second = w }
 parted l (piece a p ∷ ps) (next {g = g} q w) = let s = parted l ps w in record { front = with g s.front; back = s.back; place = s.place; is = with_both g s.front s.back ∙ ap (with g) s.is; first = next q s.first; second = s.second }
 
-pub on_row : {L : Language} {v : Surroundings} → Lawful L → (ps : List Piece) {qs : List Piece} {x y : Place} {ts : Forest} → OnlyRow L v ps x ts y → NoRow L v qs y → NoRow L v (ps ++ qs) x
-on_row {L} {v} l ps {qs} {x} {y} {ts} o n = record { no = λ us z w. let s = parted l ps w in n.no s.back z (subst (λ p. Walk (Whole L) (steady v) qs p s.back z) (sym (o.alone s.front s.place s.first).1) s.second) }
+pub on_row : {L : Language} {v : Surroundings} → Lawful L → (ps : List Piece) {qs : List Piece} {x y : Place} {ts : Forest} {e : Fault} → OnlyRow L v ps x ts y → NoRow L v qs y e → NoRow L v (ps ++ qs) x e
+on_row {L} {v} l ps {qs} {x} {y} {ts} {e} o n = record {
+  no = λ us z w a.
+      let s = parted l ps w in
+      n.no s.back z (subst (λ p. Walk (Whole L) (steady v) qs p s.back z) (sym (o.alone s.front s.place s.first).1) s.second)
+      (shallow_up e (deepest s.back) (deepest us) (subst (λ ts. deepest s.back ≤ deepest ts) s.is (both_up s.front s.back)) a);
+}
 
 pub then_row : {L : Language} {v : Surroundings} → Lawful L → (ps : List Piece) {qs : List Piece} {x y z : Place} {ts us : Forest} → OnlyRow L v ps x ts y → OnlyRow L v qs y us z → OnlyRow L v (ps ++ qs) x (both ts us) z
 then_row {L} {v} l ps {qs} {x} {y} {z} {ts} {us} o r = record { walk = joined o.walk r.walk; alone = at }

@@ -1,5 +1,5 @@
 -- Which kind of statement begins with a word, for all words at once; `for` begins three kinds and isn't here.
-use Rattle.std.proofs.Common.{◌≡◌, ℕ, true, false, cond, ◌∷◌, refl, sym, ◌∙◌, ap}
+use Rattle.std.proofs.Common.{◌≡◌, ℕ, Bool, true, false, cond, ◌∷◌, refl, sym, ◌∙◌, ap}
 use Rattle.std.specs.Prelude.{Option, Some, None, IsTrue, codes}
 use Rattle.jsx_base.specs.Token.{Text, TokenKind, IdentifierName, same}
 use Rattle.jsx_tree.specs.Signs.{Tok}
@@ -14,6 +14,8 @@ use Rattle.jsx_tree.specs.Walk.{is_found, row, one}
 use Rattle.jsx_tree.specs.Grammar.{Part}
 use Rattle.jsx_tree.specs.Language.{Language}
 use Rattle.jsx_tree.specs.Answers.{Only, Barred, NoNode, Built}
+use Rattle.jsx_tree.specs.Faults.{Fault, outer_if}
+use Rattle.jsx_tree.proofs.Depth.Nodes.{counts_as}
 use Rattle.jsx_tree.proofs.Rows.Guarded.{guarded}
 use Rattle.jsx_tree.proofs.Rows.Stopping.{never_stops}
 use Rattle.jsx_tree.proofs.Rows.Laws.{Lawful}
@@ -113,6 +115,6 @@ pub word_only : {L : Language} {d : ℕ} {w : Text} {k : Kind} {v : Surroundings
     → ((ts : Forest) → admits SubStmt (node k ts) ≡ true) → (b : Built L v (L.rows k) k (λ ts. ts) t x y) → L.keeps k v b.parts ≡ true → Only L v (Part SubStmt) x (one t) y
 word_only {y = y} law key f is g gu fr ad b r = only_node law (word_chosen law key f is g) gu fr ad b r (law.ends_there SubStmt y (never_stops SubStmt y refl))
 
-pub word_barred : {L : Language} {d : ℕ} {w : Text} {k : Kind} {v : Surroundings} {x : Place} → Lawful L → Keyed d w → same (codes "for") (d ∷ w) ≡ false → told (d ∷ w) ≡ Some k → IsTrue (is_found (forth (Tok Operator IdentifierName (d ∷ w)) x)) → guarded SubStmt (L.rows k) ≡ true → free (L.rows k) ≡ true → NoNode L v (L.rows k) k x
-    → Barred L v (Part SubStmt) x
-word_barred law key f is g gu fr n = barred_node law (word_chosen law key f is g) gu fr n
+pub word_barred : {L : Language} {d : ℕ} {w : Text} {k : Kind} {v : Surroundings} {x : Place} {e : Fault} (b : Bool) → counts_as b k ≡ true → Lawful L → Keyed d w → same (codes "for") (d ∷ w) ≡ false → told (d ∷ w) ≡ Some k → IsTrue (is_found (forth (Tok Operator IdentifierName (d ∷ w)) x)) → guarded SubStmt (L.rows k) ≡ true → free (L.rows k) ≡ true → NoNode L v (L.rows k) k x e
+    → Barred L v (Part SubStmt) x (outer_if b e)
+word_barred b i law key f is g gu fr n = barred_node b i law (word_chosen law key f is g) gu fr n

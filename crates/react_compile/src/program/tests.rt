@@ -543,12 +543,74 @@ fn a_source_as_great_as_may_be(rt: HostRuntime) -> Result<(), Fail> {
     assert_runs(&rt, &too_big, (Status::Fault, "", TOO_BIG))
 }
 
+/// A name in so many pairs of parentheses, on the second line.
+fn in_parentheses(alloc: Global, pairs: usize) -> Result<String, AllocError> {
+    let mut text = String::new(alloc);
+    text.push('\n')?;
+    text.push_str("(".repeat(alloc, pairs)?.as_str())?;
+    text.push('a')?;
+    text.push_str(")".repeat(alloc, pairs)?.as_str())?;
+    text.push(';')?;
+    Ok(text)
+}
+
+#[test]
+fn a_source_as_deep_as_may_be(rt: HostRuntime) -> Result<(), Fail> {
+    let deepest = in_parentheses(rt.alloc(), 499)?;
+    assert_runs(&rt, &plain(deepest.as_bytes()), (Status::Done, "a;\n", ""))?;
+    let too_deep = in_parentheses(rt.alloc(), 500)?;
+    assert_runs(
+        &rt,
+        &plain(too_deep.as_bytes()),
+        (Status::Fault, "", "input.js:2:501: nested too deep\n"),
+    )
+}
+
+/// The place at which a module nests too deep, if it does.
+fn too_deep(alloc: Global, text: &str, depth: u32) -> Option<u32> {
+    if text.len() >= 1000 {
+        return None;
+    }
+    match compile(alloc, text.as_bytes(), Goal::Module, depth) {
+        Err(CompileError::TooDeep(at)) => Some(at),
+        _ => None,
+    }
+}
+
+/// Whether a module is compiled that nests so deep.
+fn is_compiled(alloc: Global, text: &str, depth: u32) -> bool {
+    text.len() < 1000 && compile(alloc, text.as_bytes(), Goal::Module, depth).is_ok()
+}
+
+#[test]
+fn compiles_as_deep_as_is_said(rt: HostRuntime) {
+    for (text, depth, place) in &[
+        ("a;", 0, 0),
+        (";", 0, 0),
+        ("(a);", 1, 1),
+        ("((a));", 2, 2),
+        ("((a, [b]) => c);", 3, 6),
+        ("<a/>;", 1, 1),
+        ("f(<a/>, <B/>, x.y);", 2, 3),
+    ] {
+        assert!(rt;
+            too_deep(rt.alloc(), text, *depth) == Some(*place),
+            "at {text}"
+        );
+        assert!(rt;
+            is_compiled(rt.alloc(), text, depth.saturating_add(1)),
+            "at {text}"
+        );
+    }
+    assert!(rt; is_compiled(rt.alloc(), "", 0));
+}
+
 /// Whether a script is compiled to this code.
 fn compiles_to(alloc: Global, text: &str, want: &str) -> bool {
     if text.len() >= 1000 {
         return false;
     }
-    match compile(alloc, text.as_bytes(), Goal::Script) {
+    match compile(alloc, text.as_bytes(), Goal::Script, MAX_DEPTH) {
         Ok(output) => output.code.as_bytes() == want.as_bytes(),
         Err(_) => false,
     }

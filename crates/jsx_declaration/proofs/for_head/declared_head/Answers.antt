@@ -64,7 +64,7 @@ returns-then-any_has_open_in-clause-refused g c =
     let e = c.take-2.ensures.stays c.if-take-2.false ∙ c.take.ensures.stays c.if-take.false in
     let f = first_read c.in_ok-name.name.value c.in_ok-first.first.value e c.in_ok-name.ensures.read c.in_ok-name.ensures.placed (c.start_of_pattern-start.ensures.on _ _ (subst (λ p. Spans (pat_at p) (next_of c.args.lexer.now) (end_of c.binding.new.lexer)) (sym c.deref.ensures) c.in_ok-name.ensures.span)) c.in_ok-first.ensures.read c.in_ok-first.ensures.placed in
     record {
-      bars = λ _ _. record {
+      bars = λ _ _ _. record {
         no = λ x m.
             open_more _ c.args.word m c.in_ok-name.ensures.read (c.take.ensures.missing c.if-take.false) (lost_from (key "of") (c.take.ensures.stays c.if-take.false) (c.take-2.ensures.missing c.if-take-2.false))
             (c.in_ok-all.ensures.read.on c.args.lexer.now f).declares (ap (λ xs. any_opens (forest (map (inside view_pat) xs))) (sym c.deref-2.ensures.value) ∙ (sym c.any_has_open_in.ensures ∙ c.if-any_has_open_in.true));

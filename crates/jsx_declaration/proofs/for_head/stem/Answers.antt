@@ -14,11 +14,12 @@ use Rattle.jsx_operand.specs.Around.{around_of}
 use Rattle.jsx_operand.specs.Climbing.{fits, level}
 use Rattle.jsx_operand.proofs.Templates.{quoted_to, unquoted_to}
 use Rattle.jsx_operand.proofs.Places.{spans_from}
-use Rattle.jsx_operand.proofs.Steps.{passed}
+use Rattle.jsx_operand.proofs.Steps.{passed, passed_in, passed_plain}
 use Rattle.jsx_expression.proofs.CoverSteps.{as_ongoing, unarrowed_by}
 use Rattle.jsx_make.specs.NodeSpans.{expr_at}
+use Rattle.jsx_declaration.proofs.Controls.{outgrown_as}
 use Rattle.jsx_declaration.specs.Heads.{at_end, IsPlacedStem, IsStem, Stopped}
-use Rattle.jsx_declaration.proofs.Stems.{goes_on, grown_is, placed_first, placed_grown, placed_stem, stem_arrowed, stem_at, stem_barred, stem_ends, stem_first, stem_low, stem_more, stem_pattern, stem_tagged, stem_to, stem_unbegun, stem_unfit, stem_untagged, stopped, tagged_is}
+use Rattle.jsx_declaration.proofs.Stems.{goes_on, grown_is, placed_first, placed_grown, placed_stem, stem_arrowed, stem_at, stem_barred, stem_ends, stem_first, stem_low, stem_more, stem_outgrown, stem_pattern, stem_tagged, stem_to, stem_unbegun, stem_unfit, stem_untagged, stopped, tagged_is}
 use Rattle.jsx_declaration.proofs.for_head.stem.Goals as goal
 
 pub returns-in_err-first-clause-refused : goal.returns-in_err-first-clause-refused
@@ -26,7 +27,7 @@ returns-in_err-first-clause-refused g c = passed _ c.in_err-first.ensures.refuse
 
 pub returns-then-level-lt-ASSIGNMENT-clause-refused : goal.returns-then-level-lt-ASSIGNMENT-clause-refused
 returns-then-level-lt-ASSIGNMENT-clause-refused g c = record {
-  bars = λ _ _.
+  bars = λ _ _ _.
       stem_low c.requires.undeclared c.in_ok-first.ensures.read (ap (λ e. nat_le 1 (level (view_expr e))) (sym c.deref.ensures) ∙ lt-leb 1 (level (view_expr c.deref.result.now)) (omega (arith, c.level.ensures, c.if-level-lt-ASSIGNMENT.true)))
       (ap (λ e. nat_le 11 (level (view_expr e))) (sym c.deref.ensures) ∙ lt-leb 11 (level (view_expr c.deref.result.now)) (omega (arith, c.level.ensures, c.if-level-lt-ASSIGNMENT.true)));
 }
@@ -83,7 +84,7 @@ pub returns-in_err-refuse_arrow-clause-refused : goal.returns-in_err-refuse_arro
 returns-in_err-refuse_arrow-clause-refused g c =
     let e = c.is_before_template.ensures.stays ∙ c.ends_stem.ensures.stays in
     let f = goes_on e c.ends_stem.ensures.ahead c.steps-test.true in
-    passed _ c.in_err-refuse_arrow.ensures.refused c.from_residual-in_err-refuse_arrow.ensures.1
+    passed_plain _ c.in_err-refuse_arrow.ensures.refused c.from_residual-in_err-refuse_arrow.ensures.1
     (λ p. stem_arrowed c.requires.undeclared (stem_to e c.steps.invariant.stem) f.free (subst (λ h. IsTrue (is_found (forth (pun "=>") (place_of h)))) c.in_default.ensures.stays p.1))
 
 pub returns-in_err-expr-clause-refused : goal.returns-in_err-expr-clause-refused
@@ -110,7 +111,7 @@ steps-preserved-in_ok-expr g c =
 
 pub returns-then-not-fits-clause-refused : goal.returns-then-not-fits-clause-refused
 returns-then-not-fits-clause-refused g c = record {
-  bars = λ _ _.
+  bars = λ _ _ _.
       let g = c.in-Some.growth in
       let e = c.is_before_template.ensures.stays ∙ c.ends_stem.ensures.stays in
       let f = goes_on e c.ends_stem.ensures.ahead c.steps-test.true in
@@ -118,12 +119,20 @@ returns-then-not-fits-clause-refused g c = record {
       (ap (λ e. fits (growth_kind g) (view_expr e)) (sym c.deref-else-is_before_template.ensures) ∙ (sym c.fits.ensures ∙ c.if-not-fits.true));
 }
 
+pub returns-in_err-levels-clause-refused : goal.returns-in_err-levels-clause-refused
+returns-in_err-levels-clause-refused g c =
+    let g = c.in-Some.growth in
+    let e = c.is_before_template.ensures.stays ∙ c.ends_stem.ensures.stays in
+    let f = goes_on e c.ends_stem.ensures.ahead c.steps-test.true in
+    passed _ (outgrown_as (ap view_expr c.deref-else-is_before_template-2.ensures) c.in_err-levels.ensures.refused) c.from_residual-in_err-levels.ensures.1
+    (λ n. stem_outgrown (growth_kind g) c.requires.undeclared (stem_to e c.steps.invariant.stem) f.free (growth_listed g) (growth_marks g) c.in-Some.ensures.on_line (record { is = c.in-Some.ensures.taken; found = refl }) c.in-Some.ensures.reaches f.none n)
+
 pub returns-in_err-expr-2-clause-refused : goal.returns-in_err-expr-2-clause-refused
 returns-in_err-expr-2-clause-refused g c =
     let g = c.in-Some.growth in
     let e = c.is_before_template.ensures.stays ∙ c.ends_stem.ensures.stays in
     let f = goes_on e c.ends_stem.ensures.ahead c.steps-test.true in
-    passed _ c.in_err-expr-2.ensures.refused c.from_residual-in_err-expr-2.ensures.1
+    passed_in _ c.in_ok-levels.ensures.levels c.in_err-expr-2.ensures.refused c.from_residual-in_err-expr-2.ensures.1
     (λ n. stem_barred (growth_kind g) c.requires.undeclared (stem_to e c.steps.invariant.stem) f.free (growth_listed g) (growth_marks g) c.in-Some.ensures.on_line (record { is = c.in-Some.ensures.taken; found = refl }) c.in-Some.ensures.reaches f.none n)
 
 pub steps-preserved : goal.steps-preserved

@@ -10,7 +10,7 @@ use Rattle.jsx_token.specs.Places.{end_of}
 use Rattle.jsx_make.specs.NodeSpans.{expr_at}
 use Rattle.jsx_operand.proofs.Placing.{placed_as, placed_to}
 use Rattle.jsx_operand.proofs.Places.{spans_from}
-use Rattle.jsx_operand.proofs.Steps.{passed}
+use Rattle.jsx_operand.proofs.Steps.{passed, passed_plain}
 use Rattle.jsx_declaration.specs.Heads.{is_async}
 use Rattle.jsx_declaration.specs.OpenIn.{opens_whole}
 use Rattle.jsx_declaration.proofs.Declaring.{lost_from}
@@ -26,7 +26,7 @@ pub returns-in_err-first-clause-refused : goal.returns-in_err-first-clause-refus
 returns-in_err-first-clause-refused g c = passed _ c.in_err-first.ensures.refused c.from_residual.ensures.1 (λ n. stem_none c.requires.value.unmarked c.requires.value.undeclared n)
 
 pub returns-in_err-aim-clause-refused : goal.returns-in_err-aim-clause-refused
-returns-in_err-aim-clause-refused g c = passed _ c.in_err-aim.ensures.refused c.from_residual-in_err-aim.ensures.1
+returns-in_err-aim-clause-refused g c = passed_plain _ c.in_err-aim.ensures.refused c.from_residual-in_err-aim.ensures.1
     (λ n. stem_no_keys c.requires.value.unmarked c.requires.value.undeclared c.in_ok-first.ensures.read (record { is = c.take.ensures.taken c.if-take.true; found = refl }) n)
 
 pub returns-then-take-clause-read : goal.returns-then-take-clause-read
@@ -37,13 +37,13 @@ returns-then-take-clause-placed g c = keys_placed (placed_as c.in_ok-aim.ensures
 
 pub returns-then-is_async-clause-refused : goal.returns-then-is_async-clause-refused
 returns-then-is_async-clause-refused g c = record {
-  bars = λ _ _.
+  bars = λ _ _ _.
       stem_async c.requires.value.unmarked c.requires.value.undeclared c.in_ok-first.ensures.read (c.take.ensures.missing c.if-take.false) (record { is = c.take-2.ensures.taken c.if-take-2.true ∙ ap (λ h. forth (key "of") (place_of h)) (c.take.ensures.stays c.if-take.false); found = refl })
       (ap (λ e. is_async (view_expr e)) (sym c.deref.ensures) ∙ (sym c.is_async.ensures ∙ c.if-is_async.true));
 }
 
 pub returns-in_err-aim-2-clause-refused : goal.returns-in_err-aim-2-clause-refused
-returns-in_err-aim-2-clause-refused g c = passed _ c.in_err-aim-2.ensures.refused c.from_residual-in_err-aim-2.ensures.1
+returns-in_err-aim-2-clause-refused g c = passed_plain _ c.in_err-aim-2.ensures.refused c.from_residual-in_err-aim-2.ensures.1
     (λ n. stem_no_items c.requires.value.unmarked c.requires.value.undeclared c.in_ok-first.ensures.read (c.take.ensures.missing c.if-take.false) (record { is = c.take-2.ensures.taken c.if-take-2.true ∙ ap (λ h. forth (key "of") (place_of h)) (c.take.ensures.stays c.if-take.false); found = refl }) n)
 
 pub returns-then-take-2-clause-read : goal.returns-then-take-2-clause-read
@@ -55,7 +55,7 @@ pub returns-then-take-2-clause-placed : goal.returns-then-take-2-clause-placed
 returns-then-take-2-clause-placed g c = items_placed (placed_to (c.take.ensures.stays c.if-take.false) (placed_as c.in_ok-aim-2.ensures.told refl (c.in_ok-first.ensures.placed.pattern _ c.in_ok-aim-2.ensures.read))) (c.take-2.ensures.takes c.if-take-2.true)
 
 pub returns-in_err-expr-clause-refused : goal.returns-in_err-expr-clause-refused
-returns-in_err-expr-clause-refused g c = passed _ c.in_err-expr.ensures.refused c.from_residual-in_err-expr.ensures.1
+returns-in_err-expr-clause-refused g c = passed_plain _ c.in_err-expr.ensures.refused c.from_residual-in_err-expr.ensures.1
     (λ n. stem_unsettled c.requires.value.unmarked c.requires.value.undeclared c.in_ok-first.ensures.read (c.take.ensures.missing c.if-take.false) (lost_from (key "of") (c.take.ensures.stays c.if-take.false) (c.take-2.ensures.missing c.if-take-2.false)) n)
 
 pub more_items-requires-clause-settled : goal.more_items-requires-clause-settled
@@ -73,7 +73,7 @@ returns-then-head_has_open_in-clause-refused g c =
     let s = c.in_ok-first.ensures.read in
     let a = c.take.ensures.missing c.if-take.false in
     record {
-      bars = λ _ _. stem_open c.requires.value.unmarked c.requires.value.undeclared s a (lost_from (key "of") (c.take.ensures.stays c.if-take.false) (c.take-2.ensures.missing c.if-take-2.false)) (c.in_ok-expr-2.ensures.read.reads _ (stem_expr c.in_ok-expr.ensures.expr e s a c.in_ok-expr.ensures.is))
+      bars = λ _ _ _. stem_open c.requires.value.unmarked c.requires.value.undeclared s a (lost_from (key "of") (c.take.ensures.stays c.if-take.false) (c.take-2.ensures.missing c.if-take-2.false)) (c.in_ok-expr-2.ensures.read.reads _ (stem_expr c.in_ok-expr.ensures.expr e s a c.in_ok-expr.ensures.is))
           (ap (λ e. opens_whole (view_expr e)) (sym c.deref-2.ensures) ∙ (sym c.head_has_open_in.ensures ∙ c.if-head_has_open_in.true));
     }
 

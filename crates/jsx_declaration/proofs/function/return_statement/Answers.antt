@@ -1,4 +1,4 @@
-use Rattle.std.proofs.Common.{refl, sym, ◌∙◌}
+use Rattle.std.proofs.Common.{refl, ◌∙◌}
 use Rattle.jsx_tree.proofs.Rows.Placing.{no_node}
 use Rattle.jsx_operand.proofs.Steps.{passed}
 use Rattle.jsx_operand.proofs.Places.{spans_from}
@@ -7,7 +7,7 @@ use Rattle.jsx_declaration.proofs.Returns.{no_return, return_built, return_place
 use Rattle.jsx_declaration.proofs.function.return_statement.Goals as goal
 
 pub returns-then-not-context-clause-refused : goal.returns-then-not-context-clause-refused
-returns-then-not-context-clause-refused g c = record { bars = λ _ _. no_return c.if-not-context.true }
+returns-then-not-context-clause-refused g c = record { bars = λ _ _ _. no_return c.if-not-context.true }
 
 pub returns-in_err-value-clause-refused : goal.returns-in_err-value-clause-refused
 returns-in_err-value-clause-refused g c = passed _ c.in_err-value.ensures.refused c.from_residual.ensures.1 (λ n. no_node n)

@@ -1,4 +1,4 @@
-use Rattle.std.proofs.Common.{refl, sym, ap, subst}
+use Rattle.std.proofs.Common.{refl, sym, ap}
 use Rattle.jsx_token.specs.Here.{place_of}
 use Rattle.jsx_operand.proofs.Placing.{placed_from, takes_ends}
 use Rattle.jsx_operand.proofs.Steps.{passed}

@@ -1,4 +1,4 @@
-use Rattle.std.proofs.Common.{◌≡◌, false, sym, refl, ◌∙◌, subst}
+use Rattle.std.proofs.Common.{false, sym, refl, ◌∙◌, subst}
 use Rattle.jsx_token.specs.Here.{place_of}
 use Rattle.jsx_token.specs.Headings.{NoHeading}
 use Rattle.jsx_declaration.specs.Labels.{IsBeforeLoop}

@@ -1,4 +1,4 @@
-use Rattle.std.proofs.Common.{◌≡◌, true, false, not, None, refl, sym, ◌∙◌, ap, subst}
+use Rattle.std.proofs.Common.{◌≡◌, true, not, None, refl, sym, ◌∙◌, ap, subst}
 use Rattle.std.specs.Prelude.{◌&&◌}
 use Rattle.std.specs.Str.{chars}
 use Rattle.jsx_base.specs.Token.{breaks}
@@ -10,10 +10,11 @@ use Rattle.jsx_operand.specs.Around.{around_of}
 use Rattle.jsx_operand.specs.Spans.{IsPlacedFront}
 use Rattle.jsx_operand.proofs.Homes.{idents, no_leaf, only_leaf, unfit_leaf}
 use Rattle.jsx_operand.proofs.Placing.{takes_ends}
+use Rattle.jsx_operand.proofs.Steps.{passed}
 use Rattle.jsx_declaration.specs.Heads.{Front, free_end}
 use Rattle.jsx_declaration.specs.Labels.{jump_row, jump_symbols, target_of, told_target}
 use Rattle.jsx_declaration.proofs.Controls.{on_line}
-use Rattle.jsx_declaration.proofs.Jumps.{no_semicolon, no_target, not_there, off_line, some_target, unended}
+use Rattle.jsx_declaration.proofs.Jumps.{deep_label, no_semicolon, no_target, not_there, off_line, some_target, unended}
 use Rattle.jsx_declaration.proofs.PlacedNodes.{no_target_placed, takes_line, target_placed}
 use Rattle.jsx_declaration.proofs.label.jump_label.Goals as goal
 
@@ -37,9 +38,16 @@ returns-then-is_reserved-clause-refused c =
     let on : not (breaks c.ends.new.self.rest) ≡ true = sym c.is_on_line.ensures ∙ c.if-not-is_on_line.false in
     let name = chars c.in-Some.name.now in
     record {
-      bars = λ _ _. unended (no_target (record { is = ap place_of c.ends.ensures; found = refl }) (not_there (on_line c.ends.new.self on) (unfit_leaf name idents c.in-Some.ensures.taken refl (ap (λ b. not b && true) (sym c.is_reserved.ensures ∙ c.if-is_reserved.true)))))
+      bars = λ _ _ _. unended (no_target (record { is = ap place_of c.ends.ensures; found = refl }) (not_there (on_line c.ends.new.self on) (unfit_leaf name idents c.in-Some.ensures.taken refl (ap (λ b. not b && true) (sym c.is_reserved.ensures ∙ c.if-is_reserved.true)))))
           (no_sign (record { is = no_semicolon c.ends.new.self name (ap (λ h. is_do h.ending) c.ends.ensures) on (found_at (sym c.in-Some.ensures.taken) refl) }));
     }
+
+pub returns-in_err-counted-clause-refused : goal.returns-in_err-counted-clause-refused
+returns-in_err-counted-clause-refused c =
+    let on : not (breaks c.ends.new.self.rest) ≡ true = sym c.is_on_line.ensures ∙ c.if-not-is_on_line.false in
+    passed _ c.in_err-counted.ensures.refused c.from_residual.ensures.1
+    (λ b. deep_label (some_target (record { is = ap place_of c.ends.ensures; found = refl }) (on_line c.ends.new.self on) (only_leaf idents (ap not (sym c.is_reserved.ensures ∙ c.if-is_reserved.false)) refl c.in-Some.ensures.whole c.in-Some.ensures.taken refl)
+    (record { is = refl; found = refl }) (no_semicolon c.ends.new.self (chars c.in-Some.name.now) (ap (λ h. is_do h.ending) c.ends.ensures) on (found_at (sym c.in-Some.ensures.taken) refl))) b)
 
 pub returns-clause-read : goal.returns-clause-read
 returns-clause-read c =

@@ -1,7 +1,6 @@
-use Rattle.std.proofs.Common.{true, false, not, refl, sym, ◌∙◌, ap}
+use Rattle.std.proofs.Common.{not, refl, sym, ◌∙◌, ap}
 use Rattle.std.specs.Str.{chars}
 use Rattle.jsx_tree.proofs.Apart.{clash}
-use Rattle.jsx_token.specs.Here.{place_of}
 use Rattle.jsx_token.specs.Places.{next_of}
 use Rattle.jsx_operand.proofs.Placing.{takes_from}
 use Rattle.jsx_declaration.proofs.Labels.{label_there, no_name, other_name}

@@ -13,7 +13,7 @@ pub returns-in_err-label-clause-refused : goal.returns-in_err-label-clause-refus
 returns-in_err-label-clause-refused c = passed _ c.in_err-label.ensures.refused c.from_residual.ensures.1 (λ n. no_node n)
 
 pub returns-then-not-may_break-clause-refused : goal.returns-then-not-may_break-clause-refused
-returns-then-not-may_break-clause-refused c = record { bars = λ _ _. no_break c.in_ok-label.label (sym c.may_break.ensures ∙ c.if-not-may_break.true) c.in_ok-label.ensures.read }
+returns-then-not-may_break-clause-refused c = record { bars = λ _ _ _. no_break c.in_ok-label.label (sym c.may_break.ensures ∙ c.if-not-may_break.true) c.in_ok-label.ensures.read }
 
 pub returns-in_err-semicolon-clause-refused : goal.returns-in_err-semicolon-clause-refused
 returns-in_err-semicolon-clause-refused c = passed _ c.in_err-semicolon.ensures.refused c.from_residual-in_err-semicolon.ensures.1 (λ b. no_node (unended c.in_ok-label.ensures.read b))

@@ -9,10 +9,11 @@ use Rattle.jsx_operand.specs.SoFar.{so_far}
 use Rattle.jsx_operand.specs.Around.{around_of}
 use Rattle.jsx_token.specs.Here.{place_of}
 use Rattle.jsx_token.specs.Places.{end_of}
-use Rattle.jsx_declaration.proofs.Items.{initialized, uninitialized, no_initializer}
+use Rattle.jsx_declaration.proofs.Controls.{outgrown_as}
+use Rattle.jsx_declaration.proofs.Items.{initialized, uninitialized, no_initializer, outgrown_initializer}
 use Rattle.jsx_token.specs.Semicolons.{in_list}
 use Rattle.jsx_token.proofs.Semicolons.{closed_in_list}
-use Rattle.jsx_operand.proofs.Steps.{passed}
+use Rattle.jsx_operand.proofs.Steps.{passed, passed_in}
 use Rattle.jsx_operand.proofs.Places.{spans_from}
 use Rattle.jsx_operand.proofs.Placing.{placed_as, placed_to, takes_ends}
 use Rattle.jsx_declaration.proofs.PlacedNodes.{declarator_row, plain_row}
@@ -24,8 +25,12 @@ returns-then-not-take-clause-read g c = record {
       (uninitialized o (record { is = ap place_of c.ends.ensures; found = refl }) (record { is = c.take.ensures.missing c.if-not-take.true }) (c.in_ok-declarator.ensures.view Binds));
 }
 
+pub returns-in_err-levels-clause-refused : goal.returns-in_err-levels-clause-refused
+returns-in_err-levels-clause-refused g c = passed _ (outgrown_as (ap view_pat c.deref.ensures) c.in_err-levels.ensures.binds) c.from_residual-in_err-levels.ensures.1
+    (λ b. record { no = λ x o. outgrown_initializer o (record { is = ap place_of c.ends.ensures; found = refl }) (record { is = c.take.ensures.taken c.if-not-take.false; found = refl }) b })
+
 pub returns-in_err-value-clause-refused : goal.returns-in_err-value-clause-refused
-returns-in_err-value-clause-refused g c = passed _ c.in_err-value.ensures.refused c.from_residual-in_err-value.ensures.1
+returns-in_err-value-clause-refused g c = passed_in _ c.in_ok-levels.ensures.levels c.in_err-value.ensures.refused c.from_residual-in_err-value.ensures.1
     (λ b. record { no = λ x o. no_initializer o (record { is = ap place_of c.ends.ensures; found = refl }) (record { is = c.take.ensures.taken c.if-not-take.false; found = refl }) b })
 
 pub returns-clause-read : goal.returns-clause-read

@@ -14,7 +14,7 @@ declarators-init g c = record {
 
 pub returns-then-not-is_initialized-clause-refused : goal.returns-then-not-is_initialized-clause-refused
 returns-then-not-is_initialized-clause-refused g c = record {
-  bars = λ _ _. read_bare c.declarators.invariant.so_far (ap (λ p. has_value (word_of c.args.word) (view_pat p)) (sym c.deref.ensures) ∙ (sym c.is_initialized.ensures ∙ c.if-not-is_initialized.true));
+  bars = λ _ _ _. read_bare c.declarators.invariant.so_far (ap (λ p. has_value (word_of c.args.word) (view_pat p)) (sym c.deref.ensures) ∙ (sym c.is_initialized.ensures ∙ c.if-not-is_initialized.true));
 }
 
 pub returns-then-not-take-clause-read : goal.returns-then-not-take-clause-read

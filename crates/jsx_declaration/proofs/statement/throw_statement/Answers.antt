@@ -9,7 +9,7 @@ use Rattle.jsx_declaration.proofs.PlacedNodes.{takes_line, throw_placed}
 use Rattle.jsx_declaration.proofs.statement.throw_statement.Goals as goal
 
 pub returns-then-not-is_on_line-clause-refused : goal.returns-then-not-is_on_line-clause-refused
-returns-then-not-is_on_line-clause-refused g c = record { bars = λ _ _. no_throw c.args.lexer.now (sym c.is_on_line.ensures ∙ c.if-not-is_on_line.true) }
+returns-then-not-is_on_line-clause-refused g c = record { bars = λ _ _ _. no_throw c.args.lexer.now (sym c.is_on_line.ensures ∙ c.if-not-is_on_line.true) }
 
 pub returns-in_err-value-clause-refused : goal.returns-in_err-value-clause-refused
 returns-in_err-value-clause-refused g c = passed _ c.in_err-value.ensures.refused c.from_residual.ensures.1 (λ b. no_node (on (only_sign (on_line c.args.lexer.now (sym c.is_on_line.ensures ∙ c.if-not-is_on_line.false))) (bar b)))

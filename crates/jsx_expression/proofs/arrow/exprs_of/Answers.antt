@@ -3,7 +3,7 @@ use Rattle.std.specs.Vec.Iter.{into_iter_items}
 use Rattle.jsx_tree.specs.Told.{told_expr}
 use Rattle.jsx_tree.specs.View.{forest, inside, view_expr}
 use Rattle.jsx_operand.specs.Covers.{view_cover}
-use Rattle.jsx_operand.proofs.Steps.{passed}
+use Rattle.jsx_operand.proofs.Steps.{plainly}
 use Rattle.jsx_expression.specs.Arrows.{are_exprs}
 use Rattle.jsx_function.specs.Covers.{told_cover}
 use Rattle.jsx_expression.proofs.CoverLists.{all_yielded, exprs_past, exprs_refused, mapped_past}
@@ -23,7 +23,7 @@ returns-in_err-expr-clause-refused c =
     let at = c.exprs in
     let steps : into_iter_items at.cover-iterator ≡ c.in-Some.cover ∷ into_iter_items c.next.new.self = c.in-Some.ensures.steps.0 in
     let all = ap (λ z. at.yielded ++ z) (sym steps) ∙ (at.invariant.all ∙ c.into_iter-cover-iterator.ensures.into_iter_gives.0) in
-    passed _ c.in_err-expr.ensures.refused c.from_residual-in_err-expr.ensures.1 (exprs_refused at.yielded c.in-Some.cover (into_iter_items c.next.new.self) all)
+    plainly _ c.in_err-expr.ensures.refused c.from_residual-in_err-expr.ensures.1 (exprs_refused at.yielded c.in-Some.cover (into_iter_items c.next.new.self) all)
 
 pub exprs-preserved : goal.exprs-preserved
 exprs-preserved c =

@@ -5,7 +5,7 @@ use Rattle.std.specs.Vec.Iter.{into_iter_items}
 use Rattle.jsx_tree.specs.StaticRules.{all_of, is_word}
 use Rattle.jsx_tree.specs.Told.{told_pat}
 use Rattle.jsx_tree.specs.View.{inside, view_pat}
-use Rattle.jsx_operand.proofs.Steps.{passed}
+use Rattle.jsx_operand.proofs.Steps.{plainly}
 use Rattle.jsx_operand.specs.Patterns.{is_compound}
 use Rattle.jsx_expression.specs.Arrows.{TurnCovers, retold_cover, retold_covers, told_rest, view_rest}
 use Rattle.jsx_expression.proofs.CoverLists.{all_yielded, mapped_past, patterns, simple_past, simple_rest, turn_all, turn_none, turn_past, turn_refused, turn_rest}
@@ -26,7 +26,7 @@ returns-in_err-parameter-clause-refused c =
     let at = c.parameters in
     let steps : into_iter_items at.cover-iterator ≡ c.in-Some.cover ∷ into_iter_items c.next.new.self = c.in-Some.ensures.steps.0 in
     let all = ap (λ z. at.yielded ++ z) (sym steps) ∙ (at.invariant.all ∙ c.into_iter-cover-iterator.ensures.into_iter_gives.0) in
-    passed _ c.in_err-parameter.ensures.refused c.from_residual-in_err-parameter.ensures.1 (turn_refused at.yielded c.in-Some.cover (into_iter_items c.next.new.self) all)
+    plainly _ c.in_err-parameter.ensures.refused c.from_residual-in_err-parameter.ensures.1 (turn_refused at.yielded c.in-Some.cover (into_iter_items c.next.new.self) all)
 
 pub parameters-preserved : goal.parameters-preserved
 parameters-preserved c =

@@ -16,7 +16,7 @@ returns-in_err-name-clause-refused c = passed _ c.in_err-name.ensures.refused c.
 
 pub returns-then-is_before-clause-refused : goal.returns-then-is_before-clause-refused
 returns-then-is_before-clause-refused c = record {
-  bars = λ _ _. on c.in_ok-name.ensures.read (bar (no_sign (record { is = comma_unless (place_of c.bound_name.new.lexer) (sym c.is_before.ensures.ahead ∙ c.if-is_before.true) })));
+  bars = λ _ _ _. on c.in_ok-name.ensures.read (bar (no_sign (record { is = comma_unless (place_of c.bound_name.new.lexer) (sym c.is_before.ensures.ahead ∙ c.if-is_before.true) })));
 }
 
 pub returns-clause-read : goal.returns-clause-read

@@ -8,11 +8,12 @@ use Rattle.jsx_tree.specs.StaticRules.{Surroundings}
 use Rattle.jsx_tree.specs.Reading.{Place}
 use Rattle.jsx_operand.specs.SoFar.{so_far}
 use Rattle.std.specs.Prelude.{IsTrue}
-use Rattle.jsx_tree.proofs.Rows.Steps.{built_5}
+use Rattle.jsx_tree.proofs.Rows.Steps.{bar, built_5, inner_row, on}
 use Rattle.jsx_tree.proofs.Rows.Lists.{only_none}
 use Rattle.jsx_operand.proofs.Homes.{no_attributes}
+use Rattle.jsx_operand.proofs.Openings.{deep_element}
 use Rattle.jsx_operand.proofs.Values.{sign_ended}
-use Rattle.jsx_operand.proofs.Steps.{fails_2, fails_4, fails_5}
+use Rattle.jsx_operand.proofs.Steps.{passed}
 use Rattle.jsx_operand.proofs.Places.{spans_from}
 use Rattle.jsx_operand.proofs.Trees.{element_is}
 use Rattle.jsx_operand.proofs.Placing.{placed_as}
@@ -22,14 +23,20 @@ use Rattle.jsx_operand.proofs.operand.element.Goals as goal
 without : {v : Surroundings} {x : Place} → IsTrue (is_found x) → Only so_far v (Many Spaced Attributes) x (one (list none)) x
 without f = only_none refl f no_attributes (λ t y w. w)
 
+pub returns-in_err-expect-clause-refused : goal.returns-in_err-expect-clause-refused
+returns-in_err-expect-clause-refused c = passed _ c.in_err-expect.ensures.refused c.from_residual.ensures.1 (λ b. inner_row (bar b))
+
 pub returns-in_err-name-clause-refused : goal.returns-in_err-name-clause-refused
-returns-in_err-name-clause-refused c = fails_2 _ _ c.in_err-name.ensures.refused c.in_ok-expect.ensures.read c.from_residual-in_err-name.ensures.1
+returns-in_err-name-clause-refused c = passed _ c.in_err-name.ensures.refused c.from_residual-in_err-name.ensures.1 (λ b. inner_row (on c.in_ok-expect.ensures.read (bar b)))
+
+pub returns-in_err-within_leaf-clause-refused : goal.returns-in_err-within_leaf-clause-refused
+returns-in_err-within_leaf-clause-refused c = passed _ c.in_err-within_leaf.ensures.refused c.from_residual-in_err-within_leaf.ensures.1 (λ b. deep_element _ b)
 
 pub returns-in_err-expect-2-clause-refused : goal.returns-in_err-expect-2-clause-refused
-returns-in_err-expect-2-clause-refused c = fails_4 _ _ c.in_err-expect-2.ensures.refused c.in_ok-expect.ensures.read c.in_ok-name.ensures.read (without refl) c.from_residual-in_err-expect-2.ensures.1
+returns-in_err-expect-2-clause-refused c = passed _ c.in_err-expect-2.ensures.refused c.from_residual-in_err-expect-2.ensures.1 (λ b. inner_row (on c.in_ok-expect.ensures.read (on c.in_ok-name.ensures.read (on (without refl) (bar b)))))
 
 pub returns-in_err-expect-3-clause-refused : goal.returns-in_err-expect-3-clause-refused
-returns-in_err-expect-3-clause-refused c = fails_5 _ _ c.in_err-expect-3.ensures.refused c.in_ok-expect.ensures.read c.in_ok-name.ensures.read (without refl) c.in_ok-expect-2.ensures.read c.from_residual-in_err-expect-3.ensures.1
+returns-in_err-expect-3-clause-refused c = passed _ c.in_err-expect-3.ensures.refused c.from_residual-in_err-expect-3.ensures.1 (λ b. inner_row (on c.in_ok-expect.ensures.read (on c.in_ok-name.ensures.read (on (without refl) (on c.in_ok-expect-2.ensures.read (bar b))))))
 
 pub returns-clause-read : goal.returns-clause-read
 returns-clause-read c = built_5 refl c.in_ok-expect.ensures.read c.in_ok-name.ensures.read (without refl) c.in_ok-expect-2.ensures.read c.in_ok-expect-3.ensures.read (element_is c.in_ok-name.name c.new.result c.new.ensures.items c.in_ok-element.ensures.view)

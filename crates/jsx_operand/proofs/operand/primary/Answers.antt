@@ -8,6 +8,7 @@ use Rattle.jsx_tree.specs.Reading.{Place, forth}
 use Rattle.jsx_tree.specs.StaticRules.{Surroundings}
 use Rattle.jsx_tree.specs.View.{view_expr}
 use Rattle.jsx_tree.specs.Answers.{NoRow, Built}
+use Rattle.jsx_tree.specs.Faults.{Fault}
 use Rattle.jsx_token.specs.Marks.{row_so_far}
 use Rattle.jsx_operand.specs.SoFar.{so_far}
 use Rattle.jsx_operand.specs.Around.{around_of}
@@ -16,7 +17,7 @@ use Rattle.jsx_operand.specs.Climbing.{Begins}
 use Rattle.jsx_operand.proofs.Homes.{IsName, IsNumber, IsLong, IsString, IsPattern}
 use Rattle.jsx_token.proofs.Listed.{listed}
 use Rattle.jsx_operand.proofs.Values.{literal_follows, or_left}
-use Rattle.jsx_operand.proofs.Openings.{kept_whole, opened_follows, unfit_literal, no_value}
+use Rattle.jsx_operand.proofs.Openings.{deep_begins, kept_whole, opened_follows, outer_begins, unfit_literal, no_value}
 use Rattle.jsx_operand.proofs.Steps.{passed}
 use Rattle.jsx_operand.proofs.Templates.{unquoted}
 use Rattle.jsx_operand.proofs.operand.primary.Goals as goal
@@ -25,6 +26,27 @@ use Rattle.jsx_operand.proofs.operand.primary.Goals as goal
 seen : {v : Surroundings} {x y : Place} {t u : Tree} → u ≡ t → Begins v x t y → Begins v x u y
 seen {v} {x} {y} e f = subst (λ t. Begins v x t y) (sym e) f
 
+there : {v : Surroundings} {x y : Place} {e : Fault} → x ≡ y → NoRow so_far v (row_so_far (jsx Element)) x e → NoRow so_far v (row_so_far (jsx Element)) y e
+there {v} {e = e} s n = subst (λ w. NoRow so_far v (row_so_far (jsx Element)) w e) s n
+
+pub returns-in_err-counted-clause-refused : goal.returns-in_err-counted-clause-refused
+returns-in_err-counted-clause-refused c = passed _ c.in_err-counted.ensures.refused c.from_residual.ensures.1 (λ b. deep_begins b)
+
+pub returns-in_err-counted-2-clause-refused : goal.returns-in_err-counted-2-clause-refused
+returns-in_err-counted-2-clause-refused c = passed _ c.in_err-counted-2.ensures.refused c.from_residual-in_err-counted-2.ensures.1 (λ b. deep_begins b)
+
+pub returns-in_err-counted-3-clause-refused : goal.returns-in_err-counted-3-clause-refused
+returns-in_err-counted-3-clause-refused c = passed _ c.in_err-counted-3.ensures.refused c.from_residual-in_err-counted-3.ensures.1 (λ b. deep_begins b)
+
+pub returns-in_err-counted-4-clause-refused : goal.returns-in_err-counted-4-clause-refused
+returns-in_err-counted-4-clause-refused c = passed _ c.in_err-counted-4.ensures.refused c.from_residual-in_err-counted-4.ensures.1 (λ b. deep_begins b)
+
+pub returns-in_err-counted-5-clause-refused : goal.returns-in_err-counted-5-clause-refused
+returns-in_err-counted-5-clause-refused c = passed _ c.in_err-counted-5.ensures.refused c.from_residual-in_err-counted-5.ensures.1 (λ b. deep_begins b)
+
+pub returns-in_err-counted-6-clause-refused : goal.returns-in_err-counted-6-clause-refused
+returns-in_err-counted-6-clause-refused c = passed _ c.in_err-counted-6.ensures.refused c.from_residual-in_err-counted-6.ensures.1 (λ b. deep_begins b)
+
 pub returns-in-Some-value_word-clause-read : goal.returns-in-Some-value_word-clause-read
 returns-in-Some-value_word-clause-read c = seen (c.in_ok-constant.ensures.view ∙ c.in-Some-value_word.ensures.view)
     (literal_follows IsName (chars c.in-Some.raw.now) c.in-Some-value_word.ensures.value c.in-Some.ensures.whole c.in-Some.ensures.taken refl)
@@ -32,7 +54,7 @@ returns-in-Some-value_word-clause-read c = seen (c.in_ok-constant.ensures.view �
 pub returns-then-is_reserved-clause-refused : goal.returns-then-is_reserved-clause-refused
 returns-then-is_reserved-clause-refused c =
     let a = ap not (sym c.is_reserved.ensures ∙ c.if-is_reserved.true) in
-    record { bars = λ _ _. unfit_literal IsName (chars c.in-Some.raw.now) c.requires.opening c.in-Some.ensures.taken refl (λ i. a i || c.in_default-value_word.ensures.none i) }
+    record { bars = λ _ _ _. unfit_literal IsName (chars c.in-Some.raw.now) c.requires.opening c.in-Some.ensures.taken refl (λ i. a i || c.in_default-value_word.ensures.none i) }
 
 pub returns-in-Some-clause-read : goal.returns-in-Some-clause-read
 returns-in-Some-clause-read c = seen c.in_ok-name.ensures.view
@@ -75,10 +97,10 @@ returns-in_err-element-clause-refused c =
     let stays''' : place_of c.leaf-4.new.self ≡ place_of c.args.lexer.now = ap place_of c.in_default-leaf-3.ensures.stays ∙ stays'' in
     let stays'''' : place_of c.leaf-5.new.self ≡ place_of c.args.lexer.now = ap place_of c.in_default-leaf-4.ensures.stays ∙ stays''' in
     passed _ c.in_err-element.ensures.refused c.from_residual-in_err-element.ensures.1
-    (λ n. no_value c.requires.opening c.in_default.ensures.missing
+    (λ n. outer_begins (no_value c.requires.opening c.in_default.ensures.missing
     (λ t. ap (forth (Tok Operator NumericLiteral t)) (sym stays') ∙ c.in_default-leaf-2.ensures.missing t)
     (λ t. ap (forth (Tok Operator BigIntLiteral t)) (sym stays'') ∙ c.in_default-leaf-3.ensures.missing t)
     (λ t. ap (forth (Tok Operator StringLiteral t)) (sym stays) ∙ c.in_default-leaf.ensures.missing t)
     (λ t. ap (forth (Tok Operand RegExpLiteral t)) (sym stays''') ∙ c.in_default-leaf-4.ensures.missing t)
-    (subst (NoRow so_far (around_of c.args.context.around) (row_so_far (jsx Element))) stays'''' n)
-    (unquoted c.args.lexer.now c.requires.template))
+    (there stays'''' n)
+    (unquoted c.args.lexer.now c.requires.template)))

@@ -6,4 +6,4 @@ pub returns-then-take-clause-read : goal.returns-then-take-clause-read
 returns-then-take-clause-read c = only_sign (record { is = c.take.ensures.taken c.if-take.true; found = refl })
 
 pub returns-else-take-clause-refused : goal.returns-else-take-clause-refused
-returns-else-take-clause-refused c = record { bars = λ at e. no_sign (record { is = c.take.ensures.missing c.if-take.false }) }
+returns-else-take-clause-refused c = record { bars = λ at e _. no_sign (record { is = c.take.ensures.missing c.if-take.false }) }

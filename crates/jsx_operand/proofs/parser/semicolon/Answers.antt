@@ -6,4 +6,4 @@ pub returns-then-semicolon-clause-read : goal.returns-then-semicolon-clause-read
 returns-then-semicolon-clause-read c = only_sign (record { is = c.semicolon.ensures.taken c.if-semicolon.true; found = refl })
 
 pub returns-else-semicolon-clause-refused : goal.returns-else-semicolon-clause-refused
-returns-else-semicolon-clause-refused c = record { bars = λ at e. no_sign (record { is = c.semicolon.ensures.missing c.if-semicolon.false }) }
+returns-else-semicolon-clause-refused c = record { bars = λ at e _. no_sign (record { is = c.semicolon.ensures.missing c.if-semicolon.false }) }

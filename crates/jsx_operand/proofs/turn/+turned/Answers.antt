@@ -11,7 +11,7 @@ use Rattle.jsx_make.specs.NodeSpans.{member_at}
 use Rattle.jsx_operand.specs.Climbing.{is_target}
 use Rattle.jsx_operand.specs.Taken.{IsPairOf, IsToldOf, behind_first, paired}
 use Rattle.jsx_operand.specs.Turning.{IsAssignOf, Turns, TurnsElement, TurnsParts, TurnsSlots, assigned, is_array, is_assign, is_elision, is_object, is_spread, parts_none, retold, retold_each, retold_part, retold_parts, slot, slots_none, turn_plain}
-use Rattle.jsx_operand.proofs.Steps.{passed}
+use Rattle.jsx_operand.proofs.Steps.{plainly}
 use Rattle.jsx_operand.proofs.Turners.{array_turns, each_retold, element_refused, emptied, filled_turns, hole_turns, lighter_among, list_lighter, made_past, none_of, nothing_turns, object_turns, pair_retold, pair_turns, part_lighter, parts_past, parts_refused, parts_retold, rest_refused, rest_turns, slot_refused, slots_past, slots_refused, some_of, target_turns, value_lighter}
 use Rattle.jsx_operand.proofs.turn.+turned.Goals as goal
 
@@ -36,7 +36,7 @@ turned-returns-then-not-is_target-clause-refused t c =
     let e : c.deref_mut-2.result.now ≡ c.args.expr.value = c.deref_mut-2.ensures.value ∙ (c.in_default.ensures.stays ∙ c.deref_mut.ensures.value) in
     let f : c.deref-2.result.now ≡ c.args.expr.value = c.deref-2.ensures ∙ (c.in_default-taken_members.ensures.stays ∙ e) in
     record {
-      bars = λ at k. nothing_turns (ap (λ x. is_array (view_expr x)) (sym c.deref_mut.ensures.value) ∙ c.in_default.ensures.other)
+      bars = λ at k _. nothing_turns (ap (λ x. is_array (view_expr x)) (sym c.deref_mut.ensures.value) ∙ c.in_default.ensures.other)
           (ap (λ x. is_object (view_expr x)) (sym e) ∙ c.in_default-taken_members.ensures.other) (ap (λ x. is_target (view_expr x)) (sym f) ∙ (sym c.is_target.ensures ∙ c.if-not-is_target.true));
     }
 
@@ -57,7 +57,7 @@ pub turned_element-returns-in_default-clause-refused : goal.turned_element-retur
 turned_element-returns-in_default-clause-refused t c =
     let e = none_of (c.taken_target.new.expr ≡ c.deref_mut.result.now) c.in_default.is c.in_ok-target.ensures.stays ∙ c.deref_mut.ensures.value in
     let other = none_of (is_assign (view_expr c.deref_mut.result.now) ≡ false) c.in_default.is c.in_ok-target.ensures.other in
-    record { bars = λ at k. element_refused (ap (λ x. is_assign (view_expr x)) (sym c.deref_mut.ensures.value) ∙ other) (λ p d. c.turned.ensures.refused.bars at k p (subst (λ x. Turns (view_expr x) p) (sym e) d)) }
+    record { bars = λ at k w'. element_refused (ap (λ x. is_assign (view_expr x)) (sym c.deref_mut.ensures.value) ∙ other) (λ p d. c.turned.ensures.refused.bars at k w' p (subst (λ x. Turns (view_expr x) p) (sym e) d)) }
 
 pub turned_element-returns-clause-read : goal.turned_element-returns-clause-read
 turned_element-returns-clause-read t c =
@@ -100,8 +100,8 @@ turned_slot-returns-in_default-clause-refused t c =
     let e = none_of (c.taken_spread.new.expr ≡ c.deref_mut.result.now) c.in_default.is c.in_ok-inner.ensures.stays ∙ c.deref_mut.ensures.value in
     let other = none_of (is_spread (view_expr c.deref_mut.result.now) ≡ false) c.in_default.is c.in_ok-inner.ensures.other in
     record {
-      bars = λ at k. slot_refused (ap (λ x. is_elision (view_expr x)) (sym c.deref.ensures) ∙ (sym c.is_hole.ensures.is ∙ c.if-is_hole.false)) (ap (λ x. is_spread (view_expr x)) (sym c.deref_mut.ensures.value) ∙ other)
-          (λ p d. c.turned_element.ensures.refused.bars at k p (subst (λ x. TurnsElement (view_expr x) p) (sym e) d));
+      bars = λ at k w'. slot_refused (ap (λ x. is_elision (view_expr x)) (sym c.deref.ensures) ∙ (sym c.is_hole.ensures.is ∙ c.if-is_hole.false)) (ap (λ x. is_spread (view_expr x)) (sym c.deref_mut.ensures.value) ∙ other)
+          (λ p d. c.turned_element.ensures.refused.bars at k w' p (subst (λ x. TurnsElement (view_expr x) p) (sym e) d));
     }
 
 pub turned_slot-turned-requires : goal.turned_slot-turned-requires
@@ -112,7 +112,7 @@ turned_slot-turned-requires t c =
 pub turned_slot-returns-in_err-target-clause-refused : goal.turned_slot-returns-in_err-target-clause-refused
 turned_slot-returns-in_err-target-clause-refused t c =
     let s = some_of (λ e. view_expr c.deref_mut.result.now ≡ node (expression Spread) (part (view_expr e.value) none)) c.in-Some.is c.in_ok-inner.ensures.taken in
-    passed _ c.in_err-target.ensures.refused c.from_residual-in_err-target.ensures.1 (rest_refused (sym (ap view_expr c.deref_mut.ensures.value) ∙ s))
+    plainly _ c.in_err-target.ensures.refused c.from_residual-in_err-target.ensures.1 (rest_refused (sym (ap view_expr c.deref_mut.ensures.value) ∙ s))
 
 pub turned_slot-returns-clause-read : goal.turned_slot-returns-clause-read
 turned_slot-returns-clause-read t c =
@@ -139,7 +139,7 @@ turned_slots-returns-in_err-slot-clause-refused t c =
     let at = c.items in
     let steps : into_iter_items at.item-iterator ≡ c.in-Some.item ∷ into_iter_items c.next.new.self = c.in-Some.ensures.steps.0 in
     let all = ap (λ z. at.yielded ++ z) (sym steps) ∙ (at.invariant.all ∙ c.into_iter-item-iterator.ensures.into_iter_gives.0) in
-    passed _ c.in_err-slot.ensures.refused c.from_residual-in_err-slot.ensures.1 (slots_refused (inside view_expr) at.yielded c.in-Some.item (into_iter_items c.next.new.self) all)
+    plainly _ c.in_err-slot.ensures.refused c.from_residual-in_err-slot.ensures.1 (slots_refused (inside view_expr) at.yielded c.in-Some.item (into_iter_items c.next.new.self) all)
 
 pub turned_slots-items-preserved : goal.turned_slots-items-preserved
 turned_slots-items-preserved t c =
@@ -190,7 +190,7 @@ turned_parts-returns-in_err-part-clause-refused t c =
     let at = c.members in
     let steps : into_iter_items at.member-iterator ≡ c.in-Some.member ∷ into_iter_items c.next.new.self = c.in-Some.ensures.steps.0 in
     let all = ap (λ z. at.yielded ++ z) (sym steps) ∙ (at.invariant.all ∙ c.into_iter-member-iterator.ensures.into_iter_gives.0) in
-    passed _ c.in_err-part.ensures.refused c.from_residual-in_err-part.ensures.1 (parts_refused (inside view_prop) at.yielded c.in-Some.member (into_iter_items c.next.new.self) all)
+    plainly _ c.in_err-part.ensures.refused c.from_residual-in_err-part.ensures.1 (parts_refused (inside view_prop) at.yielded c.in-Some.member (into_iter_items c.next.new.self) all)
 
 pub turned_parts-members-preserved : goal.turned_parts-members-preserved
 turned_parts-members-preserved t c =

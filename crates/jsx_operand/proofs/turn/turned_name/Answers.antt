@@ -21,7 +21,7 @@ returns-in_default-taken_preset-clause-refused c =
     let e : c.deref_mut-2.result.now ≡ c.args.member.value = c.deref_mut-2.ensures.value ∙ (c.in_default.ensures.stays ∙ c.deref_mut.ensures.value) in
     let f : c.deref_mut-3.result.now ≡ c.args.member.value = c.deref_mut-3.ensures.value ∙ (c.in_default-taken_short.ensures.stays ∙ e) in
     record {
-      bars = λ at k. name_refused c.requires (ap (λ m. is_rest (view_prop m)) (sym c.deref_mut.ensures.value) ∙ c.in_default.ensures.other)
+      bars = λ at k _. name_refused c.requires (ap (λ m. is_rest (view_prop m)) (sym c.deref_mut.ensures.value) ∙ c.in_default.ensures.other)
           (ap (λ m. is_short (view_prop m)) (sym e) ∙ c.in_default-taken_short.ensures.other) (ap (λ m. is_preset (view_prop m)) (sym f) ∙ c.in_default-taken_preset.ensures.other);
     }
 
@@ -30,7 +30,7 @@ returns-in_default-taken_default-clause-refused c =
     let e : c.deref_mut-2.result.now ≡ c.args.member.value = c.deref_mut-2.ensures.value ∙ (c.in_default.ensures.stays ∙ c.deref_mut.ensures.value) in
     let f : c.deref_mut-3.result.now ≡ c.args.member.value = c.deref_mut-3.ensures.value ∙ (c.in_default-taken_short.ensures.stays ∙ e) in
     record {
-      bars = λ at k. preset_refused (subst (λ m. IsPresetOf (name_of c.in-Some-taken_preset.name) (view_prop m) (view_prop c.taken_preset.new.member)) f c.in-Some-taken_preset.ensures.taken)
+      bars = λ at k _. preset_refused (subst (λ m. IsPresetOf (name_of c.in-Some-taken_preset.name) (view_prop m) (view_prop c.taken_preset.new.member)) f c.in-Some-taken_preset.ensures.taken)
           (ap (λ m. held (view_prop m)) (sym c.deref_mut-4.ensures.value) ∙ c.in_default-taken_default.ensures.other);
     }
 

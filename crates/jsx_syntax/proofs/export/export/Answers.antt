@@ -1,18 +1,15 @@
-use Rattle.std.proofs.Common.{refl, sym, ◌∙◌, ap, subst}
-use Rattle.jsx_tree.specs.Nonterminals.{Declaration}
-use Rattle.jsx_tree.specs.Grammar.{Part, key, pun}
+use Rattle.std.proofs.Common.{refl, ◌∙◌, ap, subst}
+use Rattle.jsx_tree.specs.Grammar.{key, pun}
 use Rattle.jsx_tree.specs.Reading.{forth}
-use Rattle.jsx_tree.specs.View.{view_stmt}
 use Rattle.jsx_tree.specs.ViewProgram.{view_item}
-use Rattle.jsx_tree.specs.Walk.{one}
 use Rattle.jsx_token.specs.Here.{place_of}
 use Rattle.jsx_operand.specs.Around.{around_of}
 use Rattle.jsx_operand.proofs.Places.{spans_from}
 use Rattle.jsx_operand.proofs.Placing.{placed_from, takes_from}
 use Rattle.jsx_operand.proofs.Steps.{passed}
-use Rattle.jsx_syntax.specs.Items.{NoneBehind, OnlyBehind}
+use Rattle.jsx_syntax.specs.Items.{OnlyBehind}
 use Rattle.jsx_syntax.proofs.Exports.{braced, declared_built, declared_unread, defaulted, second_none, second_only, starred}
-use Rattle.jsx_syntax.proofs.Items.{behind_from}
+use Rattle.jsx_syntax.proofs.Items.{behind_from, none_from}
 use Rattle.jsx_syntax.proofs.PlacedItems.{declared_placed}
 use Rattle.jsx_syntax.proofs.export.export.Goals as goal
 
@@ -30,7 +27,7 @@ returns-then-take-clause-placed c = record { on = λ w sign begins. c.in_ok-expo
 pub returns-in_err-export_all-clause-refused : goal.returns-in_err-export_all-clause-refused
 returns-in_err-export_all-clause-refused c =
     passed _ c.in_err-export_all.ensures.refused c.from_residual-in_err-export_all.ensures.1
-    (λ n. subst (NoneBehind (key "export") (around_of c.args.context.around)) (ap place_of (c.take.ensures.stays c.if-take.false)) (second_none starred (record { is = c.take-2.ensures.taken c.if-take-2.true; found = refl }) n))
+    (λ n. none_from (ap place_of (c.take.ensures.stays c.if-take.false)) (second_none starred (record { is = c.take-2.ensures.taken c.if-take-2.true; found = refl }) n))
 
 pub returns-then-take-2-clause-read : goal.returns-then-take-2-clause-read
 returns-then-take-2-clause-read c =
@@ -45,7 +42,7 @@ pub returns-in_err-export_default-clause-refused : goal.returns-in_err-export_de
 returns-in_err-export_default-clause-refused c =
     let same = c.take-2.ensures.stays c.if-take-2.false ∙ c.take.ensures.stays c.if-take.false in
     passed _ c.in_err-export_default.ensures.refused c.from_residual-in_err-export_default.ensures.1
-    (λ n. subst (NoneBehind (key "export") (around_of c.args.context.around)) (ap place_of same) (second_none defaulted (record { is = c.take-3.ensures.taken c.if-take-3.true; found = refl }) n))
+    (λ n. none_from (ap place_of same) (second_none defaulted (record { is = c.take-3.ensures.taken c.if-take-3.true; found = refl }) n))
 
 pub returns-then-take-3-clause-read : goal.returns-then-take-3-clause-read
 returns-then-take-3-clause-read c =
@@ -64,7 +61,7 @@ returns-in_err-declaration-clause-refused c =
     let star = c.take-3.ensures.stays c.if-take-3.false ∙ c.take-2.ensures.stays c.if-take-2.false in
     let same = star ∙ c.take.ensures.stays c.if-take.false in
     passed _ c.in_err-declaration.ensures.refused c.from_residual-in_err-declaration.ensures.1
-    (λ b. subst (NoneBehind (key "export") (around_of c.args.context.around)) (ap place_of same)
+    (λ b. none_from (ap place_of same)
     (declared_unread (record { is = ap (λ h. forth (pun "{") (place_of h)) same ∙ c.take.ensures.missing c.if-take.false }) (record { is = ap (λ h. forth (pun "*") (place_of h)) star ∙ c.take-2.ensures.missing c.if-take-2.false }) (record { is = ap (λ h. forth (key "default") (place_of h)) (c.take-3.ensures.stays c.if-take-3.false) ∙ c.take-3.ensures.missing c.if-take-3.false }) b))
 
 pub returns-clause-read : goal.returns-clause-read

@@ -3,7 +3,7 @@ use Rattle.jsx_tree.specs.Kinds.{none, part}
 use Rattle.jsx_tree.specs.Spans.{no_tales, tale}
 use Rattle.jsx_tree.specs.Told.{told_text}
 use Rattle.jsx_tree.specs.ViewProgram.{source_of}
-use Rattle.jsx_tree.specs.Answers.{NoRow, OnlyRow}
+use Rattle.jsx_tree.specs.Answers.{OnlyRow}
 use Rattle.jsx_token.specs.Here.{place_of}
 use Rattle.jsx_operand.specs.Around.{around_of}
 use Rattle.jsx_operand.specs.SoFar.{so_far}
@@ -14,6 +14,7 @@ use Rattle.jsx_operand.proofs.Steps.{passed}
 use Rattle.jsx_syntax.specs.Items.{from_row, from_symbols}
 use Rattle.jsx_syntax.proofs.Exports.{all_as_built, all_as_unread, all_built, all_unnamed, all_unread}
 use Rattle.jsx_syntax.proofs.PlacedItems.{star_as_placed, star_placed}
+use Rattle.jsx_syntax.proofs.Items.{row_from}
 use Rattle.jsx_syntax.proofs.export.export_all.Goals as goal
 
 -- with a name
@@ -36,7 +37,7 @@ pub returns-in_err-text-2-clause-refused : goal.returns-in_err-text-2-clause-ref
 returns-in_err-text-2-clause-refused c =
     let same = c.take.ensures.stays c.if-take.false in
     passed _ c.in_err-text-2.ensures.refused c.from_residual-in_err-text-2.ensures.1
-    (λ n. all_unread (record { is = c.take.ensures.missing c.if-take.false }) (subst (λ h. NoRow so_far (around_of c.args.context.around) from_row (place_of h)) same n))
+    (λ n. all_unread (record { is = c.take.ensures.missing c.if-take.false }) (row_from (ap place_of same) n))
 
 pub returns-clause-read : goal.returns-clause-read
 returns-clause-read c =

@@ -1,21 +1,21 @@
-use Rattle.std.proofs.Common.{◌≡◌, refl, sym, ◌∙◌, ap, subst, map}
+use Rattle.std.proofs.Common.{refl, sym, ◌∙◌, ap, subst, map}
 use Rattle.jsx_tree.specs.Kinds.{ExportDefaultFn, program, list, node, none, part}
 use Rattle.jsx_tree.specs.Nonterminals.{Expr}
 use Rattle.jsx_tree.specs.Grammar.{Part, key}
 use Rattle.jsx_tree.specs.Reading.{forth}
 use Rattle.jsx_tree.specs.View.{body, inside, optional_name, view_expr, view_stmt}
-use Rattle.jsx_tree.specs.Told.{told_expr}
 use Rattle.jsx_tree.specs.Walk.{one}
-use Rattle.jsx_tree.specs.Answers.{Barred, Only}
+use Rattle.jsx_tree.specs.Answers.{Only}
 use Rattle.jsx_tree.proofs.Views.{bound_forest}
 use Rattle.jsx_token.specs.Here.{place_of}
 use Rattle.jsx_operand.specs.Around.{around_of}
 use Rattle.jsx_operand.specs.SoFar.{so_far}
 use Rattle.jsx_operand.proofs.Places.{spans_from}
 use Rattle.jsx_operand.proofs.Placing.{placed_as, placed_from}
-use Rattle.jsx_operand.proofs.Steps.{passed}
-use Rattle.jsx_syntax.proofs.Exports.{class_built, class_unread, function_built, function_unread, value_built, value_unended, value_unread}
+use Rattle.jsx_operand.proofs.Steps.{passed, passed_in}
+use Rattle.jsx_syntax.proofs.Exports.{class_built, class_deep, class_unread, function_built, function_unread, value_built, value_unended, value_unread}
 use Rattle.jsx_syntax.proofs.PlacedItems.{class_placed, function_placed, value_placed}
+use Rattle.jsx_syntax.proofs.Items.{barred_from}
 use Rattle.jsx_syntax.proofs.export.export_default.Goals as goal
 
 -- a function
@@ -38,9 +38,14 @@ returns-then-take-clause-placed c =
     }
 
 -- a class
+pub returns-in_err-levels-clause-refused : goal.returns-in_err-levels-clause-refused
+returns-in_err-levels-clause-refused c =
+    passed _ c.in_err-levels.ensures.refused c.from_residual-in_err-levels.ensures.1
+    (λ b. class_deep (record { is = c.take-2.ensures.taken c.if-take-2.true ∙ ap (λ h. forth (key "class") (place_of h)) (c.take.ensures.stays c.if-take.false); found = refl }) b)
+
 pub returns-in_err-class-clause-refused : goal.returns-in_err-class-clause-refused
 returns-in_err-class-clause-refused c =
-    passed _ c.in_err-class.ensures.refused c.from_residual-in_err-class.ensures.1
+    passed_in _ c.in_ok-levels.ensures.levels c.in_err-class.ensures.refused c.from_residual-in_err-class.ensures.1
     (λ n. class_unread (record { is = c.take-2.ensures.taken c.if-take-2.true ∙ ap (λ h. forth (key "class") (place_of h)) (c.take.ensures.stays c.if-take.false); found = refl }) n)
 
 pub returns-then-take-2-clause-read : goal.returns-then-take-2-clause-read
@@ -56,7 +61,7 @@ pub returns-in_err-value-clause-refused : goal.returns-in_err-value-clause-refus
 returns-in_err-value-clause-refused c =
     let same = c.take-2.ensures.stays c.if-take-2.false ∙ c.take.ensures.stays c.if-take.false in
     passed _ c.in_err-value.ensures.refused c.from_residual-in_err-value.ensures.1
-    (λ b. value_unread (record { is = c.take.ensures.missing c.if-take.false }) (record { is = sym (ap (λ h. forth (key "class") (place_of h)) (c.take.ensures.stays c.if-take.false)) ∙ c.take-2.ensures.missing c.if-take-2.false }) (subst (λ h. Barred so_far (around_of c.args.context.around) (Part (Expr 1)) (place_of h)) same b))
+    (λ b. value_unread (record { is = c.take.ensures.missing c.if-take.false }) (record { is = sym (ap (λ h. forth (key "class") (place_of h)) (c.take.ensures.stays c.if-take.false)) ∙ c.take-2.ensures.missing c.if-take-2.false }) (barred_from (ap place_of same) b))
 
 pub returns-in_err-semicolon-clause-refused : goal.returns-in_err-semicolon-clause-refused
 returns-in_err-semicolon-clause-refused c =

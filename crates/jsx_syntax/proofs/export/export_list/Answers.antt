@@ -1,14 +1,10 @@
 use Rattle.std.proofs.Common.{◌≡◌, refl, sym, ◌∙◌, ap}
 use Rattle.jsx_tree.specs.Kinds.{Exported, From}
 use Rattle.jsx_tree.specs.Signs.{AfterList, Ends}
-use Rattle.jsx_tree.specs.Grammar.{pun}
 use Rattle.jsx_tree.specs.Reading.{forth}
 use Rattle.jsx_tree.specs.Answers.{Moves}
 use Rattle.jsx_tree.specs.StaticRules.{all_of}
-use Rattle.jsx_tree.specs.Walk.{is_found}
-use Rattle.jsx_tree.specs.ViewProgram.{view_item}
 use Rattle.jsx_token.specs.Here.{Here, place_of}
-use Rattle.jsx_operand.specs.Around.{around_of}
 use Rattle.jsx_operand.proofs.Places.{spans_from}
 use Rattle.jsx_operand.proofs.Placing.{takes_ends, takes_from}
 use Rattle.jsx_operand.proofs.Steps.{passed}
@@ -39,7 +35,7 @@ returns-then-take-clause-placed c = record {
 -- without it
 pub returns-in-Some-clause-refused : goal.returns-in-Some-clause-refused
 returns-in-Some-clause-refused c = record {
-  bars = λ _ _. names_unfit c.in_ok-all.ensures.read (record { is = c.take.ensures.missing c.if-take.false }) (ap (λ xs. all_of (fits Exported) (written xs)) (sym c.deref.ensures.value) ∙ c.in-Some.ensures);
+  bars = λ _ _ _. names_unfit c.in_ok-all.ensures.read (record { is = c.take.ensures.missing c.if-take.false }) (ap (λ xs. all_of (fits Exported) (written xs)) (sym c.deref.ensures.value) ∙ c.in-Some.ensures);
 }
 
 pub returns-in_err-semicolon-clause-refused : goal.returns-in_err-semicolon-clause-refused

@@ -1,22 +1,16 @@
-use Rattle.std.proofs.Common.{refl, sym, ◌∙◌, ap, subst}
+use Rattle.std.proofs.Common.{refl, sym, ◌∙◌, ap}
 use Rattle.std.specs.Str.{chars}
 use Rattle.jsx_base.specs.Token.{Operator, IdentifierName}
 use Rattle.jsx_tree.specs.Signs.{Tok}
 use Rattle.jsx_tree.specs.Reading.{forth}
-use Rattle.jsx_tree.specs.ViewProgram.{view_import_clause, view_import_names}
-use Rattle.jsx_tree.specs.Answers.{NoRow}
 use Rattle.jsx_token.specs.Here.{place_of}
-use Rattle.jsx_token.specs.Places.{end_of}
-use Rattle.jsx_operand.specs.Around.{around_of}
-use Rattle.jsx_operand.specs.SoFar.{so_far}
 use Rattle.jsx_operand.proofs.Places.{spans_from}
 use Rattle.jsx_operand.proofs.PlacedExpressions.{name_placed}
 use Rattle.jsx_operand.proofs.Placing.{placed_from, placed_to}
 use Rattle.jsx_operand.proofs.Steps.{passed}
-use Rattle.jsx_declaration.specs.Heads.{Front}
-use Rattle.jsx_syntax.specs.Items.{from_row}
-use Rattle.jsx_syntax.proofs.Imports.{clause_both, clause_name, clause_names, clause_row, front_from, front_to, no_names, no_second, unbound}
+use Rattle.jsx_syntax.proofs.Imports.{clause_both, clause_deep, clause_name, clause_names, front_from, front_to, no_names, no_second, unbound}
 use Rattle.jsx_syntax.proofs.PlacedItems.{both_placed}
+use Rattle.jsx_syntax.proofs.Items.{row_from}
 use Rattle.jsx_syntax.proofs.import.import_clause.Goals as goal
 
 -- no name stands there
@@ -24,7 +18,7 @@ pub returns-in_err-import_names-clause-refused : goal.returns-in_err-import_name
 returns-in_err-import_names-clause-refused c =
     let same = c.in_default.ensures.stays in
     passed _ c.in_err-import_names.ensures.refused c.from_residual.ensures.1
-    (λ b. subst (NoRow so_far (around_of c.args.context.around) clause_row) (ap place_of same) (no_names (λ t. ap (λ h. forth (Tok Operator IdentifierName t) (place_of h)) same ∙ c.in_default.ensures.missing t) b))
+    (λ b. row_from (ap place_of same) (no_names (λ t. ap (λ h. forth (Tok Operator IdentifierName t) (place_of h)) same ∙ c.in_default.ensures.missing t) b))
 
 pub returns-in_default-clause-read : goal.returns-in_default-clause-read
 returns-in_default-clause-read c =
@@ -37,7 +31,10 @@ returns-in_default-clause-placed c = placed_from c.in_default.ensures.stays c.in
 
 -- a name
 pub returns-then-not-is_bound-clause-refused : goal.returns-then-not-is_bound-clause-refused
-returns-then-not-is_bound-clause-refused c = record { bars = λ _ _. unbound (chars c.in-Some.raw.now) (sym c.is_bound.ensures ∙ c.if-not-is_bound.true) c.in-Some.ensures.taken refl }
+returns-then-not-is_bound-clause-refused c = record { bars = λ _ _ _. unbound (chars c.in-Some.raw.now) (sym c.is_bound.ensures ∙ c.if-not-is_bound.true) c.in-Some.ensures.taken refl }
+
+pub returns-in_err-counted-clause-refused : goal.returns-in_err-counted-clause-refused
+returns-in_err-counted-clause-refused c = passed _ c.in_err-counted.ensures.refused c.from_residual-in_err-counted.ensures.1 (λ b. clause_deep (chars c.in-Some.raw.now) c.in-Some.ensures.taken refl b)
 
 pub returns-then-not-take-clause-read : goal.returns-then-not-take-clause-read
 returns-then-not-take-clause-read c =

@@ -1,4 +1,4 @@
-use Rattle.std.proofs.Common.{◌≡◌, true, false, refl, sym, ◌∙◌, ap, subst}
+use Rattle.std.proofs.Common.{refl, sym, ◌∙◌, ap}
 use Rattle.jsx_tree.specs.Kinds.{Imported}
 use Rattle.jsx_tree.specs.StaticRules.{all_of}
 use Rattle.jsx_operand.proofs.Places.{spans_from}
@@ -12,7 +12,7 @@ pub returns-in_err-all-clause-refused : goal.returns-in_err-all-clause-refused
 returns-in_err-all-clause-refused c = passed _ c.in_err-all.ensures.refused c.from_residual.ensures.1 (λ n. side_none Imported n)
 
 pub returns-in-Some-clause-refused : goal.returns-in-Some-clause-refused
-returns-in-Some-clause-refused c = record { bars = λ _ _. side_unfit Imported c.in_ok-all.ensures.read (ap (λ xs. all_of (fits Imported) (written xs)) (sym c.deref.ensures.value) ∙ c.in-Some.ensures) }
+returns-in-Some-clause-refused c = record { bars = λ _ _ _. side_unfit Imported c.in_ok-all.ensures.read (ap (λ xs. all_of (fits Imported) (written xs)) (sym c.deref.ensures.value) ∙ c.in-Some.ensures) }
 
 pub returns-clause-read : goal.returns-clause-read
 returns-clause-read c = record { parts = _; is = refl; row = side_row Imported c.in_ok-all.all.items refl c.in_ok-all.ensures.read (ap (λ xs. all_of (fits Imported) (written xs)) (sym c.deref.ensures.value) ∙ c.in_default.ensures) }

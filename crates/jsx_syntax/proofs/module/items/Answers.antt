@@ -1,11 +1,11 @@
-use Rattle.std.proofs.Common.{false, map, refl, sym, ◌∙◌, subst}
+use Rattle.std.proofs.Common.{ap, false, map, refl, sym, ◌∙◌, subst}
 use Rattle.jsx_tree.specs.Nonterminals.{Item}
 use Rattle.jsx_tree.specs.Grammar.{Part, TopLines}
 use Rattle.jsx_tree.specs.Told.{tales, told_item}
 use Rattle.jsx_tree.specs.View.{forest}
 use Rattle.jsx_tree.specs.ViewProgram.{view_item}
 use Rattle.jsx_tree.specs.Walk.{one}
-use Rattle.jsx_tree.specs.Answers.{Only, Barred}
+use Rattle.jsx_tree.specs.Answers.{Only}
 use Rattle.jsx_tree.proofs.Rows.Lines.{Onto, onto_barred, onto_end, onto_more, onto_none}
 use Rattle.jsx_token.specs.Here.{place_of}
 use Rattle.jsx_operand.specs.Around.{around_of}
@@ -15,7 +15,7 @@ use Rattle.jsx_operand.proofs.OfSoFar.{of_so_far}
 use Rattle.jsx_operand.proofs.Steps.{passed}
 use Rattle.jsx_operand.proofs.Trees.{pushed}
 use Rattle.jsx_operand.proofs.Placing.{PlacedFront, front_last, front_more, front_none, list_none, list_to, map_pushed, placed_from, plain_top_lines}
-use Rattle.jsx_syntax.proofs.Items.{none_at_end}
+use Rattle.jsx_syntax.proofs.Items.{barred_from, none_at_end}
 use Rattle.jsx_syntax.proofs.module.items.Goals as goal
 
 pub items-init : goal.items-init
@@ -27,7 +27,7 @@ items-init c = record {
 
 pub returns-in_err-next-clause-refused : goal.returns-in_err-next-clause-refused
 returns-in_err-next-clause-refused c = passed _ c.in_err-next.ensures.refused c.from_residual.ensures.1
-    (λ b. onto_barred _ c.items.invariant.so_far (sym c.is_at_end.ensures.ends ∙ c.items-test.true) (subst (λ h. Barred so_far (around_of c.args.context.around) (Part Item) (place_of h)) c.is_at_end.ensures.stays b))
+    (λ b. onto_barred _ c.items.invariant.so_far (sym c.is_at_end.ensures.ends ∙ c.items-test.true) (barred_from (ap place_of c.is_at_end.ensures.stays) b))
 
 pub items-preserved : goal.items-preserved
 items-preserved c =

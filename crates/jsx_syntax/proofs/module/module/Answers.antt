@@ -5,8 +5,11 @@ use Rattle.jsx_operand.specs.Around.{around_of}
 use Rattle.jsx_operand.proofs.Steps.{passed}
 use Rattle.jsx_syntax.proofs.Items.{string_items}
 use Rattle.jsx_syntax.proofs.PlacedPrograms.{placed_items}
-use Rattle.jsx_syntax.proofs.Programs.{no_program, program_only}
+use Rattle.jsx_syntax.proofs.Programs.{deep_program, no_program, program_only}
 use Rattle.jsx_syntax.proofs.module.module.Goals as goal
+
+pub returns-in_err-directives-clause-refused : goal.returns-in_err-directives-clause-refused
+returns-in_err-directives-clause-refused c = passed _ c.in_err-directives.ensures.refused c.from_residual.ensures.1 (λ p. deep_program {V = λ ds. around_of c.args.context.around} string_items p)
 
 pub returns-in_err-body-clause-refused : goal.returns-in_err-body-clause-refused
 returns-in_err-body-clause-refused c = passed _ c.in_err-body.ensures.refused c.from_residual-in_err-body.ensures.1 (λ n. no_program {V = λ ds. around_of c.args.context.around} string_items c.in_ok-directives.ensures.read n)

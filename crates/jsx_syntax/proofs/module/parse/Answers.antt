@@ -1,9 +1,9 @@
-use Rattle.std.proofs.Common.{sym, ◌∙◌, ap, length, subst}
+use Rattle.std.proofs.Common.{sym, ◌∙◌, length, subst}
 use Rattle.std.specs.Prelude.{Some}
 use Rattle.std.specs.Str.{chars}
 use Rattle.jsx_tree.specs.Spans.{IsTold, placed_in}
 use Rattle.jsx_tree.specs.ViewProgram.{view}
-use Rattle.jsx_operand.specs.Spans.{Spans, program_at}
+use Rattle.jsx_operand.specs.Spans.{Spans}
 use Rattle.jsx_tree.proofs.OneTree.Whole.{one_tree}
 use Rattle.jsx_operand.proofs.Steps.{passed}
 use Rattle.jsx_syntax.proofs.Unwrapping.{same_span}
@@ -19,6 +19,7 @@ returns-clause-read c =
       written = view c.in_ok-program.program;
       reads = r;
       alone = λ t s. one_tree c.args.goal (chars c.args.text.now) t (view c.in_ok-program.program) s.reads r.reads;
+      shallow = c.in_ok-program.ensures.shallow;
       bare = c.in_ok-bare.ensures.seen c.args.goal (chars c.args.text.now) r;
       placed = subst (λ d. IsTold d (placed_in (chars c.args.text.now) (view c.in_ok-program.program))) (sym c.in_ok-bare.ensures.places) c.in_ok-program.ensures.placed;
     }

@@ -1,7 +1,6 @@
-use Rattle.std.proofs.Common.{not, arith, sym, ◌∙◌, ap}
+use Rattle.std.proofs.Common.{arith, sym, ◌∙◌}
 use Rattle.jsx_tree.specs.Kinds.{From}
 use Rattle.jsx_tree.specs.ViewProgram.{view_specifier}
-use Rattle.jsx_tree.proofs.Rows.Stopping.{is_not}
 use Rattle.jsx_syntax.specs.Specifiers.{fits, side_of}
 use Rattle.jsx_syntax.proofs.Fitting.{pass_all, pass_begin, pass_more, pass_none}
 use Rattle.jsx_syntax.proofs.specifier.misfit.Goals as goal

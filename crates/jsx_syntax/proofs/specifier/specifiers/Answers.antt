@@ -1,5 +1,5 @@
-use Rattle.std.proofs.Common.{◌≡◌, true, false, arith, map, refl, sym, ap, subst}
-use Rattle.jsx_tree.specs.Kinds.{From, Side}
+use Rattle.std.proofs.Common.{◌≡◌, false, arith, map, refl, sym, ap, subst}
+use Rattle.jsx_tree.specs.Kinds.{From}
 use Rattle.jsx_tree.specs.Grammar.{Commas}
 use Rattle.jsx_tree.specs.View.{forest}
 use Rattle.jsx_tree.specs.ViewProgram.{view_specifier}

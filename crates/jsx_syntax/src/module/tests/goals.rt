@@ -1,5 +1,6 @@
 //! What the goal of a text decides: imports and exports, `import.meta`, and, with directives, whether code is strict.
 
+use super::DEEP;
 use crate::ParseError;
 use crate::module::parse;
 use jsx_base::BytePos;
@@ -11,14 +12,14 @@ fn script(alloc: Global, text: &str) -> Result<(usize, usize), ParseError> {
     if text.len() >= 1000 {
         return Err(ParseError::Memory);
     }
-    match parse(alloc, text, Goal::Script)? {
+    match parse(alloc, text, Goal::Script, DEEP)? {
         Program::Script(script) => Ok((script.directives.len(), script.body.len())),
         Program::Module(_) => Err(ParseError::Memory),
     }
 }
 
 fn is_module(alloc: Global, text: &str) -> bool {
-    text.len() < 1000 && parse(alloc, text, Goal::Module).is_ok()
+    text.len() < 1000 && parse(alloc, text, Goal::Module, DEEP).is_ok()
 }
 
 #[test]

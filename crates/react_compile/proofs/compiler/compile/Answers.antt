@@ -1,7 +1,8 @@
-use Rattle.std.proofs.Common.{subst}
+use Rattle.std.proofs.Common.{◌≤◌, sym, subst}
 use Rattle.std.specs.Str.{chars}
+use Rattle.jsx_tree.specs.Depth.{depth}
 use Rattle.jsx_token.specs.Stage.{ReadsSoFar}
-use Rattle.react_compile.proofs.Refusals.{refused_by, complete_by, parsed_by, no_front, told_not_utf8, told_up_to, told_no_syntax, told_no_source}
+use Rattle.react_compile.proofs.Refusals.{refused_by, complete_by, deep_by, parsed_by, no_front, told_not_utf8, told_up_to, told_no_depth, told_no_syntax, told_no_source}
 use Rattle.react_compile.proofs.compiler.compile.Goals as goal
 
 pub returns-clause-compiled : goal.returns-clause-compiled
@@ -18,6 +19,15 @@ returns-in_err-program-clause-refused c = refused_by _ _ _ _ c.in_ok-text.ensure
 
 pub returns-in_err-program-clause-complete : goal.returns-in_err-program-clause-complete
 returns-in_err-program-clause-complete c = complete_by _ _ _ _ c.in_ok-text.ensures.same c.in_err-program.ensures.refused c.from_residual-in_err-program.ensures.1
+
+pub returns-in_err-program-clause-too_deep : goal.returns-in_err-program-clause-too_deep
+returns-in_err-program-clause-too_deep c = deep_by _ _ _ _ c.in_ok-text.ensures.same c.in_err-program.ensures.refused c.from_residual-in_err-program.ensures.1
+
+pub returns-clause-shallow : goal.returns-clause-shallow
+returns-clause-shallow c = λ tree source.
+    let p = c.in_ok-program.ensures.read in
+    let same = p.alone tree (subst (λ xs. ReadsSoFar c.args.goal (chars xs) tree) (sym c.in_ok-text.ensures.same) source.reads) in
+    subst (λ t. depth t ≤ c.args.depth) (sym same) p.shallow
 
 pub returns-clause-up_to : goal.returns-clause-up_to
 returns-clause-up_to c = λ n v. absurd (no_front _ n c.in_ok-text.ensures.utf8 v)
@@ -46,5 +56,14 @@ returns-in_err-text-clause-refused c = λ at same. told_no_syntax _ _ c.args.sou
 pub returns-in_err-text-clause-place : goal.returns-in_err-text-clause-place
 returns-in_err-text-clause-place c = λ at same. told_no_syntax _ _ c.args.source.now c.in_err-text.ensures.not_utf8 c.from_residual.ensures.1 at same
 
+pub returns-in_err-text-clause-deep_text : goal.returns-in_err-text-clause-deep_text
+returns-in_err-text-clause-deep_text c = λ at same. told_no_depth _ _ c.args.source.now c.in_err-text.ensures.not_utf8 c.from_residual.ensures.1 at same
+
+pub returns-in_err-text-clause-too_deep : goal.returns-in_err-text-clause-too_deep
+returns-in_err-text-clause-too_deep c = λ at same. told_no_depth _ _ c.args.source.now c.in_err-text.ensures.not_utf8 c.from_residual.ensures.1 at same
+
+pub returns-in_err-text-clause-deep_place : goal.returns-in_err-text-clause-deep_place
+returns-in_err-text-clause-deep_place c = λ at same. told_no_depth _ _ c.args.source.now c.in_err-text.ensures.not_utf8 c.from_residual.ensures.1 at same
+
 pub returns-in_err-text-clause-complete : goal.returns-in_err-text-clause-complete
-returns-in_err-text-clause-complete c = told_no_source _ _ c.args.source.now c.in_err-text.ensures.not_utf8 c.from_residual.ensures.1
+returns-in_err-text-clause-complete c = λ tree source _. told_no_source _ _ c.args.source.now c.in_err-text.ensures.not_utf8 c.from_residual.ensures.1 tree source

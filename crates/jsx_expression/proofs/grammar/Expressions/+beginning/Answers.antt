@@ -8,7 +8,8 @@ use Rattle.jsx_tree.specs.ViewOperators.{unary_of}
 use Rattle.jsx_tree.specs.Reading.{Place}
 use Rattle.jsx_tree.specs.StaticRules.{Surroundings}
 use Rattle.jsx_tree.specs.Walk.{one, tail}
-use Rattle.jsx_tree.specs.Answers.{Only, NoNode, Built, BuiltNode}
+use Rattle.jsx_tree.specs.Faults.{Fault}
+use Rattle.jsx_tree.specs.Answers.{Only, Built, BuiltNode}
 use Rattle.jsx_operand.specs.Openings.{OnlyOpened, NoneOpened}
 use Rattle.jsx_operand.specs.SoFar.{so_far}
 use Rattle.jsx_token.specs.Marks.{is_quoted, row_so_far}
@@ -19,20 +20,20 @@ use Rattle.jsx_token.specs.Growths.{NoOpening, callee, closed, growth_kind, open
 use Rattle.jsx_tree.specs.Signs.{Sign}
 use Rattle.jsx_operand.specs.Climbing.{Begins, NoneBegins, fits, rises}
 use Rattle.jsx_token.specs.Places.{end_of, next_of}
-use Rattle.jsx_tree.proofs.Rows.Steps.{on}
-use Rattle.jsx_tree.proofs.Rows.Lists.{ended}
 use Rattle.jsx_operand.proofs.Values.{sign_ended}
 use Rattle.jsx_token.proofs.Levels.{growth_listed, growth_marks, is_ruled}
 use Rattle.jsx_operand.proofs.Climbing.{climb_only, climb_on, climb_barred, climb_unfit, climb_tagged, climbs_to, tagged_unread}
 use Rattle.jsx_tree.proofs.Rows.Placing.{free, no_node}
-use Rattle.jsx_operand.proofs.Openings.{is_shared, kept_behind, no_sole_parts, signed_follows, sole_none, sole_opened, sole_parts, unread_opening}
+use Rattle.jsx_operand.proofs.Openings.{kept_behind, no_sole_parts, sole_none, sole_opened, sole_parts}
 use Rattle.jsx_expression.proofs.Shared.{arguments_unread, callee_unread, target_opened, target_outside, target_unread, with_opened, without_opened}
 use Rattle.jsx_token.specs.declared.opening.Opening.{Opening}
 use Rattle.jsx_token.specs.declared.opening.Opening.TheVariants as opening
 use Rattle.jsx_token.proofs.TakingOpenings.{opening_listed, opening_opens, opening_staged}
 use Rattle.jsx_token.proofs.TakingGrowths.{ended as stopped}
 use Rattle.jsx_operand.proofs.Places.{spans_from}
-use Rattle.jsx_operand.proofs.Steps.{passed}
+use Rattle.jsx_expression.proofs.Depths.{outgrown_as}
+use Rattle.jsx_operand.proofs.Outgrowing.{climb_outgrown}
+use Rattle.jsx_operand.proofs.Steps.{passed, passed_in, passed_plain}
 use Rattle.jsx_operand.proofs.Templates.{quoted_to, unquoted_to}
 use Rattle.jsx_operand.proofs.Placing.{placed_as, placed_from, placed_to}
 use Rattle.jsx_operand.proofs.PlacedExpressions.{target_row, new_row, new_alone_row}
@@ -43,7 +44,6 @@ use Rattle.jsx_tree.specs.Told.{told_expr}
 use Rattle.jsx_tree.specs.declared.tree.Expr.{Expr as Code}
 use Rattle.jsx_token.specs.Here.{Here}
 use Rattle.jsx_operand.specs.Climbing.{level}
-use Rattle.jsx_operand.specs.Covers.{view_cover}
 use Rattle.jsx_operand.specs.Spans.{IsPlaced, IsPlacedBehind, Spans}
 use Rattle.jsx_make.specs.NodeSpans.{expr_at}
 use Rattle.jsx_operand.specs.Turning.{is_literal}
@@ -51,7 +51,7 @@ use Rattle.jsx_operand.specs.declared.cover.Cover.{Cover}
 use Rattle.jsx_member.specs.Covers.{IsPlacedCoverBehind, NoCoverOpened, OpensCover, is_bracket_sign}
 use Rattle.jsx_expression.specs.Covers.{BeginsCover, NoCoverBegins}
 use Rattle.jsx_function.specs.Covers.{IsPlacedCover, Settles}
-use Rattle.jsx_expression.proofs.Covers.{NoBrackets, brackets_quoted, brackets_unopened, callee_begins, callee_high, callee_unfit, callee_unsettled, cover_begins, no_cover_begins, opened_cover, opened_other, plain_begins, plain_unbegun, plain_unlike, unopened_cover}
+use Rattle.jsx_expression.proofs.Covers.{NoBrackets, brackets_quoted, brackets_unopened, callee_begins, callee_high, callee_unfit, callee_unsettled, cover_begins, deep_cover_begins, no_cover_begins, opened_cover, opened_other, plain_begins, plain_unbegun, plain_unlike, unopened_cover}
 use Rattle.jsx_expression.proofs.CoverPlaces.{placed_cover, placed_cover_behind}
 use Rattle.jsx_expression.proofs.CoverSteps.{settles_by}
 use Rattle.jsx_function.proofs.Settled.{settled_placed, settled_span}
@@ -88,8 +88,8 @@ kept_opening g n b = kept_behind (opening_kind g) (opening_listed g (opening_sta
 opened_at : {v : Surroundings} {x y : Place} (g h : Opening) → g ≡ h → (d : Cover) (e : Box Code Global) → is_bracket_sign (opening_sign (opening_kind h)) ≡ false → d.expr ≡ e → d.is_expr ≡ true → d.may_turn ≡ true → OnlyOpened v (opening_sign (opening_kind h)) (view_expr e.value) x y → OpensCover v (opening_sign (opening_kind g)) d x y
 opened_at {v} {x} {y} g h q d e n is i m o = subst (λ j. OpensCover v (opening_sign (opening_kind j)) d x y) (sym q) (opened_cover (opening_kind h) d e (opening_listed h (opening_staged h)) (opening_opens h) n is i m o)
 
-unopened_at : {v : Surroundings} {x : Place} (g h : Opening) → g ≡ h → is_bracket_sign (opening_sign (opening_kind h)) ≡ false → NoneOpened v (opening_sign (opening_kind h)) x → NoCoverOpened v (opening_sign (opening_kind g)) x
-unopened_at {v} {x} g h q n o = subst (λ j. NoCoverOpened v (opening_sign (opening_kind j)) x) (sym q) (unopened_cover (opening_kind h) (opening_listed h (opening_staged h)) (opening_opens h) n o)
+unopened_at : {v : Surroundings} {x : Place} {f : Fault} (g h : Opening) → g ≡ h → is_bracket_sign (opening_sign (opening_kind h)) ≡ false → NoneOpened v (opening_sign (opening_kind h)) x f → NoCoverOpened v (opening_sign (opening_kind g)) x f
+unopened_at {v} {x} {f} g h q n o = subst (λ j. NoCoverOpened v (opening_sign (opening_kind j)) x f) (sym q) (unopened_cover (opening_kind h) (opening_listed h (opening_staged h)) (opening_opens h) n o)
 
 opened_placed : {v : Surroundings} {a b : Place} {x y : Here} (g h : Opening) → g ≡ h → (d : Cover) (e : Box Code Global) → is_bracket_sign (opening_sign (opening_kind h)) ≡ false → d.expr ≡ e → OnlyOpened v (opening_sign (opening_kind h)) (view_expr e.value) a b → IsPlacedBehind (opening_sign (opening_kind h)) x (told_expr e.value) (view_expr e.value) y → IsPlacedCoverBehind (opening_sign (opening_kind g)) x d y
 opened_placed {x = x} {y} g h q d e n is o p = subst (λ j. IsPlacedCoverBehind (opening_sign (opening_kind j)) x d y) (sym q)
@@ -99,8 +99,8 @@ opened_placed {x = x} {y} g h q d e n is o p = subst (λ j. IsPlacedCoverBehind 
 opens_as : {v : Surroundings} {x y : Place} {d : Cover} (g h : Opening) → g ≡ h → OpensCover v (opening_sign (opening_kind h)) d x y → OpensCover v (opening_sign (opening_kind g)) d x y
 opens_as {v} {x} {y} {d} g h q o = subst (λ j. OpensCover v (opening_sign (opening_kind j)) d x y) (sym q) o
 
-unopens_as : {v : Surroundings} {x : Place} (g h : Opening) → g ≡ h → NoCoverOpened v (opening_sign (opening_kind h)) x → NoCoverOpened v (opening_sign (opening_kind g)) x
-unopens_as {v} {x} g h q o = subst (λ j. NoCoverOpened v (opening_sign (opening_kind j)) x) (sym q) o
+unopens_as : {v : Surroundings} {x : Place} {f : Fault} (g h : Opening) → g ≡ h → NoCoverOpened v (opening_sign (opening_kind h)) x f → NoCoverOpened v (opening_sign (opening_kind g)) x f
+unopens_as {v} {x} {f} g h q o = subst (λ j. NoCoverOpened v (opening_sign (opening_kind j)) x f) (sym q) o
 
 opens_placed : {x y : Here} {d : Cover} (g h : Opening) → g ≡ h → IsPlacedCoverBehind (opening_sign (opening_kind h)) x d y → IsPlacedCoverBehind (opening_sign (opening_kind g)) x d y
 opens_placed {x} {y} {d} g h q p = subst (λ j. IsPlacedCoverBehind (opening_sign (opening_kind j)) x d y) (sym q) p
@@ -115,8 +115,8 @@ settles_as {y = y} is s = subst (λ j. Settles (level (view_expr j.value)) y) (s
 plain_read : {v : Surroundings} {h l : Here} {y : Place} (d : Cover) (e : Box Code Global) → l ≡ h → NoBrackets (place_of l) → d.expr ≡ e → d.is_expr ≡ true → d.may_turn ≡ true → Begins v (place_of l) (view_expr e.value) y → BeginsCover v (place_of h) d y
 plain_read {v} {h} {l} {y} d e s n is i m q = subst (λ w. BeginsCover v (place_of w) d y) s (plain_begins d e n is i m q)
 
-plain_none : {v : Surroundings} {h l : Here} → l ≡ h → NoBrackets (place_of l) → NoneBegins v (place_of l) → NoCoverBegins v (place_of h)
-plain_none {v} s n q = subst (λ w. NoCoverBegins v (place_of w)) s (plain_unbegun n q)
+plain_none : {v : Surroundings} {h l : Here} {f : Fault} → l ≡ h → NoBrackets (place_of l) → NoneBegins v (place_of l) f → NoCoverBegins v (place_of h) f
+plain_none {v} {f = f} s n q = subst (λ w. NoCoverBegins v (place_of w) f) s (plain_unbegun n q)
 
 plain_span : {f e : Box Code Global} {h l : Here} {hi : ℕ} → l ≡ h → f ≡ e → Spans (expr_at e.value) (next_of l) hi → Spans (expr_at f.value) (next_of h) hi
 plain_span {f} {e} {h} {l} {hi} s is q = subst (λ w. Spans (expr_at f.value) (next_of w) hi) s (span_as is q)
@@ -326,10 +326,13 @@ beginning-returns-in-Some-clause-read g t c =
     let g = c.in-Some.opening in
     cover_begins (opening_kind g) (opening_listed g c.in-Some.ensures.staged) (opening_opens g) (record { is = c.in-Some.ensures.taken; found = refl }) c.in_ok-open.ensures.ended c.in_ok-open.ensures.settles c.in_ok-open.ensures.read
 
+pub beginning-returns-in_err-levels-clause-refused : goal.beginning-returns-in_err-levels-clause-refused
+beginning-returns-in_err-levels-clause-refused g t c = passed _ c.in_err-levels.ensures.refused c.from_residual.ensures.1 (λ b. deep_cover_begins b)
+
 pub beginning-returns-in_err-open-clause-refused : goal.beginning-returns-in_err-open-clause-refused
 beginning-returns-in_err-open-clause-refused g t c =
     let g = c.in-Some.opening in
-    passed _ c.in_err-open.ensures.refused c.from_residual.ensures.1 (λ n. no_cover_begins (opening_kind g) (opening_listed g c.in-Some.ensures.staged) (opening_opens g) (record { is = c.in-Some.ensures.taken; found = refl }) n)
+    passed_in _ c.in_ok-levels.ensures.levels c.in_err-open.ensures.refused c.from_residual-in_err-open.ensures.1 (λ n. no_cover_begins (opening_kind g) (opening_listed g c.in-Some.ensures.staged) (opening_opens g) (record { is = c.in-Some.ensures.taken; found = refl }) n)
 
 pub beginning-returns-then-is_before_template-clause-read : goal.beginning-returns-then-is_before_template-clause-read
 beginning-returns-then-is_before_template-clause-read g t c = plain_read _ _ (c.is_before_template.ensures.stays ∙ c.in_default.ensures.stays) (brackets_quoted (quoted_to c.is_before_template.ensures.stays c.is_before_template.ensures.ahead c.if-is_before_template.true)) c.settled.ensures.expr c.settled.ensures.is_expr c.settled.ensures.may_turn c.in_ok-untagged.ensures.read
@@ -373,7 +376,7 @@ pub callee-returns-in_err-first-clause-refused : goal.callee-returns-in_err-firs
 callee-returns-in_err-first-clause-refused g t c = passed _ c.in_err-first.ensures.refused c.from_residual.ensures.1 (λ n. n.none.on callee refl)
 
 pub callee-returns-in_err-expr-clause-refused : goal.callee-returns-in_err-expr-clause-refused
-callee-returns-in_err-expr-clause-refused g t c = passed _ c.in_err-expr.ensures.refused c.from_residual-in_err-expr.ensures.1 (λ e. callee_unsettled e c.in_ok-first.ensures.read)
+callee-returns-in_err-expr-clause-refused g t c = passed_plain _ c.in_err-expr.ensures.refused c.from_residual-in_err-expr.ensures.1 (λ e. callee_unsettled e c.in_ok-first.ensures.read)
 
 pub callee-members-init : goal.callee-members-init
 callee-members-init g t c = record {
@@ -385,7 +388,7 @@ callee-members-init g t c = record {
 
 pub callee-returns-then-not-is_callee-clause-refused : goal.callee-returns-then-not-is_callee-clause-refused
 callee-returns-then-not-is_callee-clause-refused g t c = record {
-  bars = λ _ _. callee_unfit c.in_ok-expr.ensures.expr c.in_ok-expr.ensures.is (ap (λ e. rises callee (view_expr e)) (sym c.deref.ensures) ∙ (sym c.is_callee.ensures ∙ c.if-not-is_callee.true)) c.in_ok-first.ensures.read;
+  bars = λ _ _ _. callee_unfit c.in_ok-expr.ensures.expr c.in_ok-expr.ensures.is (ap (λ e. rises callee (view_expr e)) (sym c.deref.ensures) ∙ (sym c.is_callee.ensures ∙ c.if-not-is_callee.true)) c.in_ok-first.ensures.read;
 }
 
 pub callee-returns-in_default-clause-read : goal.callee-returns-in_default-clause-read
@@ -419,16 +422,22 @@ callee-members-preserved-then-is_before_template g t c =
 
 pub callee-returns-then-not-fits-clause-refused : goal.callee-returns-then-not-fits-clause-refused
 callee-returns-then-not-fits-clause-refused g t c = record {
-  bars = λ _ _.
+  bars = λ _ _ _.
       let g = c.in-Some.growth in
       climb_unfit callee (growth_kind g) refl (growth_listed g) (growth_marks g) (climbs_to c.is_before_template.ensures.stays c.members.invariant.so_far) c.in-Some.ensures.on_line (record { is = c.in-Some.ensures.taken; found = refl }) c.in-Some.ensures.reaches
       (ap (λ e. fits (growth_kind g) (view_expr e)) (sym c.deref-else-is_before_template.ensures) ∙ (sym c.fits.ensures ∙ c.if-not-fits.true));
 }
 
+pub callee-returns-in_err-levels-clause-refused : goal.callee-returns-in_err-levels-clause-refused
+callee-returns-in_err-levels-clause-refused g t c =
+    let g = c.in-Some.growth in
+    passed _ (outgrown_as (ap view_expr c.deref-else-is_before_template-2.ensures) c.in_err-levels.ensures.refused) c.from_residual-in_err-levels.ensures.1
+    (λ o. climb_outgrown callee (growth_kind g) _ refl (growth_listed g) (growth_marks g) (climbs_to c.is_before_template.ensures.stays c.members.invariant.so_far) c.in-Some.ensures.on_line (record { is = c.in-Some.ensures.taken; found = refl }) c.in-Some.ensures.reaches o)
+
 pub callee-returns-in_err-expr-3-clause-refused : goal.callee-returns-in_err-expr-3-clause-refused
 callee-returns-in_err-expr-3-clause-refused g t c =
     let g = c.in-Some.growth in
-    passed _ c.in_err-expr-3.ensures.refused c.from_residual-in_err-expr-3.ensures.1 (λ n. climb_barred callee (growth_kind g) refl (growth_listed g) (growth_marks g) (climbs_to c.is_before_template.ensures.stays c.members.invariant.so_far) c.in-Some.ensures.on_line (record { is = c.in-Some.ensures.taken; found = refl }) c.in-Some.ensures.reaches n)
+    passed_in _ c.in_ok-levels.ensures.levels c.in_err-expr-3.ensures.refused c.from_residual-in_err-expr-3.ensures.1 (λ n. climb_barred callee (growth_kind g) refl (growth_listed g) (growth_marks g) (climbs_to c.is_before_template.ensures.stays c.members.invariant.so_far) c.in-Some.ensures.on_line (record { is = c.in-Some.ensures.taken; found = refl }) c.in-Some.ensures.reaches n)
 
 pub callee-members-preserved : goal.callee-members-preserved
 callee-members-preserved g t c =
@@ -449,7 +458,7 @@ pub new_expression-returns-in_err-expect-clause-refused : goal.new_expression-re
 new_expression-returns-in_err-expect-clause-refused g t c = passed _ c.in_err-expect.ensures.refused c.from_residual.ensures.1 (λ b. target_unread (record { is = c.take.ensures.taken c.if-take.true; found = refl }) b)
 
 pub new_expression-returns-then-not-context-clause-refused : goal.new_expression-returns-then-not-context-clause-refused
-new_expression-returns-then-not-context-clause-refused g t c = record { bars = λ _ _. target_outside c.if-not-context.true (record { is = c.take.ensures.taken c.if-take.true; found = refl }) }
+new_expression-returns-then-not-context-clause-refused g t c = record { bars = λ _ _ _. target_outside c.if-not-context.true (record { is = c.take.ensures.taken c.if-take.true; found = refl }) }
 
 pub new_expression-returns-then-take-clause-read : goal.new_expression-returns-then-take-clause-read
 new_expression-returns-then-take-clause-read g t c = target_opened c.if-not-context.false (record { is = c.take.ensures.taken c.if-take.true; found = refl }) c.in_ok-expect.ensures.read refl c.in_ok-constant.ensures.view

@@ -1,4 +1,4 @@
-use Rattle.std.proofs.Common.{true, false, refl}
+use Rattle.std.proofs.Common.{refl}
 use Rattle.jsx_operand.proofs.Places.{spans_from}
 use Rattle.jsx_operand.proofs.Placing.{placed_as}
 use Rattle.jsx_operand.proofs.Steps.{passed}
@@ -11,7 +11,7 @@ pub returns-in_err-body-clause-refused : goal.returns-in_err-body-clause-refused
 returns-in_err-body-clause-refused g c = passed _ c.in_err-body.ensures.refused c.from_residual.ensures.1 (λ n. no_end (view_params c.args.params) n)
 
 pub returns-then-not-agrees-clause-refused : goal.returns-then-not-agrees-clause-refused
-returns-then-not-agrees-clause-refused g c = record { bars = λ _ _. unagreed (view_params c.args.params) c.in_ok-body.body c.requires.simple c.agrees.ensures c.if-not-agrees.true c.in_ok-body.ensures.read }
+returns-then-not-agrees-clause-refused g c = record { bars = λ _ _ _. unagreed (view_params c.args.params) c.in_ok-body.body c.requires.simple c.agrees.ensures c.if-not-agrees.true c.in_ok-body.ensures.read }
 
 pub returns-clause-read : goal.returns-clause-read
 returns-clause-read g c = record {

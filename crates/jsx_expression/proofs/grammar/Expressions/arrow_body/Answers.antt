@@ -1,4 +1,4 @@
-use Rattle.std.proofs.Common.{true, false, arith, refl, sym, ap}
+use Rattle.std.proofs.Common.{arith, refl, sym, ap}
 use Rattle.jsx_token.specs.Here.{left, place_of}
 use Rattle.jsx_operand.proofs.Bodies.{body_ended}
 use Rattle.jsx_operand.proofs.Steps.{passed}

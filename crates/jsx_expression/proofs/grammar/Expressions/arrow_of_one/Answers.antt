@@ -1,7 +1,7 @@
 use Rattle.std.proofs.Common.{not, [], ◌∷◌, ◌++◌, sym, ◌∙◌, ap}
 use Rattle.jsx_tree.specs.View.{view_pat}
 use Rattle.jsx_operand.specs.Patterns.{is_compound}
-use Rattle.jsx_operand.proofs.Steps.{passed}
+use Rattle.jsx_operand.proofs.Steps.{passed, passed_plain}
 use Rattle.jsx_tree.proofs.Rows.Bridge.{found_at}
 use Rattle.jsx_expression.proofs.ArrowOpenings.{arrow_settles, one_simple, one_turns, one_unturned, turned_opened, turned_unread, unturned}
 use Rattle.jsx_expression.proofs.CoverParams.{close_stuck}
@@ -10,7 +10,7 @@ use Rattle.jsx_expression.proofs.PlacedArrows.{one_param_front}
 use Rattle.jsx_expression.proofs.grammar.Expressions.arrow_of_one.Goals as goal
 
 pub returns-in_err-parameter-clause-refused : goal.returns-in_err-parameter-clause-refused
-returns-in_err-parameter-clause-refused g c = passed _ c.in_err-parameter.ensures.refused c.from_residual.ensures.1
+returns-in_err-parameter-clause-refused g c = passed_plain _ c.in_err-parameter.ensures.refused c.from_residual.ensures.1
     (λ f. record { no = λ w z i m k. unturned (one_contents i (close_stuck {y = z} (found_at (sym m.is) m.found))) m k (λ ps t. one_unturned f t) })
 
 pub arrow-requires-clause-simple : goal.arrow-requires-clause-simple

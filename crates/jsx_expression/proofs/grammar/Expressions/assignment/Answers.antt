@@ -5,8 +5,7 @@ use Rattle.jsx_tree.specs.Told.{told_expr, told_node}
 use Rattle.jsx_make.specs.NodeSpans.{expr_at}
 use Rattle.jsx_operand.specs.Spans.{Spans}
 use Rattle.jsx_token.specs.Places.{end_of, next_of}
-use Rattle.jsx_tree.proofs.Rows.Steps.{bar, on, built_1}
-use Rattle.jsx_tree.proofs.Rows.Lists.{ended}
+use Rattle.jsx_tree.proofs.Rows.Steps.{bar, built_1}
 use Rattle.jsx_operand.proofs.PlacedTargets.{placed_target}
 use Rattle.jsx_operand.proofs.Places.{spans_from}
 use Rattle.jsx_operand.proofs.Steps.{passed}

@@ -6,8 +6,6 @@ use Rattle.jsx_tree.specs.Kinds.{BinaryOp, Nullish, Or, And, BitOr, BitXor, BitA
 use Rattle.jsx_tree.specs.ViewOperators.{binary_of}
 use Rattle.jsx_operand.specs.Spans.{Spans}
 use Rattle.jsx_token.specs.Places.{Takes, end_of, next_of}
-use Rattle.jsx_tree.proofs.Rows.Steps.{on}
-use Rattle.jsx_tree.proofs.Rows.Lists.{ended}
 use Rattle.jsx_operand.proofs.Operators.{binary_built, binary_none, mark_is, right_is_level}
 use Rattle.jsx_operand.proofs.Places.{spans_from}
 use Rattle.jsx_operand.proofs.Steps.{passed}

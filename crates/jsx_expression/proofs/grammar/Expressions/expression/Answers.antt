@@ -1,4 +1,4 @@
-use Rattle.std.proofs.Common.{◌≡◌, true, false, arith, refl, sym, ◌∙◌, ap, subst, nat_le}
+use Rattle.std.proofs.Common.{◌≡◌, arith, refl, sym, ◌∙◌, ap, subst, nat_le}
 use Rattle.std.specs.Prelude.{IsTrue}
 use Rattle.jsx_tree.specs.Grammar.{pun}
 use Rattle.jsx_tree.specs.Reading.{Lost, forth}
@@ -6,7 +6,7 @@ use Rattle.jsx_tree.specs.Walk.{is_found}
 use Rattle.jsx_tree.specs.View.{view_expr}
 use Rattle.jsx_operand.specs.Around.{around_of}
 use Rattle.jsx_token.specs.Here.{place_of, left}
-use Rattle.jsx_token.specs.Growths.{closed, rung, growth_kind}
+use Rattle.jsx_token.specs.Growths.{rung, growth_kind}
 use Rattle.jsx_operand.specs.Climbing.{fits, level}
 use Rattle.jsx_operand.specs.Turning.{is_literal}
 use Rattle.jsx_token.specs.Places.{end_of}
@@ -15,13 +15,14 @@ use Rattle.jsx_operand.proofs.Climbing.{climb_barred, climb_unfit, tagged_unread
 use Rattle.std.proofs.lemmas.Bool.{le-leb, leb-true, lt-leb}
 use Rattle.jsx_token.proofs.TakingGrowths.{ended as stopped}
 use Rattle.jsx_operand.proofs.Places.{spans_from}
-use Rattle.jsx_operand.proofs.Steps.{passed}
+use Rattle.jsx_expression.proofs.Depths.{outgrown_as}
+use Rattle.jsx_operand.proofs.Outgrowing.{climb_outgrown}
+use Rattle.jsx_operand.proofs.Steps.{passed, passed_in, passed_plain}
 use Rattle.jsx_operand.proofs.Templates.{quoted_to, unquoted_to}
-use Rattle.jsx_operand.proofs.Placing.{placed_to}
 use Rattle.jsx_function.specs.Covers.{IsCover, IsPlacedCover}
 use Rattle.jsx_member.proofs.Sequences.{closed_of}
 use Rattle.jsx_expression.proofs.CoverPlaces.{cover_placed_to, placed_cover}
-use Rattle.jsx_expression.proofs.CoverSteps.{as_ongoing, cover_of, covers_to, marked_goes, grown_unlike, ongoing, ongoing_arrow, ongoing_blocked, ongoing_ended, ongoing_grown, ongoing_none, ongoing_tagged, ongoing_to, open_to, operand_low, quote_stops, settles_at, settles_by, settles_to, unarrowed_by, unsettled_whole}
+use Rattle.jsx_expression.proofs.CoverSteps.{as_ongoing, covers_to, marked_goes, grown_unlike, ongoing, ongoing_arrow, ongoing_blocked, ongoing_ended, ongoing_grown, ongoing_none, ongoing_tagged, ongoing_to, open_to, operand_low, quote_stops, settles_at, settles_by, unarrowed_by, unsettled_whole}
 use Rattle.jsx_expression.proofs.Operands.{level_low}
 use Rattle.jsx_expression.proofs.grammar.Expressions.expression.Goals as goal
 
@@ -30,7 +31,7 @@ returns-in_err-first-clause-refused g c = passed _ c.in_err-first.ensures.refuse
 
 pub returns-then-level-clause-refused : goal.returns-then-level-clause-refused
 returns-then-level-clause-refused g c = record {
-  bars = λ _ _. operand_low c.args.level (ap (λ e. nat_le c.args.level (level (view_expr e))) (sym c.deref.ensures) ∙ lt-leb c.args.level (level (view_expr c.deref.result.now)) (omega (arith, c.level.ensures, c.if-level.true))) c.in_ok-first.ensures.read;
+  bars = λ _ _ _. operand_low c.args.level (ap (λ e. nat_le c.args.level (level (view_expr e))) (sym c.deref.ensures) ∙ lt-leb c.args.level (level (view_expr c.deref.result.now)) (omega (arith, c.level.ensures, c.if-level.true))) c.in_ok-first.ensures.read;
 }
 
 -- no expression, but a literal that may turn
@@ -72,7 +73,7 @@ returns-in_default-clause-read g c =
 pub returns-in_err-refuse_arrow-clause-refused : goal.returns-in_err-refuse_arrow-clause-refused
 returns-in_err-refuse_arrow-clause-refused g c =
     let e = c.is_before_template.ensures.stays in
-    passed _ c.in_err-refuse_arrow.ensures.refused c.from_residual-in_err-refuse_arrow.ensures.1 (λ p. ongoing_arrow c.args.level (level_low c.args.level c.requires.ranked p.0) (open_to e c.is_behind_block.ensures c.steps-test.true) (ongoing_to e c.steps.invariant.so_far) (subst (λ h. IsTrue (is_found (forth (pun "=>") (place_of h)))) c.in_default.ensures.stays p.1))
+    passed_plain _ c.in_err-refuse_arrow.ensures.refused c.from_residual-in_err-refuse_arrow.ensures.1 (λ p. ongoing_arrow c.args.level (level_low c.args.level c.requires.ranked p.0) (open_to e c.is_behind_block.ensures c.steps-test.true) (ongoing_to e c.steps.invariant.so_far) (subst (λ h. IsTrue (is_found (forth (pun "=>") (place_of h)))) c.in_default.ensures.stays p.1))
 
 pub returns-in_err-expr-clause-refused : goal.returns-in_err-expr-clause-refused
 returns-in_err-expr-clause-refused g c =
@@ -99,7 +100,7 @@ steps-preserved-in_ok-expr g c =
 
 pub returns-then-not-fits-clause-refused : goal.returns-then-not-fits-clause-refused
 returns-then-not-fits-clause-refused g c = record {
-  bars = λ _ _.
+  bars = λ _ _ _.
       let g = c.in-Some.growth in
       let e = c.is_before_template.ensures.stays in
       let f = open_to e c.is_behind_block.ensures c.steps-test.true in
@@ -109,13 +110,23 @@ returns-then-not-fits-clause-refused g c = record {
       (ap (λ e. fits (growth_kind g) (view_expr e)) (sym c.deref-else-is_before_template.ensures) ∙ (sym c.fits.ensures ∙ c.if-not-fits.true)));
 }
 
+pub returns-in_err-levels-clause-refused : goal.returns-in_err-levels-clause-refused
+returns-in_err-levels-clause-refused g c =
+    let g = c.in-Some.growth in
+    let e = c.is_before_template.ensures.stays in
+    let f = open_to e c.is_behind_block.ensures c.steps-test.true in
+    let here = ongoing_to e c.steps.invariant.so_far in
+    passed _ (outgrown_as (ap view_expr c.deref-else-is_before_template-2.ensures) c.in_err-levels.ensures.refused) c.from_residual-in_err-levels.ensures.1
+    (λ o. ongoing_none c.args.level here (marked_goes c.args.level (growth_kind g) (growth_listed g) (growth_marks g) f here c.in-Some.ensures.on_line (record { is = c.in-Some.ensures.taken; found = refl }) c.in-Some.ensures.reaches)
+    (climb_outgrown (rung c.args.level) (growth_kind g) _ c.requires.ranked (growth_listed g) (growth_marks g) (here.climbs f) c.in-Some.ensures.on_line (record { is = c.in-Some.ensures.taken; found = refl }) c.in-Some.ensures.reaches o))
+
 pub returns-in_err-expr-2-clause-refused : goal.returns-in_err-expr-2-clause-refused
 returns-in_err-expr-2-clause-refused g c =
     let g = c.in-Some.growth in
     let e = c.is_before_template.ensures.stays in
     let f = open_to e c.is_behind_block.ensures c.steps-test.true in
     let here = ongoing_to e c.steps.invariant.so_far in
-    passed _ c.in_err-expr-2.ensures.refused c.from_residual-in_err-expr-2.ensures.1
+    passed_in _ c.in_ok-levels.ensures.levels c.in_err-expr-2.ensures.refused c.from_residual-in_err-expr-2.ensures.1
     (λ n. ongoing_none c.args.level here (marked_goes c.args.level (growth_kind g) (growth_listed g) (growth_marks g) f here c.in-Some.ensures.on_line (record { is = c.in-Some.ensures.taken; found = refl }) c.in-Some.ensures.reaches)
     (climb_barred (rung c.args.level) (growth_kind g) c.requires.ranked (growth_listed g) (growth_marks g) (here.climbs f) c.in-Some.ensures.on_line (record { is = c.in-Some.ensures.taken; found = refl }) c.in-Some.ensures.reaches n))
 

@@ -1,4 +1,4 @@
-use Rattle.std.proofs.Common.{true, false, arith, [], ◌∷◌, ◌++◌, refl, sym, ◌∙◌, ap}
+use Rattle.std.proofs.Common.{arith, [], ◌∷◌, ◌++◌, refl, sym, ◌∙◌, ap}
 use Rattle.jsx_tree.specs.StaticRules.{is_word}
 use Rattle.jsx_token.specs.Here.{left}
 use Rattle.jsx_operand.proofs.Placing.{placed_from}

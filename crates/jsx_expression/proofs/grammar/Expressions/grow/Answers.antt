@@ -1,5 +1,4 @@
 use Rattle.std.proofs.Common.{refl}
-use Rattle.jsx_tree.specs.Kinds.{Assign, Chain}
 use Rattle.jsx_tree.specs.ViewOperators.{binary_of}
 use Rattle.jsx_operand.proofs.Operators.{built_operator, no_operator}
 use Rattle.jsx_operand.proofs.Climbing.{as_grown, as_not_grown, grown_as, not_grown_as}

@@ -1,12 +1,7 @@
-use Rattle.std.proofs.Common.{◌≡◌, true, false, arith, refl, sym, ◌∙◌, ap, subst}
-use Rattle.std.specs.Prelude.{IsTrue}
-use Rattle.jsx_tree.specs.Grammar.{pun}
-use Rattle.jsx_tree.specs.Reading.{forth}
+use Rattle.std.proofs.Common.{◌≡◌, true, arith, refl, sym, ◌∙◌, ap, subst}
 use Rattle.jsx_tree.specs.Told.{told_expr}
 use Rattle.jsx_tree.specs.View.{view_expr}
-use Rattle.jsx_tree.specs.Walk.{is_found}
-use Rattle.jsx_tree.proofs.Apart.{clash}
-use Rattle.jsx_token.specs.Growths.{closed, settled}
+use Rattle.jsx_token.specs.Growths.{closed}
 use Rattle.jsx_token.specs.Here.{place_of}
 use Rattle.jsx_token.specs.Places.{end_of, next_of}
 use Rattle.jsx_make.specs.NodeSpans.{expr_at}
@@ -16,7 +11,7 @@ use Rattle.jsx_operand.proofs.Places.{spans_from}
 use Rattle.jsx_operand.proofs.Placing.{placed_to}
 use Rattle.jsx_operand.proofs.Steps.{passed}
 use Rattle.jsx_expression.specs.Covers.{unassigned, unlike}
-use Rattle.jsx_expression.proofs.BareArrows.{bare_settles, named_operand, named_settled, off_line, unnamed_operand}
+use Rattle.jsx_expression.proofs.BareArrows.{named_operand, named_settled, off_line, unnamed_operand}
 use Rattle.jsx_expression.proofs.Covers.{literal_high}
 use Rattle.jsx_expression.proofs.CoverPlaces.{assigned_placed, bare_placed, cover_placed_to}
 use Rattle.jsx_expression.proofs.CoverSteps.{settles_to}
@@ -29,7 +24,7 @@ returns-in_err-first-clause-refused g c = passed _ c.in_err-first.ensures.refuse
 
 -- above the level of assignments
 pub returns-then-not-first-clause-refused : goal.returns-then-not-first-clause-refused
-returns-then-not-first-clause-refused g c = record { bars = λ _ _. operand_unsettled c.args.level c.requires.ranked (omega (arith, c.if-level-gt-ASSIGNMENT.true)) c.if-not-first.true c.in_ok-first.ensures.read }
+returns-then-not-first-clause-refused g c = record { bars = λ _ _ _. operand_unsettled c.args.level c.requires.ranked (omega (arith, c.if-level-gt-ASSIGNMENT.true)) c.if-not-first.true c.in_ok-first.ensures.read }
 
 pub returns-then-level-gt-ASSIGNMENT-clause-read : goal.returns-then-level-gt-ASSIGNMENT-clause-read
 returns-then-level-gt-ASSIGNMENT-clause-read g c = operand_high c.args.level c.requires.ranked (omega (arith, c.if-level-gt-ASSIGNMENT.true)) c.if-not-first.false c.in_ok-first.ensures.read
@@ -105,7 +100,7 @@ returns-in_default-clause-read g c =
 pub returns-in_err-expr-2-clause-refused : goal.returns-in_err-expr-2-clause-refused
 returns-in_err-expr-2-clause-refused g c =
     passed _ c.in_err-expr-2.ensures.refused c.from_residual-in_err-expr-2.ensures.1
-    (λ n. unnamed_operand c.args.level c.requires.ranked (omega (arith, c.if-level-gt-ASSIGNMENT.false)) c.in_ok-first.ensures.read c.in_ok-first.ensures.settles (ap (λ e. is_bound_name (view_expr e)) (sym c.deref_mut.ensures.value) ∙ c.in-Some.ensures.bound) c.is_before_arrow.ensures.ahead c.if-not-is_before_arrow.false c.is_before_arrow.ensures.stays n)
+    (λ n. unnamed_operand c.args.level c.requires.ranked (omega (arith, c.if-level-gt-ASSIGNMENT.false)) c.in_ok-first.ensures.read c.in_ok-first.ensures.settles (ap (λ e. is_bound_name (view_expr e)) (sym c.deref_mut.ensures.value) ∙ c.in-Some.ensures.bound) (ap view_expr (sym c.deref_mut.ensures.value) ∙ c.in-Some.ensures.named) c.is_before_arrow.ensures.ahead c.if-not-is_before_arrow.false c.is_before_arrow.ensures.stays n)
 
 pub returns-clause-read : goal.returns-clause-read
 returns-clause-read g c =

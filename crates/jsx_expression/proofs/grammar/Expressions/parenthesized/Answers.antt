@@ -1,4 +1,4 @@
-use Rattle.std.proofs.Common.{true, false, arith, refl, sym, ◌∙◌, ap}
+use Rattle.std.proofs.Common.{arith, refl, sym, ◌∙◌, ap}
 use Rattle.jsx_tree.specs.Kinds.{Parenthesized, expression, node, none, part}
 use Rattle.jsx_tree.specs.Told.{told_expr}
 use Rattle.jsx_tree.specs.View.{view_expr}
@@ -6,7 +6,7 @@ use Rattle.jsx_token.specs.Here.{left, place_of}
 use Rattle.jsx_token.specs.Places.{next_of}
 use Rattle.jsx_operand.proofs.Places.{spans_from}
 use Rattle.jsx_operand.proofs.Placing.{placed_as, placed_to, takes_from}
-use Rattle.jsx_operand.proofs.Steps.{passed}
+use Rattle.jsx_operand.proofs.Steps.{passed, passed_plain}
 use Rattle.jsx_operand.proofs.Values.{sign_ended}
 use Rattle.jsx_expression.proofs.ArrowEnds.{moves_of}
 use Rattle.jsx_expression.proofs.ArrowOpenings.{arrow_guard, arrow_opened, arrow_settles, arrow_unread, barred_from, guard_kept, inside_of, moves_from, moves_to, no_arrow_at, no_cover_from, no_paren, no_row_from, not_rest, not_shut, nothing_inside, params_unread, paren_ended, paren_opened, paren_settles, paren_unread, row_from, unclosed}
@@ -94,7 +94,7 @@ returns-then-is_before_arrow-clause-shorter g c = omega (arith, ap left c.is_bef
 
 -- an expression in parentheses
 pub returns-in_err-inner-clause-refused : goal.returns-in_err-inner-clause-refused
-returns-in_err-inner-clause-refused g c = passed _ c.in_err-inner.ensures.refused c.from_residual-in_err-inner.ensures.1
+returns-in_err-inner-clause-refused g c = passed_plain _ c.in_err-inner.ensures.refused c.from_residual-in_err-inner.ensures.1
     (λ h. paren_unread (one_contents (inside_of (ap place_of c.is_before_parameters.ensures.stays) (sym c.is_before_parameters.ensures.ahead ∙ c.if-is_before_parameters.false) c.in_ok-first.ensures.read c.in_ok-first.ensures.ended) (record { is = c.take.ensures.missing c.if-take.false })) h
     (moves_to c.is_before_arrow.ensures.stays (moves_from (c.take.ensures.stays c.if-take.false) (moves_of c.in_ok-expect.ensures.read))) (no_arrow_at c.is_before_arrow.ensures.stays c.is_before_arrow.ensures.ahead c.if-is_before_arrow.false))
 

@@ -5,18 +5,22 @@ use Rattle.jsx_operand.specs.Turning.{turn_plain}
 use Rattle.jsx_token.specs.Places.{end_of, next_of}
 use Rattle.jsx_tree.specs.Told.{told_expr, told_node}
 use Rattle.jsx_tree.specs.View.{view_expr, view_target}
-use Rattle.jsx_tree.specs.Walk.{one, tree}
 use Rattle.jsx_operand.proofs.Places.{spans_from}
 use Rattle.jsx_operand.proofs.Placing.{placed_as}
 use Rattle.jsx_operand.proofs.PlacedExpressions.{assign_row}
-use Rattle.jsx_operand.proofs.Steps.{passed}
+use Rattle.jsx_operand.proofs.Steps.{passed, passed_in, passed_plain}
+use Rattle.jsx_expression.proofs.Depths.{outgrown_as}
+use Rattle.jsx_expression.proofs.Operands.{not_assigned_deep, not_assigned_value}
 use Rattle.jsx_expression.proofs.grammar.Expressions.pattern_assignment.Goals as goal
 
 pub returns-in_err-target-clause-refused : goal.returns-in_err-target-clause-refused
-returns-in_err-target-clause-refused g c = passed _ c.in_err-target.ensures.refused c.from_residual.ensures.1 (λ n. record { no = λ p t y d w. n p d })
+returns-in_err-target-clause-refused g c = passed_plain _ c.in_err-target.ensures.refused c.from_residual.ensures.1 (λ n. record { no = λ p t y d f w s. n p d })
+
+pub returns-in_err-levels-clause-refused : goal.returns-in_err-levels-clause-refused
+returns-in_err-levels-clause-refused g c = passed _ (outgrown_as (ap view_target c.deref-2.ensures) c.in_err-levels.ensures.assigns) c.from_residual-in_err-levels.ensures.1 (λ o. not_assigned_deep c.in_ok-target.ensures.read o)
 
 pub returns-in_err-value-clause-refused : goal.returns-in_err-value-clause-refused
-returns-in_err-value-clause-refused g c = passed _ c.in_err-value.ensures.refused c.from_residual-in_err-value.ensures.1 (λ b. record { no = λ p t y d w. b.no (one t) y (tree w) })
+returns-in_err-value-clause-refused g c = passed_in _ c.in_ok-levels.ensures.levels c.in_err-value.ensures.refused c.from_residual-in_err-value.ensures.1 (λ b. not_assigned_value b)
 
 pub returns-clause-read : goal.returns-clause-read
 returns-clause-read g c = record { pattern = view_target c.in_ok-target.target.value; turned = c.in_ok-target.ensures.read; value = view_expr c.in_ok-value.value.value; is = c.in_ok-assign.ensures.view; only = c.in_ok-value.ensures.read }

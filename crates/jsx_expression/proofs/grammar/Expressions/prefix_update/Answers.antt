@@ -1,11 +1,10 @@
-use Rattle.std.proofs.Common.{true, false, refl, sym, ◌∙◌, ap, [], ◌∷◌}
+use Rattle.std.proofs.Common.{refl, sym, ◌∙◌, ap, [], ◌∷◌}
 use Rattle.jsx_tree.specs.Kinds.{Assigns, PrefixUpdate, expression, node, none, part}
 use Rattle.jsx_tree.specs.Told.{told_node}
 use Rattle.jsx_tree.specs.View.{view_expr}
 use Rattle.jsx_operand.specs.Climbing.{is_target}
 use Rattle.jsx_tree.specs.ViewOperators.{step_of}
-use Rattle.jsx_tree.proofs.Rows.Steps.{bar, on, built_1}
-use Rattle.jsx_tree.proofs.Rows.Lists.{ended}
+use Rattle.jsx_tree.proofs.Rows.Steps.{bar, built_1}
 use Rattle.jsx_expression.proofs.Targets.{only_target, no_target, unfit_target}
 use Rattle.jsx_operand.proofs.PlacedTargets.{placed_target}
 use Rattle.jsx_operand.proofs.Places.{spans_from}
@@ -18,7 +17,7 @@ pub returns-in_err-operand-clause-refused : goal.returns-in_err-operand-clause-r
 returns-in_err-operand-clause-refused g c = passed _ c.in_err-operand.ensures.refused c.from_residual.ensures.1 (λ b. bar (no_target b))
 
 pub returns-then-not-is_target-clause-refused : goal.returns-then-not-is_target-clause-refused
-returns-then-not-is_target-clause-refused g c = record { bars = λ _ _. bar (unfit_target (ap (λ e. is_target (view_expr e)) (sym c.deref.ensures) ∙ (sym c.is_target.ensures ∙ c.if-not-is_target.true)) c.in_ok-operand.ensures.read) }
+returns-then-not-is_target-clause-refused g c = record { bars = λ _ _ _. bar (unfit_target (ap (λ e. is_target (view_expr e)) (sym c.deref.ensures) ∙ (sym c.is_target.ensures ∙ c.if-not-is_target.true)) c.in_ok-operand.ensures.read) }
 
 pub returns-clause-read : goal.returns-clause-read
 returns-clause-read g c = built_1 refl (only_target (ap (λ e. is_target (view_expr e)) (sym c.deref.ensures) ∙ (sym c.is_target.ensures ∙ c.if-not-is_target.false)) c.in_ok-operand.ensures.read) (c.in_ok-prefix_update.ensures.view ∙ ap (λ u. node (expression (PrefixUpdate (step_of c.args.operator))) (part u none)) (c.in_ok-target.ensures.view Assigns))

@@ -1,4 +1,4 @@
-use Rattle.std.proofs.Common.{true, false, arith, ◌∷◌, [], refl, sym, ◌∙◌, ap, subst}
+use Rattle.std.proofs.Common.{arith, ◌∷◌, [], refl, sym, ◌∙◌, ap, subst}
 use Rattle.jsx_tree.specs.Kinds.{Parenthesized, Seq, expression, list, node, none, part}
 use Rattle.jsx_tree.specs.Told.{told_list, told_node}
 use Rattle.jsx_token.specs.Here.{left}
@@ -7,7 +7,7 @@ use Rattle.jsx_make.specs.NodeSpans.{expr_at}
 use Rattle.jsx_operand.specs.Spans.{Spans}
 use Rattle.jsx_operand.proofs.Places.{spans_from}
 use Rattle.jsx_operand.proofs.Placing.{placed_as, placed_to}
-use Rattle.jsx_operand.proofs.Steps.{passed}
+use Rattle.jsx_operand.proofs.Steps.{passed, passed_plain}
 use Rattle.jsx_operand.proofs.Values.{sign_ended}
 use Rattle.jsx_expression.proofs.ArrowEnds.{moves_of}
 use Rattle.jsx_expression.proofs.ArrowOpenings.{arrow_guard, arrow_settles, covers_unread, guard_kept, moves_to, no_arrow_at, paren_ended, paren_opened, paren_settles, paren_unread, rest_unread, sequence_read, trails_unread, turned_opened, turned_unread, unclosed, unturned}
@@ -23,7 +23,7 @@ returns-in_err-expect-clause-refused g c = passed _ c.in_err-expect.ensures.refu
 
 -- before `=>`
 pub returns-in_err-params-clause-refused : goal.returns-in_err-params-clause-refused
-returns-in_err-params-clause-refused g c = passed _ c.in_err-params.ensures.refused c.from_residual-in_err-params.ensures.1
+returns-in_err-params-clause-refused g c = passed_plain _ c.in_err-params.ensures.refused c.from_residual-in_err-params.ensures.1
     (λ f. record { no = λ w z i m. unturned (c.in_ok-group.ensures.read.on w z i m) (moves_to c.is_before_arrow.ensures.stays (moves_of c.in_ok-expect.ensures.read)) (arrow_guard c.is_before_arrow.ensures.stays (sign_ended c.in_ok-expect.ensures.read.past) c.is_before_arrow.ensures.ahead c.if-is_before_arrow.true) f })
 
 pub returns-in_err-arrow-clause-refused : goal.returns-in_err-arrow-clause-refused
@@ -50,16 +50,16 @@ returns-then-is_before_arrow-clause-settles g c = arrow_settles c.in_ok-arrow.en
 -- an expression in parentheses
 pub returns-then-trails-clause-refused : goal.returns-then-trails-clause-refused
 returns-then-trails-clause-refused g c = record {
-  bars = λ _ _. record { no = λ w z i m. paren_unread (c.in_ok-group.ensures.read.on w z i m) (trails_unread c.in_ok-group.group c.if-trails.true) (moves_to c.is_before_arrow.ensures.stays (moves_of c.in_ok-expect.ensures.read)) (no_arrow_at c.is_before_arrow.ensures.stays c.is_before_arrow.ensures.ahead c.if-is_before_arrow.false) };
+  bars = λ _ _ _. record { no = λ w z i m. paren_unread (c.in_ok-group.ensures.read.on w z i m) (trails_unread c.in_ok-group.group c.if-trails.true) (moves_to c.is_before_arrow.ensures.stays (moves_of c.in_ok-expect.ensures.read)) (no_arrow_at c.is_before_arrow.ensures.stays c.is_before_arrow.ensures.ahead c.if-is_before_arrow.false) };
 }
 
 pub returns-then-is_some-clause-refused : goal.returns-then-is_some-clause-refused
 returns-then-is_some-clause-refused g c = record {
-  bars = λ _ _. record { no = λ w z i m. paren_unread (c.in_ok-group.ensures.read.on w z i m) (rest_unread c.in_ok-group.group (sym c.is_some.ensures ∙ c.if-is_some.true)) (moves_to c.is_before_arrow.ensures.stays (moves_of c.in_ok-expect.ensures.read)) (no_arrow_at c.is_before_arrow.ensures.stays c.is_before_arrow.ensures.ahead c.if-is_before_arrow.false) };
+  bars = λ _ _ _. record { no = λ w z i m. paren_unread (c.in_ok-group.ensures.read.on w z i m) (rest_unread c.in_ok-group.group (sym c.is_some.ensures ∙ c.if-is_some.true)) (moves_to c.is_before_arrow.ensures.stays (moves_of c.in_ok-expect.ensures.read)) (no_arrow_at c.is_before_arrow.ensures.stays c.is_before_arrow.ensures.ahead c.if-is_before_arrow.false) };
 }
 
 pub returns-in_err-all-clause-refused : goal.returns-in_err-all-clause-refused
-returns-in_err-all-clause-refused g c = passed _ c.in_err-all.ensures.refused c.from_residual-in_err-all.ensures.1
+returns-in_err-all-clause-refused g c = passed_plain _ c.in_err-all.ensures.refused c.from_residual-in_err-all.ensures.1
     (λ h. record { no = λ w z i m. paren_unread (c.in_ok-group.ensures.read.on w z i m) (covers_unread c.in_ok-group.group h) (moves_to c.is_before_arrow.ensures.stays (moves_of c.in_ok-expect.ensures.read)) (no_arrow_at c.is_before_arrow.ensures.stays c.is_before_arrow.ensures.ahead c.if-is_before_arrow.false) })
 
 pub returns-clause-read : goal.returns-clause-read

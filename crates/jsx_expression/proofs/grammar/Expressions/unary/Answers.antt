@@ -1,9 +1,7 @@
-use Rattle.std.proofs.Common.{true, false, refl, sym, ◌∙◌, ap}
+use Rattle.std.proofs.Common.{refl, sym, ◌∙◌, ap}
 use Rattle.jsx_tree.specs.View.{view_expr}
 use Rattle.jsx_operand.specs.Climbing.{deletes_name}
 use Rattle.jsx_tree.specs.ViewOperators.{unary_of}
-use Rattle.jsx_tree.proofs.Rows.Steps.{on}
-use Rattle.jsx_tree.proofs.Rows.Lists.{ended}
 use Rattle.jsx_operand.proofs.Operators.{unary_none}
 use Rattle.jsx_tree.proofs.Rows.Placing.{no_node}
 use Rattle.jsx_expression.proofs.Deleting.{no_deleted, unary_node}
@@ -20,7 +18,7 @@ pub returns-clause-read : goal.returns-clause-read
 returns-clause-read g c = unary_node (unary_of c.args.operator) (ap (λ e. deletes_name (unary_of c.args.operator) (view_expr e)) (sym c.deref.ensures) ∙ (sym c.deletes_name.ensures ∙ c.if-deletes_name.false)) c.in_ok-operand.ensures.read refl c.in_ok-unary.ensures.view
 
 pub returns-then-deletes_name-clause-refused : goal.returns-then-deletes_name-clause-refused
-returns-then-deletes_name-clause-refused g c = record { bars = λ _ _. no_deleted (unary_of c.args.operator) (ap (λ e. deletes_name (unary_of c.args.operator) (view_expr e)) (sym c.deref.ensures) ∙ (sym c.deletes_name.ensures ∙ c.if-deletes_name.true)) c.in_ok-operand.ensures.read }
+returns-then-deletes_name-clause-refused g c = record { bars = λ _ _ _. no_deleted (unary_of c.args.operator) (ap (λ e. deletes_name (unary_of c.args.operator) (view_expr e)) (sym c.deref.ensures) ∙ (sym c.deletes_name.ensures ∙ c.if-deletes_name.true)) c.in_ok-operand.ensures.read }
 
 pub returns-clause-ended : goal.returns-clause-ended
 returns-clause-ended g c = c.in_ok-operand.ensures.settles.on refl

@@ -1,9 +1,9 @@
 use Rattle.std.proofs.Common.{◌≡◌, true, false, arith, map, refl, sym, ◌∙◌, ap, subst}
-use Rattle.std.specs.Prelude.{codes}
+use Rattle.std.specs.Prelude.{codes, Err}
 use Rattle.jsx_base.specs.Token.{IdentifierName, Operator, Punctuator}
 use Rattle.jsx_tree.specs.Kinds.{Binds}
 use Rattle.jsx_tree.specs.Grammar.{Commas, Elisions, pun}
-use Rattle.jsx_tree.specs.View.{forest, inside, view_pat}
+use Rattle.jsx_tree.specs.View.{forest, inside, view_pat, view_pattern}
 use Rattle.jsx_tree.specs.Told.{tales, told_pat}
 use Rattle.jsx_token.specs.Here.{place_of, left}
 use Rattle.jsx_token.specs.Places.{end_of, next_of}
@@ -12,13 +12,13 @@ use Rattle.jsx_operand.specs.Spans.{IsPlacedListAs, Spans}
 use Rattle.jsx_tree.proofs.Rows.Lists.{begun}
 use Rattle.jsx_tree.proofs.Rows.Steps.{bar, built_2, no_sign, on, only_sign}
 use Rattle.jsx_operand.proofs.Values.{settled_token, sign_ended}
-use Rattle.jsx_operand.proofs.Steps.{passed}
+use Rattle.jsx_operand.proofs.Steps.{passed, passed_in}
 use Rattle.jsx_operand.proofs.Places.{spans_from}
-use Rattle.jsx_operand.proofs.Patterns.{array_only, name_only, no_array, no_name_pattern, no_object, object_only}
+use Rattle.jsx_operand.proofs.Patterns.{array_only, name_only, no_array, no_name_pattern, no_object, object_only, deep_pattern}
 use Rattle.jsx_operand.proofs.Trees.{pushed, pushed_as}
 use Rattle.jsx_operand.proofs.Placing.{PlacedFront, plain_commas, plain_elisions, hole_item, laid_more, laid_last, takes_from, row_end, row_quiet, row_sign, row_list, list_none, front_none, front_more, front_last, list_to, map_pushed, placed_as, placed_from, placed_to}
 use Rattle.jsx_operand.proofs.PlacedExpressions.{array_pattern_placed, default_row, no_trailing, object_pattern_placed, pair_pattern_placed, rest_pattern_row, takes_trailing}
-use Rattle.jsx_function.proofs.Defaults.{bare_element, no_default, no_pattern, valued_element}
+use Rattle.jsx_function.proofs.Defaults.{bare_element, no_default, no_pattern, outgrown_element, valued_element}
 use Rattle.jsx_function.proofs.Params.{comma_unless, pattern_found, unless_comma}
 use Rattle.jsx_function.proofs.Slots.{before, element_slot, filled_more, hole_more, no_rest_slot, no_slot, none_here, rest_slot, shut, shut_behind, trails, unshut}
 use Rattle.jsx_function.proofs.PatternParts.{colon_moves, no_pair_value}
@@ -26,19 +26,24 @@ use Rattle.jsx_function.proofs.PatternParts as parts
 use Rattle.std.specs.Str.{chars}
 use Rattle.jsx_tree.specs.Signs.{Tok}
 use Rattle.jsx_tree.specs.Reading.{forth}
+use Rattle.jsx_operand.specs.Answers.{Refused}
 use Rattle.jsx_operand.specs.Around.{around_of}
+use Rattle.jsx_operand.specs.Outgrown.{Outgrown}
 use Rattle.jsx_operand.proofs.Homes.{IsName, bindings, only_leaf}
 use Rattle.jsx_operand.specs.Members.{is_word}
 use Rattle.jsx_operand.proofs.Keys.{computed_only, computed_barred, key_as, literal_key}
 use Rattle.jsx_operand.proofs.PlacedExpressions.{name_placed}
-use Rattle.jsx_function.specs.Patterns.{NoPart, OnlyPart}
+use Rattle.jsx_function.specs.Patterns.{OnlyPart}
 use Rattle.jsx_function.proofs.grammar.Within.+binding.Goals as goal
+
+pub binding-returns-in_err-levels-clause-refused : goal.binding-returns-in_err-levels-clause-refused
+binding-returns-in_err-levels-clause-refused g t c = passed _ c.in_err-levels.ensures.refused c.from_residual.ensures.1 (λ b. deep_pattern b)
 
 pub binding-returns-then-take-clause-read : goal.binding-returns-then-take-clause-read
 binding-returns-then-take-clause-read g t c = array_only (record { is = c.take.ensures.taken c.if-take.true; found = refl }) c.in_ok-array_pattern.ensures.read
 
 pub binding-returns-in_err-array_pattern-clause-refused : goal.binding-returns-in_err-array_pattern-clause-refused
-binding-returns-in_err-array_pattern-clause-refused g t c = passed _ c.in_err-array_pattern.ensures.refused c.from_residual.ensures.1 (λ n. no_array (record { is = c.take.ensures.taken c.if-take.true; found = refl }) n)
+binding-returns-in_err-array_pattern-clause-refused g t c = passed_in _ c.in_ok-levels.ensures.levels c.in_err-array_pattern.ensures.refused c.from_residual-in_err-array_pattern.ensures.1 (λ n. no_array (record { is = c.take.ensures.taken c.if-take.true; found = refl }) n)
 
 pub binding-returns-then-take-clause-span : goal.binding-returns-then-take-clause-span
 binding-returns-then-take-clause-span g t c = spans_from c.in_ok-array_pattern.ensures.span refl (c.take.ensures.begins c.if-take.true) refl
@@ -46,11 +51,14 @@ binding-returns-then-take-clause-span g t c = spans_from c.in_ok-array_pattern.e
 pub binding-returns-then-take-clause-placed : goal.binding-returns-then-take-clause-placed
 binding-returns-then-take-clause-placed g t c = c.in_ok-array_pattern.ensures.placed.on _ (c.take.ensures.takes c.if-take.true) (c.take.ensures.begins c.if-take.true)
 
+pub binding-returns-in_err-levels-2-clause-refused : goal.binding-returns-in_err-levels-2-clause-refused
+binding-returns-in_err-levels-2-clause-refused g t c = passed _ c.in_err-levels-2.ensures.refused c.from_residual-in_err-levels-2.ensures.1 (λ b. deep_pattern b)
+
 pub binding-returns-then-take-2-clause-read : goal.binding-returns-then-take-2-clause-read
 binding-returns-then-take-2-clause-read g t c = object_only (record { same = sym (ap place_of (c.take.ensures.stays c.if-take.false)); stuck = record { is = c.take.ensures.missing c.if-take.false } }) (record { is = c.take-2.ensures.taken c.if-take-2.true; found = refl }) c.in_ok-object_pattern.ensures.read
 
 pub binding-returns-in_err-object_pattern-clause-refused : goal.binding-returns-in_err-object_pattern-clause-refused
-binding-returns-in_err-object_pattern-clause-refused g t c = passed _ c.in_err-object_pattern.ensures.refused c.from_residual-in_err-object_pattern.ensures.1 (λ n. no_object (record { same = sym (ap place_of (c.take.ensures.stays c.if-take.false)); stuck = record { is = c.take.ensures.missing c.if-take.false } }) (record { is = c.take-2.ensures.taken c.if-take-2.true; found = refl }) n)
+binding-returns-in_err-object_pattern-clause-refused g t c = passed_in _ c.in_ok-levels-2.ensures.levels c.in_err-object_pattern.ensures.refused c.from_residual-in_err-object_pattern.ensures.1 (λ n. no_object (record { same = sym (ap place_of (c.take.ensures.stays c.if-take.false)); stuck = record { is = c.take.ensures.missing c.if-take.false } }) (record { is = c.take-2.ensures.taken c.if-take-2.true; found = refl }) n)
 
 pub binding-returns-then-take-2-clause-span : goal.binding-returns-then-take-2-clause-span
 binding-returns-then-take-2-clause-span g t c = spans_from c.in_ok-object_pattern.ensures.span refl (c.take-2.ensures.begins c.if-take-2.true ∙ ap next_of (c.take.ensures.stays c.if-take.false)) refl
@@ -75,7 +83,7 @@ rest_pattern-returns-in_err-target-clause-refused g t c = passed _ c.in_err-targ
 
 pub rest_pattern-returns-then-is_before-clause-refused : goal.rest_pattern-returns-then-is_before-clause-refused
 rest_pattern-returns-then-is_before-clause-refused g t c = record {
-  bars = λ _ _. on c.in_ok-target.ensures.read (bar (no_sign (record { is = comma_unless (place_of c.binding.new.lexer) (sym c.is_before.ensures.ahead ∙ c.if-is_before.true) })));
+  bars = λ _ _ _. on c.in_ok-target.ensures.read (bar (no_sign (record { is = comma_unless (place_of c.binding.new.lexer) (sym c.is_before.ensures.ahead ∙ c.if-is_before.true) })));
 }
 
 pub rest_pattern-returns-clause-read : goal.rest_pattern-returns-clause-read
@@ -96,15 +104,18 @@ element-returns-then-not-take-clause-read g t c = bare_element c.in_ok-target.en
 pub element-returns-then-not-take-clause-placed : goal.element-returns-then-not-take-clause-placed
 element-returns-then-not-take-clause-placed g t c = placed_to (c.take.ensures.stays c.if-not-take.true) c.in_ok-target.ensures.placed
 
+pub element-returns-in_err-levels-clause-refused : goal.element-returns-in_err-levels-clause-refused
+element-returns-in_err-levels-clause-refused g t c = passed _ (subst (λ p. Refused c.args.context.levels (Err c.in_err-levels.field-0.0) (Outgrown (view_pattern p Binds))) c.deref.ensures c.in_err-levels.ensures.binds) c.from_residual-in_err-levels.ensures.1 (λ b. outgrown_element c.in_ok-target.ensures.read (record { is = c.take.ensures.taken c.if-not-take.false; found = refl }) b)
+
 pub element-returns-in_err-value-clause-refused : goal.element-returns-in_err-value-clause-refused
-element-returns-in_err-value-clause-refused g t c = passed _ c.in_err-value.ensures.refused c.from_residual-in_err-value.ensures.1 (λ b. no_default c.in_ok-target.ensures.read (record { is = c.take.ensures.taken c.if-not-take.false; found = refl }) b)
+element-returns-in_err-value-clause-refused g t c = passed_in _ c.in_ok-levels.ensures.levels c.in_err-value.ensures.refused c.from_residual-in_err-value.ensures.1 (λ b. no_default c.in_ok-target.ensures.read (record { is = c.take.ensures.taken c.if-not-take.false; found = refl }) b)
 
 pub element-returns-clause-read : goal.element-returns-clause-read
 element-returns-clause-read g t c = valued_element c.in_ok-target.ensures.read (record { is = c.take.ensures.taken c.if-not-take.false; found = refl }) c.in_ok-value.ensures.read (c.in_ok-with_default.ensures.view Binds)
 
 pub element-returns-clause-placed : goal.element-returns-clause-placed
 element-returns-clause-placed g t c = placed_as c.in_ok-with_default.ensures.told (c.in_ok-with_default.ensures.view Binds) (default_row c.in_ok-target.ensures.placed (c.take.ensures.takes c.if-not-take.false) c.in_ok-value.ensures.placed
-    (spans_from c.span_to-span.ensures refl (c.start_of_pattern.ensures.on _ _ (subst (λ p. Spans (pat_at p) (next_of c.args.lexer.now) (end_of c.binding.new.lexer)) (sym c.deref.ensures) c.in_ok-target.ensures.span)) refl))
+    (spans_from c.span_to-span.ensures refl (c.start_of_pattern.ensures.on _ _ (subst (λ p. Spans (pat_at p) (next_of c.args.lexer.now) (end_of c.binding.new.lexer)) (sym c.deref-2.ensures) c.in_ok-target.ensures.span)) refl))
 
 pub pattern_slot-returns-in_err-rest_pattern-clause-refused : goal.pattern_slot-returns-in_err-rest_pattern-clause-refused
 pattern_slot-returns-in_err-rest_pattern-clause-refused g t c = passed _ c.in_err-rest_pattern.ensures.refused c.from_residual.ensures.1 (λ n. no_rest_slot (record { is = c.take.ensures.taken c.if-take.true; found = refl }) n)
@@ -295,17 +306,23 @@ pub pattern_part-returns-then-take-clause-placed : goal.pattern_part-returns-the
 pattern_part-returns-then-take-clause-placed g t c = c.in_ok-rest_property.ensures.placed.on _ (c.take.ensures.takes c.if-take.true) (c.take.ensures.begins c.if-take.true)
 
 -- a key in brackets
+pub pattern_part-returns-in_err-levels-clause-refused : goal.pattern_part-returns-in_err-levels-clause-refused
+pattern_part-returns-in_err-levels-clause-refused g t c =
+    let same = c.take.ensures.stays c.if-take.false in
+    passed _ c.in_err-levels.ensures.refused c.from_residual-in_err-levels.ensures.1
+    (λ b. parts.no_part_from same (parts.deep_bracket (record { is = ap (λ h. forth (pun "...") (place_of h)) same ∙ c.take.ensures.missing c.if-take.false }) b))
+
 pub pattern_part-returns-in_err-key-clause-refused : goal.pattern_part-returns-in_err-key-clause-refused
 pattern_part-returns-in_err-key-clause-refused g t c =
     let same = c.take.ensures.stays c.if-take.false in
-    passed _ c.in_err-key.ensures.refused c.from_residual-in_err-key.ensures.1
-    (λ n. subst (NoPart (around_of c.args.context.around)) (ap place_of same) (parts.no_key_part (record { is = ap (λ h. forth (pun "...") (place_of h)) same ∙ c.take.ensures.missing c.if-take.false }) (computed_barred (record { is = c.take-2.ensures.taken c.if-take-2.true; found = refl }) n)))
+    passed_in _ c.in_ok-levels.ensures.levels c.in_err-key.ensures.refused c.from_residual-in_err-key.ensures.1
+    (λ n. parts.no_part_from same (parts.no_key_part (record { is = ap (λ h. forth (pun "...") (place_of h)) same ∙ c.take.ensures.missing c.if-take.false }) (computed_barred (record { is = c.take-2.ensures.taken c.if-take-2.true; found = refl }) n)))
 
 pub pattern_part-returns-in_err-pair_pattern-clause-refused : goal.pattern_part-returns-in_err-pair_pattern-clause-refused
 pattern_part-returns-in_err-pair_pattern-clause-refused g t c =
     let key = computed_only (record { is = c.take-2.ensures.taken c.if-take-2.true; found = refl }) c.in_ok-key.ensures.read in
-    passed _ c.in_err-pair_pattern.ensures.refused c.from_residual-in_err-pair_pattern.ensures.1
-    (λ n. subst (NoPart (around_of c.args.context.around)) (ap place_of (c.take.ensures.stays c.if-take.false)) (parts.no_wordless_part key (ap is_word c.in_ok-key.ensures.read.is) n))
+    passed_in _ c.in_ok-levels.ensures.levels c.in_err-pair_pattern.ensures.refused c.from_residual-in_err-pair_pattern.ensures.1
+    (λ n. parts.no_part_from (c.take.ensures.stays c.if-take.false) (parts.no_wordless_part key (ap is_word c.in_ok-key.ensures.read.is) n))
 
 pub pattern_part-returns-then-take-2-clause-read : goal.pattern_part-returns-then-take-2-clause-read
 pattern_part-returns-then-take-2-clause-read g t c =
@@ -318,13 +335,20 @@ pattern_part-returns-then-take-2-clause-placed g t c = placed_from (c.take.ensur
     (c.in_ok-key.ensures.placed.on _ (c.take-2.ensures.takes c.if-take-2.true) (c.take-2.ensures.begins c.if-take-2.true)))
 
 -- a name
+pub pattern_part-returns-in_err-levels-2-clause-refused : goal.pattern_part-returns-in_err-levels-2-clause-refused
+pattern_part-returns-in_err-levels-2-clause-refused g t c =
+    let same = c.take-2.ensures.stays c.if-take-2.false ∙ c.take.ensures.stays c.if-take.false in
+    let key = literal_key IsName (chars c.in-Some.raw.now) refl c.in-Some.ensures.whole c.in-Some.ensures.taken refl in
+    passed _ c.in_err-levels-2.ensures.refused c.from_residual-in_err-levels-2.ensures.1
+    (λ b. parts.no_part_from same (parts.deep_part key refl b))
+
 pub pattern_part-returns-in_err-pair_pattern-2-clause-refused : goal.pattern_part-returns-in_err-pair_pattern-2-clause-refused
 pattern_part-returns-in_err-pair_pattern-2-clause-refused g t c =
     let same = c.take-2.ensures.stays c.if-take-2.false ∙ c.take.ensures.stays c.if-take.false in
     let taken = ap place_of c.is_key.ensures.stays ∙ c.in-Some.ensures.taken in
     let key = key_as c.name_key.ensures.view (literal_key IsName (chars c.in-Some.raw.now) refl c.in-Some.ensures.whole taken refl) in
-    passed _ c.in_err-pair_pattern-2.ensures.refused c.from_residual-in_err-pair_pattern-2.ensures.1
-    (λ n. subst (NoPart (around_of c.args.context.around)) (ap place_of same)
+    passed_in _ c.in_ok-levels-2.ensures.levels c.in_err-pair_pattern-2.ensures.refused c.from_residual-in_err-pair_pattern-2.ensures.1
+    (λ n. parts.no_part_from same
     (parts.no_pair_part key (parts.keyed_word (chars c.in-Some.raw.now) c.name_key.ensures.view (ap place_of c.is_key.ensures.stays) (sym c.is_key.ensures.keyed ∙ c.if-is_key.true)) n))
 
 pub pattern_part-returns-then-is_key-clause-read : goal.pattern_part-returns-then-is_key-clause-read
@@ -345,8 +369,8 @@ pattern_part-returns-in_err-short_pattern-clause-refused g t c =
     let same = c.take-2.ensures.stays c.if-take-2.false ∙ c.take.ensures.stays c.if-take.false in
     let taken = ap place_of c.is_key.ensures.stays ∙ c.in-Some.ensures.taken in
     let alone = parts.unkeyed (chars c.in-Some.raw.now) (ap place_of c.is_key.ensures.stays) (sym c.is_key.ensures.keyed ∙ c.if-is_key.false) in
-    passed _ c.in_err-short_pattern.ensures.refused c.from_residual-in_err-short_pattern.ensures.1
-    (λ n. subst (NoPart (around_of c.args.context.around)) (ap place_of same) (n.no _ (only_leaf bindings alone.0 refl c.in-Some.ensures.whole taken refl) alone.1))
+    passed_in _ c.in_ok-levels-2.ensures.levels c.in_err-short_pattern.ensures.refused c.from_residual-in_err-short_pattern.ensures.1
+    (λ n. parts.no_part_from same (n.no _ (only_leaf bindings alone.0 refl c.in-Some.ensures.whole taken refl) alone.1))
 
 pub pattern_part-returns-in-Some-clause-read : goal.pattern_part-returns-in-Some-clause-read
 pattern_part-returns-in-Some-clause-read g t c =
@@ -371,13 +395,19 @@ pub pattern_part-returns-in_err-key-2-clause-refused : goal.pattern_part-returns
 pattern_part-returns-in_err-key-2-clause-refused g t c =
     let same = c.in_default.ensures.stays ∙ (c.take-2.ensures.stays c.if-take-2.false ∙ c.take.ensures.stays c.if-take.false) in
     passed _ c.in_err-key-2.ensures.refused c.from_residual-in_err-key-2.ensures.1
-    (λ b. subst (NoPart (around_of c.args.context.around)) (ap place_of same) (parts.no_key_part (record { is = ap (λ h. forth (pun "...") (place_of h)) same ∙ c.take.ensures.missing c.if-take.false }) b))
+    (λ b. parts.no_part_from same (parts.no_literal_part (record { is = ap (λ h. forth (pun "...") (place_of h)) same ∙ c.take.ensures.missing c.if-take.false }) b))
+
+pub pattern_part-returns-in_err-levels-3-clause-refused : goal.pattern_part-returns-in_err-levels-3-clause-refused
+pattern_part-returns-in_err-levels-3-clause-refused g t c =
+    let same = c.in_default.ensures.stays ∙ (c.take-2.ensures.stays c.if-take-2.false ∙ c.take.ensures.stays c.if-take.false) in
+    passed _ c.in_err-levels-3.ensures.refused c.from_residual-in_err-levels-3.ensures.1
+    (λ b. parts.no_part_from same (parts.deep_part c.in_ok-key-2.ensures.read c.in_ok-key-2.ensures.depth b))
 
 pub pattern_part-returns-in_err-pair_pattern-3-clause-refused : goal.pattern_part-returns-in_err-pair_pattern-3-clause-refused
 pattern_part-returns-in_err-pair_pattern-3-clause-refused g t c =
     let same = c.in_default.ensures.stays ∙ (c.take-2.ensures.stays c.if-take-2.false ∙ c.take.ensures.stays c.if-take.false) in
-    passed _ c.in_err-pair_pattern-3.ensures.refused c.from_residual-in_err-pair_pattern-3.ensures.1
-    (λ n. subst (NoPart (around_of c.args.context.around)) (ap place_of same) (parts.no_wordless_part c.in_ok-key-2.ensures.read c.in_ok-key-2.ensures.literal n))
+    passed_in _ c.in_ok-levels-3.ensures.levels c.in_err-pair_pattern-3.ensures.refused c.from_residual-in_err-pair_pattern-3.ensures.1
+    (λ n. parts.no_part_from same (parts.no_wordless_part c.in_ok-key-2.ensures.read c.in_ok-key-2.ensures.literal n))
 
 pub pattern_part-returns-clause-read : goal.pattern_part-returns-clause-read
 pattern_part-returns-clause-read g t c =

@@ -1,7 +1,7 @@
 use Rattle.std.proofs.Common.{true, false, arith, ◌∙◌}
-use Rattle.jsx_operand.proofs.Steps.{passed}
+use Rattle.jsx_operand.proofs.Steps.{passed, passed_in}
 use Rattle.jsx_function.specs.Methods.{holder_at}
-use Rattle.jsx_function.proofs.ClassElements.{accessor_element, element_from, key_none, keyed_none, keyed_only, no_accessor_element, no_element_from, key_first_by}
+use Rattle.jsx_function.proofs.ClassElements.{accessor_element, element_from, element_inside, key_none, keyed_none, keyed_only, no_accessor_element, no_element_from, key_first_by}
 use Rattle.jsx_function.proofs.PlacedElements.{element_placed, element_placed_from, keyed_element_placed}
 use Rattle.jsx_function.proofs.grammar.Within.class_element.Goals as goal
 
@@ -50,8 +50,8 @@ returns-in_err-key-clause-refused g c =
 pub returns-in_err-class_keyed-clause-refused : goal.returns-in_err-class_keyed-clause-refused
 returns-in_err-class_keyed-clause-refused g c =
     let bare = key_first_by (c.take_prefix-2.ensures.stays c.if-take_prefix-2.false) (c.take_prefix.ensures.stays c.if-take_prefix.false) (c.take_prefix.ensures.missing c.if-take_prefix.false) (c.take_prefix-2.ensures.missing c.if-take_prefix-2.false) in
-    passed _ c.in_err-class_keyed.ensures.refused c.from_residual-in_err-class_keyed.ensures.1
-    (λ n. no_element_from (c.take_prefix-2.ensures.stays c.if-take_prefix-2.false ∙ c.take_prefix.ensures.stays c.if-take_prefix.false) (keyed_none (holder_at c.args.home) bare c.in_ok-key.ensures.read n))
+    passed_in _ c.in_ok-key.ensures.levels c.in_err-class_keyed.ensures.refused c.from_residual-in_err-class_keyed.ensures.1
+    (λ n. no_element_from (c.take_prefix-2.ensures.stays c.if-take_prefix-2.false ∙ c.take_prefix.ensures.stays c.if-take_prefix.false) (element_inside (keyed_none (holder_at c.args.home) bare c.in_ok-key.ensures.read n)))
 
 pub returns-clause-read : goal.returns-clause-read
 returns-clause-read g c =

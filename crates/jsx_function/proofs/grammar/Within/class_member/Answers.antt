@@ -2,7 +2,7 @@ use Rattle.std.proofs.Common.{true, false, arith, refl, ◌∙◌}
 use Rattle.jsx_operand.proofs.Placing.{placed_from}
 use Rattle.jsx_operand.proofs.Steps.{passed}
 use Rattle.jsx_function.proofs.ClassElements.{element_from, no_element_from}
-use Rattle.jsx_function.proofs.ClassMembers.{no_own_member, no_static_member, own_member, static_member}
+use Rattle.jsx_function.proofs.ClassMembers.{deep_static, no_own_member, no_static_member, own_member, static_member}
 use Rattle.jsx_function.proofs.grammar.Within.class_member.Goals as goal
 
 pub class_element-requires-clause-nests : goal.class_element-requires-clause-nests
@@ -26,8 +26,11 @@ class_element-requires-clause-bodies g c = record {
   refused = c.requires.bodies.refused;
 }
 
+pub returns-in_err-within_leaf-clause-refused : goal.returns-in_err-within_leaf-clause-refused
+returns-in_err-within_leaf-clause-refused g c = passed _ c.in_err-within_leaf.ensures.refused c.from_residual.ensures.1 (λ b. deep_static (c.take_prefix.ensures.taken c.if-take_prefix.true) b)
+
 pub returns-in_err-class_element-clause-refused : goal.returns-in_err-class_element-clause-refused
-returns-in_err-class_element-clause-refused g c = passed _ c.in_err-class_element.ensures.refused c.from_residual.ensures.1 (λ n. no_static_member (c.take_prefix.ensures.taken c.if-take_prefix.true) n)
+returns-in_err-class_element-clause-refused g c = passed _ c.in_err-class_element.ensures.refused c.from_residual-in_err-class_element.ensures.1 (λ n. no_static_member (c.take_prefix.ensures.taken c.if-take_prefix.true) n)
 
 pub returns-then-take_prefix-clause-read : goal.returns-then-take_prefix-clause-read
 returns-then-take_prefix-clause-read g c = static_member (c.take_prefix.ensures.taken c.if-take_prefix.true) c.in_ok-class_element.ensures.read

@@ -20,7 +20,7 @@ returns-in_err-body-clause-refused g c = passed _ c.in_err-body.ensures.refused 
 
 pub returns-then-not-suits-clause-refused : goal.returns-then-not-suits-clause-refused
 returns-then-not-suits-clause-refused g c = record {
-  bars = λ _ _. unplain (own_only c.in_ok-expect.ensures.read c.in_ok-params.ensures.read c.in_ok-expect-2.ensures.read c.in_ok-body.ensures.read)
+  bars = λ _ _ _. unplain (own_only c.in_ok-expect.ensures.read c.in_ok-params.ensures.read c.in_ok-expect-2.ensures.read c.in_ok-body.ensures.read)
       (plain_by (forest (map (inside view_pat) c.in_ok-params.field-0.all.items)) c.in_ok-body.body c.in_ok-params.ensures.simple c.suits.ensures c.if-not-suits.true);
 }
 

@@ -22,7 +22,7 @@ returns-in_err-body-clause-refused g c = passed _ c.in_err-body.ensures.refused 
 
 pub returns-then-not-suits-clause-refused : goal.returns-then-not-suits-clause-refused
 returns-then-not-suits-clause-refused g c = record {
-  bars = λ _ _. unsuited (setter_own c.in_ok-expect.ensures.read c.in_ok-param.ensures.read c.in_ok-expect-2.ensures.read c.in_ok-expect-3.ensures.read c.in_ok-body.ensures.read)
+  bars = λ _ _ _. unsuited (setter_own c.in_ok-expect.ensures.read c.in_ok-param.ensures.read c.in_ok-expect-2.ensures.read c.in_ok-expect-3.ensures.read c.in_ok-body.ensures.read)
       (suits_by (view_pat c.in_ok-param.field-0.pattern.value) c.in_ok-body.body c.in_ok-param.ensures.simple c.suits.ensures c.if-not-suits.true);
 }
 

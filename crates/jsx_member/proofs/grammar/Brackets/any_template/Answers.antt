@@ -7,15 +7,14 @@ use Rattle.jsx_tree.specs.View.{text_of}
 use Rattle.jsx_tree.specs.Form.{is_leaf}
 use Rattle.jsx_tree.specs.Spans.{Comes}
 use Rattle.jsx_tree.specs.Reading.{forth}
-use Rattle.jsx_operand.specs.Around.{around_of}
 use Rattle.jsx_token.specs.Here.{place_of}
 use Rattle.jsx_operand.specs.Climbing.{fits}
 use Rattle.jsx_token.specs.Places.{Takes, next_of}
 use Rattle.jsx_operand.proofs.Values.{settled_token}
-use Rattle.jsx_operand.proofs.Steps.{passed}
-use Rattle.jsx_member.proofs.Parts.{whole_placed, head_placed}
+use Rattle.jsx_operand.proofs.Steps.{passed, passed_plain}
+use Rattle.jsx_member.proofs.Parts.{whole_placed, head_placed, rest_with}
 use Rattle.jsx_operand.proofs.Templates.{whole_template, unfit_whole, head_template, unfit_head, no_rest, no_template, whole_full, whole_view}
-use Rattle.jsx_operand.specs.Templates.{NoRest, fits_tag}
+use Rattle.jsx_operand.specs.Templates.{fits_tag}
 use Rattle.jsx_member.proofs.grammar.Brackets.any_template.Goals as goal
 
 pub returns-in-Some-clause-read : goal.returns-in-Some-clause-read
@@ -33,14 +32,14 @@ pub returns-in-Some-clause-ended : goal.returns-in-Some-clause-ended
 returns-in-Some-clause-ended g c = settled_token Operator NoSubstitution (chars c.in-Some.raw.now) (place_of c.args.lexer.now) (whole_full (chars c.in-Some.raw.now) c.in-Some.ensures.whole) (sym c.in-Some.ensures.taken) refl
 
 pub returns-in_err-whole_template-clause-refused : goal.returns-in_err-whole_template-clause-refused
-returns-in_err-whole_template-clause-refused g c = passed _ c.in_err-whole_template.ensures.refused c.from_residual.ensures.1 (λ n. unfit_whole c.args.is_tagged (chars c.in-Some.raw.now) c.in-Some.ensures.taken refl c.in-Some.ensures.whole n)
+returns-in_err-whole_template-clause-refused g c = passed_plain _ c.in_err-whole_template.ensures.refused c.from_residual.ensures.1 (λ n. unfit_whole c.args.is_tagged (chars c.in-Some.raw.now) c.in-Some.ensures.taken refl c.in-Some.ensures.whole n)
 
 pub returns-in_default-leaf-clause-refused : goal.returns-in_default-leaf-clause-refused
-returns-in_default-leaf-clause-refused g c = record { bars = λ _ _. no_template c.args.is_tagged c.in_default.ensures.missing (λ r. ap (forth (Tok Operator TemplateHead r)) (sym (ap place_of c.in_default.ensures.stays)) ∙ c.in_default-leaf.ensures.missing r) }
+returns-in_default-leaf-clause-refused g c = record { bars = λ _ _ _. no_template c.args.is_tagged c.in_default.ensures.missing (λ r. ap (forth (Tok Operator TemplateHead r)) (sym (ap place_of c.in_default.ensures.stays)) ∙ c.in_default-leaf.ensures.missing r) }
 
 pub returns-in_err-head-clause-refused : goal.returns-in_err-head-clause-refused
 returns-in_err-head-clause-refused g c =
-    passed _ c.in_err-head.ensures.refused c.from_residual-in_err-head.ensures.1
+    passed_plain _ c.in_err-head.ensures.refused c.from_residual-in_err-head.ensures.1
     (λ n. unfit_head c.args.is_tagged (chars c.in-Some-leaf.raw.now) (c.in-Some-leaf.ensures.taken ∙ ap (forth (Tok Operator TemplateHead (chars c.in-Some-leaf.raw.now))) (ap place_of c.in_default.ensures.stays)) refl c.in-Some-leaf.ensures.whole n)
 
 pub returns-in_err-template_rest-clause-refused : goal.returns-in_err-template_rest-clause-refused
@@ -48,7 +47,7 @@ returns-in_err-template_rest-clause-refused g c =
     let text = c.in_ok-head.ensures.text in
     passed _ c.in_err-template_rest.ensures.refused c.from_residual-in_err-template_rest.ensures.1
     (λ n. no_rest c.args.is_tagged (chars c.in-Some-leaf.raw.now) (c.in-Some-leaf.ensures.taken ∙ ap (forth (Tok Operator TemplateHead (chars c.in-Some-leaf.raw.now))) (ap place_of c.in_default.ensures.stays)) refl c.in-Some-leaf.ensures.whole
-    (subst (λ r. NoRest (around_of c.args.context.around) c.args.is_tagged r (place_of c.leaf-2.new.self)) text n))
+    (rest_with text n))
 
 pub template_rest-requires-clause-fits : goal.template_rest-requires-clause-fits
 template_rest-requires-clause-fits g c = ap (fits_tag c.args.is_tagged) c.in_ok-head.ensures.text ∙ c.in_ok-head.ensures.fits

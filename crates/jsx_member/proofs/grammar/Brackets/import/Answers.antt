@@ -31,7 +31,7 @@ pub returns-in_err-expect-clause-refused : goal.returns-in_err-expect-clause-ref
 returns-in_err-expect-clause-refused g c = passed _ c.in_err-expect.ensures.refused c.from_residual-in_err-expect.ensures.1 (λ b. meta_unread (record { is = c.take.ensures.taken c.if-not-take.false; found = refl }) b)
 
 pub returns-then-not-context-clause-refused : goal.returns-then-not-context-clause-refused
-returns-then-not-context-clause-refused g c = record { bars = λ _ _. meta_outside c.if-not-context.true (record { is = c.take.ensures.taken c.if-not-take.false; found = refl }) }
+returns-then-not-context-clause-refused g c = record { bars = λ _ _ _. meta_outside c.if-not-context.true (record { is = c.take.ensures.taken c.if-not-take.false; found = refl }) }
 
 pub returns-clause-read : goal.returns-clause-read
 returns-clause-read g c = meta_opened c.if-not-context.false (record { is = c.take.ensures.taken c.if-not-take.false; found = refl }) c.in_ok-expect.ensures.read refl c.in_ok-constant.ensures.view

@@ -1,11 +1,8 @@
 use Rattle.std.proofs.Common.{true, false, refl, sym, ◌∙◌, ap, subst}
-use Rattle.jsx_tree.specs.Nonterminals.{Name}
-use Rattle.jsx_tree.specs.Grammar.{Part, pun}
+use Rattle.jsx_tree.specs.Grammar.{pun}
 use Rattle.jsx_tree.specs.View.{view_link}
 use Rattle.jsx_tree.specs.Reading.{forth}
 use Rattle.jsx_tree.specs.StaticRules.{is_optional}
-use Rattle.jsx_tree.specs.Answers.{Barred}
-use Rattle.jsx_operand.specs.SoFar.{so_far}
 use Rattle.jsx_operand.specs.Around.{around_of}
 use Rattle.jsx_token.specs.Here.{place_of}
 use Rattle.jsx_token.specs.Places.{Takes, begin_of}
@@ -13,7 +10,7 @@ use Rattle.jsx_tree.proofs.Rows.Steps.{on}
 use Rattle.jsx_operand.proofs.Steps.{passed}
 use Rattle.jsx_operand.proofs.Placing.{takes_from}
 use Rattle.jsx_operand.specs.Links.{OnlyLink, link_sign, optionally}
-use Rattle.jsx_member.proofs.Links.{no_optional, no_optional_call, no_optional_index, optional_call, optional_index, optional_name}
+use Rattle.jsx_member.proofs.Links.{name_from, no_optional, no_optional_call, no_optional_index, optional_call, optional_index, optional_name}
 use Rattle.jsx_operand.specs.declared.link.Linking.TheVariants as linking
 use Rattle.jsx_member.proofs.grammar.Brackets.optional_link.Goals as goal
 
@@ -56,4 +53,4 @@ returns-clause-placed g c = record { on = λ w k i. let e = c.take-2.ensures.sta
 pub returns-in_err-name_link-clause-refused : goal.returns-in_err-name_link-clause-refused
 returns-in_err-name_link-clause-refused g c = passed _ c.in_err-name_link.ensures.refused c.from_residual-in_err-name_link.ensures.1
     (λ n. no_optional (c.take.ensures.missing c.if-take.false) (ap (λ h. forth (pun "(") (place_of h)) (sym (c.take.ensures.stays c.if-take.false)) ∙ c.take-2.ensures.missing c.if-take-2.false)
-    (subst (Barred so_far (around_of c.args.context.around) (Part Name)) (ap place_of (c.take-2.ensures.stays c.if-take-2.false ∙ c.take.ensures.stays c.if-take.false)) n))
+    (name_from (c.take-2.ensures.stays c.if-take-2.false ∙ c.take.ensures.stays c.if-take.false) n))

@@ -6,8 +6,8 @@ use Rattle.jsx_make.specs.Members.{view_prop}
 use Rattle.jsx_token.specs.Here.{place_of}
 use Rattle.jsx_token.specs.Places.{end_of}
 use Rattle.jsx_operand.proofs.Places.{spans_from}
-use Rattle.jsx_operand.proofs.Steps.{passed}
-use Rattle.jsx_member.proofs.MemberCovers.{preset_cover, short_cover, unbound_short, unfilled_short}
+use Rattle.jsx_operand.proofs.Steps.{passed, passed_in}
+use Rattle.jsx_member.proofs.MemberCovers.{deep_short, preset_cover, short_cover, unbound_short, unfilled_short}
 use Rattle.jsx_member.proofs.MemberPlaces.{preset_placed, short_placed}
 use Rattle.jsx_member.proofs.grammar.Brackets.short_member.Goals as goal
 
@@ -22,10 +22,13 @@ returns-then-not-take-clause-placed g c = short_placed (c.take.ensures.stays c.i
 
 -- with its default
 pub returns-then-not-is_bound-clause-refused : goal.returns-then-not-is_bound-clause-refused
-returns-then-not-is_bound-clause-refused g c = record { bars = λ _ _. unbound_short (record { is = c.take.ensures.taken c.if-not-take.false; found = refl }) (sym c.is_bound.ensures ∙ c.if-not-is_bound.true) }
+returns-then-not-is_bound-clause-refused g c = record { bars = λ _ _ _. unbound_short (record { is = c.take.ensures.taken c.if-not-take.false; found = refl }) (sym c.is_bound.ensures ∙ c.if-not-is_bound.true) }
+
+pub returns-in_err-levels-clause-refused : goal.returns-in_err-levels-clause-refused
+returns-in_err-levels-clause-refused g c = passed _ c.in_err-levels.ensures.refused c.from_residual-in_err-levels.ensures.1 (λ b. deep_short (record { is = c.take.ensures.taken c.if-not-take.false; found = refl }) b)
 
 pub returns-in_err-value-clause-refused : goal.returns-in_err-value-clause-refused
-returns-in_err-value-clause-refused g c = passed _ c.in_err-value.ensures.refused c.from_residual-in_err-value.ensures.1 (λ b. unfilled_short (record { is = c.take.ensures.taken c.if-not-take.false; found = refl }) b)
+returns-in_err-value-clause-refused g c = passed_in _ c.in_ok-levels.ensures.levels c.in_err-value.ensures.refused c.from_residual-in_err-value.ensures.1 (λ b. unfilled_short (record { is = c.take.ensures.taken c.if-not-take.false; found = refl }) b)
 
 pub returns-clause-read : goal.returns-clause-read
 returns-clause-read g c = preset_cover refl refl

@@ -8,7 +8,7 @@ use Rattle.jsx_member.proofs.Supers.{call_built, call_outside}
 use Rattle.jsx_member.proofs.grammar.Brackets.super_call.Goals as goal
 
 pub returns-then-not-context-clause-refused : goal.returns-then-not-context-clause-refused
-returns-then-not-context-clause-refused g c = record { bars = λ _ _. call_outside c.if-not-context.true }
+returns-then-not-context-clause-refused g c = record { bars = λ _ _ _. call_outside c.if-not-context.true }
 
 pub returns-in_err-all-clause-refused : goal.returns-in_err-all-clause-refused
 returns-in_err-all-clause-refused g c = passed _ c.in_err-all.ensures.refused c.from_residual.ensures.1 (λ n. no_node n)

@@ -47,7 +47,7 @@ returns-in_err-expect-clause-refused g c =
 pub returns-then-not-context-clause-refused : goal.returns-then-not-context-clause-refused
 returns-then-not-context-clause-refused g c =
     let same = c.take-2.ensures.stays c.if-take-2.false ∙ c.take.ensures.stays c.if-take.false in
-    record { bars = λ _ _. none_from same (member_outside c.if-not-context.true (ap (λ h. forth (pun "(") (place_of h)) same ∙ c.take.ensures.missing c.if-take.false) (ap (λ h. forth (pun "[") (place_of h)) (c.take-2.ensures.stays c.if-take-2.false) ∙ c.take-2.ensures.missing c.if-take-2.false)) }
+    record { bars = λ _ _ _. none_from same (member_outside c.if-not-context.true (ap (λ h. forth (pun "(") (place_of h)) same ∙ c.take.ensures.missing c.if-take.false) (ap (λ h. forth (pun "[") (place_of h)) (c.take-2.ensures.stays c.if-take-2.false) ∙ c.take-2.ensures.missing c.if-take-2.false)) }
 
 pub returns-in_err-raw-clause-refused : goal.returns-in_err-raw-clause-refused
 returns-in_err-raw-clause-refused g c =

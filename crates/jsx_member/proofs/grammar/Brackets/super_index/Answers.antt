@@ -10,7 +10,7 @@ use Rattle.jsx_member.proofs.Supers.{index_built, index_outside}
 use Rattle.jsx_member.proofs.grammar.Brackets.super_index.Goals as goal
 
 pub returns-then-not-context-clause-refused : goal.returns-then-not-context-clause-refused
-returns-then-not-context-clause-refused g c = record { bars = λ _ _. index_outside c.if-not-context.true }
+returns-then-not-context-clause-refused g c = record { bars = λ _ _ _. index_outside c.if-not-context.true }
 
 pub returns-in_err-index-clause-refused : goal.returns-in_err-index-clause-refused
 returns-in_err-index-clause-refused g c = passed _ c.in_err-index.ensures.refused c.from_residual.ensures.1 (λ b. no_node (bar b))

@@ -17,11 +17,11 @@ use Rattle.jsx_token.specs.Here.{place_of, left}
 use Rattle.jsx_operand.specs.Climbing.{fits}
 use Rattle.jsx_token.specs.Places.{Takes, end_of}
 use Rattle.jsx_operand.proofs.Values.{settled_token}
-use Rattle.jsx_operand.proofs.Steps.{passed}
+use Rattle.jsx_operand.proofs.Steps.{passed, passed_plain}
 use Rattle.jsx_member.proofs.Elements.{items}
-use Rattle.jsx_member.proofs.Parts.{reads_none, reads_more, reads_rest, reads_placed, reads_divided, part_barred, brace_barred, piece_barred, tail_barred}
+use Rattle.jsx_member.proofs.Parts.{middle_from, reads_none, reads_more, reads_rest, reads_placed, reads_divided, part_barred, brace_barred, piece_barred, tail_barred}
 use Rattle.jsx_operand.proofs.Templates.{tail_full}
-use Rattle.jsx_operand.specs.Templates.{NoMiddle, fits_tag}
+use Rattle.jsx_operand.specs.Templates.{fits_tag}
 use Rattle.jsx_member.proofs.grammar.Brackets.template_rest.Goals as goal
 
 pub parts-init : goal.parts-init
@@ -37,12 +37,12 @@ pub returns-in_err-expect-clause-refused : goal.returns-in_err-expect-clause-ref
 returns-in_err-expect-clause-refused g c = passed _ c.in_err-expect.ensures.refused c.from_residual-in_err-expect.ensures.1 (λ n. brace_barred c.in_ok-part.part c.parts.invariant.reads c.in_ok-part.ensures.read n)
 
 pub returns-in_err-tail-clause-refused : goal.returns-in_err-tail-clause-refused
-returns-in_err-tail-clause-refused g c = passed _ c.in_err-tail.ensures.refused c.from_residual-in_err-tail.ensures.1
+returns-in_err-tail-clause-refused g c = passed_plain _ c.in_err-tail.ensures.refused c.from_residual-in_err-tail.ensures.1
     (λ n. tail_barred c.in_ok-part.part (chars c.in-Some.raw.now) c.parts.invariant.reads c.in_ok-part.ensures.read c.in_ok-expect.ensures.read c.in-Some.ensures.taken refl c.in-Some.ensures.whole n)
 
 pub returns-in_err-piece-clause-refused : goal.returns-in_err-piece-clause-refused
 returns-in_err-piece-clause-refused g c = passed _ c.in_err-piece.ensures.refused c.from_residual-in_err-piece.ensures.1
-    (λ n. piece_barred c.in_ok-part.part c.parts.invariant.reads c.in_ok-part.ensures.read c.in_ok-expect.ensures.read c.in_default.ensures.missing (subst (λ h. NoMiddle c.args.is_tagged (place_of h)) c.in_default.ensures.stays n))
+    (λ n. piece_barred c.in_ok-part.part c.parts.invariant.reads c.in_ok-part.ensures.read c.in_ok-expect.ensures.read c.in_default.ensures.missing (middle_from c.in_default.ensures.stays n))
 
 pub parts-preserved : goal.parts-preserved
 parts-preserved g c =

@@ -1,4 +1,4 @@
-use Rattle.std.proofs.Common.{◌≡◌, true, false, arith, map, refl, sym, ◌∙◌, ap, subst}
+use Rattle.std.proofs.Common.{◌≡◌, false, arith, map, refl, sym, ◌∙◌, ap, subst}
 use Rattle.jsx_tree.specs.Walk.{one}
 use Rattle.jsx_tree.specs.Grammar.{Lines, Part}
 use Rattle.jsx_tree.specs.Nonterminals.{Stmt}
@@ -9,8 +9,7 @@ use Rattle.jsx_tree.specs.Answers.{Only}
 use Rattle.jsx_tree.proofs.Rows.Lists.{begun}
 use Rattle.jsx_operand.specs.Around.{around_of}
 use Rattle.jsx_statement.specs.Cases.{IsBody}
-use Rattle.jsx_statement.specs.Inners.{NoInner}
-use Rattle.jsx_statement.proofs.Inners.{inner_more, inner_none}
+use Rattle.jsx_statement.proofs.Inners.{inner_more, inner_none, inner_from}
 use Rattle.jsx_token.specs.Here.{place_of, left}
 use Rattle.jsx_operand.specs.SoFar.{so_far}
 use Rattle.jsx_operand.specs.Spans.{IsPlacedList}
@@ -33,7 +32,7 @@ statements-init g c = record {
 pub returns-in_err-next-clause-refused : goal.returns-in_err-next-clause-refused
 returns-in_err-next-clause-refused g c =
     passed _ c.in_err-next.ensures.refused c.from_residual.ensures.1
-    (λ n. body_barred _ c.statements.invariant.so_far (sym c.ends_case.ensures.ahead ∙ c.statements-test.true) (subst (λ h. NoInner (around_of c.args.context.around) (place_of h)) c.ends_case.ensures.stays n))
+    (λ n. body_barred _ c.statements.invariant.so_far (sym c.ends_case.ensures.ahead ∙ c.statements-test.true) (inner_from c.ends_case.ensures.stays n))
 
 pub statements-preserved : goal.statements-preserved
 statements-preserved g c =

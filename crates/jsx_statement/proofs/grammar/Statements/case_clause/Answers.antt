@@ -1,19 +1,20 @@
-use Rattle.std.proofs.Common.{true, false, refl, ◌∙◌, subst}
-use Rattle.jsx_tree.specs.Grammar.{Fixed, key}
-use Rattle.jsx_tree.specs.Answers.{Barred}
-use Rattle.jsx_tree.proofs.Rows.Steps.{bar, on}
-use Rattle.jsx_operand.specs.Around.{around_of}
-use Rattle.jsx_token.specs.Here.{place_of}
-use Rattle.jsx_operand.specs.SoFar.{so_far}
-use Rattle.jsx_statement.proofs.Cases.{case_is, case_word, default_is, no_case, no_clause, no_default, none_behind, none_inner}
-use Rattle.jsx_operand.proofs.Steps.{passed}
+use Rattle.std.proofs.Common.{refl, ◌∙◌}
+use Rattle.jsx_statement.proofs.Cases.{case_is, case_word, deep_case, default_is, no_case, no_clause, no_colon, no_default, no_test, none_inner}
+use Rattle.jsx_operand.proofs.Steps.{passed, passed_in}
 use Rattle.jsx_operand.proofs.Placing.{placed_as, placed_from}
 use Rattle.jsx_operand.proofs.Places.{spans_from}
 use Rattle.jsx_statement.proofs.PlacedNodes.{case_placed}
+use Rattle.jsx_statement.proofs.Statements.{barred_from}
 use Rattle.jsx_statement.proofs.grammar.Statements.case_clause.Goals as goal
 
+pub returns-in_err-levels-clause-refused : goal.returns-in_err-levels-clause-refused
+returns-in_err-levels-clause-refused g c = passed _ c.in_err-levels.ensures.refused c.from_residual.ensures.1 (λ b. deep_case b)
+
+pub returns-in_err-levels-2-clause-refused : goal.returns-in_err-levels-2-clause-refused
+returns-in_err-levels-2-clause-refused g c = passed _ c.in_err-levels-2.ensures.refused c.from_residual-in_err-levels-2.ensures.1 (λ b. deep_case b)
+
 pub returns-in_err-default_clause-clause-refused : goal.returns-in_err-default_clause-clause-refused
-returns-in_err-default_clause-clause-refused g c = passed _ c.in_err-default_clause.ensures.refused c.from_residual.ensures.1 (λ n. no_default (record { is = c.take.ensures.taken c.if-take.true; found = refl }) n)
+returns-in_err-default_clause-clause-refused g c = passed_in _ c.in_ok-levels.ensures.levels c.in_err-default_clause.ensures.refused c.from_residual-in_err-default_clause.ensures.1 (λ n. no_default (record { is = c.take.ensures.taken c.if-take.true; found = refl }) n)
 
 pub returns-then-take-clause-read : goal.returns-then-take-clause-read
 returns-then-take-clause-read g c = default_is (record { is = c.take.ensures.taken c.if-take.true; found = refl }) c.in_ok-default_clause.ensures.read
@@ -22,16 +23,16 @@ pub returns-then-take-clause-placed : goal.returns-then-take-clause-placed
 returns-then-take-clause-placed g c = c.in_ok-default_clause.ensures.placed.on c.args.lexer.now (c.take.ensures.takes c.if-take.true) (c.take.ensures.begins c.if-take.true)
 
 pub returns-in_err-expect-clause-refused : goal.returns-in_err-expect-clause-refused
-returns-in_err-expect-clause-refused g c = passed _ c.in_err-expect.ensures.refused c.from_residual-in_err-expect.ensures.1 (λ b. no_clause (c.take.ensures.missing c.if-take.false) (subst (λ h. Barred so_far (around_of c.args.context.around) (Fixed (key "case")) (place_of h)) (c.take.ensures.stays c.if-take.false) b))
+returns-in_err-expect-clause-refused g c = passed _ c.in_err-expect.ensures.refused c.from_residual-in_err-expect.ensures.1 (λ b. no_clause (c.take.ensures.missing c.if-take.false) (barred_from (c.take.ensures.stays c.if-take.false) b))
 
 pub returns-in_err-test-clause-refused : goal.returns-in_err-test-clause-refused
-returns-in_err-test-clause-refused g c = passed _ c.in_err-test.ensures.refused c.from_residual-in_err-test.ensures.1 (λ b. no_case (case_word (c.take.ensures.stays c.if-take.false) c.in_ok-expect.ensures.takes) (none_behind (bar b)))
+returns-in_err-test-clause-refused g c = passed_in _ c.in_ok-levels-2.ensures.levels c.in_err-test.ensures.refused c.from_residual-in_err-test.ensures.1 (λ b. no_case (case_word (c.take.ensures.stays c.if-take.false) c.in_ok-expect.ensures.takes) (no_test b))
 
 pub returns-in_err-expect-2-clause-refused : goal.returns-in_err-expect-2-clause-refused
-returns-in_err-expect-2-clause-refused g c = passed _ c.in_err-expect-2.ensures.refused c.from_residual-in_err-expect-2.ensures.1 (λ b. no_case (case_word (c.take.ensures.stays c.if-take.false) c.in_ok-expect.ensures.takes) (none_behind (on c.in_ok-test.ensures.read (bar b))))
+returns-in_err-expect-2-clause-refused g c = passed_in _ c.in_ok-levels-2.ensures.levels c.in_err-expect-2.ensures.refused c.from_residual-in_err-expect-2.ensures.1 (λ b. no_case (case_word (c.take.ensures.stays c.if-take.false) c.in_ok-expect.ensures.takes) (no_colon c.in_ok-test.ensures.read b))
 
 pub returns-in_err-body-clause-refused : goal.returns-in_err-body-clause-refused
-returns-in_err-body-clause-refused g c = passed _ c.in_err-body.ensures.refused c.from_residual-in_err-body.ensures.1
+returns-in_err-body-clause-refused g c = passed_in _ c.in_ok-levels-2.ensures.levels c.in_err-body.ensures.refused c.from_residual-in_err-body.ensures.1
     (λ n. no_case (case_word (c.take.ensures.stays c.if-take.false) c.in_ok-expect.ensures.takes) (none_inner c.in_ok-test.ensures.read c.in_ok-expect-2.ensures.read n))
 
 pub returns-clause-read : goal.returns-clause-read

@@ -1,16 +1,14 @@
 use Rattle.std.proofs.Common.{◌≡◌, true, false, cond, arith, map, refl, sym, ◌∙◌, ap, subst}
 use Rattle.std.specs.Prelude.{◌&&◌, ◌||◌}
-use Rattle.jsx_tree.specs.Walk.{one}
 use Rattle.jsx_tree.specs.Grammar.{Lines}
 use Rattle.jsx_tree.specs.StaticRules.{is_default}
 use Rattle.jsx_tree.specs.Told.{tales, told_control}
 use Rattle.jsx_tree.specs.View.{forest, inside, view_control}
 use Rattle.jsx_tree.proofs.Rows.Lists.{begun}
 use Rattle.jsx_token.specs.Here.{place_of, left}
-use Rattle.jsx_operand.specs.SoFar.{so_far}
 use Rattle.jsx_operand.specs.Spans.{IsPlacedList}
 use Rattle.jsx_statement.proofs.Cases.{case_at, cases_barred, cases_ended, cases_more, defaults, defaults_next, few_defaults, more_defaults, second_default}
-use Rattle.jsx_operand.proofs.Steps.{passed}
+use Rattle.jsx_operand.proofs.Steps.{passed, passed_plain}
 use Rattle.jsx_operand.proofs.Trees.{pushed}
 use Rattle.jsx_operand.proofs.Placing.{PlacedFront, plain_lines, front_last, front_more, front_none, list_none, map_pushed, placed_from, row_end, row_list, row_quiet, row_sign}
 use Rattle.jsx_statement.proofs.grammar.Statements.cases.Goals as goal
@@ -28,7 +26,7 @@ pub returns-in_err-next-clause-refused : goal.returns-in_err-next-clause-refused
 returns-in_err-next-clause-refused g c = passed _ c.in_err-next.ensures.refused c.from_residual.ensures.1 (λ n. cases_barred _ c.cases.invariant.so_far (record { same = sym (ap place_of (c.take.ensures.stays c.cases-test.true)); stuck = record { is = c.take.ensures.missing c.cases-test.true } }) n)
 
 pub returns-in_err-has_default-clause-refused : goal.returns-in_err-has_default-clause-refused
-returns-in_err-has_default-clause-refused g c = passed _ c.in_err-has_default.ensures.refused c.from_residual-in_err-has_default.ensures.1
+returns-in_err-has_default-clause-refused g c = passed_plain _ c.in_err-has_default.ensures.refused c.from_residual-in_err-has_default.ensures.1
     (λ b. second_default c.cases.has_default _ c.cases.invariant.so_far (case_at (c.take.ensures.stays c.cases-test.true) c.in_ok-next.ensures.read) c.cases.invariant.defaults (subst (λ s. (c.cases.has_default && is_default (view_control s)) ≡ true) c.deref.ensures b))
 
 pub cases-preserved : goal.cases-preserved

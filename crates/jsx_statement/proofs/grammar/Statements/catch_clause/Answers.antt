@@ -1,15 +1,10 @@
-use Rattle.std.proofs.Common.{true, false, refl, ◌∙◌, subst}
-use Rattle.jsx_tree.specs.Grammar.{Fixed, pun}
-use Rattle.jsx_tree.specs.Answers.{Barred}
-use Rattle.jsx_tree.proofs.Rows.Steps.{on}
-use Rattle.jsx_operand.specs.Around.{around_of}
-use Rattle.jsx_token.specs.Here.{place_of}
-use Rattle.jsx_operand.specs.SoFar.{so_far}
-use Rattle.jsx_statement.proofs.Tries.{block_barred, block_only, caught_bare, caught_named, no_body, no_caught, no_caught_bare, taken_on}
-use Rattle.jsx_operand.proofs.Steps.{passed}
+use Rattle.std.proofs.Common.{refl, ◌∙◌}
+use Rattle.jsx_statement.proofs.Tries.{block_barred, block_deep, block_only, caught_bare, caught_named, no_body, no_caught, no_caught_bare, taken_on}
+use Rattle.jsx_operand.proofs.Steps.{passed, passed_in}
 use Rattle.jsx_operand.proofs.Placing.{placed_as, placed_from}
 use Rattle.jsx_operand.proofs.Places.{spans_from}
 use Rattle.jsx_statement.proofs.PlacedNodes.{bare_placed}
+use Rattle.jsx_statement.proofs.Statements.{barred_from}
 use Rattle.jsx_statement.proofs.grammar.Statements.catch_clause.Goals as goal
 
 pub returns-in_err-catch_name-clause-refused : goal.returns-in_err-catch_name-clause-refused
@@ -23,10 +18,13 @@ returns-then-take-clause-placed g c = c.in_ok-catch_name.ensures.placed.on c.arg
 
 pub returns-in_err-expect-clause-refused : goal.returns-in_err-expect-clause-refused
 returns-in_err-expect-clause-refused g c = passed _ c.in_err-expect.ensures.refused c.from_residual-in_err-expect.ensures.1
-    (λ b. no_caught_bare (c.take.ensures.missing c.if-take.false) (no_body (subst (λ h. Barred so_far (around_of c.args.context.around) (Fixed (pun "{")) (place_of h)) (c.take.ensures.stays c.if-take.false) b)))
+    (λ b. no_caught_bare (c.take.ensures.missing c.if-take.false) (no_body (barred_from (c.take.ensures.stays c.if-take.false) b)))
+
+pub returns-in_err-levels-clause-refused : goal.returns-in_err-levels-clause-refused
+returns-in_err-levels-clause-refused g c = passed _ c.in_err-levels.ensures.refused c.from_residual-in_err-levels.ensures.1 (λ b. no_caught_bare (c.take.ensures.missing c.if-take.false) (block_deep b))
 
 pub returns-in_err-body-clause-refused : goal.returns-in_err-body-clause-refused
-returns-in_err-body-clause-refused g c = passed _ c.in_err-body.ensures.refused c.from_residual-in_err-body.ensures.1
+returns-in_err-body-clause-refused g c = passed_in _ c.in_ok-levels.ensures.levels c.in_err-body.ensures.refused c.from_residual-in_err-body.ensures.1
     (λ n. no_caught_bare (c.take.ensures.missing c.if-take.false) (block_barred (taken_on (c.take.ensures.stays c.if-take.false) c.in_ok-expect.ensures.takes) n))
 
 pub returns-clause-read : goal.returns-clause-read

@@ -1,6 +1,5 @@
 use Rattle.std.proofs.Common.{refl, sym, ◌∙◌}
-use Rattle.jsx_tree.proofs.Rows.Steps.{bar}
-use Rattle.jsx_statement.proofs.Inners.{none_inners, signed_inners}
+use Rattle.jsx_statement.proofs.Inners.{sign_inners, signed_inners}
 use Rattle.jsx_operand.proofs.Steps.{passed}
 use Rattle.jsx_operand.proofs.Placing.{placed_as}
 use Rattle.jsx_operand.proofs.Places.{spans_from}
@@ -8,7 +7,7 @@ use Rattle.jsx_statement.proofs.PlacedNodes.{default_placed}
 use Rattle.jsx_statement.proofs.grammar.Statements.default_clause.Goals as goal
 
 pub returns-in_err-expect-clause-refused : goal.returns-in_err-expect-clause-refused
-returns-in_err-expect-clause-refused g c = passed _ c.in_err-expect.ensures.refused c.from_residual.ensures.1 (λ b. none_inners (bar b))
+returns-in_err-expect-clause-refused g c = passed _ c.in_err-expect.ensures.refused c.from_residual.ensures.1 (λ b. sign_inners b)
 
 pub returns-in_err-body-clause-refused : goal.returns-in_err-body-clause-refused
 returns-in_err-body-clause-refused g c = passed _ c.in_err-body.ensures.refused c.from_residual-in_err-body.ensures.1 (λ n. signed_inners c.in_ok-expect.ensures.read n)

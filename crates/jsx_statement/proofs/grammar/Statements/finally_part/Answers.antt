@@ -1,4 +1,4 @@
-use Rattle.std.proofs.Common.{true, false, [], refl, sym, subst}
+use Rattle.std.proofs.Common.{[], refl, sym, subst}
 use Rattle.jsx_tree.specs.Walk.{one}
 use Rattle.jsx_tree.specs.Kinds.{list, none}
 use Rattle.jsx_tree.specs.Told.{told_list}

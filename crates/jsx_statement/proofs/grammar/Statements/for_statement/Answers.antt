@@ -1,9 +1,9 @@
 use Rattle.std.proofs.Common.{refl, ◌∙◌}
-use Rattle.jsx_tree.proofs.Rows.Steps.{on}
 use Rattle.jsx_statement.proofs.Heads.{for_built, no_for_body, no_for_test, no_for_update}
 use Rattle.jsx_operand.proofs.Steps.{passed}
 use Rattle.jsx_operand.proofs.Placing.{placed_as}
 use Rattle.jsx_operand.proofs.Places.{spans_from}
+use Rattle.jsx_function.proofs.Inside.{passed_as}
 use Rattle.jsx_statement.proofs.PlacedNodes.{for_placed, in_placed, of_placed}
 use Rattle.jsx_statement.proofs.Loops.{as_initial, as_items, as_keys, in_built, initial_only, initial_other, items_only, items_other, keys_only, keys_other, no_bracket, no_head, no_in_body, no_listed, no_object, no_of_body, of_node, placed_initial, placed_items, placed_keys}
 use Rattle.jsx_statement.proofs.grammar.Statements.for_statement.Goals as goal
@@ -21,10 +21,10 @@ pub returns-in_err-update-in-Initial-clause-refused : goal.returns-in_err-update
 returns-in_err-update-in-Initial-clause-refused g c = passed _ c.in_err-update-in-Initial.ensures.refused c.from_residual-in_err-update-in-Initial.ensures.1 (λ n. let r = (as_initial c.in-Initial.is c.in_ok-begun.ensures.read) in initial_other c.in_ok-expect.ensures.read r (no_for_update c.in_ok-expect.ensures.read r.initial c.in_ok-test-in-Initial.ensures.read n))
 
 pub returns-in_err-body-in-Initial-clause-refused : goal.returns-in_err-body-in-Initial-clause-refused
-returns-in_err-body-in-Initial-clause-refused g c = passed _ c.in_err-body-in-Initial.ensures.refused c.from_residual-in_err-body-in-Initial.ensures.1 (λ b. let r = (as_initial c.in-Initial.is c.in_ok-begun.ensures.read) in initial_other c.in_ok-expect.ensures.read r (no_for_body c.of_loop.ensures c.in_ok-expect.ensures.read r.initial c.in_ok-test-in-Initial.ensures.read c.in_ok-update-in-Initial.ensures.read b))
+returns-in_err-body-in-Initial-clause-refused g c = passed_as _ c.of_loop.ensures.levels c.in_err-body-in-Initial.ensures.refused c.from_residual-in_err-body-in-Initial.ensures.1 (λ b. let r = (as_initial c.in-Initial.is c.in_ok-begun.ensures.read) in initial_other c.in_ok-expect.ensures.read r (no_for_body c.of_loop.ensures.around c.in_ok-expect.ensures.read r.initial c.in_ok-test-in-Initial.ensures.read c.in_ok-update-in-Initial.ensures.read b))
 
 pub returns-in_ok-for_statement-in-Initial-clause-read : goal.returns-in_ok-for_statement-in-Initial-clause-read
-returns-in_ok-for_statement-in-Initial-clause-read g c = let r = (as_initial c.in-Initial.is c.in_ok-begun.ensures.read) in initial_only c.in_ok-expect.ensures.read r (for_built c.of_loop.ensures c.in_ok-expect.ensures.read r.initial r.closed c.in_ok-test-in-Initial.ensures.read c.in_ok-update-in-Initial.ensures.read c.in_ok-body-in-Initial.ensures.read c.in_ok-for_statement-in-Initial.ensures.view)
+returns-in_ok-for_statement-in-Initial-clause-read g c = let r = (as_initial c.in-Initial.is c.in_ok-begun.ensures.read) in initial_only c.in_ok-expect.ensures.read r (for_built c.of_loop.ensures.around c.in_ok-expect.ensures.read r.initial r.closed c.in_ok-test-in-Initial.ensures.read c.in_ok-update-in-Initial.ensures.read c.in_ok-body-in-Initial.ensures.read c.in_ok-for_statement-in-Initial.ensures.view)
 
 pub returns-in_ok-for_statement-in-Initial-clause-placed : goal.returns-in_ok-for_statement-in-Initial-clause-placed
 returns-in_ok-for_statement-in-Initial-clause-placed g c = record {

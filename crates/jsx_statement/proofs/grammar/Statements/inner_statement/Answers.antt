@@ -1,4 +1,4 @@
-use Rattle.std.proofs.Common.{true, false, refl, sym, subst}
+use Rattle.std.proofs.Common.{refl, sym, subst}
 use Rattle.jsx_tree.specs.Grammar.{Part}
 use Rattle.jsx_tree.specs.Nonterminals.{Stmt}
 use Rattle.jsx_tree.specs.View.{view_stmt}
@@ -10,8 +10,7 @@ use Rattle.jsx_operand.specs.Around.{around_of}
 use Rattle.jsx_operand.specs.SoFar.{so_far}
 use Rattle.jsx_operand.proofs.Placing.{placed_from}
 use Rattle.jsx_operand.proofs.Steps.{passed}
-use Rattle.jsx_statement.specs.Inners.{NoInner}
-use Rattle.jsx_statement.proofs.Inners.{barred_inner, no_inner, other_inner, strict_inner}
+use Rattle.jsx_statement.proofs.Inners.{barred_inner, no_inner, other_inner, strict_inner, inner_from}
 use Rattle.jsx_statement.proofs.grammar.Statements.inner_statement.Goals as goal
 
 pub returns-then-context-clause-inner : goal.returns-then-context-clause-inner
@@ -21,7 +20,7 @@ pub returns-in_err-statement-clause-refused : goal.returns-in_err-statement-clau
 returns-in_err-statement-clause-refused g c = passed _ c.in_err-statement.ensures.refused c.from_residual.ensures.1 (λ b. barred_inner b)
 
 pub returns-then-take-clause-refused : goal.returns-then-take-clause-refused
-returns-then-take-clause-refused g c = record { bars = λ _ _. no_inner c.if-context.false (found_at (sym (c.take.ensures.taken c.if-take.true)) refl) }
+returns-then-take-clause-refused g c = record { bars = λ _ _ _. no_inner c.if-context.false (found_at (sym (c.take.ensures.taken c.if-take.true)) refl) }
 
 pub returns-clause-read : goal.returns-clause-read
 returns-clause-read g c = subst (λ h. Only so_far (around_of c.args.context.around) (Part Stmt) (place_of h) (one (view_stmt c.in_ok-statement-2.field-0.value)) (place_of c.statement-2.new.lexer)) (c.take.ensures.stays c.if-take.false) c.in_ok-statement-2.ensures.read
@@ -33,4 +32,4 @@ pub returns-clause-placed : goal.returns-clause-placed
 returns-clause-placed g c = placed_from (c.take.ensures.stays c.if-take.false) c.in_ok-statement-2.ensures.placed
 
 pub returns-in_err-statement-2-clause-refused : goal.returns-in_err-statement-2-clause-refused
-returns-in_err-statement-2-clause-refused g c = passed _ c.in_err-statement-2.ensures.refused c.from_residual-in_err-statement-2.ensures.1 (λ b. subst (λ h. NoInner (around_of c.args.context.around) (place_of h)) (c.take.ensures.stays c.if-take.false) (barred_inner b))
+returns-in_err-statement-2-clause-refused g c = passed _ c.in_err-statement-2.ensures.refused c.from_residual-in_err-statement-2.ensures.1 (λ b. inner_from (c.take.ensures.stays c.if-take.false) (barred_inner b))

@@ -1,10 +1,9 @@
-use Rattle.std.proofs.Common.{◌≡◌, true, false, arith, map, refl, sym, ap, subst}
+use Rattle.std.proofs.Common.{◌≡◌, false, arith, map, refl, sym, ap, subst}
 use Rattle.jsx_tree.specs.Grammar.{Lines}
 use Rattle.jsx_tree.specs.Told.{tales, told_stmt}
 use Rattle.jsx_tree.specs.View.{forest, inside, view_stmt}
 use Rattle.jsx_tree.proofs.Rows.Lists.{begun}
 use Rattle.jsx_token.specs.Here.{place_of, left}
-use Rattle.jsx_operand.specs.SoFar.{so_far}
 use Rattle.jsx_operand.specs.Spans.{IsPlacedList}
 use Rattle.jsx_statement.proofs.Blocks.{line_barred, line_ended, line_more}
 use Rattle.jsx_operand.proofs.Steps.{passed}

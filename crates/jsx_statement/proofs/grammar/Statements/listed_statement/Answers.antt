@@ -1,11 +1,11 @@
 use Rattle.std.proofs.Common.{refl, sym, subst}
 use Rattle.jsx_tree.specs.View.{view_stmt}
 use Rattle.jsx_operand.specs.Around.{around_of}
-use Rattle.jsx_statement.specs.Statements.{NoStatement, OnlyStatement}
+use Rattle.jsx_statement.specs.Statements.{OnlyStatement}
 use Rattle.jsx_token.specs.Headings.{NoHeading}
 use Rattle.jsx_token.specs.Here.{place_of}
-use Rattle.jsx_statement.proofs.Statements.{headed_barred, headed_only, stmt_home, stmts}
-use Rattle.jsx_operand.proofs.Steps.{passed}
+use Rattle.jsx_statement.proofs.Statements.{headed_barred, headed_deep, headed_only, stmt_home, stmts, statement_from}
+use Rattle.jsx_operand.proofs.Steps.{passed, passed_in}
 use Rattle.jsx_statement.proofs.grammar.Statements.listed_statement.Goals as goal
 
 pub unheaded-requires-clause-plain : goal.unheaded-requires-clause-plain
@@ -15,10 +15,13 @@ pub returns-in_default-clause-read : goal.returns-in_default-clause-read
 returns-in_default-clause-read g c = (subst (λ h. OnlyStatement (around_of c.args.context.around) (place_of h) (view_stmt c.in_ok-unheaded.field-0.value) (place_of c.unheaded.new.lexer)) c.in_default.ensures.stays c.in_ok-unheaded.ensures.read).listed
 
 pub returns-in_err-unheaded-clause-refused : goal.returns-in_err-unheaded-clause-refused
-returns-in_err-unheaded-clause-refused g c = passed _ c.in_err-unheaded.ensures.refused c.from_residual.ensures.1 (λ n. (subst (λ h. NoStatement (around_of c.args.context.around) (place_of h)) c.in_default.ensures.stays n).listed)
+returns-in_err-unheaded-clause-refused g c = passed _ c.in_err-unheaded.ensures.refused c.from_residual.ensures.1 (λ n. (statement_from c.in_default.ensures.stays n).listed)
 
 pub returns-clause-read : goal.returns-clause-read
 returns-clause-read g c = headed_only stmts c.in-Some.heading (stmt_home c.in-Some.heading) (record { is = c.in-Some.ensures.taken; found = refl }) c.in_ok-headed.ensures.read
 
+pub returns-in_err-levels-clause-refused : goal.returns-in_err-levels-clause-refused
+returns-in_err-levels-clause-refused g c = passed _ c.in_err-levels.ensures.refused c.from_residual-in_err-levels.ensures.1 (λ b. headed_deep stmts c.in-Some.heading (record { is = c.in-Some.ensures.taken; found = refl }) b)
+
 pub returns-in_err-headed-clause-refused : goal.returns-in_err-headed-clause-refused
-returns-in_err-headed-clause-refused g c = passed _ c.in_err-headed.ensures.refused c.from_residual-in_err-headed.ensures.1 (λ n. headed_barred stmts c.in-Some.heading (record { is = c.in-Some.ensures.taken; found = refl }) n)
+returns-in_err-headed-clause-refused g c = passed_in _ c.in_ok-levels.ensures.levels c.in_err-headed.ensures.refused c.from_residual-in_err-headed.ensures.1 (λ n. headed_barred stmts c.in-Some.heading (record { is = c.in-Some.ensures.taken; found = refl }) n)

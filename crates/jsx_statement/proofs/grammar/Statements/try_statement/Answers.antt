@@ -1,4 +1,4 @@
-use Rattle.std.proofs.Common.{true, false, refl, sym, ◌∙◌}
+use Rattle.std.proofs.Common.{refl, sym, ◌∙◌}
 use Rattle.jsx_tree.proofs.Rows.Placing.{no_node}
 use Rattle.jsx_tree.proofs.Rows.Steps.{bar, on}
 use Rattle.jsx_statement.proofs.Tries.{no_try, try_built}
@@ -18,7 +18,7 @@ pub returns-in_err-finalizer-clause-refused : goal.returns-in_err-finalizer-clau
 returns-in_err-finalizer-clause-refused g c = passed _ c.in_err-finalizer.ensures.refused c.from_residual-in_err-finalizer.ensures.1 (λ b. no_node (on c.in_ok-body.ensures.read (on c.in_ok-handler.ensures.read (bar b))))
 
 pub returns-then-not-has_part-clause-refused : goal.returns-then-not-has_part-clause-refused
-returns-then-not-has_part-clause-refused g c = record { bars = λ at e. no_try c.in_ok-handler.handler c.in_ok-finalizer.finalizer c.in_ok-body.ensures.read c.in_ok-handler.ensures.read c.in_ok-finalizer.ensures.read (sym c.has_part.ensures ∙ c.if-not-has_part.true) }
+returns-then-not-has_part-clause-refused g c = record { bars = λ at e _. no_try c.in_ok-handler.handler c.in_ok-finalizer.finalizer c.in_ok-body.ensures.read c.in_ok-handler.ensures.read c.in_ok-finalizer.ensures.read (sym c.has_part.ensures ∙ c.if-not-has_part.true) }
 
 pub returns-clause-read : goal.returns-clause-read
 returns-clause-read g c = try_built c.in_ok-handler.handler c.in_ok-finalizer.finalizer c.in_ok-body.ensures.read c.in_ok-handler.ensures.read c.in_ok-finalizer.ensures.read (sym c.has_part.ensures ∙ c.if-not-has_part.false) c.in_ok-try_statement.ensures.view

@@ -1,0 +1,6 @@
+pub mod Each
+pub mod Lists
+pub mod Depths
+pub mod Laws
+pub mod Programs
+mod Examples
