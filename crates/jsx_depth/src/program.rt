@@ -72,13 +72,13 @@ fn parts_of_item(item: &Item, levels: u32) -> bool
             fits_specifiers(specifiers, levels) && has_level(levels)
         }
         Item::ExportDecl(_, declaration) => fits_stmt(declaration, levels),
-        Item::ExportDefaultFn(_, name, parameters, directives, body) => {
+        Item::ExportDefaultFn(_, _, name, parameters, directives, body) => {
             fits_name(name, levels)
                 && fits_patterns(parameters, levels)
                 && fits_body(directives, body, levels)
         }
-        Item::ExportDefaultClass(_, class) => fits_expr(class, levels),
-        Item::ExportDefaultExpr(_, value) => fits_expr(value, levels),
+        Item::ExportDefaultClass(_, _, class) => fits_expr(class, levels),
+        Item::ExportDefaultExpr(_, _, value) => fits_expr(value, levels),
         Item::ImportBare(..) | Item::ExportAll(..) | Item::ExportAllAs(..) => has_level(levels),
         Item::Stmt(stmt) => parts_of_stmt(stmt, levels),
     }

@@ -1,6 +1,6 @@
 -- What a cover tells of places, as an expression and as the element that it turns into.
 use Rattle.std.proofs.Common.{◌≡◌, ℕ, Bool, true, false, Box, Global, Option, refl, sym, ◌∙◌, ap, subst}
-use Rattle.jsx_base.specs.Token.{TokenKind}
+use Rattle.jsx_base.specs.Token.{IdentifierName}
 use Rattle.jsx_base.specs.declared.place.Span.{Span}
 use Rattle.jsx_tree.specs.Signs.{Sign}
 use Rattle.jsx_tree.specs.Kinds.{Assign, Assigns, Index, Member, Parenthesized, SuperIndex, SuperMember, WithInit, expression, function, Tree, leaf, node, list, Forest, none, part}
@@ -71,13 +71,13 @@ pub cover_placed_to : {c : Cover} {x y z : Here} → z ≡ y → IsPlacedCover c
 cover_placed_to {c} {x} e p = subst (λ h. IsPlacedCover c x h) (sym e) p
 
 -- a name tells of its text alone
-pub placed_name : {at : Option Span} {a : Text} {k : TokenKind} {t : _} {x y : Here} → IsPlaced (told_leaf at a) (leaf k t) x y → IsPlaced (told_text a) (leaf k t) x y
+pub placed_name : {at : Option Span} {a : Text} {t : _} {x y : Here} → IsPlaced (told_leaf at a) (leaf IdentifierName t) x y → IsPlaced (told_text a) (leaf IdentifierName t) x y
 placed_name p = record {
   same = p.same;
   begins = p.begins;
   leads = p.leads;
   told = λ f c h. let q = p.told f c h in (q.0.1, q.1);
-  moved = λ a f c h lo hi at e. let q = p.moved a f c h lo hi at e in (q.0.1, q.1);
+  moved = λ a f c h lo next hi at e. let q = p.moved a f c h lo next hi at e in (q.0.1, q.1);
 }
 
 -- ---- an assignment to a pattern, and an arrow function of one name

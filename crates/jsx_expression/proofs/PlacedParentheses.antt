@@ -36,7 +36,7 @@ paren_placed {d} {u} {w} {x} {y} {z} sign l close =
       begins = λ ns text. refl;
       leads = r.leads;
       told = λ f c i. subst (IsTold d) (sym (elsewhere c _ _ i)) (r.told f).0;
-      moved = λ e f c i lo hi at h. subst (λ q. IsTold (spanned at d) (within (extent lo hi) q)) (sym (elsewhere c _ _ i))
-          (subst (λ n. IsTold (spanned at d) (within (extent lo hi) (placed n (start (Expr 0) false (forth (pun "(") (place_of w) ∷ [])) u))) sign.same
-          (subst (λ q. IsTold (spanned at d) (within (extent lo hi) (placed x.end (start (Expr 0) false (q ∷ [])) u))) (sym sign.leads) (l.moved refl (inside f) (Expr 0) refl lo hi at h)));
+      moved = λ e f c i lo next hi at h. subst (λ q. IsTold (spanned at d) (within (extent lo next hi) q)) (sym (elsewhere c _ _ i))
+          (subst (λ n. IsTold (spanned at d) (within (extent lo next hi) (placed n (start (Expr 0) false (forth (pun "(") (place_of w) ∷ [])) u))) sign.same
+          (subst (λ q. IsTold (spanned at d) (within (extent lo next hi) (placed x.end (start (Expr 0) false (q ∷ [])) u))) (sym sign.leads) (l.moved refl (inside f) (Expr 0) refl lo next hi at h)));
     }

@@ -93,5 +93,5 @@ suits_placed {d} {p} {q} {x} {y} s l =
       begins = λ ms text. ap (λ ns. from_first (ns ++ ms) text) (sym same) ∙ l.begins ms text;
       leads = λ f. ap (scan (place_of x)) (sym same) ∙ l.leads (back f);
       told = λ f c i. suits_told s x.end c c (place_of x) d (l.told (back f) c i);
-      moved = λ e f c i lo hi at h. suits_within s x.end c c (place_of x) (extent lo hi) (spanned at d) (l.moved e (back f) c i lo hi at h);
+      moved = λ e f c i lo next hi at h. suits_within s x.end c c (place_of x) (extent lo next hi) (spanned at d) (l.moved e (back f) c i lo next hi at h);
     }

@@ -2,12 +2,12 @@
 use Rattle.std.proofs.Common.{◌≡◌, ◌-◌, true, false, cond, [], ◌∷◌, refl, sym, ap, subst, Option, None}
 use Rattle.jsx_base.specs.Lines.{size}
 use Rattle.jsx_base.specs.declared.place.Span.{Span}
-use Rattle.jsx_tree.specs.Kinds.{Parenthesized, Spread, ParenTarget, Kind, expression, function, Tree, leaf, node, list, Forest}
+use Rattle.jsx_tree.specs.Kinds.{ExportDefaultFn, ExportDefaultClass, ExportDefaultExpr, Parenthesized, Spread, ParenTarget, Kind, program, expression, function, Tree, leaf, node, list, Forest}
 use Rattle.jsx_tree.specs.Nonterminals.{Nonterminal, Argument, Expr}
 use Rattle.jsx_tree.specs.Grammar.{production}
 use Rattle.jsx_tree.specs.Spelling.{saids, spelled}
 use Rattle.jsx_tree.specs.Reading.{scan}
-use Rattle.jsx_tree.specs.Spans.{from_first, rest_at, Extent, settled, Places, end, and, starts, start, placed, places, within, Told, IsTold}
+use Rattle.jsx_tree.specs.Spans.{from_first, from_second, rest_at, Extent, settled, Places, end, and, starts, start, placed, places, within, Told, IsTold}
 use Rattle.jsx_tree.specs.Walk.{is_found}
 use Rattle.jsx_token.specs.Here.{Here, place_of}
 use Rattle.jsx_operand.specs.Spans.{Spans, is_argument, is_parens, spanned, as_argument, IsPlaced, IsPlacedAs}
@@ -29,6 +29,9 @@ settled_alike (expression Parenthesized) cs c e ps n = cc
 settled_alike (function ParenTarget) cs c e end n = refl
 settled_alike (function ParenTarget) cs c e (and q end) n = refl
 settled_alike (function ParenTarget) cs c e (and q (and r ps)) n = refl
+settled_alike (program ExportDefaultFn) cs c e ps n = refl
+settled_alike (program ExportDefaultClass) cs c e ps n = refl
+settled_alike (program ExportDefaultExpr) cs c e ps n = refl
 settled_alike k cs c e ps n = refl
 
 own_place : {d : Told} {k : Kind} {cs : Forest} {x y : Here} (at : Option Span) → is_parens (node k cs) ≡ false → IsPlaced d (node k cs) x y → IsPlacedAs true (as_argument (node k cs) at d) (node k cs) x y
@@ -53,7 +56,7 @@ parens_place {d} {cs} {x} {y} {at} l s =
       leads = l.leads;
       told = λ f c i. subst (λ q. IsTold (spanned at d) (placed x.end (start q false (place_of x ∷ [])) t)) (sym (argument_is c i))
           (subst (IsTold (spanned at d)) (sym (parens_within _ (places x.end (starts (place_of x) (production (expression Parenthesized)) (saids cs)) cs)))
-          (l.moved refl f (Expr 1) refl _ _ at (is_there (x.end - size (from_first ms x.rest)) s lo (hi f)).0));
+          (l.moved refl f (Expr 1) refl _ _ _ at (is_there (x.end - size (from_first ms x.rest)) (x.end - size (from_second ms (place_of x))) s lo (hi f)).0));
       moved = λ e. cc;
     }
 

@@ -6,7 +6,7 @@ use Rattle.jsx_tree.specs.declared.text.Text.{Text as TreeText}
 use Rattle.jsx_tree.specs.Signs.{Tok}
 use Rattle.jsx_tree.specs.Kinds.{Property, Shorthand, Spread, expression, Tree, leaf, node, none, part}
 use Rattle.jsx_tree.specs.Grammar.{pun}
-use Rattle.jsx_tree.specs.Spans.{spans, comes, Comes, Told, tells}
+use Rattle.jsx_tree.specs.Spans.{spans, comes, default_is, Comes, Told, tells}
 use Rattle.jsx_tree.specs.Answers.{Built}
 use Rattle.jsx_tree.specs.StaticRules.{Surroundings}
 use Rattle.jsx_tree.specs.Walk.{tail}
@@ -81,19 +81,22 @@ preset_placed {lo} {n} {a} {x} {z} {y} {at} {d} {t} {m} text e is told equals va
 
 -- ---- a spread
 
--- what is told of a name, without the first claim
+-- what is told of a name, without a span that comes first
 abbrev dropped : Told → Told
-dropped (tells (a ∷ cs) es) = tells cs es
+dropped (tells (spans at ∷ cs) es) = tells cs es
 dropped d = d
 
 dropped_part : (at : Option Span) (t : Tree) (d : Told) → retold_part (node (expression Spread) (part t none)) (told_node at (d ∷ [])) ≡ told_node at (dropped d ∷ [])
 dropped_part at t (tells [] es) = refl
-dropped_part at t (tells (a ∷ cs) es) = refl
+dropped_part at t (tells (spans s ∷ cs) es) = refl
+dropped_part at t (tells (comes a ∷ cs) es) = refl
+dropped_part at t (tells (default_is b ∷ cs) es) = refl
 
 drop_placed : {n : Text} {x y : Here} (d : Told) → IsPlaced d (leaf IdentifierName n) x y → IsPlaced (dropped d) (leaf IdentifierName n) x y
 drop_placed (tells [] es) l = l
-drop_placed (tells (spans s ∷ cs) es) l = record { same = l.same; begins = l.begins; leads = l.leads; told = λ f c e. let h = l.told f c e in (h.0.1, h.1); moved = λ e f c g lo hi at i. let h = l.moved e f c g lo hi at i in (h.0.1, h.1) }
-drop_placed (tells (comes s ∷ cs) es) l = record { same = l.same; begins = l.begins; leads = l.leads; told = λ f c e. let h = l.told f c e in (h.0.1, h.1); moved = λ e f c g lo hi at i. let h = l.moved e f c g lo hi at i in (h.0.1, h.1) }
+drop_placed (tells (spans s ∷ cs) es) l = record { same = l.same; begins = l.begins; leads = l.leads; told = λ f c e. let h = l.told f c e in (h.0.1, h.1); moved = λ e f c g lo next hi at i. let h = l.moved e f c g lo next hi at i in (h.0.1, h.1) }
+drop_placed (tells (comes a ∷ cs) es) l = l
+drop_placed (tells (default_is b ∷ cs) es) l = l
 
 name_of : {a : Tree} {n : Text} → node (expression Spread) (part a none) ≡ node (expression Spread) (part (leaf IdentifierName n) none) → a ≡ leaf IdentifierName n
 name_of e = cc

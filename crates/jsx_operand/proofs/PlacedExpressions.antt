@@ -1,10 +1,12 @@
 -- The places of the expressions that the parser makes: each along its row.
 use Rattle.std.proofs.Common.{◌≡◌, nat_eq, Bool, true, false, List, [], ◌∷◌, ◌++◌, append_assoc, map, refl, sym, ◌∙◌, ap, subst, Option, Box, Vec, Global}
-use Rattle.std.specs.Prelude.{IsTrue, codes, cond, ◌||◌}
-use Rattle.std.proofs.lemmas.Bool.{eqb-true}
+use Rattle.std.specs.Prelude.{IsTrue, codes, cond, not, ◌||◌}
+use Rattle.std.proofs.lemmas.Bool.{eqb-true, or_right}
 use Rattle.jsx_base.specs.Token.{Text, Operator, Piece, Punctuator, NoSubstitution, TemplateHead, TemplateMiddle, TemplateTail, JsxName, IdentifierName, StringLiteral, NumericLiteral, BigIntLiteral, Lexeme, breaks, skip, at_front, token, same, first_is, is_token}
 use Rattle.jsx_base.specs.declared.place.Span.{Span}
 use Rattle.jsx_tree.specs.declared.text.Text.{Text as TreeText}
+use Rattle.jsx_tree.specs.declared.text.Word.{Word}
+use Rattle.jsx_tree.specs.declared.text.Word.TheVariants as words
 use Rattle.jsx_tree.specs.declared.tree.Jsx.{Jsx}
 use Rattle.jsx_tree.specs.Signs.{End, Pad, Space, AfterExpr, Tok, TrailingComma, Sign}
 use Rattle.jsx_tree.specs.Kinds.{BinaryOp, Nullish, Exponentiate, UnaryOp, Delete, Void, TypeOf, Positive, Negative, Complement, Not, Assign, OpAssign, Unary, Binary, Cond, Call, Member, Index, New, NewWithoutArguments, NewTarget, SuperCall, SuperMember, SuperIndex, ClassExpr, ClassDecl, statement, ImportCall, ImportMeta, Element, expression, jsx, Tree, leaf, node, list, Forest, none, part, UpdateOp, Increment, Decrement, PrefixUpdate, PostfixUpdate, Seq, Array, Object, Property, Shorthand, Spread, ComputedKey, function, PlainTemplate, SubstitutedTemplate, TemplateSpan, Tagged, Role, WithInit, RestPat, ArrayPat, ObjectPat, PropertyPat, ShorthandPat, ShorthandInit, RestProperty}
@@ -13,9 +15,9 @@ use Rattle.jsx_tree.specs.Grammar.{Commas, Fixed, TwoOrMore, InMembers, Many, Op
 use Rattle.jsx_tree.specs.Grows.{operator_sign}
 use Rattle.jsx_tree.specs.Spelling.{mode_of, between, gathered, each_said, spelled}
 use Rattle.jsx_tree.specs.Reading.{Place, Lost, At, forth, scan}
-use Rattle.jsx_tree.specs.Spans.{from_first, Comes, spans, Told, tells, Tales, no_tales, tale}
-use Rattle.jsx_tree.specs.View.{text_of, inside, forest}
-use Rattle.jsx_tree.specs.Told.{told_list, told_text, told_node, told_jsx}
+use Rattle.jsx_tree.specs.Spans.{from_first, Claim, Comes, is_whole, spans, Told, tells, Tales, no_tales, tale}
+use Rattle.jsx_tree.specs.View.{text_of, inside, forest, view_word}
+use Rattle.jsx_tree.specs.Told.{told_list, told_text, told_leaf, told_node, told_jsx}
 use Rattle.jsx_tree.specs.Walk.{is_found}
 use Rattle.jsx_token.specs.Here.{Here, place_of, sign_of}
 use Rattle.jsx_token.specs.declared.lexer.Fixed.TheVariants as fixed
@@ -29,7 +31,7 @@ use Rattle.jsx_base.proofs.Fronts.{other_ahead}
 use Rattle.jsx_tree.proofs.Apart.{clash}
 use Rattle.jsx_tree.proofs.Signs.{comma_too}
 use Rattle.jsx_operand.proofs.Operators.{operator_is}
-use Rattle.jsx_operand.proofs.Placing.{row_end, row_sign, row_quiet, row_part, row_part_as, row_list, list_none, node_is, leaf_is, led, row_line, row_unless, IsItem, bare_node, middle_item, tail_item, row_item, row_within}
+use Rattle.jsx_operand.proofs.Placing.{row_end, row_sign, row_quiet, row_part, row_part_as, row_list, list_none, is_there, node_is, leaf_is, led, row_line, row_unless, IsItem, bare_node, middle_item, tail_item, row_item, row_within}
 
 -- ---- a trailing comma
 
@@ -64,10 +66,30 @@ no_trailing (At q d text) e =
     clash _ found (ap is_found e))
 
 pub name_placed : {a : TreeText} {x y : Here} → Takes (Tok Operator IdentifierName (text_of a)) x y → Comes a (next_of x) → IsPlaced (told_text a) (leaf IdentifierName (text_of a)) x y
-name_placed k c = leaf_is refl refl (c, tt) k
+name_placed {a = a} k c = leaf_is refl refl (or_right (not (grammar.is_ident (text_of a))) true refl) (c, tt) k
+
+-- one that is a node by itself
+pub named_placed : {at : Option Span} {a : TreeText} {x y : Here} → Takes (Tok Operator IdentifierName (text_of a)) x y → Comes a (next_of x) → Spans at (next_of x) (end_of y) → IsPlaced (told_leaf at a) (leaf IdentifierName (text_of a)) x y
+named_placed {a = a} {x} {y} k c s = leaf_is refl refl (or_right (not (grammar.is_ident (text_of a))) true refl) ((is_there (next_of x) (end_of y) s refl refl).0, (c, tt)) k
+
+-- a word that is an expression by itself has one text, which is not told
+abbrev is_whole_leaf : List Claim → Tree → Bool
+is_whole_leaf cs (leaf k t) = is_whole k t cs
+is_whole_leaf cs t = true
+
+word_whole : (at : Option Span) (w : Word) → is_whole_leaf (spans at ∷ []) (view_word w) ≡ true
+word_whole at words.This = refl
+word_whole at words.Null = refl
+word_whole at words.True = refl
+word_whole at words.False = refl
+word_whole at words.ImportMeta = refl
+word_whole at words.NewTarget = refl
+
+pub word_placed : {at : Option Span} (w : Word) {t : Text} {x y : Here} → view_word w ≡ leaf IdentifierName t → Takes (Tok Operator IdentifierName t) x y → Spans at (next_of x) (end_of y) → IsPlaced (told_node at []) (leaf IdentifierName t) x y
+word_placed {at} w {x = x} {y} e k s = leaf_is refl refl (subst (λ u. is_whole_leaf (spans at ∷ []) u ≡ true) e (word_whole at w)) (is_there (next_of x) (end_of y) s refl refl) k
 
 tag_placed : {a : TreeText} {x y : Here} → Takes (Tok (mode_of JsxName) JsxName (text_of a)) x y → Comes a (next_of x) → IsPlaced (told_text a) (leaf JsxName (text_of a)) x y
-tag_placed k c = leaf_is refl refl (c, tt) k
+tag_placed k c = leaf_is refl refl refl (c, tt) k
 
 pub element_row : {at : Option Span} {a : TreeText} {x y z w v : Here} → Takes (sign_of fixed.Less) x y → Takes (Tok (mode_of JsxName) JsxName (text_of a)) y z → Comes a (next_of y) → Takes (sign_of fixed.TagSlash) z w → Takes (sign_of fixed.TagGreater) w v → Spans at (next_of x) (end_of v)
     → IsPlaced (told_node at (told_text a ∷ told_list [] ∷ [])) (node (jsx Element) (part (leaf JsxName (text_of a)) (part (list none) none))) x v
@@ -195,13 +217,13 @@ pub object_row : {at : Option Span} {ds : Tales} {us : Forest} {w x y : Here} �
 object_row sign r s = node_is (λ c e ps. refl) (λ ms text. refl) s (row_quiet (λ q. refl) (row_sign sign (row_quiet (λ q. refl) r)))
 
 pub string_placed : {a : TreeText} {x y : Here} → Takes (Tok Operator StringLiteral (text_of a)) x y → Comes a (next_of x) → IsPlaced (told_text a) (leaf StringLiteral (text_of a)) x y
-string_placed k c = leaf_is refl refl (c, tt) k
+string_placed k c = leaf_is refl refl refl (c, tt) k
 
 pub number_placed : {a : TreeText} {x y : Here} → Takes (Tok Operator NumericLiteral (text_of a)) x y → Comes a (next_of x) → IsPlaced (told_text a) (leaf NumericLiteral (text_of a)) x y
-number_placed k c = leaf_is refl refl (c, tt) k
+number_placed k c = leaf_is refl refl refl (c, tt) k
 
 pub long_placed : {a : TreeText} {x y : Here} → Takes (Tok Operator BigIntLiteral (text_of a)) x y → Comes a (next_of x) → IsPlaced (told_text a) (leaf BigIntLiteral (text_of a)) x y
-long_placed k c = leaf_is refl refl (c, tt) k
+long_placed k c = leaf_is refl refl refl (c, tt) k
 
 pub computed_row : {at : Option Span} {e : Told} {u : Tree} {w x y v : Here} → Takes (sign_of fixed.OpenBracket) w x → IsPlaced e u x y → Takes (sign_of fixed.CloseBracket) y v → Spans at (next_of w) (end_of v) → IsPlaced (told_node at (e ∷ [])) (node (function ComputedKey) (part u none)) w v
 computed_row sign r close s = node_is (λ c e ps. refl) (λ ms text. refl) s (row_sign sign (row_part r (row_sign close row_end)))
@@ -265,18 +287,18 @@ rest_property_placed sign r s = node_is (λ c e ps. refl) (λ ms text. refl) s (
 -- ---- templates
 
 pub span_row : {b : Bool} {d : Told} {t : Tree} {p : TreeText} {x y z w : Here} → IsPlaced d t x y → Takes (sign_of fixed.CloseBrace) y z → Takes (Tok Piece TemplateMiddle (text_of p)) z w → Comes p (end_of z) → IsItem false (tells [] (tale d (tale (told_text p) no_tales))) (node (expression (TemplateSpan b)) (part t (part (leaf TemplateMiddle (text_of p)) none))) x w
-span_row l brace piece comes = bare_node (λ c e ps. refl) (row_part l (row_sign brace (row_item refl (middle_item (comes, tt) piece) row_end)))
+span_row l brace piece comes = bare_node (λ c e ps. refl) (row_part l (row_sign brace (row_item refl (middle_item refl (comes, tt) piece) row_end)))
 
 pub rest_row : {b : Bool} {es : Tales} {us : Forest} {d : Told} {t : Tree} {p : TreeText} {x y z w v : Here} → IsPlacedList Adjacent es us x y → IsPlaced d t y z → Takes (sign_of fixed.CloseBrace) z w → Takes (Tok Piece TemplateTail (text_of p)) w v → Comes p (end_of w)
     → IsPlacedRow (rest_production b) (tale (tells [] es) (tale d (tale (told_text p) no_tales))) (part (list us) (part t (part (leaf TemplateTail (text_of p)) none))) x v
-rest_row l r brace piece comes = row_list l (row_part r (row_sign brace (row_item refl (tail_item (comes, tt) piece) row_end)))
+rest_row l r brace piece comes = row_list l (row_part r (row_sign brace (row_item refl (tail_item refl (comes, tt) piece) row_end)))
 
 pub whole_template_row : (b : Bool) {at : Option Span} {a : TreeText} {x y : Here} → Takes (Tok Operator NoSubstitution (text_of a)) x y → Comes a (next_of x) → Spans at (next_of x) (end_of y) → IsPlaced (told_node at (told_text a ∷ [])) (node (expression (PlainTemplate b)) (part (leaf NoSubstitution (text_of a)) none)) x y
-whole_template_row b {a = a} {x} {y} piece comes s = let l : IsPlaced (told_text a) (leaf NoSubstitution (text_of a)) x y = leaf_is refl refl (comes, tt) piece in node_is (λ c e ps. refl) (λ ms text. refl) s (row_quiet (λ q. refl) (row_part l row_end))
+whole_template_row b {a = a} {x} {y} piece comes s = let l : IsPlaced (told_text a) (leaf NoSubstitution (text_of a)) x y = leaf_is refl refl refl (comes, tt) piece in node_is (λ c e ps. refl) (λ ms text. refl) s (row_quiet (λ q. refl) (row_part l row_end))
 
 pub head_template_row : (b : Bool) {at : Option Span} {a : TreeText} {ds : Tales} {us : Forest} {x y z : Here} → Takes (Tok Operator TemplateHead (text_of a)) x y → Comes a (next_of x) → IsPlacedRow (rest_production b) ds us y z → Spans at (next_of x) (end_of z)
     → IsPlaced (tells (spans at ∷ []) (tale (told_text a) ds)) (node (expression (SubstitutedTemplate b)) (part (leaf TemplateHead (text_of a)) us)) x z
-head_template_row b {a = a} {x = x} {y} piece comes r s = let l : IsPlaced (told_text a) (leaf TemplateHead (text_of a)) x y = leaf_is refl refl (comes, tt) piece in node_is (λ c e ps. refl) (λ ms text. refl) s (row_quiet (λ q. refl) (row_part l r))
+head_template_row b {a = a} {x = x} {y} piece comes r s = let l : IsPlaced (told_text a) (leaf TemplateHead (text_of a)) x y = leaf_is refl refl refl (comes, tt) piece in node_is (λ c e ps. refl) (λ ms text. refl) s (row_quiet (λ q. refl) (row_part l r))
 
 pub tagged_row : {at : Option Span} {d e : Told} {t u : Tree} {w x y : Here} → IsPlaced d t w x → IsPlaced e u x y → Spans at (next_of w) (end_of y) → IsPlaced (told_node at (d ∷ e ∷ [])) (node (expression Tagged) (part t (part u none))) w y
 tagged_row l r s = node_is (λ c e ps. refl) (led l _) s (row_part l (row_quiet (λ q. refl) (row_part r row_end)))

@@ -1,7 +1,7 @@
 -- What an expression tells of places, the target that it is tells too.
 use Rattle.std.proofs.Common.{◌≡◌, ℕ, true, false, [], ◌∷◌, ◌++◌, refl, sym, ◌∙◌, subst}
 use Rattle.std.specs.Prelude.{IsTrue}
-use Rattle.jsx_tree.specs.Kinds.{function, expression, ParenTarget, Parenthesized, Tree, leaf, node, list, none, part}
+use Rattle.jsx_tree.specs.Kinds.{program, function, expression, ExportDefaultFn, ExportDefaultClass, ExportDefaultExpr, ParenTarget, Parenthesized, Tree, leaf, node, list, none, part}
 use Rattle.jsx_tree.specs.Nonterminals.{Nonterminal, Expr, SimpleTarget, Argument}
 use Rattle.jsx_tree.specs.Spelling.{spelled}
 use Rattle.jsx_tree.specs.Reading.{Place, scan}
@@ -23,6 +23,9 @@ placed_same n (node (expression Parenthesized) none) c d x f h = cc
 placed_same n (node (expression Parenthesized) (part t none)) c d x f h = placed_same n t (Expr 0) SimpleTarget _ f refl ∙ sym (away c _ _ h)
 placed_same n (node (expression Parenthesized) (part t (part u us))) c d x f h = cc
 placed_same n (node (function ParenTarget) ts) c d x f h = cc
+placed_same n (node (program ExportDefaultFn) ts) c d x f h = refl
+placed_same n (node (program ExportDefaultClass) ts) c d x f h = refl
+placed_same n (node (program ExportDefaultExpr) ts) c d x f h = refl
 placed_same n (node _ ts) c d x f h = refl
 placed_same n (list ts) c d x f h = cc
 
@@ -32,7 +35,7 @@ placed_target {d} {t} {x} {y} f p = record {
   begins = λ ms text. subst (λ ss. from_first (ss ++ ms) text ≡ skip text) (sym (spelled_target t)) (p.begins ms text);
   leads = λ h. subst (λ ss. scan (place_of x) ss ≡ place_of y) (sym (spelled_target t)) (p.leads (found h));
   told = λ h c a. subst (IsTold d) (sym (placed_same x.end t c c (place_of x) f a)) (p.told (found h) c a);
-  moved = λ a h c b lo hi at e. subst (λ q. IsTold (spanned at d) (within (extent lo hi) q)) (sym (placed_same x.end t c c (place_of x) f b)) (p.moved a (found h) c b lo hi at e);
+  moved = λ a h c b lo next hi at e. subst (λ q. IsTold (spanned at d) (within (extent lo next hi) q)) (sym (placed_same x.end t c c (place_of x) f b)) (p.moved a (found h) c b lo next hi at e);
 }
   where
     found : IsTrue (is_found (scan (place_of x) (spelled (as_target t)))) → IsTrue (is_found (scan (place_of x) (spelled t)))

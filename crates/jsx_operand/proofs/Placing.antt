@@ -1,16 +1,17 @@
 -- The places of a node from those of its parts, along any row.
 use Rattle.std.proofs.Common.{◌≡◌, ◌-◌, ℕ, Bool, true, false, List, [], ◌∷◌, ◌++◌, append-nil, append_assoc, refl, sym, ◌∙◌, ap, subst, map, Option, Some, None}
-use Rattle.std.specs.Prelude.{IsTrue, cond, not}
-use Rattle.jsx_base.specs.Token.{Text, Operator, Piece, TokenKind, TemplateMiddle, TemplateTail, breaks, skip, skips, among, token, Elision}
+use Rattle.std.specs.Prelude.{IsTrue, cond, not, ◌||◌}
+use Rattle.jsx_base.specs.Token.{Text, IdentifierName, Operator, Piece, TokenKind, TemplateMiddle, TemplateTail, breaks, skip, skips, among, token, Elision}
 use Rattle.jsx_base.specs.Lines.{size}
+use Rattle.jsx_base.specs.declared.place.BytePos.{BytePos}
 use Rattle.jsx_base.specs.declared.place.Span.{Span}
 use Rattle.jsx_tree.specs.Signs.{Ending, Sign, Tok, Unless, SameLine, Ends, One}
 use Rattle.jsx_tree.specs.Kinds.{Kind, Tree, leaf, node, list, Forest, none, part}
-use Rattle.jsx_tree.specs.Nonterminals.{Nonterminal}
-use Rattle.jsx_tree.specs.Grammar.{Context, ListShape, Adjacent, Commas, Elisions, NoTrailing, TwoOrMore, Lines, TopLines, Fixed, Part, Optional, Many, Within, Production, production}
+use Rattle.jsx_tree.specs.Nonterminals.{Nonterminal, is_ident}
+use Rattle.jsx_tree.specs.Grammar.{Context, ListShape, Adjacent, Commas, Elisions, NoTrailing, TwoOrMore, Lines, TopLines, Fixed, Part, Optional, Many, Within, Production, key, production}
 use Rattle.jsx_tree.specs.Spelling.{mode_of, leaf_signs, before, between, behind, gathered, walk, saids, each_said, spelled}
 use Rattle.jsx_tree.specs.Reading.{Place, Lost, At, forth, scan}
-use Rattle.jsx_tree.specs.Spans.{is_text, from_first, rest_at, Extent, extent, extent_of, settled, Places, node_at, starts, start, list_starts, placed, places, each_placed, within, Claim, spans, comes, Holds, AllHold, Told, tells, Tales, no_tales, tale, IsTold, AreTold}
+use Rattle.jsx_tree.specs.Spans.{is_text, from_first, from_second, rest_at, Extent, extent, extent_of, second_byte, settled, Places, node_at, default_at, starts, start, list_starts, placed, places, each_placed, within, Claim, spans, comes, default_is, Holds, AllHold, has_text, is_whole, Told, tells, Tales, no_tales, tale, IsTold, AreTold}
 use Rattle.jsx_tree.specs.View.{forest}
 use Rattle.jsx_tree.specs.Told.{tales}
 use Rattle.jsx_tree.proofs.Laws.{scan_append}
@@ -215,7 +216,7 @@ pub list_none : {a : Bool} {s : ListShape} {x : Here} → IsPlacedListAs a s no_
 list_none = record { same = refl; leads = λ f. refl; told = λ f c e. tt }
 
 pub hole_item : {x : Here} → IsItem false (tells [] no_tales) (leaf Elision []) x x
-hole_item = record { same = refl; leads = λ f. refl; told = λ f c i. (tt, refl) }
+hole_item = record { same = refl; leads = λ f. refl; told = λ f c i. (tt, (refl, refl)) }
 
 -- one tree that is the last: what stands behind it leads on, where it can be read
 pub list_one : {a : Bool} {s : ListShape} {d : Told} {t : Tree} {x y z : Here} → IsPlain s → IsItem a d t x y → z.end ≡ y.end → (is_found (scan (place_of y) (behind s (spelled t))) ≡ true → scan (place_of y) (behind s (spelled t)) ≡ place_of z)
@@ -263,8 +264,16 @@ list_more {s = s} {d} {e} {es} {t} {u} {us} {x} {y} {z} {w} plain l same join r 
 pub first_is : (ms : List Sign) → ((ns : List Sign) (text : Text) → from_first (ms ++ ns) text ≡ skip text) → (text : Text) → from_first ms text ≡ skip text
 first_is ms b text = ap (λ ns. from_first ns text) (sym (append-nil ms)) ∙ b [] text
 
-pub is_there : {at : Option Span} {lo hi a b : ℕ} (n : ℕ) → Spans at lo hi → lo ≡ a → hi ≡ b → AllHold (extent a b) n (spans at ∷ [])
-is_there {at} {lo} {hi} {a} {b} n s e f = subst (λ v. AllHold (extent a b) n (spans v ∷ [])) (sym s.is) ((s.from ∙ e, s.to ∙ f), tt)
+pub is_there : {at : Option Span} {lo hi a b : ℕ} (n next : ℕ) → Spans at lo hi → lo ≡ a → hi ≡ b → AllHold (extent a next b) n (spans at ∷ [])
+is_there {at} {lo} {hi} {a} {b} n next s e f = subst (λ v. AllHold (extent a next b) n (spans v ∷ [])) (sym s.is) ((s.from ∙ e, s.to ∙ f), tt)
+
+-- what is told of a node or a leaf holds with another span, where its text begins at the same place
+claims_moved : (p o q n lo next hi : ℕ) (at : Option Span) (cs : List Claim) → Holds (extent lo next hi) lo (spans at) → AllHold (extent p o q) n cs → AllHold (extent lo next hi) n (spanned_claims at cs)
+claims_moved p o q n lo next hi at [] h a = tt
+claims_moved p o q n lo next hi None (spans s ∷ cs) h a = absurd h
+claims_moved p o q n lo next hi (Some r) (spans s ∷ cs) h a = (h, claims_moved p o q n lo next hi (Some r) cs h a.1)
+claims_moved p o q n lo next hi at (comes t ∷ cs) h a = (a.0, claims_moved p o q n lo next hi at cs h a.1)
+claims_moved p o q n lo next hi at (default_is b ∷ cs) h a = (a.0, claims_moved p o q n lo next hi at cs h a.1)
 
 -- a node that is no parentheses
 pub node_is : {a : Bool} {k : Kind} {at : Option Span} {ds : Tales} {ts : Forest} {x y : Here} → ((c : Nonterminal) (e : Extent) (ps : Places) → settled k c e ps ≡ node_at e k ps)
@@ -277,8 +286,29 @@ node_is {k = k} {at} {ds} {ts} {x} {y} plain begins s r =
       begins = begins;
       leads = r.leads;
       told = λ f c _. subst (IsTold (tells (spans at ∷ []) ds)) (sym (plain c (extent_of x.end (place_of x) ms) (places x.end (starts (place_of x) (production k) (saids ts)) ts)))
-          (is_there (x.end - size (from_first ms x.rest)) s lo (λ i. r.same i - size (rest_at (sym (r.leads f) i))), r.told f);
-      moved = λ _ f c _ lo' hi' at' h. subst (λ p. IsTold (tells (spans at' ∷ []) ds) (within (extent lo' hi') p)) (sym (plain c (extent_of x.end (place_of x) ms) (places x.end (starts (place_of x) (production k) (saids ts)) ts))) ((h, tt), r.told f);
+          (is_there (x.end - size (from_first ms x.rest)) (x.end - size (from_second ms (place_of x))) s lo (λ i. r.same i - size (rest_at (sym (r.leads f) i))), r.told f);
+      moved = λ _ f c _ lo' next' hi' at' h. subst (λ p. IsTold (tells (spans at' ∷ []) ds) (within (extent lo' next' hi') p)) (sym (plain c (extent_of x.end (place_of x) ms) (places x.end (starts (place_of x) (production k) (saids ts)) ts))) ((h, tt), r.told f);
+    }
+
+-- an export of the default, which tells where its second token begins, behind the `export`
+pub default_is_told : {a : Bool} {k : Kind} {at : Option Span} {b : BytePos} {ds : Tales} {ts : Forest} {x y z : Here} → ((c : Nonterminal) (e : Extent) (ps : Places) → settled k c e ps ≡ default_at (second_byte e) e k ps)
+    → ((ms : List Sign) (text : Text) → from_first (spelled (node k ts) ++ ms) text ≡ skip text) → from_second (spelled (node k ts)) (place_of x) ≡ skip (rest_at (forth (key "export") (place_of x)))
+    → Takes (key "export") x z → b.0 ≡ next_of z → Spans at (next_of x) (end_of y) → IsPlacedRow (production k) ds ts x y → IsPlacedAs a (tells (spans at ∷ default_is b ∷ []) ds) (node k ts) x y
+default_is_told {k = k} {at} {b} {ds} {ts} {x} {y} {z} ends_so begins behind_first export word s r =
+    let ms = spelled (node k ts) in
+    let n : ℕ = x.end - size (from_second ms (place_of x)) in
+    let lo : next_of x ≡ x.end - size (from_first ms x.rest) = ap (λ t. x.end - size t) (sym (first_is ms begins x.rest)) in
+    let there : next_of z ≡ x.end - size (skip (rest_at (forth (key "export") (place_of x)))) = (λ i. export.same i - size (skip (rest_at (sym export.leads i)))) in
+    let second : b.0 ≡ n = word ∙ (there ∙ ap (λ t. x.end - size t) (sym behind_first)) in
+    let is : (f : is_found (scan (place_of x) ms) ≡ true) → AllHold (extent_of x.end (place_of x) ms) n (spans at ∷ default_is b ∷ []) =
+    λ f. ((is_there n n s lo (λ i. r.same i - size (rest_at (sym (r.leads f) i)))).0, (second, tt)) in
+    record {
+      same = r.same;
+      begins = begins;
+      leads = r.leads;
+      told = λ f c _. subst (IsTold (tells (spans at ∷ default_is b ∷ []) ds)) (sym (ends_so c (extent_of x.end (place_of x) ms) (places x.end (starts (place_of x) (production k) (saids ts)) ts))) (is f, (refl, r.told f));
+      moved = λ _ f c _ lo' next' hi' at' h. subst (λ p. IsTold (tells (spans at' ∷ default_is b ∷ []) ds) (within (extent lo' next' hi') p)) (sym (ends_so c (extent_of x.end (place_of x) ms) (places x.end (starts (place_of x) (production k) (saids ts)) ts)))
+          (claims_moved (x.end - size (from_first ms x.rest)) n (x.end - size (rest_at (scan (place_of x) ms))) n lo' next' hi' at' (spans at ∷ default_is b ∷ []) h (is f), (refl, r.told f));
     }
 
 -- a node that has no span of its own
@@ -290,32 +320,47 @@ bare_node {k = k} {ds} {ts} {x} plain r = record {
 }
 
 -- a piece of a template, which begins where the token before it ends
-pub middle_item : {p : Text} {cs : List Claim} {x y : Here} → AllHold (extent (end_of x) (end_of y)) (end_of x) cs → Takes (Tok Piece TemplateMiddle p) x y → IsItem false (tells cs no_tales) (leaf TemplateMiddle p) x y
-middle_item {p} {cs} {x} {y} h takes = record { same = takes.same; leads = λ f. takes.leads; told = λ f c _. (subst (λ n. AllHold (extent (end_of x) n) (end_of x) cs) (λ i. takes.same i - size (rest_at (sym takes.leads i))) h, refl) }
+pub middle_item : {p : Text} {cs : List Claim} {x y : Here} → has_text cs ≡ true → AllHold (extent (end_of x) (end_of y) (end_of y)) (end_of x) cs → Takes (Tok Piece TemplateMiddle p) x y → IsItem false (tells cs no_tales) (leaf TemplateMiddle p) x y
+middle_item {p} {cs} {x} {y} whole h takes = record { same = takes.same; leads = λ f. takes.leads; told = λ f c _. (subst (λ n. AllHold (extent (end_of x) n n) (end_of x) cs) (λ i. takes.same i - size (rest_at (sym takes.leads i))) h, (whole, refl)) }
 
-pub tail_item : {p : Text} {cs : List Claim} {x y : Here} → AllHold (extent (end_of x) (end_of y)) (end_of x) cs → Takes (Tok Piece TemplateTail p) x y → IsItem false (tells cs no_tales) (leaf TemplateTail p) x y
-tail_item {p} {cs} {x} {y} h takes = record { same = takes.same; leads = λ f. takes.leads; told = λ f c _. (subst (λ n. AllHold (extent (end_of x) n) (end_of x) cs) (λ i. takes.same i - size (rest_at (sym takes.leads i))) h, refl) }
+pub tail_item : {p : Text} {cs : List Claim} {x y : Here} → has_text cs ≡ true → AllHold (extent (end_of x) (end_of y) (end_of y)) (end_of x) cs → Takes (Tok Piece TemplateTail p) x y → IsItem false (tells cs no_tales) (leaf TemplateTail p) x y
+tail_item {p} {cs} {x} {y} whole h takes = record { same = takes.same; leads = λ f. takes.leads; told = λ f c _. (subst (λ n. AllHold (extent (end_of x) n n) (end_of x) cs) (λ i. takes.same i - size (rest_at (sym takes.leads i))) h, (whole, refl)) }
 
--- what is told of a leaf holds with another span, where its text begins at the same place
-claims_moved : (p q n lo hi : ℕ) (at : Option Span) (cs : List Claim) → Holds (extent lo hi) lo (spans at) → AllHold (extent p q) n cs → AllHold (extent lo hi) n (spanned_claims at cs)
-claims_moved p q n lo hi at [] h a = tt
-claims_moved p q n lo hi None (spans s ∷ cs) h a = absurd h
-claims_moved p q n lo hi (Some r) (spans s ∷ cs) h a = (h, claims_moved p q n lo hi (Some r) cs h a.1)
-claims_moved p q n lo hi at (comes t ∷ cs) h a = (a.0, claims_moved p q n lo hi at cs h a.1)
+-- whether all texts of a leaf are told doesn't hang on its span
+texts_moved : (at : Option Span) (cs : List Claim) → has_text (spanned_claims at cs) ≡ has_text cs
+texts_moved at [] = refl
+texts_moved at (spans s ∷ cs) = texts_moved at cs
+texts_moved at (comes t ∷ cs) = refl
+texts_moved at (default_is b ∷ cs) = texts_moved at cs
+
+whole_alike : (k : TokenKind) (t : Text) (cs es : List Claim) → has_text cs ≡ has_text es → is_whole k t cs ≡ is_whole k t es
+whole_alike Elision t cs es e = refl
+whole_alike IdentifierName t cs es e = ap (λ b. not (is_ident t) || b) e
+whole_alike k t cs es e = e
 
 -- a leaf whose token skips a gap
-pub leaf_is : {a : Bool} {k : TokenKind} {t : Text} {cs : List Claim} {x y : Here} → skips (mode_of k) ≡ true → leaf_signs k t ≡ One ∷ Tok (mode_of k) k t ∷ [] → AllHold (extent (next_of x) (end_of y)) (next_of x) cs → Takes (Tok (mode_of k) k t) x y → IsPlacedAs a (tells cs no_tales) (leaf k t) x y
-leaf_is {k = k} {t} {cs} {x} {y} skip_it signs claims takes =
+pub leaf_is : {a : Bool} {k : TokenKind} {t : Text} {cs : List Claim} {x y : Here} → skips (mode_of k) ≡ true → leaf_signs k t ≡ One ∷ Tok (mode_of k) k t ∷ [] → is_whole k t cs ≡ true → AllHold (extent (next_of x) (end_of y) (end_of y)) (next_of x) cs → Takes (Tok (mode_of k) k t) x y → IsPlacedAs a (tells cs no_tales) (leaf k t) x y
+leaf_is {k = k} {t} {cs} {x} {y} skip_it signs whole claims takes =
     let go : scan (place_of x) (leaf_signs k t) ≡ place_of y = ap (scan (place_of x)) signs ∙ takes.leads in
     let first : (ms : List Sign) (text : Text) → from_first (leaf_signs k t ++ ms) text ≡ skip text = λ ms text. ap (λ ns. from_first (ns ++ ms) text) signs ∙ ap (λ b. cond b (skip text) text) skip_it in
     let lo : x.end - size (from_first (leaf_signs k t) x.rest) ≡ next_of x = ap (λ v. x.end - size v) (first_is (leaf_signs k t) first x.rest) in
     let hi : x.end - size (rest_at (scan (place_of x) (leaf_signs k t))) ≡ end_of y = (λ i. sym takes.same i - size (rest_at (go i))) in
+    let behind_it : from_second (leaf_signs k t) (place_of x) ≡ y.rest = ap (λ ns. from_second ns (place_of x)) signs ∙ ap rest_at takes.leads in
+    let next : x.end - size (from_second (leaf_signs k t) (place_of x)) ≡ end_of y = (λ i. sym takes.same i - size (behind_it i)) in
     record {
       same = takes.same;
       begins = first;
       leads = λ f. go;
-      told = λ f c _. (subst (λ a. AllHold (extent a (x.end - size (rest_at (scan (place_of x) (leaf_signs k t))))) a cs) (sym lo) (subst (λ b. AllHold (extent (next_of x) b) (next_of x) cs) (sym hi) claims), refl);
-      moved = λ _ f c _ lo' hi' at' h. (subst (λ b. AllHold (extent lo' hi') b (spanned_claims at' cs)) (sym lo) (claims_moved (next_of x) (end_of y) (next_of x) lo' hi' at' cs h claims), refl);
+      told = λ f c _. (
+        subst (λ a. AllHold (extent a (x.end - size (from_second (leaf_signs k t) (place_of x))) (x.end - size (rest_at (scan (place_of x) (leaf_signs k t))))) a cs) (sym lo)
+            (subst (λ b. AllHold (extent (next_of x) b (x.end - size (rest_at (scan (place_of x) (leaf_signs k t))))) (next_of x) cs) (sym next)
+            (subst (λ b. AllHold (extent (next_of x) (end_of y) b) (next_of x) cs) (sym hi) claims)),
+        (whole, refl),
+      );
+      moved = λ _ f c _ lo' next' hi' at' h. (
+        subst (λ b. AllHold (extent lo' next' hi') b (spanned_claims at' cs)) (sym lo) (claims_moved (next_of x) (end_of y) (end_of y) (next_of x) lo' next' hi' at' cs h claims),
+        (whole_alike k t (spanned_claims at' cs) cs (texts_moved at' cs) ∙ whole, refl),
+      );
     }
 
 -- a node that begins with a part, and one that is told so

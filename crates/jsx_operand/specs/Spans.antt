@@ -16,7 +16,7 @@ use Rattle.jsx_tree.specs.Spelling.{gathered, walk, saids, each_said, spelled}
 use Rattle.jsx_tree.specs.Reading.{scan}
 use Rattle.jsx_tree.specs.View.{view_expr}
 use Rattle.jsx_tree.specs.Told.{told_expr}
-use Rattle.jsx_tree.specs.Spans.{from_first, extent, is_text, start, list_starts, starts, placed, places, each_placed, within, Claim, spans, comes, Holds, Told, tells, Tales, tale, IsTold, AreTold}
+use Rattle.jsx_tree.specs.Spans.{from_first, extent, is_text, start, list_starts, starts, placed, places, each_placed, within, Claim, spans, comes, default_is, Holds, Told, tells, Tales, tale, IsTold, AreTold}
 use Rattle.jsx_tree.specs.Walk.{is_found}
 use Rattle.jsx_token.specs.Here.{Here, place_of}
 use Rattle.jsx_make.specs.NodeSpans.{expr_at}
@@ -60,6 +60,7 @@ abbrev pub spanned_claims : Option Span → List Claim → List Claim
 spanned_claims at [] = []
 spanned_claims at (spans s ∷ cs) = spans at ∷ spanned_claims at cs
 spanned_claims at (comes t ∷ cs) = comes t ∷ spanned_claims at cs
+spanned_claims at (default_is b ∷ cs) = default_is b ∷ spanned_claims at cs
 
 abbrev pub spanned : Option Span → Told → Told
 spanned at (tells cs ds) = tells (spanned_claims at cs) ds
@@ -102,7 +103,7 @@ pub record IsPlacedAs (a : Bool) (d : Told) (t : Tree) (x y : Here) : Type 0 whe
   pub leads : IsTrue (is_found (scan (place_of x) (spelled t))) → scan (place_of x) (spelled t) ≡ place_of y
   pub told : IsTrue (is_found (scan (place_of x) (spelled t))) → (c : Nonterminal) → is_argument c ≡ a → IsTold d (placed x.end (start c false (place_of x ∷ [])) t)
   -- and so it is in another place's stead
-  pub moved : a ≡ false → IsTrue (is_found (scan (place_of x) (spelled t))) → (c : Nonterminal) → is_argument c ≡ false → (lo hi : ℕ) (at : Option Span) → Holds (extent lo hi) lo (spans at) → IsTold (spanned at d) (within (extent lo hi) (placed x.end (start c false (place_of x ∷ [])) t))
+  pub moved : a ≡ false → IsTrue (is_found (scan (place_of x) (spelled t))) → (c : Nonterminal) → is_argument c ≡ false → (lo next hi : ℕ) (at : Option Span) → Holds (extent lo next hi) lo (spans at) → IsTold (spanned at d) (within (extent lo next hi) (placed x.end (start c false (place_of x ∷ [])) t))
 
 abbrev pub IsPlaced : Told → Tree → Here → Here → Type 0
 IsPlaced d t x y = IsPlacedAs false d t x y

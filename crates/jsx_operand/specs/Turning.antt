@@ -4,7 +4,7 @@ use Rattle.jsx_base.specs.Token.{Text, IdentifierName, Elision}
 use Rattle.jsx_tree.specs.Kinds.{InObject, Field, Array, Object, Property, Shorthand, Spread, Assign, Assigns, Binds, ArrayPat, ObjectPat, PropertyPat, ShorthandPat, ShorthandInit, WithInit, RestPat, RestProperty, expression, function, Tree, leaf, node, list, Forest, none, part}
 use Rattle.jsx_tree.specs.Nonterminals.{is_bound}
 use Rattle.jsx_tree.specs.Grows.{as_target}
-use Rattle.jsx_tree.specs.Spans.{Told, Tales, no_tales, tale, tells}
+use Rattle.jsx_tree.specs.Spans.{Told, Tales, no_tales, spans, tale, tells}
 use Rattle.jsx_operand.specs.Climbing.{is_target}
 
 -- an array or an object, in no parentheses
@@ -159,7 +159,7 @@ abbrev mutual
 
   pub retold_part : Tree → Told → Told
   retold_part (node (expression Property) (part k (part t none))) (tells cs (tale a (tale d no_tales))) = tells cs (tale a (tale (retold t d) no_tales))
-  retold_part (node (expression Spread) ts) (tells cs (tale (tells (a ∷ ds) es) no_tales)) = tells cs (tale (tells ds es) no_tales)
+  retold_part (node (expression Spread) ts) (tells cs (tale (tells (spans at ∷ ds) es) no_tales)) = tells cs (tale (tells ds es) no_tales)
   retold_part (node (function (Field InObject)) ts) (tells cs (tale a (tale (tells ds (tale d no_tales)) no_tales))) = tells cs (tale a (tale d no_tales))
   retold_part t d = d
 

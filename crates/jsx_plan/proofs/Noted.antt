@@ -1,6 +1,7 @@
 -- The code's tree with the places of its calls: one equation for each variant.
 use Rattle.std.proofs.Common.{◌≡◌, ◌∙◌, refl, sym, ap, map, List, [], ◌∷◌, Bool, true, false, ◌&&◌, Option, Some, None, Box, Vec, Global}
 use Rattle.jsx_base.specs.Token as token
+use Rattle.jsx_base.specs.declared.place.BytePos.{BytePos}
 use Rattle.jsx_base.specs.declared.place.Span.{Span}
 use Rattle.jsx_tree.specs.declared.text.Text.{Text}
 use Rattle.jsx_tree.specs.declared.text.Ident.{Ident}
@@ -591,19 +592,19 @@ pub noted-Item-ExportDecl : (at : Option Span) (s : Box Stmt Global) → noted_i
 unfolding noted_item noted_stmt
 noted-Item-ExportDecl at s = refl
 
-pub noted-Item-ExportDefaultFn : (at : Option Span) (a : Option Ident) (ps : Vec (Box Pat Global) Global) (ds : Vec Text Global) (ss : Vec (Box Stmt Global) Global) → noted_item (item.ExportDefaultFn at a ps ds ss) ≡ node (program ExportDefaultFn) (part (optional_name a) (part (list (forest_at Binds (map (inside noted_pattern) ps.items))) (part (body ds.items (map (inside noted_stmt) ss.items)) none)))
+pub noted-Item-ExportDefaultFn : (at : Option Span) (b : BytePos) (a : Option Ident) (ps : Vec (Box Pat Global) Global) (ds : Vec Text Global) (ss : Vec (Box Stmt Global) Global) → noted_item (item.ExportDefaultFn at b a ps ds ss) ≡ node (program ExportDefaultFn) (part (optional_name a) (part (list (forest_at Binds (map (inside noted_pattern) ps.items))) (part (body ds.items (map (inside noted_stmt) ss.items)) none)))
 unfolding noted_item
-noted-Item-ExportDefaultFn at a ps ds ss =
+noted-Item-ExportDefaultFn at b a ps ds ss =
     ap (λ u. node (program ExportDefaultFn) (part u (part (list (noteds (forest_at Binds (map (inside view_pattern) ps.items)) (tales (map (inside told_pat) ps.items)))) (part (noted (body ds.items (map (inside view_stmt) ss.items)) (told_body ds.items (map (inside told_stmt) ss.items))) none)))) (name_noted a)
     ∙ ap_2 (λ u v. node (program ExportDefaultFn) (part (optional_name a) (part (list u) (part v none)))) (patterns_noted Binds ps.items) (body_noted ds.items ss.items)
 
-pub noted-Item-ExportDefaultClass : (at : Option Span) (e : Box Expr Global) → noted_item (item.ExportDefaultClass at e) ≡ node (program ExportDefaultClass) (part (noted_expr e.value) none)
+pub noted-Item-ExportDefaultClass : (at : Option Span) (b : BytePos) (e : Box Expr Global) → noted_item (item.ExportDefaultClass at b e) ≡ node (program ExportDefaultClass) (part (noted_expr e.value) none)
 unfolding noted_item noted_expr
-noted-Item-ExportDefaultClass at e = refl
+noted-Item-ExportDefaultClass at b e = refl
 
-pub noted-Item-ExportDefaultExpr : (at : Option Span) (e : Box Expr Global) → noted_item (item.ExportDefaultExpr at e) ≡ node (program ExportDefaultExpr) (part (noted_expr e.value) none)
+pub noted-Item-ExportDefaultExpr : (at : Option Span) (b : BytePos) (e : Box Expr Global) → noted_item (item.ExportDefaultExpr at b e) ≡ node (program ExportDefaultExpr) (part (noted_expr e.value) none)
 unfolding noted_item noted_expr
-noted-Item-ExportDefaultExpr at e = refl
+noted-Item-ExportDefaultExpr at b e = refl
 
 items_noted : (xs : List Item) → noteds (forest (map view_item xs)) (tales (map told_item xs)) ≡ forest (map noted_item xs)
 unfolding noted_item

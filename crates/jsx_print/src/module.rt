@@ -89,11 +89,11 @@ fn open_item<'a, 's>(printer: &mut Printer<'a, 's>, item: &'a Item<'s>) -> Resul
         Item::ExportAll(_, source) => export_all(printer, source),
         Item::ExportAllAs(_, name, source) => export_all_as(printer, name, source),
         Item::ExportDecl(_, stmt) => export_decl(printer, stmt),
-        Item::ExportDefaultFn(_, name, params, directives, stmts) => {
+        Item::ExportDefaultFn(_, _, name, params, directives, stmts) => {
             export_default_fn(printer, name, params, directives, stmts)
         }
-        Item::ExportDefaultClass(_, class) => export_default_class(printer, class),
-        Item::ExportDefaultExpr(_, expr) => export_default_expr(printer, expr),
+        Item::ExportDefaultClass(_, _, class) => export_default_class(printer, class),
+        Item::ExportDefaultExpr(_, _, expr) => export_default_expr(printer, expr),
     }
 }
 
@@ -302,7 +302,7 @@ pub(crate) fn is_empty_item(item: &Item<'_>) -> bool
         Item::Stmt(stmt) => is_empty_stmt(stmt),
         Item::ImportBare(_, _) | Item::Import(_, _, _) | Item::ExportNames(_, _) => false,
         Item::ExportFrom(_, _, _) | Item::ExportAll(_, _) | Item::ExportAllAs(_, _, _) => false,
-        Item::ExportDecl(_, _) | Item::ExportDefaultFn(_, _, _, _, _) => false,
-        Item::ExportDefaultClass(_, _) | Item::ExportDefaultExpr(_, _) => false,
+        Item::ExportDecl(_, _) | Item::ExportDefaultFn(_, _, _, _, _, _) => false,
+        Item::ExportDefaultClass(_, _, _) | Item::ExportDefaultExpr(_, _, _) => false,
     }
 }

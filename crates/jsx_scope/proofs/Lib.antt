@@ -1,6 +1,7 @@
 pub mod Arms
 pub mod Begins
 pub mod Dues
+pub mod EarlyErrors
 pub mod Inner
 pub mod Items
 pub mod Kept

@@ -1,3 +1,4 @@
+pub mod Early
 pub mod OneWalk
 pub mod Places
 pub mod Walk

@@ -3,6 +3,7 @@
 
 mod control;
 mod directives;
+mod early_errors;
 mod objects;
 mod opening;
 mod operators;
@@ -16,6 +17,7 @@ mod statements;
 mod text;
 mod walk;
 
+pub use early_errors::{ScopeError, early};
 pub use parentheses::parenthesise;
 
 #[cfg(test)]

@@ -28,9 +28,9 @@ impl Walker {
         match item {
             Item::Stmt(stmt) => self.stmt(false, stmt),
             Item::ExportDecl(_, stmt) => self.stmt(false, stmt),
-            Item::ExportDefaultFn(_, _, parameters, _, _) => self.patterns(false, parameters),
-            Item::ExportDefaultClass(_, class) => self.expr(Place::Level(0), false, class),
-            Item::ExportDefaultExpr(_, expr) => self.expr(Place::Default, false, expr),
+            Item::ExportDefaultFn(_, _, _, parameters, _, _) => self.patterns(false, parameters),
+            Item::ExportDefaultClass(_, _, class) => self.expr(Place::Level(0), false, class),
+            Item::ExportDefaultExpr(_, _, expr) => self.expr(Place::Default, false, expr),
             Item::ImportBare(..)
             | Item::Import(..)
             | Item::ExportNames(..)
@@ -45,7 +45,7 @@ impl Walker {
         ensures { OnOk result (view_item item.new ≡ with_export (view_item item.old)) }
     {
         match item {
-            Item::ExportDefaultFn(_, _, _, _, body) => self.body(body),
+            Item::ExportDefaultFn(_, _, _, _, _, body) => self.body(body),
             Item::Stmt(..)
             | Item::ExportDecl(..)
             | Item::ExportDefaultClass(..)

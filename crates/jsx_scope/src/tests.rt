@@ -1,9 +1,12 @@
-//! Which expressions get a pair, over trees made by hand.
+//! Which expressions get a pair, and early errors on names, over trees made by hand.
 
 use crate::pair::boxed;
-use crate::parenthesise;
+use crate::{ScopeError, early, parenthesise};
 use jsx_base::{BytePos, Span};
-use jsx_tree::{Access, Expr, LiteralKind, Operation, Program, Script, Stmt, Text, Word};
+use jsx_tree::{
+    Access, DeclareWord, Expr, Ident, LiteralKind, Operation, Pat, Program, Script, Stmt, Text,
+    Word,
+};
 use std::alloc::{AllocError, Global};
 use std::test::Fail;
 
@@ -45,6 +48,13 @@ fn script(alloc: Global, stmt: Box<Stmt<'static>>) -> Result<Program<'static>, A
         directives: Vec::new(alloc),
         body,
     }))
+}
+
+fn add(program: &mut Program<'static>, stmt: Box<Stmt<'static>>) -> Result<(), AllocError> {
+    if let Program::Script(script) = program {
+        script.body.push(stmt)?;
+    }
+    Ok(())
 }
 
 fn is_pair(expr: &Expr<'_>) -> bool {
@@ -101,5 +111,41 @@ fn objects_of_members_get_a_pair(rt: HostRuntime) -> Result<(), Fail> {
     assert!(rt; paired(alloc, member(alloc, sequence(alloc)?)?) == Ok((false, true)));
     assert!(rt; paired(alloc, member(alloc, string(alloc)?)?) == Ok((false, false)));
     assert!(rt; paired(alloc, sequence(alloc)?) == Ok((false, false)));
+    Ok(())
+}
+
+/// `let a;`, with the name at a place.
+fn declaration(alloc: Global, at: u32) -> Result<Box<Stmt<'static>>, AllocError> {
+    let name = Ident {
+        text: Text::Read("a", BytePos(at)),
+    };
+    let pattern = boxed(alloc, Pat::Ident(None, name))?;
+    let mut declarators = Vec::new(alloc);
+    declarators.push(boxed(alloc, Pat::Binding(None, pattern, None))?)?;
+    boxed(alloc, Stmt::Var(None, DeclareWord::Let, declarators))
+}
+
+/// `eval()`, with the name at a place.
+fn call_of_eval(alloc: Global, at: u32) -> Result<Box<Stmt<'static>>, AllocError> {
+    let name = Ident {
+        text: Text::Read("eval", BytePos(at)),
+    };
+    let callee = boxed(alloc, Expr::Ident(None, name))?;
+    let call = boxed(
+        alloc,
+        Expr::Access(Access::Call(None, callee, Vec::new(alloc))),
+    )?;
+    boxed(alloc, Stmt::Expr(None, call))
+}
+
+#[test]
+fn early_errors_are_told_with_their_places(rt: HostRuntime) -> Result<(), Fail> {
+    let alloc = rt.alloc();
+    let mut program = script(alloc, declaration(alloc, 4)?)?;
+    assert!(rt; early(alloc, &program) == Ok(()));
+    add(&mut program, call_of_eval(alloc, 7)?)?;
+    assert!(rt; early(alloc, &program) == Err(ScopeError::DirectEval(BytePos(7))));
+    add(&mut program, declaration(alloc, 19)?)?;
+    assert!(rt; early(alloc, &program) == Err(ScopeError::Scope(BytePos(19))));
     Ok(())
 }

@@ -1,18 +1,19 @@
 -- The places of imports and exports: each along its row.
-use Rattle.std.proofs.Common.{Option, [], ◌∷◌, refl}
+use Rattle.std.proofs.Common.{◌≡◌, Option, [], ◌∷◌, refl}
 use Rattle.jsx_base.specs.Token.{IdentifierName}
+use Rattle.jsx_base.specs.declared.place.BytePos.{BytePos}
 use Rattle.jsx_base.specs.declared.place.Span.{Span}
 use Rattle.jsx_tree.specs.declared.text.Text.{Text as TreeText}
 use Rattle.jsx_tree.specs.Signs.{AfterList, AfterWord, Ends, Semicolon}
 use Rattle.jsx_tree.specs.Kinds.{Side, Imported, Exported, From, ImportBare, Import, ImportAll, ImportList, ImportBoth, Specifier, SpecifierAs, ExportNames, ExportFrom, ExportAll, ExportAllAs, ExportDecl, ExportDefaultFn, ExportDefaultClass, ExportDefaultExpr, program, Tree, leaf, node, list, Forest, none, part}
 use Rattle.jsx_tree.specs.Grammar.{Commas, key, pun}
-use Rattle.jsx_tree.specs.Spans.{Told, Tales, no_tales, spans, tale, tells}
-use Rattle.jsx_tree.specs.Told.{told_node, told_text}
+use Rattle.jsx_tree.specs.Spans.{Told, Tales, no_tales, default_is, spans, tale, tells}
+use Rattle.jsx_tree.specs.Told.{told_default, told_node, told_text}
 use Rattle.jsx_tree.specs.View.{text_of}
 use Rattle.jsx_token.specs.Here.{Here}
 use Rattle.jsx_token.specs.Places.{Takes, end_of, next_of}
 use Rattle.jsx_operand.specs.Spans.{IsPlaced, IsPlacedFront, IsPlacedList, IsPlacedRow, Spans}
-use Rattle.jsx_operand.proofs.Placing.{led, node_is, row_end, row_list, row_part, row_quiet, row_sign, row_unless}
+use Rattle.jsx_operand.proofs.Placing.{default_is_told, led, node_is, row_end, row_list, row_part, row_quiet, row_sign, row_unless}
 use Rattle.jsx_function.specs.Functions.{named_symbols}
 use Rattle.jsx_function.proofs.Functions.{named_placed}
 use Rattle.jsx_syntax.specs.Items.{from_symbols, source_symbols}
@@ -77,11 +78,12 @@ star_as_placed sign star k l r s = node_is (λ c e ps. refl) (λ ms text. refl) 
 pub declared_placed : {at : Option Span} {d : Told} {t : Tree} {w x y : Here} → Takes (key "export") w x → IsPlaced d t x y → Spans at (next_of w) (end_of y) → IsPlaced (told_node at (d ∷ [])) (node (program ExportDecl) (part t none)) w y
 declared_placed sign l s = node_is (λ c e ps. refl) (λ ms text. refl) s (row_quiet (λ q. refl) (row_sign sign (row_quiet (λ q. refl) (row_part l row_end))))
 
-pub function_placed : {at : Option Span} {ds : Tales} {t : Tree} {ts : Forest} {w x y z q : Here} → Takes (key "export") w x → Takes (key "default") x y → Takes (key "function") y z → IsPlacedRow named_symbols ds (part t ts) z q → Spans at (next_of w) (end_of q) → IsPlaced (tells (spans at ∷ []) ds) (node (program ExportDefaultFn) (part t ts)) w q
-function_placed sign k f r s = node_is (λ c e ps. refl) (λ ms text. refl) s (row_quiet (λ q. refl) (row_sign sign (row_quiet (λ q. refl) (row_sign k (row_quiet (λ q. refl) (row_sign f (row_quiet (λ q. refl) (named_placed r))))))))
+-- a default: the word stands behind `export`, where it is told to be
+pub function_placed : {at : Option Span} {b : BytePos} {ds : Tales} {t : Tree} {ts : Forest} {w x y z q : Here} → Takes (key "export") w x → b.0 ≡ next_of x → Takes (key "default") x y → Takes (key "function") y z → IsPlacedRow named_symbols ds (part t ts) z q → Spans at (next_of w) (end_of q) → IsPlaced (tells (spans at ∷ default_is b ∷ []) ds) (node (program ExportDefaultFn) (part t ts)) w q
+function_placed sign e k f r s = default_is_told (λ c e ps. refl) (λ ms text. refl) refl sign e s (row_quiet (λ q. refl) (row_sign sign (row_quiet (λ q. refl) (row_sign k (row_quiet (λ q. refl) (row_sign f (row_quiet (λ q. refl) (named_placed r))))))))
 
-pub class_placed : {at : Option Span} {d : Told} {t : Tree} {w x y z : Here} → Takes (key "export") w x → Takes (key "default") x y → IsPlaced d t y z → Spans at (next_of w) (end_of z) → IsPlaced (told_node at (d ∷ [])) (node (program ExportDefaultClass) (part t none)) w z
-class_placed sign k l s = node_is (λ c e ps. refl) (λ ms text. refl) s (row_quiet (λ q. refl) (row_sign sign (row_quiet (λ q. refl) (row_sign k (row_quiet (λ q. refl) (row_part l row_end))))))
+pub class_placed : {at : Option Span} {b : BytePos} {d : Told} {t : Tree} {w x y z : Here} → Takes (key "export") w x → b.0 ≡ next_of x → Takes (key "default") x y → IsPlaced d t y z → Spans at (next_of w) (end_of z) → IsPlaced (told_default at b (d ∷ [])) (node (program ExportDefaultClass) (part t none)) w z
+class_placed sign e k l s = default_is_told (λ c e ps. refl) (λ ms text. refl) refl sign e s (row_quiet (λ q. refl) (row_sign sign (row_quiet (λ q. refl) (row_sign k (row_quiet (λ q. refl) (row_part l row_end))))))
 
-pub value_placed : {at : Option Span} {d : Told} {t : Tree} {w x y z q : Here} → Takes (key "export") w x → Takes (key "default") x y → IsPlaced d t y z → Takes Semicolon z q → Spans at (next_of w) (end_of q) → IsPlaced (told_node at (d ∷ [])) (node (program ExportDefaultExpr) (part t none)) w q
-value_placed sign k l end s = node_is (λ c e ps. refl) (λ ms text. refl) s (row_quiet (λ q. refl) (row_sign sign (row_quiet (λ q. refl) (row_sign k (row_quiet (λ q. refl) (row_unless (row_part l (row_sign end row_end))))))))
+pub value_placed : {at : Option Span} {b : BytePos} {d : Told} {t : Tree} {w x y z q : Here} → Takes (key "export") w x → b.0 ≡ next_of x → Takes (key "default") x y → IsPlaced d t y z → Takes Semicolon z q → Spans at (next_of w) (end_of q) → IsPlaced (told_default at b (d ∷ [])) (node (program ExportDefaultExpr) (part t none)) w q
+value_placed sign e k l end s = default_is_told (λ c e ps. refl) (λ ms text. refl) refl sign e s (row_quiet (λ q. refl) (row_sign sign (row_quiet (λ q. refl) (row_sign k (row_quiet (λ q. refl) (row_unless (row_part l (row_sign end row_end))))))))

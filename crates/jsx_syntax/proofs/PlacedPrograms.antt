@@ -1,5 +1,5 @@
 -- The places of a program: its directives, and what stands behind them.
-use Rattle.std.proofs.Common.{◌≡◌, true, List, [], map, sym, subst}
+use Rattle.std.proofs.Common.{◌≡◌, ◌+◌, ℕ, true, List, [], map, sym, subst}
 use Rattle.jsx_base.specs.Token.{Text}
 use Rattle.jsx_base.specs.Lines.{size}
 use Rattle.jsx_tree.specs.declared.text.Text.{Text as TreeText}
@@ -26,8 +26,8 @@ pub placed_statements : (ds : List TreeText) (es : List Told) (ts : List Tree) {
     → IsPlacedRow (program_symbols Stmt) (program_tales ds es) (program_parts (forest (map directive ds)) (forest ts)) x z
 placed_statements ds es ts d l = row_list d (row_list l row_end)
 
-pub module_placed : {ds : Tales} {ts : Forest} {x y : Here} (text : Text) → place_of x ≡ At [] AfterExpr text → x.end ≡ size text → IsPlacedRow (program_symbols Item) ds ts x y → is_found (scan (At [] AfterExpr text) (spelled (node (program Module) ts))) ≡ true → IsTold (tells [] ds) (placed_in text (node (program Module) ts))
-module_placed {ds} {ts} {x} {y} text e n l f =
+pub module_placed : {ds : Tales} {ts : Forest} {x y : Here} (from : ℕ) (text : Text) → place_of x ≡ At [] AfterExpr text → x.end ≡ from + size text → IsPlacedRow (program_symbols Item) ds ts x y → is_found (scan (At [] AfterExpr text) (spelled (node (program Module) ts))) ≡ true → IsTold (tells [] ds) (placed_in from text (node (program Module) ts))
+module_placed {ds} {ts} {x} {y} from text e n l f =
     let r : IsPlacedRow (production (program Module)) ds ts x y = row_within l in
     let ms = spelled (node (program Module) ts) in (
       tt,
@@ -35,8 +35,8 @@ module_placed {ds} {ts} {x} {y} text e n l f =
           (subst (λ q. AreTold ds (places x.end (starts q (production (program Module)) (saids ts)) ts)) e (r.told (subst (λ q. is_found (scan q ms) ≡ true) (sym e) f))),
     )
 
-pub script_placed : {ds : Tales} {ts : Forest} {x y : Here} (text : Text) → place_of x ≡ At [] AfterExpr text → x.end ≡ size text → IsPlacedRow (program_symbols Stmt) ds ts x y → is_found (scan (At [] AfterExpr text) (spelled (node (program Script) ts))) ≡ true → IsTold (tells [] ds) (placed_in text (node (program Script) ts))
-script_placed {ds} {ts} {x} {y} text e n l f =
+pub script_placed : {ds : Tales} {ts : Forest} {x y : Here} (from : ℕ) (text : Text) → place_of x ≡ At [] AfterExpr text → x.end ≡ from + size text → IsPlacedRow (program_symbols Stmt) ds ts x y → is_found (scan (At [] AfterExpr text) (spelled (node (program Script) ts))) ≡ true → IsTold (tells [] ds) (placed_in from text (node (program Script) ts))
+script_placed {ds} {ts} {x} {y} from text e n l f =
     let r : IsPlacedRow (production (program Script)) ds ts x y = row_within l in
     let ms = spelled (node (program Script) ts) in (
       tt,

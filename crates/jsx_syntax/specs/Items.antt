@@ -15,7 +15,7 @@ use Rattle.jsx_tree.specs.Faults.{Fault}
 use Rattle.jsx_token.specs.Growths.{lead, opening_sign, same_sign}
 use Rattle.jsx_token.specs.Here.{Here}
 use Rattle.jsx_token.specs.Marks.{row_so_far}
-use Rattle.jsx_token.specs.Places.{Takes, next_of}
+use Rattle.jsx_token.specs.Places.{begin_of, Takes, next_of}
 use Rattle.jsx_operand.specs.SoFar.{so_far}
 use Rattle.jsx_operand.specs.Spans.{IsPlaced}
 
@@ -98,4 +98,4 @@ NoneExport u v x e = NoneOf (goes_with (key "export") u) behind_both v x e
 
 -- it is told from where its `export` begins
 pub record IsPlacedExport (u : Sign) (lo : ℕ) (x : Here) (d : Told) (t : Tree) (y : Here) : Type 0 where
-  pub on : (a b : Here) → Takes (key "export") a b → lo ≡ next_of a → Takes u b x → IsPlaced d t a y
+  pub on : (a b : Here) → Takes (key "export") a b → lo ≡ next_of a → Takes u b x → begin_of x ≡ next_of b → IsPlaced d t a y

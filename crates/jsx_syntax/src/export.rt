@@ -82,6 +82,7 @@ fn export_default<'s>(
     ensures within { OnOk result (left lexer.new ≤ left lexer.old) }
     ensures refused { Refused context.entry.levels result (NoneExport (key "default") (around_of context.entry.around) (place_of lexer.old)) }
 {
+    let word = lexer.last_place();
     if lexer.take(Fixed::Word(Word::Function)) {
         let function = named_function(context, lexer, body)?;
         let NamedFunction { name, code } = function;
@@ -91,16 +92,16 @@ fn export_default<'s>(
             statements,
         } = body;
         let span = span_to(lo, lexer);
-        return Ok(Item::ExportDefaultFn(span, name, params, directives, statements));
+        return Ok(Item::ExportDefaultFn(span, word, name, params, directives, statements));
     }
     if lexer.take(Fixed::Word(Word::Class)) {
         let levels = within(context, lexer)?;
         let class = class_expression(Context { levels, ..context }, lexer, body)?;
-        return Ok(Item::ExportDefaultClass(span_to(lo, lexer), class));
+        return Ok(Item::ExportDefaultClass(span_to(lo, lexer), word, class));
     }
     let value = expression(context, lexer, ASSIGNMENT, body)?;
     semicolon(context, lexer)?;
-    Ok(Item::ExportDefaultExpr(span_to(lo, lexer), value))
+    Ok(Item::ExportDefaultExpr(span_to(lo, lexer), word, value))
 }
 
 /// An export behind its word.

@@ -1,6 +1,6 @@
 //! A whole text: a module or a script.
 
-ghost use Rattle.std.specs.Prelude.{◌≡◌, ◌<◌, ◌≤◌, IfOk, IfErr, Some, length, map};
+ghost use Rattle.std.specs.Prelude.{◌≡◌, ◌+◌, ◌<◌, ◌≤◌, ◌^◌, IfOk, IfErr, Some, length, map};
 ghost use Rattle.std.specs.Str.{chars};
 ghost use Rattle.jsx_token.specs.Stage.{ReadsSoFar};
 ghost use Rattle.jsx_tree.specs.declared.text.Goal.TheVariants as goals;
@@ -18,7 +18,7 @@ ghost use Rattle.jsx_operand.specs.Answers.{NoTree, IsWithin, Refused};
 ghost use Rattle.jsx_operand.specs.SoFar.{so_far};
 ghost use Rattle.jsx_operand.specs.Spans.{IsPlacedList, IsPlacedRow, Spans, program_at};
 ghost use Rattle.jsx_syntax.specs.Programs.{NoProgram, OnlyProgram, program_parts, program_symbols, program_tales};
-ghost use Rattle.jsx_syntax.specs.Parsed.{IsParsed};
+ghost use Rattle.jsx_syntax.specs.Parsed.{IsFrom, IsParsed};
 
 use crate::bare::bare;
 use crate::item::item;
@@ -97,14 +97,15 @@ fn script<'s>(context: Context, lexer: &mut Lexer<'s>, span: Span) -> Result<Scr
 fn written_module<'s>(
     alloc: Global,
     text: &'s str,
+    start: BytePos,
     span: Span,
     depth: u32,
 ) -> Result<Program<'s>, ParseError>
-    requires { length text.now < 0xFFFF_0000 }
+    requires { start.0 + length text.now < 2 ^ 32 }
     ensures read { IfOk result (λ program. ReadsSoFar goals.Module (chars text.now) (view program)) }
     ensures refused { Refused depth result (NoTree goals.Module (chars text.now)) }
     ensures span { IfOk result (λ program. program_at program ≡ span) }
-    ensures placed { IfOk result (λ program. IsTold (told program) (placed_in (chars text.now) (view program))) }
+    ensures placed { IfOk result (λ program. IsTold (told program) (placed_in start.0 (chars text.now) (view program))) }
 {
     let labels = Labels::None;
     let around = Around::of_module(&labels);
@@ -115,7 +116,7 @@ fn written_module<'s>(
         levels: depth,
         spare: &spare,
     };
-    let mut lexer = Lexer::new(text);
+    let mut lexer = Lexer::new(text, start);
     let read = module(context, &mut lexer, span)?;
     Ok(Program::Module(read))
 }
@@ -124,14 +125,15 @@ fn written_module<'s>(
 fn written_script<'s>(
     alloc: Global,
     text: &'s str,
+    start: BytePos,
     span: Span,
     depth: u32,
 ) -> Result<Program<'s>, ParseError>
-    requires { length text.now < 0xFFFF_0000 }
+    requires { start.0 + length text.now < 2 ^ 32 }
     ensures read { IfOk result (λ program. ReadsSoFar goals.Script (chars text.now) (view program)) }
     ensures refused { Refused depth result (NoTree goals.Script (chars text.now)) }
     ensures span { IfOk result (λ program. program_at program ≡ span) }
-    ensures placed { IfOk result (λ program. IsTold (told program) (placed_in (chars text.now) (view program))) }
+    ensures placed { IfOk result (λ program. IsTold (told program) (placed_in start.0 (chars text.now) (view program))) }
 {
     let labels = Labels::None;
     let around = Around::of_script(&labels);
@@ -142,7 +144,7 @@ fn written_script<'s>(
         levels: depth,
         spare: &spare,
     };
-    let mut lexer = Lexer::new(text);
+    let mut lexer = Lexer::new(text, start);
     let read = script(context, &mut lexer, span)?;
     Ok(Program::Script(read))
 }
@@ -151,19 +153,20 @@ fn written_script<'s>(
 fn written_program<'s>(
     alloc: Global,
     text: &'s str,
+    start: BytePos,
     goal: Goal,
     span: Span,
     depth: u32,
 ) -> Result<Program<'s>, ParseError>
-    requires { length text.now < 0xFFFF_0000 }
+    requires { start.0 + length text.now < 2 ^ 32 }
     ensures read { IfOk result (λ program. ReadsSoFar goal (chars text.now) (view program)) }
     ensures refused { Refused depth result (NoTree goal (chars text.now)) }
     ensures span { IfOk result (λ program. program_at program ≡ span) }
-    ensures placed { IfOk result (λ program. IsTold (told program) (placed_in (chars text.now) (view program))) }
+    ensures placed { IfOk result (λ program. IsTold (told program) (placed_in start.0 (chars text.now) (view program))) }
 {
     match goal {
-        Goal::Module => written_module(alloc, text, span, depth),
-        Goal::Script => written_script(alloc, text, span, depth),
+        Goal::Module => written_module(alloc, text, start, span, depth),
+        Goal::Script => written_script(alloc, text, start, span, depth),
     }
 }
 
@@ -171,26 +174,25 @@ fn written_program<'s>(
 fn written<'s>(
     alloc: Global,
     text: &'s str,
+    start: BytePos,
     goal: Goal,
     depth: u32,
 ) -> Result<Program<'s>, ParseError>
-    requires { length text.now < 0xFFFF_0000 }
+    requires { start.0 + length text.now < 2 ^ 32 }
     ensures read { IfOk result (λ program. ReadsSoFar goal (chars text.now) (view program)) }
     ensures shallow { IfOk result (λ program. tree_depth (view program) ≤ depth) }
     ensures refused { Refused depth result (NoTree goal (chars text.now)) }
-    ensures place { IfErr result (IsWithin (length text.now)) }
-    ensures span { IfOk result (λ program. Spans (Some (program_at program)) 0 (length text.now)) }
-    ensures placed { IfOk result (λ program. IsTold (told program) (placed_in (chars text.now) (view program))) }
+    ensures place { IfErr result (IsWithin (start.0 + length text.now)) }
+    ensures inside { IfErr result (IsFrom start.0) }
+    ensures span { IfOk result (λ program. Spans (Some (program_at program)) start.0 (start.0 + length text.now)) }
+    ensures placed { IfOk result (λ program. IsTold (told program) (placed_in start.0 (chars text.now) (view program))) }
 {
-    let end = BytePos(text.len() as u32);
-    let span = Span {
-        lo: BytePos(0),
-        hi: end,
-    };
-    let program = match written_program(alloc, text, goal, span, depth) {
+    let end = BytePos(start.0 + text.len() as u32);
+    let span = Span { lo: start, hi: end };
+    let program = match written_program(alloc, text, start, goal, span, depth) {
         Ok(program) => program,
-        Err(ParseError::Syntax(at)) => return Err(ParseError::Syntax(at.min(end))),
-        Err(ParseError::TooDeep(at)) => return Err(ParseError::TooDeep(at.min(end))),
+        Err(ParseError::Syntax(at)) => return Err(ParseError::Syntax(at.max(start).min(end))),
+        Err(ParseError::TooDeep(at)) => return Err(ParseError::TooDeep(at.max(start).min(end))),
         Err(ParseError::Memory) => return Err(ParseError::Memory),
     };
     if !fits_program(&program, depth) {
@@ -199,24 +201,27 @@ fn written<'s>(
     Ok(program)
 }
 
-/// The module or the script that a text is: the tree that is written, without its parentheses. What stands in one another nests no deeper
-/// than is said; where it does, the text is refused at the token with which it comes to that, and no more of it is read.
+/// The module or the script that a text is, whose first byte has the place `start`: the tree that is written, without its parentheses. What
+/// stands in one another nests no deeper than is said; where it does, the text is refused at the token with which it comes to that, and no
+/// more of it is read.
 pub fn parse<'s>(
     alloc: Global,
     text: &'s str,
+    start: BytePos,
     goal: Goal,
     depth: u32,
 ) -> Result<Program<'s>, ParseError>
-    requires { length text.now < 0xFFFF_0000 }
+    requires { start.0 + length text.now < 2 ^ 32 }
     // What was read is the one tree that the text says under the goal, with its parentheses off, and it is within the depth. Each text is the
     // piece of the source at its place, and each node below the program runs from its first token to its last.
-    ensures read { IfOk result (λ program. IsParsed goal (chars text.now) depth program) }
+    ensures read { IfOk result (λ program. IsParsed goal start.0 (chars text.now) depth program) }
     // A syntax error comes only where no tree reads the text, and `TooDeep` only where none does that is within the depth.
     ensures refused { Refused depth result (NoTree goal (chars text.now)) }
-    ensures place { IfErr result (IsWithin (length text.now)) }
-    ensures span { IfOk result (λ program. Spans (Some (program_at program)) 0 (length text.now)) }
+    ensures place { IfErr result (IsWithin (start.0 + length text.now)) }
+    ensures inside { IfErr result (IsFrom start.0) }
+    ensures span { IfOk result (λ program. Spans (Some (program_at program)) start.0 (start.0 + length text.now)) }
 {
-    let mut program = written(alloc, text, goal, depth)?;
+    let mut program = written(alloc, text, start, goal, depth)?;
     bare(alloc, &mut program)?;
     Ok(program)
 }

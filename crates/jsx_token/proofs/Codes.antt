@@ -100,7 +100,6 @@ serves_by n e = record {
   rest = n.rest ∙ ap (λ x. x.rest) (sym e);
   line = λ s. n.line refl;
   end = λ s. n.end refl;
-  whole = n.whole;
   read = n.read;
   unsettled = n.unsettled;
 }

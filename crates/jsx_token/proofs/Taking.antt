@@ -1,5 +1,5 @@
 -- From the token that comes next to the place behind it.
-use Rattle.std.proofs.Common.{◌≡◌, ◌<◌, ◌-◌, ◌++◌, [], ◌∷◌, Bool, true, false, cond, ◌&&◌, ◌||◌, length, length-append, refl, sym, ap, ◌∙◌, subst, arith}
+use Rattle.std.proofs.Common.{◌≡◌, ◌<◌, ◌-◌, ◌++◌, ℕ, List, [], ◌∷◌, Bool, true, false, cond, ◌&&◌, ◌||◌, length, length-append, refl, sym, ap, ◌∙◌, subst, arith}
 use Rattle.std.specs.Prelude.{IsTrue, nat_eq}
 use Rattle.std.specs.Str.{chars}
 use Rattle.std.specs.Bool.{Decides}
@@ -43,7 +43,7 @@ use Rattle.jsx_token.proofs.Alone.{IsAlone, alone, piece_alone}
 token_is : {m : Mode} {h : Here} {t : Token} {b : Tokens} (k : Kind) (text : Text) → IsNext m h t b → is_token (next_token m h) k text ≡ is_it t k text
 token_is {t = t} k text n = λ i. is_kind (sym n.kind i) k && same (sym n.raw i) text
 
-pub taken_by : {m : Mode} {h : Here} {t : Token} {b : Tokens} (k : Kind) (text : Text) → IsNext m h t b → is_it t k text ≡ true → place_of (here_of t.raw.now ending.Expr b) ≡ forth (Tok m k text) (place_of h)
+pub taken_by : {m : Mode} {h : Here} {t : Token} {b : Tokens} (k : Kind) (text : Text) → IsNext m h t b → is_it t k text ≡ true → place_of (here_of t.raw.now ending.Expr b h.end) ≡ forth (Tok m k text) (place_of h)
 taken_by {m} {h} {t} {b} k text n i =
     let raw : chars t.raw.now ≡ text = same_is (chars t.raw.now) text ((and_parts (is_kind (kind_of t.kind) k) _ i).1) in
     (λ j. At (raw j) AfterExpr (n.rest j)) ∙ sym (ap (λ x. go_if x (At text AfterExpr (next_token m h).rest)) (token_is k text n ∙ i))
@@ -88,14 +88,18 @@ end_parted {m} {h} {t} n s e =
 pub parted_too : {m : Mode} {h : Here} {t : Token} {b : Tokens} → IsNext m h t b → skips m ≡ true → skip h.rest ≡ chars t.raw.now ++ rest_of b
 parted_too {h = h} {t = t} {b = b} n s = elim (is_kind (kind_of t.kind) NoToken) as (λ v. is_kind (kind_of t.kind) NoToken ≡ v → skip h.rest ≡ chars t.raw.now ++ rest_of b) [ true ↦ λ e. end_parted n s e | false ↦ λ e. parted n s e ] refl
 
-pub begins_by : {m : Mode} {h : Here} {t : Token} {b : Tokens} → IsNext m h t b → skips m ≡ true → is_kind (kind_of t.kind) NoToken ≡ false → begin_of (here_of t.raw.now ending.Expr b) ≡ next_of h
-begins_by n s e = (λ i. n.whole i - size (sym (parted n s e) i))
+-- a look at what comes next moves no place
+pub begins_alike : {x y : Here} (raw : List ℕ) (b : Tokens) → x ≡ y → begin_of (here_of raw ending.Expr b x.end) ≡ begin_of (here_of raw ending.Expr b y.end)
+begins_alike raw b s = ap (λ h. begin_of (here_of raw ending.Expr b h.end)) s
+
+pub begins_by : {m : Mode} {h : Here} {t : Token} {b : Tokens} → IsNext m h t b → skips m ≡ true → is_kind (kind_of t.kind) NoToken ≡ false → begin_of (here_of t.raw.now ending.Expr b h.end) ≡ next_of h
+begins_by {h = h} n s e = (λ i. h.end - size (sym (parted n s e) i))
 
 full : (raw : Text) → same raw [] ≡ false → 0 < length raw
 full [] e = absurd (false≢true (sym e))
 full (c ∷ raw) e = omega arith
 
-pub shorter_by : {m : Mode} {h : Here} {t : Token} {b : Tokens} → IsNext m h t b → skips m ≡ true → is_kind (kind_of t.kind) NoToken ≡ false → same (chars t.raw.now) [] ≡ false → left (here_of t.raw.now ending.Expr b) < left h
+pub shorter_by : {m : Mode} {h : Here} {t : Token} {b : Tokens} → IsNext m h t b → skips m ≡ true → is_kind (kind_of t.kind) NoToken ≡ false → same (chars t.raw.now) [] ≡ false → left (here_of t.raw.now ending.Expr b h.end) < left h
 shorter_by {h = h} {t = t} {b = b} n s e f =
     omega (arith, full (chars t.raw.now) f, skip_within h.rest, ap length (parted n s e), length-append (chars t.raw.now) (rest_of b))
 
@@ -331,16 +335,16 @@ piece_not p t text e = ap (λ x. x && same (chars t.raw.now) text) e
 piece_parted : {h : Here} {t : Token} {b : Tokens} → IsNext Piece h t b → is_kind (kind_of t.kind) NoToken ≡ false → h.rest ≡ chars t.raw.now ++ rest_of b
 piece_parted {h} n e = sym (whole Piece false h.rest (ap (λ k. is_kind k NoToken) (sym n.kind) ∙ e)) ∙ (λ i. (sym n.raw i) ++ (sym n.rest i))
 
-pub piece_begins : {h : Here} {t : Token} {b : Tokens} → IsNext Piece h t b → is_kind (kind_of t.kind) NoToken ≡ false → begin_of (here_of t.raw.now ending.Expr b) ≡ end_of h
-piece_begins n e = (λ i. n.whole i - size (sym (piece_parted n e) i))
+pub piece_begins : {h : Here} {t : Token} {b : Tokens} → IsNext Piece h t b → is_kind (kind_of t.kind) NoToken ≡ false → begin_of (here_of t.raw.now ending.Expr b h.end) ≡ end_of h
+piece_begins {h = h} n e = (λ i. h.end - size (sym (piece_parted n e) i))
 
-pub piece_shorter : {h : Here} {t : Token} {b : Tokens} → IsNext Piece h t b → is_kind (kind_of t.kind) NoToken ≡ false → same (chars t.raw.now) [] ≡ false → left (here_of t.raw.now ending.Expr b) < left h
+pub piece_shorter : {h : Here} {t : Token} {b : Tokens} → IsNext Piece h t b → is_kind (kind_of t.kind) NoToken ≡ false → same (chars t.raw.now) [] ≡ false → left (here_of t.raw.now ending.Expr b h.end) < left h
 piece_shorter {h} {t} {b} n e f = omega (arith, full (chars t.raw.now) f, ap length (piece_parted n e), length-append (chars t.raw.now) (rest_of b))
 
 -- ---- what a missing semicolon would stand behind is nothing to the next token
 
 pub ends_on : {m : Mode} {h : Here} {t : Token} {b : Tokens} (e : Ending) → IsNext m h t b → IsNext m (record h { ending = e }) t b
-ends_on e n = record { kind = n.kind; raw = n.raw; spelled = n.spelled; rest = n.rest; line = n.line; end = n.end; whole = n.whole; read = n.read; unsettled = n.unsettled }
+ends_on e n = record { kind = n.kind; raw = n.raw; spelled = n.spelled; rest = n.rest; line = n.line; end = n.end; read = n.read; unsettled = n.unsettled }
 
 -- ---- where a token begins that a sign leads behind
 

@@ -121,9 +121,9 @@ called_stays g e = record { stays = λ on. absurd (clash _ on (called_line (grow
 
 pub record Took (h : Here) (s : Sign) (t : Token) (b : Tokens) : Type 0 where
   pub full : same (chars t.raw.now) [] ≡ false
-  pub taken : place_of (here_of t.raw.now ending.Expr b) ≡ forth s (place_of h)
-  pub begins : begin_of (here_of t.raw.now ending.Expr b) ≡ next_of h
-  pub shorter : left (here_of t.raw.now ending.Expr b) < left h
+  pub taken : place_of (here_of t.raw.now ending.Expr b h.end) ≡ forth s (place_of h)
+  pub begins : begin_of (here_of t.raw.now ending.Expr b h.end) ≡ next_of h
+  pub shorter : left (here_of t.raw.now ending.Expr b h.end) < left h
 
 pub took : {h : Here} {t : Token} {b : Tokens} (r : Text) (s : Sign) → is_code s ≡ true → IsNext Operator h t b → is_sign (lexeme t.kind (chars t.raw.now) r) s ≡ true → Took h s t b
 took {h} {t} {b} r (Tok Operator k (d ∷ u)) c e i =

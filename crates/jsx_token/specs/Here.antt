@@ -14,7 +14,7 @@ use Rattle.jsx_token.specs.declared.lexer.Leaf.TheVariants as leaf
 use Rattle.jsx_token.specs.declared.lexer.Piece.{Piece}
 use Rattle.jsx_token.specs.declared.lexer.Piece.TheVariants as piece
 
--- behind a token, none at the text's begin, with what a missing semicolon would stand behind, before the rest of the text; the whole text has so many bytes
+-- behind a token, none at the text's begin, with what a missing semicolon would stand behind, before the rest of the text; the place at which the whole text ends
 pub record Here : Type 0 where
   pub last : Text
   pub ending : Ending

@@ -1,4 +1,4 @@
--- The places of tokens, in bytes from the text's begin.
+-- The places of tokens, in bytes.
 use Rattle.std.specs.Prelude.{◌≡◌, ◌-◌, ◌++◌, ℕ}
 use Rattle.jsx_base.specs.Token.{skip}
 use Rattle.jsx_base.specs.Lines.{size}

@@ -1,5 +1,5 @@
 -- What the lexer finds where it stands.
-use Rattle.std.specs.Prelude.{◌≡◌, ◌↔◌, ℕ, List, Option, Bool, false, IsTrue, IsFalse, length, [], ◌&&◌}
+use Rattle.std.specs.Prelude.{◌≡◌, ◌↔◌, ℕ, List, Option, Bool, false, IsTrue, IsFalse, [], ◌&&◌}
 use Rattle.std.specs.Option.{ForSome}
 use Rattle.std.specs.Str.{chars}
 use Rattle.jsx_base.specs.Token.{Text, Mode, Lexeme, NoToken, is_end, breaks, same, skips, token, is_kind, TokenKind as Kind}
@@ -12,9 +12,9 @@ use Rattle.jsx_token.specs.Here.{Here, ending_of}
 use Rattle.jsx_token.specs.declared.lexer.Ending.{Ending}
 use Rattle.jsx_token.specs.declared.seen.Seen.{Seen}
 
--- behind the text of a token, with what a missing semicolon would stand behind, where a lexer stands
-abbrev pub here_of : List ℕ → Ending → Tokens → Here
-here_of last e l = record { last = chars last; ending = ending_of e; rest = rest_of l; end = length l.text.now }
+-- behind the text of a token, with what a missing semicolon would stand behind, where a lexer stands, in a text that ends at a place
+abbrev pub here_of : List ℕ → Ending → Tokens → ℕ → Here
+here_of last e l n = record { last = chars last; ending = ending_of e; rest = rest_of l; end = n }
 
 -- the token that comes next in a mode
 abbrev pub next_token : Mode → Here → Lexeme
@@ -28,7 +28,6 @@ pub record IsNext (m : Mode) (h : Here) (t : Token) (behind : Tokens) : Type 0 w
   pub rest : rest_of behind ≡ (next_token m h).rest
   pub line : IsTrue (skips m) → t.new_line ≡ breaks h.rest
   pub end : IsTrue (skips m) → ((t.kind ≡ token_kind.End) ↔ IsTrue (is_end h.rest))
-  pub whole : length behind.text.now ≡ h.end
   pub read : behind.is_first ≡ false
   pub unsettled : behind.is_on_new_line ≡ false
 

@@ -1,6 +1,6 @@
 //! The tokens that the grammar so far asks for, one at a time from the front of the text.
 
-ghost use Rattle.std.specs.Prelude.{◌≡◌, ◌<◌, ◌≤◌, ◌^◌, ◌&&◌, ◌||◌, IsTrue, IsFalse, IfSome, IfNone, MatchOption, Some, false, true, length, not, nat_le, [], codes};
+ghost use Rattle.std.specs.Prelude.{◌≡◌, ◌+◌, ◌<◌, ◌≤◌, ◌^◌, ◌&&◌, ◌||◌, IsTrue, IsFalse, IfSome, IfNone, MatchOption, Some, false, true, length, not, nat_le, [], codes};
 ghost use Rattle.std.specs.Str.{chars};
 ghost use Rattle.jsx_base.specs.Token.{Text, IdentifierName, NoSubstitution, TemplateHead, Operator, breaks, same, is_kind};
 ghost use Rattle.jsx_tree.specs.Signs.{AfterExpr, Semicolon};
@@ -236,13 +236,11 @@ pub struct Lexer<'s> {
     here: Tokens<'s>,
     /// The token that comes next, once it was looked at.
     seen: Option<Seen<'s>>,
-    /// The whole text's length in bytes.
-    end: usize,
-    ghost is_short: { end < 0xFFFF_0000 },
-    ghost is_whole: { length here.text.now ≡ end },
+    /// The place of the whole text's end.
+    end: u32,
     ghost is_first: { here.is_first ≡ same (chars last.now) [] },
     ghost is_unsettled: { here.is_on_new_line ≡ false },
-    ghost is_seen: { IsSeen (here_of last.now ending here) seen },
+    ghost is_seen: { IsSeen (here_of last.now ending here end) seen },
 }
 
 impl<'s> Model for Lexer<'s> {
@@ -251,24 +249,24 @@ impl<'s> Model for Lexer<'s> {
 
     ghost Value = { Here };
 
-    ghost view = { λ l. here_of l.last.now l.ending l.here };
+    ghost view = { λ l. here_of l.last.now l.ending l.here l.end };
 }
 
 impl<'s> Lexer<'s> {
-    /// Stands before the whole text.
-    pub fn new(text: &'s str) -> Lexer<'s>
-        requires { length text.now < 0xFFFF_0000 }
+    /// Stands before the whole text, whose first byte has the place `start`.
+    pub fn new(text: &'s str, start: BytePos) -> Lexer<'s>
+        requires { start.0 + length text.now < 2 ^ 32 }
         ensures last { result.last ≡ [] }
         ensures rest { result.rest ≡ chars text.now }
         ensures ending { result.ending ≡ AfterExpr }
-        ensures end { result.end ≡ length text.now }
+        ensures end { result.end ≡ start.0 + length text.now }
     {
         Lexer {
             last: "",
             ending: Ending::Expr,
             here: Tokens::new(text),
             seen: None,
-            end: text.len(),
+            end: start.0 + text.len() as u32,
         }
     }
 
@@ -321,11 +319,10 @@ impl<'s> Lexer<'s> {
     /// Goes behind a token that was looked at.
     #[inline(always)]
     fn step(&mut self, seen: &Seen<'s>)
-        requires whole { length seen.now.behind.text.now ≡ self.old.end }
         requires read { seen.now.behind.is_first ≡ false }
         requires unsettled { seen.now.behind.is_on_new_line ≡ false }
         requires full { same (chars seen.now.token.raw.now) [] ≡ false }
-        ensures { self.new ≡ here_of seen.now.token.raw.now Ending.Expr seen.now.behind }
+        ensures { self.new ≡ here_of seen.now.token.raw.now Ending.Expr seen.now.behind self.old.end }
     {
         self.last = seen.token.raw;
         self.ending = Ending::Expr;
@@ -590,20 +587,19 @@ impl<'s> Lexer<'s> {
         Some(heading)
     }
 
-    /// The place behind the token that was taken last, in bytes from the text's begin.
+    /// The place behind the token that was taken last, in bytes.
     pub fn place(&self) -> BytePos
         ensures { result.0 ≡ end_of self.now }
     {
-        let place = self.end.saturating_sub(bytes(self.here.rest()));
+        let place = (self.end as usize).saturating_sub(bytes(self.here.rest()));
         BytePos(place as u32)
     }
 
-    /// The place of the token that was taken last, in bytes from the text's begin.
+    /// The place of the token that was taken last, in bytes.
     pub fn last_place(&self) -> BytePos
         ensures { result.0 ≡ begin_of self.now }
     {
-        let place = self
-            .end
+        let place = (self.end as usize)
             .saturating_sub(bytes(self.here.rest()))
             .saturating_sub(bytes(self.last));
         BytePos(place as u32)
@@ -620,8 +616,7 @@ impl<'s> Lexer<'s> {
         if !seen.is_behind_gap() {
             return self.last_place();
         }
-        let place = self
-            .end
+        let place = (self.end as usize)
             .saturating_sub(bytes(seen.behind.rest()))
             .saturating_sub(bytes(seen.token.raw));
         BytePos(place as u32)

@@ -1,8 +1,9 @@
 -- What each variant of the code's tree tells of places: its span, and the places of its texts. The span of a whole program is apart, since it is the text's. Parentheses tell what stands in them.
 use Rattle.std.specs.Prelude.{List, [], ◌∷◌, map, Option, Some, None, Box}
 use Rattle.std.specs.Global.{Global}
+use Rattle.jsx_base.specs.declared.place.BytePos.{BytePos}
 use Rattle.jsx_base.specs.declared.place.Span.{Span}
-use Rattle.jsx_tree.specs.Spans.{Told, tells, Tales, no_tales, tale, spans, comes}
+use Rattle.jsx_tree.specs.Spans.{Told, tells, Tales, no_tales, tale, spans, comes, default_is}
 use Rattle.jsx_tree.specs.View.{inside, contents}
 use Rattle.jsx_tree.specs.declared.text.Text.{Text}
 use Rattle.jsx_tree.specs.declared.text.Ident.{Ident}
@@ -62,6 +63,10 @@ told_leaf at a = tells (spans at ∷ comes a ∷ []) no_tales
 
 abbrev pub told_node : Option Span → List Told → Told
 told_node at ds = tells (spans at ∷ []) (tales ds)
+
+-- an export of the default, with the place of that word
+abbrev pub told_default : Option Span → BytePos → List Told → Told
+told_default at b ds = tells (spans at ∷ default_is b ∷ []) (tales ds)
 
 abbrev pub told_name : Option Ident → Told
 told_name None = told_list []
@@ -267,9 +272,9 @@ told_item (item.ExportFrom at ss a) = told_node at (told_list (map told_specifie
 told_item (item.ExportAll at a) = told_node at (told_text a ∷ [])
 told_item (item.ExportAllAs at a b) = told_node at (told_text a ∷ told_text b ∷ [])
 told_item (item.ExportDecl at s) = told_node at (told_stmt s.value ∷ [])
-told_item (item.ExportDefaultFn at a ps ds ss) = told_node at (told_name a ∷ told_list (map (inside told_pat) ps.items) ∷ told_body ds.items (map (inside told_stmt) ss.items) ∷ [])
-told_item (item.ExportDefaultClass at c) = told_node at (told_expr c.value ∷ [])
-told_item (item.ExportDefaultExpr at e) = told_node at (told_expr e.value ∷ [])
+told_item (item.ExportDefaultFn at b a ps ds ss) = told_default at b (told_name a ∷ told_list (map (inside told_pat) ps.items) ∷ told_body ds.items (map (inside told_stmt) ss.items) ∷ [])
+told_item (item.ExportDefaultClass at b c) = told_default at b (told_expr c.value ∷ [])
+told_item (item.ExportDefaultExpr at b e) = told_default at b (told_expr e.value ∷ [])
 
 abbrev pub told : Program → Told
 told (programs.Module m) = tells [] (tales (told_list (map told_directive m.directives.items) ∷ told_list (map told_item m.body.items) ∷ []))

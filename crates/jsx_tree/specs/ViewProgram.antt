@@ -40,9 +40,9 @@ view_item (item.ExportFrom at ss a) = node (program ExportFrom) (part (list (for
 view_item (item.ExportAll at a) = node (program ExportAll) (part (source_of a) none)
 view_item (item.ExportAllAs at a b) = node (program ExportAllAs) (part (word a) (part (source_of b) none))
 view_item (item.ExportDecl at s) = node (program ExportDecl) (part (view_stmt s.value) none)
-view_item (item.ExportDefaultFn at a ps ds ss) = node (program ExportDefaultFn) (part (optional_name a) (part (list (forest_at Binds (map (inside view_pattern) ps.items))) (part (body ds.items (map (inside view_stmt) ss.items)) none)))
-view_item (item.ExportDefaultClass at c) = node (program ExportDefaultClass) (part (view_expr c.value) none)
-view_item (item.ExportDefaultExpr at e) = node (program ExportDefaultExpr) (part (view_expr e.value) none)
+view_item (item.ExportDefaultFn at b a ps ds ss) = node (program ExportDefaultFn) (part (optional_name a) (part (list (forest_at Binds (map (inside view_pattern) ps.items))) (part (body ds.items (map (inside view_stmt) ss.items)) none)))
+view_item (item.ExportDefaultClass at b c) = node (program ExportDefaultClass) (part (view_expr c.value) none)
+view_item (item.ExportDefaultExpr at b e) = node (program ExportDefaultExpr) (part (view_expr e.value) none)
 
 abbrev pub view : Program → Tree
 view (programs.Module m) = node (program Module) (part (list (forest (map directive m.directives.items))) (part (list (forest (map view_item m.body.items))) none))

@@ -2,7 +2,7 @@
 
 use crate::text::{Ident, Text};
 use crate::tree::{Expr, Pat, Stmt};
-use jsx_base::Span;
+use jsx_base::{BytePos, Span};
 
 type At = Option<Span>;
 
@@ -49,12 +49,19 @@ pub enum Item<'s> {
     ExportAllAs(At, Text<'s>, Text<'s>),
     /// `export const a = 1;`
     ExportDecl(At, Box<Stmt<'s>>),
-    /// `export default function () {}`
-    ExportDefaultFn(At, Option<Ident<'s>>, Vec<Box<Pat<'s>>>, Vec<Text<'s>>, Vec<Box<Stmt<'s>>>),
+    /// `export default function () {}`, with the place of `default`, as in the two below.
+    ExportDefaultFn(
+        At,
+        BytePos,
+        Option<Ident<'s>>,
+        Vec<Box<Pat<'s>>>,
+        Vec<Text<'s>>,
+        Vec<Box<Stmt<'s>>>,
+    ),
     /// `export default class {}`
-    ExportDefaultClass(At, Box<Expr<'s>>),
+    ExportDefaultClass(At, BytePos, Box<Expr<'s>>),
     /// `export default a;`
-    ExportDefaultExpr(At, Box<Expr<'s>>),
+    ExportDefaultExpr(At, BytePos, Box<Expr<'s>>),
 }
 
 /// A module: its directives, each the text of a string, and its items.

@@ -176,9 +176,9 @@ item_all f (item.ExportFrom at ss a) = refl
 item_all f (item.ExportAll at a) = refl
 item_all f (item.ExportAllAs at a b) = refl
 item_all f (item.ExportDecl at s) = refl
-item_all f (item.ExportDefaultFn at a ps ds ss) = refl
-item_all f (item.ExportDefaultClass at c) = refl
-item_all f (item.ExportDefaultExpr at e) = refl
+item_all f (item.ExportDefaultFn at b a ps ds ss) = refl
+item_all f (item.ExportDefaultClass at b c) = refl
+item_all f (item.ExportDefaultExpr at b e) = refl
 
 -- lists of specifiers stay
 pub names_but : (f : Kind → Forest → Tree) (i : Item) (at : Option Span) (ss : Vec declared.Specifier Global) → i ≡ item.ExportNames at ss → view_item i ≡ but_export f (view_item i)

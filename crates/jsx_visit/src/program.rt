@@ -32,9 +32,9 @@ impl Walker {
         match item {
             Item::Stmt(stmt) => self.stmt(visitor, stmt),
             Item::ExportDecl(_, stmt) => self.stmt(visitor, stmt),
-            Item::ExportDefaultFn(_, _, parameters, _, _) => self.patterns(visitor, parameters),
-            Item::ExportDefaultClass(_, class) => self.expr(visitor, class),
-            Item::ExportDefaultExpr(_, expr) => self.expr(visitor, expr),
+            Item::ExportDefaultFn(_, _, _, parameters, _, _) => self.patterns(visitor, parameters),
+            Item::ExportDefaultClass(_, _, class) => self.expr(visitor, class),
+            Item::ExportDefaultExpr(_, _, expr) => self.expr(visitor, expr),
             Item::ImportBare(..) => Ok(()),
             Item::Import(..) => Ok(()),
             Item::ExportNames(..) => Ok(()),
@@ -54,7 +54,7 @@ impl Walker {
         ensures places { OnOk result (kept V.keeps (told_item item.new) ≡ kept V.keeps (told_item item.old)) }
     {
         match item {
-            Item::ExportDefaultFn(_, _, _, _, body) => self.stmts(visitor, body),
+            Item::ExportDefaultFn(_, _, _, _, _, body) => self.stmts(visitor, body),
             Item::Stmt(..)
             | Item::ExportDecl(..)
             | Item::ExportDefaultClass(..)

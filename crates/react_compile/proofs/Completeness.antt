@@ -1,10 +1,12 @@
--- A source that reads and isn't too deep isn't refused.
+-- A source that reads, isn't too deep and has no early errors on names isn't refused.
 use Rattle.std.proofs.Common.{◌≡◌, ◌⊎◌, ℕ, ◌<◌, ◌≤◌, List, ◌++◌, append-nil, arith, length, length-append, inl, inr, ap, ◌∙◌, subst, Option, Some, None}
 use Rattle.jsx_base.specs.Faults.{Rose}
 use Rattle.jsx_base.specs.Source.{Gives}
 use Rattle.jsx_tree.specs.Kinds.{Tree}
 use Rattle.jsx_tree.specs.Depth.{depth}
 use Rattle.jsx_tree.specs.declared.text.Goal.TheVariants as goals
+use Rattle.jsx_tree.specs.Normal.{without_parentheses}
+use Rattle.jsx_heard.specs.Early.{IsClean}
 use Rattle.react_compile.specs.Compiles.{IsSource}
 use Rattle.react_compile.specs.Lines.{max_depth}
 use Rattle.react_compile.specs.Run.{IsAtEnd, TakesAll, TakesTooMany, IsValid}
@@ -20,10 +22,10 @@ some_taken : (bytes taken : List ℕ) (rest : Option (List ℕ)) → Gives (Some
 some_taken bytes taken None e = absurd (cc)
 some_taken bytes taken (Some more) e = let f : bytes ≡ taken ++ more = cc in omega (arith, ap length f, length-append taken more)
 
-pub not_refused : (left rest : Option (List ℕ)) (source : List ℕ) (a b c d e f : ℕ) → IsValid left a b c d e f → TakesAll left rest source → ((tree : Tree) → IsSource goals.Module source tree → max_depth < depth tree) → ⊥
+pub not_refused : (left rest : Option (List ℕ)) (source : List ℕ) (a b c d e f : ℕ) → IsValid left a b c d e f → TakesAll left rest source → ((tree : Tree) → IsSource goals.Module source tree → IsClean (without_parentheses tree) → max_depth < depth tree) → ⊥
 not_refused left rest source a b c d e f v t deep_trees =
     let g : Gives (Some v.bytes) rest source = subst (λ l. Gives l rest source) v.told t.gives in
-    let deep = deep_trees v.tree (subst (λ xs. IsSource goals.Module xs v.tree) (taken_all v.bytes source rest g t.to_end) v.is_source) in
+    let deep = deep_trees v.tree (subst (λ xs. IsSource goals.Module xs v.tree) (taken_all v.bytes source rest g t.to_end) v.is_source) v.names in
     omega (arith, deep, v.shallow)
 
 pub not_too_big : (left rest : Option (List ℕ)) (a b c d e f : ℕ) → IsValid left a b c d e f → TakesTooMany left rest → ⊥

@@ -11,5 +11,6 @@ pub mod Tags
 pub mod Quoted
 pub mod Quoting
 pub mod Refusals
+pub mod EarlyErrors
 pub mod Walking
 pub mod Lowering

@@ -14,7 +14,7 @@ use Rattle.jsx_operand.specs.Answers.{Refused, NoTree}
 use Rattle.jsx_operand.specs.declared.error.ParseError.{ParseError}
 use Rattle.jsx_operand.specs.declared.error.ParseError.TheVariants as parse
 use Rattle.react_compile.specs.declared.compiler.CompileError.{CompileError}
-use Rattle.react_compile.specs.declared.compiler.CompileError.TheVariants.{NotUtf8, Syntax, TooDeep, Memory}
+use Rattle.react_compile.specs.declared.compiler.CompileError.TheVariants.{NotUtf8, Syntax, TooDeep, Scope, DirectEval, Memory}
 use Rattle.react_compile.specs.Compiles.{IsSource}
 use Rattle.react_compile.specs.ParseErrors.{compile_error, IsNotUtf8}
 
@@ -87,6 +87,8 @@ broken : (e : CompileError) (bytes : List ℕ) → IsNotUtf8 bytes e → Broken 
 broken (NotUtf8 n) bytes v = record { at = n; is = refl; valid = v }
 broken (Syntax at) bytes v = absurd v
 broken (TooDeep at) bytes v = absurd v
+broken (Scope at) bytes v = absurd v
+broken (DirectEval at) bytes v = absurd v
 broken Memory bytes v = absurd v
 
 -- the same of what the exit of a `?` returns

@@ -8,7 +8,8 @@ use Rattle.jsx_tree.specs.Kinds.{Tree}
 use Rattle.jsx_tree.specs.Depth.{depth}
 use Rattle.jsx_tree.specs.declared.text.Goal.TheVariants as goals
 use Rattle.react_compile.specs.Compiles.{IsSource}
-use Rattle.react_compile.specs.Lines.{bad_words, read_fault, out_of_memory, input_too_big, max_depth, not_utf8, syntax_error, too_deep}
+use Rattle.react_compile.specs.Names.{HasClash, HasDirectEval}
+use Rattle.react_compile.specs.Lines.{SaysWhy, bad_words, read_fault, out_of_memory, input_too_big, max_depth, not_utf8, syntax_error, too_deep, name_error, direct_eval, fault_at}
 use Rattle.react_compile.specs.Run.{TakesAll, TakesTooMany, KeepsTold, TellsWhy, TellsTooBig, TellsPrefix, GainsWhy, GainsWhyPrefix, max_source}
 
 pub gains_nothing : (held : Option (List ℕ)) → Gains held held []
@@ -47,38 +48,29 @@ pub tells_why : (left rest held holds : Option (List ℕ)) (source : List ℕ) �
     → TellsWhy left rest held holds ⊎ TellsTooBig left rest held holds
 tells_why left rest held holds source all few t = inl (record { line = t.line; cause = record { source = source; taken = all; few = few; why = t.why }; says = t.gains })
 
--- the line of bytes that aren't UTF-8, whole or as far as it went out
+-- the line that says why a source isn't compiled, whole or as far as it went out
 
-pub gains_not_utf8 : (source : List ℕ) (held holds : Option (List ℕ)) (n : ℕ) → IsValidUpTo source n → Gains held holds (not_utf8 n) → GainsWhy source held holds
-gains_not_utf8 source held holds n v g = record { line = not_utf8 n; why = inl (record { at = n; valid = v; line_is = refl }); gains = g }
+pub gains_why : (source : List ℕ) (held holds : Option (List ℕ)) (line : List ℕ) → SaysWhy source line → Gains held holds line → GainsWhy source held holds
+gains_why source held holds line w g = record { line = line; why = w; gains = g }
 
-pub gains_not_utf8_prefix : (source : List ℕ) (held holds : Option (List ℕ)) (n : ℕ) → IsValidUpTo source n → Either held holds (not_utf8 n) → GainsPrefix held holds out_of_memory ⊎ GainsWhyPrefix source held holds
-gains_not_utf8_prefix source held holds n v (inl g) = inr (record { line = not_utf8 n; why = inl (record { at = n; valid = v; line_is = refl }); gains = g })
-gains_not_utf8_prefix source held holds n v (inr g) = inl g
+pub gains_why_prefix : (source : List ℕ) (held holds : Option (List ℕ)) (line : List ℕ) → SaysWhy source line → Either held holds line → GainsPrefix held holds out_of_memory ⊎ GainsWhyPrefix source held holds
+gains_why_prefix source held holds line w (inl g) = inr (record { line = line; why = w; gains = g })
+gains_why_prefix source held holds line w (inr g) = inl g
 
--- the line of a syntax error, whole or as far as it went out
+pub says_not_utf8 : (source : List ℕ) (n : ℕ) → IsValidUpTo source n → SaysWhy source (not_utf8 n)
+says_not_utf8 source n v = inl (record { at = n; valid = v; line_is = refl })
 
-pub gains_syntax : (source : List ℕ) (held holds : Option (List ℕ)) (at : ℕ) → IsUtf8 source → ((tree : Tree) → IsSource goals.Module source tree → ⊥) → at ≤ length source → Gains held holds (syntax_error source at) → GainsWhy source held holds
-gains_syntax source held holds at u none_reads within g =
-    record { line = syntax_error source at; why = inr (inl (record { at = at; utf8 = u; no_tree = none_reads; within = within; line_is = refl })); gains = g }
+pub says_syntax : (source : List ℕ) (at : ℕ) → IsUtf8 source → ((tree : Tree) → IsSource goals.Module source tree → ⊥) → at ≤ length source → SaysWhy source (fault_at syntax_error source at)
+says_syntax source at u none_reads within = inr (inl (record { at = at; utf8 = u; no_tree = none_reads; within = within; line_is = refl }))
 
-pub gains_syntax_prefix : (source : List ℕ) (held holds : Option (List ℕ)) (at : ℕ) → IsUtf8 source → ((tree : Tree) → IsSource goals.Module source tree → ⊥) → at ≤ length source → Either held holds (syntax_error source at)
-    → GainsPrefix held holds out_of_memory ⊎ GainsWhyPrefix source held holds
-gains_syntax_prefix source held holds at u none_reads within (inl g) =
-    inr (record { line = syntax_error source at; why = inr (inl (record { at = at; utf8 = u; no_tree = none_reads; within = within; line_is = refl })); gains = g })
-gains_syntax_prefix source held holds at u none_reads within (inr g) = inl g
+pub says_too_deep : (source : List ℕ) (at : ℕ) → IsUtf8 source → ((tree : Tree) → IsSource goals.Module source tree → max_depth < depth tree) → at ≤ length source → SaysWhy source (fault_at too_deep source at)
+says_too_deep source at u deep_trees within = inr (inr (inl (record { at = at; utf8 = u; deep_tree = deep_trees; within = within; line_is = refl })))
 
--- the line of a source that nests too deep, whole or as far as it went out
+pub says_clash : (source : List ℕ) (at : ℕ) → HasClash goals.Module source max_depth at → SaysWhy source (fault_at name_error source at)
+says_clash source at h = inr (inr (inr (inl (record { at = at; clash = h; line_is = refl }))))
 
-pub gains_too_deep : (source : List ℕ) (held holds : Option (List ℕ)) (at : ℕ) → IsUtf8 source → ((tree : Tree) → IsSource goals.Module source tree → max_depth < depth tree) → at ≤ length source → Gains held holds (too_deep source at) → GainsWhy source held holds
-gains_too_deep source held holds at u deep_trees within g =
-    record { line = too_deep source at; why = inr (inr (record { at = at; utf8 = u; deep_tree = deep_trees; within = within; line_is = refl })); gains = g }
-
-pub gains_too_deep_prefix : (source : List ℕ) (held holds : Option (List ℕ)) (at : ℕ) → IsUtf8 source → ((tree : Tree) → IsSource goals.Module source tree → max_depth < depth tree) → at ≤ length source → Either held holds (too_deep source at)
-    → GainsPrefix held holds out_of_memory ⊎ GainsWhyPrefix source held holds
-gains_too_deep_prefix source held holds at u deep_trees within (inl g) =
-    inr (record { line = too_deep source at; why = inr (inr (record { at = at; utf8 = u; deep_tree = deep_trees; within = within; line_is = refl })); gains = g })
-gains_too_deep_prefix source held holds at u deep_trees within (inr g) = inl g
+pub says_direct_eval : (source : List ℕ) (at : ℕ) → HasDirectEval goals.Module source max_depth at → SaysWhy source (fault_at direct_eval source at)
+says_direct_eval source at h = inr (inr (inr (inr (record { at = at; call = h; line_is = refl }))))
 
 -- a line that was made is the one that is promised
 

@@ -2,6 +2,7 @@ pub mod Made
 pub mod Element
 pub mod StandsFor
 pub mod Compiles
+pub mod Names
 pub mod Lines
 pub mod Spots
 pub mod Run

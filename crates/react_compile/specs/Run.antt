@@ -6,6 +6,8 @@ use Rattle.jsx_base.specs.Sink.{Gains, GainsPrefix}
 use Rattle.jsx_tree.specs.Kinds.{Tree}
 use Rattle.jsx_tree.specs.Depth.{depth}
 use Rattle.jsx_tree.specs.declared.text.Goal.TheVariants as goals
+use Rattle.jsx_tree.specs.Normal.{without_parentheses}
+use Rattle.jsx_heard.specs.Early.{IsClean}
 use Rattle.react_compile.specs.Compiles.{IsSource, Compiles}
 use Rattle.react_compile.specs.Lines.{SaysWhy, max_depth, bad_words, read_fault, out_of_memory, input_too_big}
 
@@ -118,7 +120,7 @@ pub record GainsWhyPrefix (source : List ℕ) (held holds : Option (List ℕ)) :
   pub why : SaysWhy source line
   pub gains : GainsPrefix held holds line
 
--- what a run without words is given so that it has to give code: a source that tells its bytes, few enough, which read as a tree that isn't too deep, and no fault in this call
+-- what a run without words is given so that it has to give code: a source that tells its bytes, few enough, which read as a tree that isn't too deep and has no early errors on names, and no fault in this call
 pub record IsValid (left : Option (List ℕ)) (reads_old reads_new out_old out_new err_old err_new : ℕ) : Type 0 where
   pub bytes : List ℕ
   pub told : left ≡ Some bytes
@@ -126,6 +128,7 @@ pub record IsValid (left : Option (List ℕ)) (reads_old reads_new out_old out_n
   pub tree : Tree
   pub is_source : IsSource goals.Module bytes tree
   pub shallow : depth tree ≤ max_depth
+  pub names : IsClean (without_parentheses tree)
   pub read : Rose reads_old reads_new → ⊥
   pub out : Rose out_old out_new → ⊥
   pub err : Rose err_old err_new → ⊥

@@ -1,6 +1,6 @@
 //! A source's bytes to its code.
 
-ghost use Rattle.std.specs.Prelude.{◌≡◌, ◌<◌, ◌≤◌, ℕ, IfOk, IfErr, OnOk, IsOkUnless, length, string_bytes};
+ghost use Rattle.std.specs.Prelude.{◌≡◌, ◌⊎◌, ◌<◌, ◌≤◌, ℕ, IfOk, IfErr, OnOk, IsOkUnless, length, string_bytes};
 ghost use Rattle.std.specs.Str.{IsUtf8, IsValidUpTo};
 ghost use Rattle.react_compile.specs.ParseErrors.{IsNotUtf8};
 ghost use Rattle.jsx_tree.specs.Kinds.{Tree};
@@ -10,11 +10,14 @@ ghost use Rattle.jsx_tree.specs.declared.text.Goal as goals;
 ghost use Rattle.jsx_token.specs.Stage.{ReadsSoFar};
 ghost use Rattle.jsx_tree.specs.ViewProgram.{view};
 ghost use Rattle.jsx_tree.specs.Normal.{without_parentheses};
+ghost use Rattle.jsx_heard.specs.Early.{IsClean};
 ghost use Rattle.react_compile.specs.Compiles.{Compiles, IsCodeFor, IsSource};
+ghost use Rattle.react_compile.specs.Names.{HasClash, HasDirectEval};
 
 use crate::lower::lower;
+use jsx_base::BytePos;
 use jsx_print::print;
-use jsx_scope::parenthesise;
+use jsx_scope::{ScopeError, early, parenthesise};
 use jsx_syntax::{ParseError, parse};
 use jsx_tree::{Goal, Program};
 use std::alloc::{AllocError, Global};
@@ -35,6 +38,11 @@ pub enum CompileError {
     Syntax(u32),
     /// What stands in one another nests too deep. The number is the place, in bytes, of the token with which it comes to that.
     TooDeep(u32),
+    /// A declaration clashes with one before it, or an export with one before it or with what the module declares. The number is the
+    /// place, in bytes, of the later one.
+    Scope(u32),
+    /// `eval` is called directly. The number is the place, in bytes, of its name.
+    DirectEval(u32),
     /// There was too little memory.
     Memory,
 }
@@ -61,6 +69,21 @@ impl From<ParseError> for CompileError {
             ParseError::Syntax(at) => CompileError::Syntax(at.0),
             ParseError::TooDeep(at) => CompileError::TooDeep(at.0),
             ParseError::Memory => CompileError::Memory,
+        }
+    }
+}
+
+impl From<ScopeError> for CompileError {
+    ghost use Rattle.std.specs.Prelude.{◌≡◌};
+    ghost use Rattle.react_compile.specs.ParseErrors.{error_on_names};
+
+    ghost from_gives = { λ e f. f ≡ error_on_names e };
+
+    fn from(e: ScopeError) -> CompileError {
+        match e {
+            ScopeError::Scope(at) => CompileError::Scope(at.0),
+            ScopeError::DirectEval(at) => CompileError::DirectEval(at.0),
+            ScopeError::Memory => CompileError::Memory,
         }
     }
 }
@@ -92,8 +115,9 @@ fn code_of(alloc: Global, program: &mut Program<'_>) -> Result<String, AllocErro
 ///
 /// # Errors
 ///
-/// `NotUtf8` exactly where the bytes aren't UTF-8, before the text is looked at; `Syntax` where no tree reads the text, `TooDeep` where
-/// none does that is no deeper than is said, and `Memory` for want of memory.
+/// `NotUtf8` exactly where the bytes aren't UTF-8, before the text is looked at; `Syntax` where no tree reads the text, and `TooDeep`
+/// where none does that is no deeper than is said. Of a tree that is no deeper, `Scope` exactly where it has an early error on names,
+/// and `DirectEval` where it has none and calls `eval` directly, at the first of these; `Memory` for want of memory.
 pub fn compile(alloc: Global, source: &[u8], goal: Goal, depth: u32) -> Result<Output, CompileError>
     requires { length source.now < 4294901760 }
     ensures compiled { IfOk result (λ output. Compiles goal source.now (string_bytes output.code)) }
@@ -105,11 +129,16 @@ pub fn compile(alloc: Global, source: &[u8], goal: Goal, depth: u32) -> Result<O
     ensures deep_text { (at : ℕ) → result ≡ Err (CompileError.TooDeep at) → IsUtf8 source.now }
     ensures too_deep { (at : ℕ) → result ≡ Err (CompileError.TooDeep at) → (tree : Tree) → IsSource goal source.now tree → depth < tree_depth tree }
     ensures deep_place { (at : ℕ) → result ≡ Err (CompileError.TooDeep at) → at ≤ length source.now }
+    ensures scope { (at : ℕ) → result ≡ Err (CompileError.Scope at) → HasClash goal source.now depth at }
+    ensures clash { (at : ℕ) → HasClash goal source.now depth at → (result ≡ Err (CompileError.Scope at)) ⊎ (result ≡ Err CompileError.Memory) }
+    ensures direct_eval { (at : ℕ) → result ≡ Err (CompileError.DirectEval at) → HasDirectEval goal source.now depth at }
+    ensures called { (at : ℕ) → HasDirectEval goal source.now depth at → (result ≡ Err (CompileError.DirectEval at)) ⊎ (result ≡ Err CompileError.Memory) }
     ensures shallow { OnOk result ((tree : Tree) → IsSource goal source.now tree → tree_depth tree ≤ depth) }
-    ensures complete { (tree : Tree) → IsSource goal source.now tree → tree_depth tree ≤ depth → IsOkUnless result CompileError.Memory }
+    ensures complete { (tree : Tree) → IsSource goal source.now tree → tree_depth tree ≤ depth → IsClean (without_parentheses tree) → IsOkUnless result CompileError.Memory }
 {
     let text = text_of(source)?;
-    let mut program = parse(alloc, text, goal, depth)?;
+    let mut program = parse(alloc, text, BytePos(0), goal, depth)?;
+    early(alloc, &program)?;
     let code = code_of(alloc, &mut program)?;
     Ok(Output { code })
 }

@@ -7,13 +7,15 @@ ghost use Rattle.jsx_base.specs.Sink.{Gains, GainsPrefix};
 ghost use Rattle.jsx_tree.specs.declared.text.Goal.TheVariants as goals;
 ghost use Rattle.jsx_tree.specs.Kinds.{Tree};
 ghost use Rattle.jsx_tree.specs.Depth.{depth};
+ghost use Rattle.jsx_tree.specs.Normal.{without_parentheses};
+ghost use Rattle.jsx_heard.specs.Early.{IsClean};
 ghost use Rattle.react_compile.specs.Status.{exit_code, IsTold};
 ghost use Rattle.react_compile.specs.Compiles.{IsSource};
-ghost use Rattle.react_compile.specs.Lines.{bad_words, read_fault, out_of_memory, not_utf8, max_depth, syntax_error, too_deep};
+ghost use Rattle.react_compile.specs.Lines.{bad_words, read_fault, out_of_memory, not_utf8, max_depth, fault_at};
 ghost use Rattle.react_compile.specs.Run.{WritesCode, WritesPrefix, TakesFew, KeepsTold, TellsWhy, TellsTooBig, TellsPrefix, GainsCode, GainsCodePrefix, GainsWhy, GainsWhyPrefix, IsValid, max_source};
 
 use crate::compiler::{CompileError, compile};
-use crate::error_line::{not_utf8_line, syntax_line, too_deep_line};
+use crate::error_line::{fault_line, not_utf8_line};
 #[cfg(test)]
 use crate::input::MAX_SOURCE;
 use crate::input::{InputError, read_all};
@@ -59,6 +61,14 @@ const READ_FAULT: &str = "error: read fault\n";
 const OUT_OF_MEMORY: &str = "error: out of memory\n";
 
 const TOO_BIG: &str = "input.js: input too big\n";
+
+const SYNTAX_ERROR: &str = "syntax error";
+
+const TOO_DEEP: &str = "nested too deep";
+
+const NAME_ERROR: &str = "name error";
+
+const DIRECT_EVAL: &str = "direct eval";
 
 /// How deep what stands in one another in a source may nest.
 const MAX_DEPTH: u32 = 500;
@@ -111,35 +121,18 @@ fn tell_not_utf8<E: Sink>(alloc: Global, at: usize, err: &mut E) -> Status
     }
 }
 
-/// Says that no tree reads the source, with the place at which this was seen.
-fn tell_syntax<E: Sink>(alloc: Global, source: &[u8], at: u32, err: &mut E) -> Status
+/// Says what is wrong with the source, with the place at which this was seen.
+fn tell_fault<E: Sink>(alloc: Global, fault: &str, source: &[u8], at: u32, err: &mut E) -> Status
     requires room { 64 ≤ E.room err.old }
     requires short { length source.now ≤ max_source }
     requires utf8 { IsUtf8 source.now }
     ensures ends { (result ≡ Status.Fault) ⊎ ((result ≡ Status.Memory) ⊎ (result ≡ Status.Write)) }
-    ensures said { result ≡ Status.Fault → Gains (E.holds err.old) (E.holds err.new) (syntax_error source.now at) }
+    ensures said { result ≡ Status.Fault → Gains (E.holds err.old) (E.holds err.new) (fault_at fault.now source.now at) }
     ensures memory { result ≡ Status.Memory → Gains (E.holds err.old) (E.holds err.new) out_of_memory }
-    ensures prefix { result ≡ Status.Write → GainsPrefix (E.holds err.old) (E.holds err.new) (syntax_error source.now at) ⊎ GainsPrefix (E.holds err.old) (E.holds err.new) out_of_memory }
+    ensures prefix { result ≡ Status.Write → GainsPrefix (E.holds err.old) (E.holds err.new) (fault_at fault.now source.now at) ⊎ GainsPrefix (E.holds err.old) (E.holds err.new) out_of_memory }
     ensures write { result ≡ Status.Write → Rose (E.faults err.old) (E.faults err.new) }
 {
-    match syntax_line(alloc, source, at) {
-        Ok(line) => tell(err, line.as_str(), Status::Fault),
-        Err(_) => short_of_memory(err),
-    }
-}
-
-/// Says that the source nests too deep, with the place at which this was seen.
-fn tell_too_deep<E: Sink>(alloc: Global, source: &[u8], at: u32, err: &mut E) -> Status
-    requires room { 64 ≤ E.room err.old }
-    requires short { length source.now ≤ max_source }
-    requires utf8 { IsUtf8 source.now }
-    ensures ends { (result ≡ Status.Fault) ⊎ ((result ≡ Status.Memory) ⊎ (result ≡ Status.Write)) }
-    ensures said { result ≡ Status.Fault → Gains (E.holds err.old) (E.holds err.new) (too_deep source.now at) }
-    ensures memory { result ≡ Status.Memory → Gains (E.holds err.old) (E.holds err.new) out_of_memory }
-    ensures prefix { result ≡ Status.Write → GainsPrefix (E.holds err.old) (E.holds err.new) (too_deep source.now at) ⊎ GainsPrefix (E.holds err.old) (E.holds err.new) out_of_memory }
-    ensures write { result ≡ Status.Write → Rose (E.faults err.old) (E.faults err.new) }
-{
-    match too_deep_line(alloc, source, at) {
+    match fault_line(alloc, fault, source, at) {
         Ok(line) => tell(err, line.as_str(), Status::Fault),
         Err(_) => short_of_memory(err),
     }
@@ -184,7 +177,7 @@ fn compile_to<O: Sink, E: Sink>(alloc: Global, source: &[u8], out: &mut O, err: 
     ensures done_says { result ≡ Status.Done → err.new ≡ err.old }
     ensures done_out { result ≡ Status.Done → KeepsTold (O.holds out.old) (O.holds out.new) → out.new ≡ out.old }
 
-    ensures fault { result ≡ Status.Fault → (tree : Tree) → IsSource goals.Module source.now tree → max_depth < depth tree }
+    ensures fault { result ≡ Status.Fault → (tree : Tree) → IsSource goals.Module source.now tree → IsClean (without_parentheses tree) → max_depth < depth tree }
     ensures fault_out { result ≡ Status.Fault → out.new ≡ out.old }
     ensures fault_says { result ≡ Status.Fault → GainsWhy source.now (E.holds err.old) (E.holds err.new) }
 
@@ -199,8 +192,10 @@ fn compile_to<O: Sink, E: Sink>(alloc: Global, source: &[u8], out: &mut O, err: 
     match compile(alloc, source, Goal::Module, MAX_DEPTH) {
         Ok(output) => emit(output.code.as_bytes(), out, err),
         Err(CompileError::NotUtf8(at)) => tell_not_utf8(alloc, at, err),
-        Err(CompileError::Syntax(at)) => tell_syntax(alloc, source, at, err),
-        Err(CompileError::TooDeep(at)) => tell_too_deep(alloc, source, at, err),
+        Err(CompileError::Syntax(at)) => tell_fault(alloc, SYNTAX_ERROR, source, at, err),
+        Err(CompileError::TooDeep(at)) => tell_fault(alloc, TOO_DEEP, source, at, err),
+        Err(CompileError::Scope(at)) => tell_fault(alloc, NAME_ERROR, source, at, err),
+        Err(CompileError::DirectEval(at)) => tell_fault(alloc, DIRECT_EVAL, source, at, err),
         Err(CompileError::Memory) => short_of_memory(err),
     }
 }
@@ -209,8 +204,8 @@ fn compile_to<O: Sink, E: Sink>(alloc: Global, source: &[u8], out: &mut O, err: 
 ///
 /// No words are taken so far, and with words the source isn't read. The code goes out in one write, for which room is
 /// reserved before; an empty code isn't written. After a write that fails nothing more is written. A line on `err` ends
-/// with LF. The one of a source that isn't UTF-8 names the byte, and the one of a syntax error, or of a source that nests too deep,
-/// the line and the column, in characters, from 1. A source has at most 16,777,216 bytes, and no more than one read beyond them is
+/// with LF. The one of a source that isn't UTF-8 names the byte, and the one of a syntax error, of a source that nests too deep, of an
+/// early error on names or of a direct call of `eval` the line and the column, in characters, from 1. A source has at most 16,777,216 bytes, and no more than one read beyond them is
 /// taken; what stands in one another in it nests at most 500 deep.
 #[tactic(auto, using(crate::proofs::Sinks::telling))]
 pub fn run<S: Source, O: Sink, E: Sink>(
@@ -246,7 +241,7 @@ pub fn run<S: Source, O: Sink, E: Sink>(
     ensures write_says { result ≡ Status.Write → TellsPrefix (words.now ≢ []) (S.left input.old) (S.left input.new) (S.faults input.old) (S.faults input.new) (E.holds err.old) (E.holds err.new) }
     ensures memory_says { result ≡ Status.Memory → Gains (E.holds err.old) (E.holds err.new) out_of_memory }
 
-    // Valid input, which isn't too deep, gives code, or want of memory.
+    // Valid input, which isn't too deep and has no early errors on names, gives code, or want of memory.
     ensures complete { words.now ≡ [] → IsValid (S.left input.old) (S.faults input.old) (S.faults input.new) (O.faults out.old) (O.faults out.new) (E.faults err.old) (E.faults err.new) → (result ≡ Status.Done) ⊎ (result ≡ Status.Memory) }
 {
     if !words.is_empty() {

@@ -4,10 +4,12 @@ mod covers;
 mod depths;
 mod goals;
 mod inexact;
+mod places;
 mod refusals;
 
 use super::parse;
 use crate::ParseError;
+use jsx_base::BytePos;
 use jsx_operand::operand::level;
 use jsx_tree::{Access, Control, Expr, Goal, Item, Operation, Pat, Program, Stmt};
 use std::alloc::Global;
@@ -20,7 +22,7 @@ fn read(alloc: Global, text: &str) -> Result<usize, ParseError> {
     if text.len() >= 1000 {
         return Err(ParseError::Memory);
     }
-    match parse(alloc, text, Goal::Module, DEEP)? {
+    match parse(alloc, text, BytePos(0), Goal::Module, DEEP)? {
         Program::Module(module) => Ok(module.body.len()),
         Program::Script(script) => Ok(script.body.len()),
     }
@@ -31,7 +33,7 @@ fn parts(alloc: Global, text: &str) -> Result<(usize, usize), ParseError> {
     if text.len() >= 1000 {
         return Err(ParseError::Memory);
     }
-    match parse(alloc, text, Goal::Module, DEEP)? {
+    match parse(alloc, text, BytePos(0), Goal::Module, DEEP)? {
         Program::Module(module) => Ok((module.directives.len(), module.body.len())),
         Program::Script(_) => Err(ParseError::Memory),
     }
@@ -411,7 +413,7 @@ fn sides(alloc: Global, text: &str) -> (u8, u8) {
     if text.len() >= 1000 {
         return (0, 0);
     }
-    match parse(alloc, text, Goal::Module, DEEP) {
+    match parse(alloc, text, BytePos(0), Goal::Module, DEEP) {
         Ok(Program::Module(module)) => sides_of_first(&module.body),
         _ => (0, 0),
     }

@@ -2,20 +2,21 @@
 
 use super::{Ending, Fixed, Leaf, Lexer};
 use crate::word::Word;
+use jsx_base::BytePos;
 
 fn takes(text: &str, fixed: Fixed) -> bool {
-    text.len() < 100 && Lexer::new(text).take(fixed)
+    text.len() < 100 && Lexer::new(text, BytePos(0)).take(fixed)
 }
 
 fn leaf(text: &str, leaf: Leaf) -> &str {
     if text.len() >= 100 {
         return "";
     }
-    Lexer::new(text).leaf(leaf).unwrap_or("")
+    Lexer::new(text, BytePos(0)).leaf(leaf).unwrap_or("")
 }
 
 fn is_at_end(text: &str) -> bool {
-    text.len() < 100 && Lexer::new(text).is_at_end()
+    text.len() < 100 && Lexer::new(text, BytePos(0)).is_at_end()
 }
 
 #[test]
@@ -54,7 +55,7 @@ fn heading(text: &str) -> (bool, bool) {
     if text.len() >= 100 {
         return (false, false);
     }
-    match Lexer::new(text).heading() {
+    match Lexer::new(text, BytePos(0)).heading() {
         Some(heading) => (true, heading.is_lexical()),
         None => (false, false),
     }
@@ -80,7 +81,7 @@ fn is_ended(text: &str, ending: Ending) -> bool {
     if text.len() >= 100 {
         return false;
     }
-    let mut lexer = Lexer::new(text);
+    let mut lexer = Lexer::new(text, BytePos(0));
     lexer.ends(ending);
     lexer.semicolon()
 }
@@ -146,7 +147,7 @@ fn takes_less(text: &str) -> bool {
     if text.len() >= 100 {
         return false;
     }
-    let mut lexer = Lexer::new(text);
+    let mut lexer = Lexer::new(text, BytePos(0));
     lexer.leaf(Leaf::Name).is_none() && lexer.take(Fixed::Less)
 }
 
@@ -164,21 +165,24 @@ fn takes_less_where_no_name_is(rt: HostRuntime) {
     }
 }
 
-fn places(text: &str) -> (u32, u32, u32) {
-    if text.len() >= 100 {
+/// Where a text begins, and a name and an equals sign that it begins with.
+fn places(text: &str, start: u32) -> (u32, u32, u32) {
+    if text.len() >= 100 || start >= 1000 {
         return (0, 0, 0);
     }
-    let mut lexer = Lexer::new(text);
-    let start = lexer.last_place().0;
+    let mut lexer = Lexer::new(text, BytePos(start));
+    let first = lexer.last_place().0;
     lexer.leaf(Leaf::Name);
     let name = lexer.last_place().0;
     lexer.take(Fixed::Equals);
-    (start, name, lexer.last_place().0)
+    (first, name, lexer.last_place().0)
 }
 
 #[test]
 fn places_in_bytes(rt: HostRuntime) {
-    assert_eq!(rt; places(" /* \u{E9} */\u{A0}\u{E9}a = 1"), (0, 11, 15));
+    for (start, want) in &[(0, (0, 11, 15)), (100, (100, 111, 115))] {
+        assert_eq!(rt; places(" /* \u{E9} */\u{A0}\u{E9}a = 1", *start), *want);
+    }
 }
 
 /// Where a text is given up once a name was taken, and once the next token was looked at.
@@ -186,7 +190,7 @@ fn failing_places(text: &str) -> (u32, u32) {
     if text.len() >= 100 {
         return (0, 0);
     }
-    let mut lexer = Lexer::new(text);
+    let mut lexer = Lexer::new(text, BytePos(0));
     lexer.leaf(Leaf::Name);
     let taken = lexer.failing_place().0;
     lexer.take(Fixed::Semicolon);

@@ -6,6 +6,8 @@ use std::alloc::AllocError;
 use std::process::Abort;
 use std::test::Fail;
 
+mod names;
+
 /// What a run is given: a word or none, a source, and the numbers of the reads and writes that fail.
 #[derive(Clone, Copy)]
 struct Given<'a> {
@@ -250,8 +252,8 @@ fn code_of_sources(rt: HostRuntime) -> Result<(), Fail> {
             "import 'a';\nimport b from \"c\";\nimport * as d from 'e';\nimport { f, g as h } from 'i';\nimport j, { k } from 'l';\nimport {} from 'm';\n",
         ),
         (
-            "export{a,b as c};export{if}from'd';export*from'e';export*as f from'g';export const h=<i/>;export function j(){}",
-            "export { a, b as c };\nexport { if } from 'd';\nexport * from 'e';\nexport * as f from 'g';\nexport const h = /*#__PURE__*/ React.createElement(\"i\", null);\nexport function j() {}\n",
+            "let a,b;export{a,b as c};export{if}from'd';export*from'e';export*as f from'g';export const h=<i/>;export function j(){}",
+            "let a, b;\nexport { a, b as c };\nexport { if } from 'd';\nexport * from 'e';\nexport * as f from 'g';\nexport const h = /*#__PURE__*/ React.createElement(\"i\", null);\nexport function j() {}\n",
         ),
         (
             "class A extends B.c{constructor(a){super(a)}get b(){return<c/>}static d=1}export default class{}",
@@ -424,6 +426,28 @@ fn places_of_syntax_errors(rt: HostRuntime) -> Result<(), Fail> {
         ("'\u{e9}'\r\n;a b", "input.js:2:4: syntax error\n"),
         ("/*\u{2028}*/a b", "input.js:1:8: syntax error\n"),
         ("a = [\n", "input.js:2:1: syntax error\n"),
+    ] {
+        assert_refused(&rt, source.as_bytes(), line)?;
+    }
+    Ok(())
+}
+
+#[test]
+fn places_of_early_errors_on_names(rt: HostRuntime) -> Result<(), Fail> {
+    // The place is the later name, or the name `eval`.
+    for (source, line) in &[
+        ("let a; let a;", "input.js:1:12: name error\n"),
+        (
+            "let a;\n\n'\u{e9}\u{1f600}'; let a;",
+            "input.js:3:11: name error\n",
+        ),
+        (
+            "export default 1;\nexport /*\u{20ac}*/ default 2;",
+            "input.js:2:14: name error\n",
+        ),
+        ("eval(a);\nlet a, a;", "input.js:2:8: name error\n"),
+        ("(eval)(x);", "input.js:1:2: direct eval\n"),
+        ("/*\u{1f600}*/ eval(a)", "input.js:1:7: direct eval\n"),
     ] {
         assert_refused(&rt, source.as_bytes(), line)?;
     }

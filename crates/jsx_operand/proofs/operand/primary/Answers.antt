@@ -18,6 +18,9 @@ use Rattle.jsx_operand.proofs.Homes.{IsName, IsNumber, IsLong, IsString, IsPatte
 use Rattle.jsx_token.proofs.Listed.{listed}
 use Rattle.jsx_operand.proofs.Values.{literal_follows, or_left}
 use Rattle.jsx_operand.proofs.Openings.{deep_begins, kept_whole, opened_follows, outer_begins, unfit_literal, no_value}
+use Rattle.jsx_operand.proofs.Places.{spans_from}
+use Rattle.jsx_operand.proofs.Placing.{placed_as}
+use Rattle.jsx_operand.proofs.PlacedExpressions.{word_placed}
 use Rattle.jsx_operand.proofs.Steps.{passed}
 use Rattle.jsx_operand.proofs.Templates.{unquoted}
 use Rattle.jsx_operand.proofs.operand.primary.Goals as goal
@@ -50,6 +53,10 @@ returns-in_err-counted-6-clause-refused c = passed _ c.in_err-counted-6.ensures.
 pub returns-in-Some-value_word-clause-read : goal.returns-in-Some-value_word-clause-read
 returns-in-Some-value_word-clause-read c = seen (c.in_ok-constant.ensures.view ∙ c.in-Some-value_word.ensures.view)
     (literal_follows IsName (chars c.in-Some.raw.now) c.in-Some-value_word.ensures.value c.in-Some.ensures.whole c.in-Some.ensures.taken refl)
+
+pub returns-in-Some-value_word-clause-placed : goal.returns-in-Some-value_word-clause-placed
+returns-in-Some-value_word-clause-placed c = placed_as c.in_ok-constant.ensures.told (c.in_ok-constant.ensures.view ∙ c.in-Some-value_word.ensures.view)
+    (word_placed c.in-Some-value_word.word c.in-Some-value_word.ensures.view c.in-Some.ensures.takes (spans_from c.span_to.ensures refl (c.last_place-lo.ensures ∙ c.in-Some.ensures.begins) refl))
 
 pub returns-then-is_reserved-clause-refused : goal.returns-then-is_reserved-clause-refused
 returns-then-is_reserved-clause-refused c =

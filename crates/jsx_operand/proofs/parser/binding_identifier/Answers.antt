@@ -10,6 +10,9 @@ use Rattle.jsx_operand.specs.SoFar.{so_far}
 use Rattle.jsx_operand.specs.Around.{around_of}
 use Rattle.jsx_token.specs.Here.{place_of}
 use Rattle.jsx_operand.proofs.Homes.{bindings, deep_leaf, only_leaf, no_leaf, unfit_leaf}
+use Rattle.jsx_operand.proofs.Places.{spans_from}
+use Rattle.jsx_operand.proofs.Placing.{placed_as}
+use Rattle.jsx_operand.proofs.PlacedExpressions.{named_placed}
 use Rattle.jsx_operand.proofs.Steps.{passed}
 use Rattle.jsx_operand.proofs.parser.binding_identifier.Goals as goal
 
@@ -25,3 +28,7 @@ returns-in_err-counted-clause-refused c = passed _ c.in_err-counted.ensures.refu
 pub returns-clause-read : goal.returns-clause-read
 returns-clause-read c = subst (λ t. Only so_far (around_of c.args.context.around) (Part BindingIdent) (place_of c.args.lexer.now) (one t) (place_of c.leaf.new.self)) (sym (c.in_ok-bound_name.ensures.view Binds))
     (only_leaf bindings (sym c.is_bound.ensures ∙ c.if-not-is_bound.false) refl c.in-Some.ensures.whole c.in-Some.ensures.taken refl)
+
+pub returns-clause-placed : goal.returns-clause-placed
+returns-clause-placed c = placed_as c.in_ok-bound_name.ensures.told (c.in_ok-bound_name.ensures.view Binds)
+    (named_placed c.in-Some.ensures.takes (c.last_place-lo.ensures ∙ c.in-Some.ensures.begins) (spans_from c.span_to.ensures refl (c.last_place-lo.ensures ∙ c.in-Some.ensures.begins) refl))

@@ -11,7 +11,7 @@ pub returns-clause-read : goal.returns-clause-read
 returns-clause-read c = only_leaf strings refl refl c.in-Some.ensures.whole c.in-Some.ensures.taken refl
 
 pub returns-clause-placed : goal.returns-clause-placed
-returns-clause-placed c = leaf_is refl refl (c.last_place-lo.ensures ∙ c.in-Some.ensures.begins, tt) c.in-Some.ensures.takes
+returns-clause-placed c = leaf_is refl refl refl (c.last_place-lo.ensures ∙ c.in-Some.ensures.begins, tt) c.in-Some.ensures.takes
 
 pub returns-in_default-clause-refused : goal.returns-in_default-clause-refused
 returns-in_default-clause-refused c = record { bars = λ at e _. no_leaf strings c.in_default.ensures.missing }

@@ -16,7 +16,7 @@ pub returns-clause-taken : goal.returns-clause-taken
 returns-clause-taken c = directive_there_is c.leaf.new.self c.semicolon.new.self (chars c.in-Some.raw.now) c.fork-ahead.ensures c.in-Some.ensures.whole c.in-Some.ensures.taken (c.semicolon.ensures.taken c.if-not-semicolon.false)
 
 pub returns-clause-placed : goal.returns-clause-placed
-returns-clause-placed c = row_part (leaf_is refl refl (c.last_place-at.ensures ∙ (c.in-Some.ensures.begins ∙ ap next_of c.fork-ahead.ensures), tt) (takes_from c.fork-ahead.ensures c.in-Some.ensures.takes)) (row_sign (c.semicolon.ensures.takes c.if-not-semicolon.false) row_end)
+returns-clause-placed c = row_part (leaf_is refl refl refl (c.last_place-at.ensures ∙ (c.in-Some.ensures.begins ∙ ap next_of c.fork-ahead.ensures), tt) (takes_from c.fork-ahead.ensures c.in-Some.ensures.takes)) (row_sign (c.semicolon.ensures.takes c.if-not-semicolon.false) row_end)
 
 pub returns-in_err-within_at-clause-refused : goal.returns-in_err-within_at-clause-refused
 returns-in_err-within_at-clause-refused c = passed _ c.in_err-within_at.ensures.refused c.from_residual.ensures.1

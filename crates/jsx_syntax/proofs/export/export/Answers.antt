@@ -3,6 +3,7 @@ use Rattle.jsx_tree.specs.Grammar.{key, pun}
 use Rattle.jsx_tree.specs.Reading.{forth}
 use Rattle.jsx_tree.specs.ViewProgram.{view_item}
 use Rattle.jsx_token.specs.Here.{place_of}
+use Rattle.jsx_token.specs.Places.{next_of}
 use Rattle.jsx_operand.specs.Around.{around_of}
 use Rattle.jsx_operand.proofs.Places.{spans_from}
 use Rattle.jsx_operand.proofs.Placing.{placed_from, takes_from}
@@ -21,7 +22,7 @@ pub returns-then-take-clause-read : goal.returns-then-take-clause-read
 returns-then-take-clause-read c = second_only braced (record { is = c.take.ensures.taken c.if-take.true; found = refl }) c.in_ok-export_list.ensures.read
 
 pub returns-then-take-clause-placed : goal.returns-then-take-clause-placed
-returns-then-take-clause-placed c = record { on = λ w sign begins. c.in_ok-export_list.ensures.placed.on w _ sign (c.last_place-lo.ensures ∙ begins) (c.take.ensures.takes c.if-take.true) }
+returns-then-take-clause-placed c = record { on = λ w sign begins. c.in_ok-export_list.ensures.placed.on w _ sign (c.last_place-lo.ensures ∙ begins) (c.take.ensures.takes c.if-take.true) (c.take.ensures.begins c.if-take.true) }
 
 -- all
 pub returns-in_err-export_all-clause-refused : goal.returns-in_err-export_all-clause-refused
@@ -35,7 +36,7 @@ returns-then-take-2-clause-read c =
     (second_only starred (record { is = c.take-2.ensures.taken c.if-take-2.true; found = refl }) c.in_ok-export_all.ensures.read)
 
 pub returns-then-take-2-clause-placed : goal.returns-then-take-2-clause-placed
-returns-then-take-2-clause-placed c = record { on = λ w sign begins. c.in_ok-export_all.ensures.placed.on w _ sign (c.last_place-lo.ensures ∙ begins) (takes_from (c.take.ensures.stays c.if-take.false) (c.take-2.ensures.takes c.if-take-2.true)) }
+returns-then-take-2-clause-placed c = record { on = λ w sign begins. c.in_ok-export_all.ensures.placed.on w _ sign (c.last_place-lo.ensures ∙ begins) (takes_from (c.take.ensures.stays c.if-take.false) (c.take-2.ensures.takes c.if-take-2.true)) (c.take-2.ensures.begins c.if-take-2.true ∙ ap next_of (c.take.ensures.stays c.if-take.false)) }
 
 -- a default
 pub returns-in_err-export_default-clause-refused : goal.returns-in_err-export_default-clause-refused
@@ -53,7 +54,7 @@ returns-then-take-3-clause-read c =
 pub returns-then-take-3-clause-placed : goal.returns-then-take-3-clause-placed
 returns-then-take-3-clause-placed c =
     let same = c.take-2.ensures.stays c.if-take-2.false ∙ c.take.ensures.stays c.if-take.false in
-    record { on = λ w sign begins. c.in_ok-export_default.ensures.placed.on w _ sign (c.last_place-lo.ensures ∙ begins) (takes_from same (c.take-3.ensures.takes c.if-take-3.true)) }
+    record { on = λ w sign begins. c.in_ok-export_default.ensures.placed.on w _ sign (c.last_place-lo.ensures ∙ begins) (takes_from same (c.take-3.ensures.takes c.if-take-3.true)) (c.take-3.ensures.begins c.if-take-3.true ∙ ap next_of same) }
 
 -- a declaration
 pub returns-in_err-declaration-clause-refused : goal.returns-in_err-declaration-clause-refused

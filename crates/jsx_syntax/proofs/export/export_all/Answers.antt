@@ -29,7 +29,7 @@ returns-then-take-clause-read c = all_as_built (record { is = c.take.ensures.tak
 
 pub returns-then-take-clause-placed : goal.returns-then-take-clause-placed
 returns-then-take-clause-placed c = record {
-  on = λ a b export begins sign. star_as_placed export sign (c.take.ensures.takes c.if-take.true) (name_placed c.in_ok-raw.ensures.takes (c.last_place.ensures ∙ c.in_ok-raw.ensures.begins)) c.in_ok-text.ensures.placed (spans_from c.span_to.ensures refl begins refl);
+  on = λ a b export begins sign word. star_as_placed export sign (c.take.ensures.takes c.if-take.true) (name_placed c.in_ok-raw.ensures.takes (c.last_place.ensures ∙ c.in_ok-raw.ensures.begins)) c.in_ok-text.ensures.placed (spans_from c.span_to.ensures refl begins refl);
 }
 
 -- without one
@@ -48,6 +48,6 @@ pub returns-clause-placed : goal.returns-clause-placed
 returns-clause-placed c =
     let same = c.take.ensures.stays c.if-take.false in
     record {
-      on = λ a b export begins sign.
+      on = λ a b export begins sign word.
           star_placed export sign (subst (λ h. IsPlacedRow from_symbols (tale (told_text c.in_ok-text-2.text) no_tales) (part (source_of c.in_ok-text-2.text) none) h c.from_source-2.new.lexer) same c.in_ok-text-2.ensures.placed) (spans_from c.span_to-2.ensures refl begins refl);
     }

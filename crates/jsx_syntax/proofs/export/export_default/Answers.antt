@@ -32,9 +32,9 @@ pub returns-then-take-clause-placed : goal.returns-then-take-clause-placed
 returns-then-take-clause-placed c =
     let f = c.in_ok-function.function in
     record {
-      on = λ a b export begins sign.
+      on = λ a b export begins sign word.
           placed_as refl (ap (λ ts. node (program ExportDefaultFn) (part (optional_name f.name) (part (list ts) (part (body f.code.body.directives.items (map (inside view_stmt) f.code.body.statements.items)) none)))) (bound_forest f.code.params.items))
-          (function_placed export sign (c.take.ensures.takes c.if-take.true) c.in_ok-function.ensures.placed (spans_from c.span_to-span.ensures refl begins refl));
+          (function_placed export (c.last_place-word.ensures ∙ word) sign (c.take.ensures.takes c.if-take.true) c.in_ok-function.ensures.placed (spans_from c.span_to-span.ensures refl begins refl));
     }
 
 -- a class
@@ -53,7 +53,7 @@ returns-then-take-2-clause-read c = class_built (record { is = c.take-2.ensures.
 
 pub returns-then-take-2-clause-placed : goal.returns-then-take-2-clause-placed
 returns-then-take-2-clause-placed c = record {
-  on = λ a b export begins sign. class_placed export sign (placed_from (c.take.ensures.stays c.if-take.false) (c.in_ok-class.ensures.placed.on c.take.new.self (c.take-2.ensures.takes c.if-take-2.true) (c.take-2.ensures.begins c.if-take-2.true))) (spans_from c.span_to.ensures refl begins refl);
+  on = λ a b export begins sign word. class_placed export (c.last_place-word.ensures ∙ word) sign (placed_from (c.take.ensures.stays c.if-take.false) (c.in_ok-class.ensures.placed.on c.take.new.self (c.take-2.ensures.takes c.if-take-2.true) (c.take-2.ensures.begins c.if-take-2.true))) (spans_from c.span_to.ensures refl begins refl);
 }
 
 -- an expression
@@ -78,5 +78,5 @@ pub returns-clause-placed : goal.returns-clause-placed
 returns-clause-placed c =
     let same = c.take-2.ensures.stays c.if-take-2.false ∙ c.take.ensures.stays c.if-take.false in
     record {
-      on = λ a b export begins sign. value_placed export sign (placed_from same c.in_ok-value.ensures.placed) c.in_ok-semicolon.ensures.takes (spans_from c.span_to-2.ensures refl begins refl);
+      on = λ a b export begins sign word. value_placed export (c.last_place-word.ensures ∙ word) sign (placed_from same c.in_ok-value.ensures.placed) c.in_ok-semicolon.ensures.takes (spans_from c.span_to-2.ensures refl begins refl);
     }

@@ -29,7 +29,7 @@ returns-then-take-clause-read c = from_built c.in_ok-all.ensures.read (record { 
 
 pub returns-then-take-clause-placed : goal.returns-then-take-clause-placed
 returns-then-take-clause-placed c = record {
-  on = λ a b export begins sign. names_from_placed export sign (c.in_ok-all.ensures.placed From) (c.take.ensures.takes c.if-take.true) c.in_ok-text.ensures.placed (spans_from c.span_to.ensures refl begins refl);
+  on = λ a b export begins sign word. names_from_placed export sign (c.in_ok-all.ensures.placed From) (c.take.ensures.takes c.if-take.true) c.in_ok-text.ensures.placed (spans_from c.span_to.ensures refl begins refl);
 }
 
 -- without it
@@ -50,5 +50,5 @@ returns-clause-read c =
 
 pub returns-clause-placed : goal.returns-clause-placed
 returns-clause-placed c = record {
-  on = λ a b export begins sign. names_placed export sign (c.in_ok-all.ensures.placed Exported) (takes_from (c.take.ensures.stays c.if-take.false) (takes_ends c.ends.ensures)) c.in_ok-semicolon.ensures.takes (spans_from c.span_to-2.ensures refl begins refl);
+  on = λ a b export begins sign word. names_placed export sign (c.in_ok-all.ensures.placed Exported) (takes_from (c.take.ensures.stays c.if-take.false) (takes_ends c.ends.ensures)) c.in_ok-semicolon.ensures.takes (spans_from c.span_to-2.ensures refl begins refl);
 }

@@ -1,4 +1,4 @@
-use Rattle.std.proofs.Common.{sym, ◌∙◌, length, subst}
+use Rattle.std.proofs.Common.{◌+◌, sym, ◌∙◌, length, subst}
 use Rattle.std.specs.Prelude.{Some}
 use Rattle.std.specs.Str.{chars}
 use Rattle.jsx_tree.specs.Spans.{IsTold, placed_in}
@@ -21,9 +21,9 @@ returns-clause-read c =
       alone = λ t s. one_tree c.args.goal (chars c.args.text.now) t (view c.in_ok-program.program) s.reads r.reads;
       shallow = c.in_ok-program.ensures.shallow;
       bare = c.in_ok-bare.ensures.seen c.args.goal (chars c.args.text.now) r;
-      placed = subst (λ d. IsTold d (placed_in (chars c.args.text.now) (view c.in_ok-program.program))) (sym c.in_ok-bare.ensures.places) c.in_ok-program.ensures.placed;
+      placed = subst (λ d. IsTold d (placed_in c.args.start.0 (chars c.args.text.now) (view c.in_ok-program.program))) (sym c.in_ok-bare.ensures.places) c.in_ok-program.ensures.placed;
     }
 
 pub returns-clause-span : goal.returns-clause-span
 returns-clause-span c =
-    subst (λ s. Spans (Some s) 0 (length c.args.text.now)) (sym (same_span c.bare.new.program ∙ (c.in_ok-bare.ensures.whole ∙ sym (same_span c.in_ok-program.program)))) c.in_ok-program.ensures.span
+    subst (λ s. Spans (Some s) c.args.start.0 (c.args.start.0 + length c.args.text.now)) (sym (same_span c.bare.new.program ∙ (c.in_ok-bare.ensures.whole ∙ sym (same_span c.in_ok-program.program)))) c.in_ok-program.ensures.span

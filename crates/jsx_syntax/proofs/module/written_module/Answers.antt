@@ -1,4 +1,4 @@
-use Rattle.std.proofs.Common.{sym, ◌∙◌}
+use Rattle.std.proofs.Common.{◌+◌, sym, ◌∙◌, ap}
 use Rattle.std.specs.Str.{chars}
 use Rattle.jsx_base.proofs.FirstLine.{size-chars}
 use Rattle.jsx_tree.specs.Reading.{At}
@@ -17,5 +17,5 @@ returns-clause-read c = whole_module c.of_module-around.ensures (λ i. At (c.new
 
 pub returns-clause-placed : goal.returns-clause-placed
 returns-clause-placed c =
-    module_placed (chars c.args.text.now) (λ i. At (c.new-lexer.ensures.last i) (c.new-lexer.ensures.ending i) (c.new-lexer.ensures.rest i)) (c.new-lexer.ensures.end ∙ sym (size-chars c.args.text.now c.utf8.text)) c.in_ok-read.ensures.placed
+    module_placed c.args.start.0 (chars c.args.text.now) (λ i. At (c.new-lexer.ensures.last i) (c.new-lexer.ensures.ending i) (c.new-lexer.ensures.rest i)) (c.new-lexer.ensures.end ∙ ap (λ n. c.args.start.0 + n) (sym (size-chars c.args.text.now c.utf8.text))) c.in_ok-read.ensures.placed
     (found_end _ (and_right _ _ (returns-clause-read c).reads.read))

@@ -14,7 +14,7 @@ fn too_deep(alloc: Global, text: &str, depth: usize) -> Option<u32> {
     if text.len() >= 1000 || depth >= 1000 {
         return None;
     }
-    match parse(alloc, text, Goal::Module, depth as u32) {
+    match parse(alloc, text, BytePos(0), Goal::Module, depth as u32) {
         Err(ParseError::TooDeep(at)) => Some(at.0),
         _ => None,
     }
@@ -32,7 +32,9 @@ fn nests(alloc: Global, row: &Row<'_>) -> bool {
 }
 
 fn reads(alloc: Global, text: &str, depth: usize) -> bool {
-    text.len() < 1000 && depth < 1000 && parse(alloc, text, Goal::Module, depth as u32).is_ok()
+    text.len() < 1000
+        && depth < 1000
+        && parse(alloc, text, BytePos(0), Goal::Module, depth as u32).is_ok()
 }
 
 /// Names, literals and words, each alone: a statement of an expression counts nothing.

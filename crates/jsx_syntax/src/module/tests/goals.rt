@@ -12,14 +12,14 @@ fn script(alloc: Global, text: &str) -> Result<(usize, usize), ParseError> {
     if text.len() >= 1000 {
         return Err(ParseError::Memory);
     }
-    match parse(alloc, text, Goal::Script, DEEP)? {
+    match parse(alloc, text, BytePos(0), Goal::Script, DEEP)? {
         Program::Script(script) => Ok((script.directives.len(), script.body.len())),
         Program::Module(_) => Err(ParseError::Memory),
     }
 }
 
 fn is_module(alloc: Global, text: &str) -> bool {
-    text.len() < 1000 && parse(alloc, text, Goal::Module, DEEP).is_ok()
+    text.len() < 1000 && parse(alloc, text, BytePos(0), Goal::Module, DEEP).is_ok()
 }
 
 #[test]

@@ -11,4 +11,4 @@ pub returns : goal.returns
 returns c =
     let n = c.self.inside.is_seen c.in-Some.seen c.in-Some.is in
     let parts = parted_too n (sym c.is_behind_gap.ensures ∙ c.if-not-is_behind_gap.false) in
-    at_next (omega (arith, size-append (chars c.in-Some.seen.token.raw.now) (rest_of c.in-Some.seen.behind), ap size parts, ap next_of c.self.view_is, c.saturating_sub.ensures, c.saturating_sub-place.ensures, c.bytes.ensures, c.bytes-2.ensures, ap (λ s. size (chars s)) c.rest.ensures, c.self.inside.is_whole))
+    at_next (omega (arith, size-append (chars c.in-Some.seen.token.raw.now) (rest_of c.in-Some.seen.behind), ap size parts, ap next_of c.self.view_is, c.saturating_sub.ensures, c.saturating_sub-place.ensures, c.bytes.ensures, c.bytes-2.ensures, ap (λ s. size (chars s)) c.rest.ensures))

@@ -30,7 +30,7 @@ pub returns-clause-taken : goal.returns-clause-taken
 returns-clause-taken c = ap place_of c.step.ensures ∙ (growth_took c.in-Some-growth_of.growth c.in-Some.ensures.found (sym c.growth_of.ensures ∙ c.in-Some-growth_of.is)).taken
 
 pub returns-clause-takes : goal.returns-clause-takes
-returns-clause-takes c = record { leads = sym (ap place_of c.step.ensures ∙ (growth_took c.in-Some-growth_of.growth c.in-Some.ensures.found (sym c.growth_of.ensures ∙ c.in-Some-growth_of.is)).taken); same = ap (λ h. h.end) c.step.ensures ∙ c.in-Some.ensures.found.whole }
+returns-clause-takes c = record { leads = sym (ap place_of c.step.ensures ∙ (growth_took c.in-Some-growth_of.growth c.in-Some.ensures.found (sym c.growth_of.ensures ∙ c.in-Some-growth_of.is)).taken); same = ap (λ h. h.end) c.step.ensures ∙ ap (λ h. h.end) c.look.ensures.stays }
 
 pub returns-clause-reaches : goal.returns-clause-reaches
 returns-clause-reaches c = le-leb _ _ (omega (arith, c.if-level.false, c.level.ensures))

@@ -8,4 +8,4 @@ use Rattle.jsx_token.proofs.lexer.Lexer.last_place.Goals as goal
 
 pub returns : goal.returns
 returns c =
-    omega (arith, size-append (chars c.self.inside.last.now) (rest_of c.self.inside.here), ap begin_of c.self.view_is, c.saturating_sub.ensures, c.saturating_sub-place.ensures, c.bytes.ensures, c.bytes-2.ensures, ap (λ s. size (chars s)) c.rest.ensures, c.self.inside.is_whole)
+    omega (arith, size-append (chars c.self.inside.last.now) (rest_of c.self.inside.here), ap begin_of c.self.view_is, c.saturating_sub.ensures, c.saturating_sub-place.ensures, c.bytes.ensures, c.bytes-2.ensures, ap (λ s. size (chars s)) c.rest.ensures)

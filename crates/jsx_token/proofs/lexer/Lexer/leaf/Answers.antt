@@ -4,7 +4,7 @@ use Rattle.jsx_lex.specs.Kinds.{kind_of}
 use Rattle.jsx_token.specs.Here.{place_of, left, leaf_kind}
 use Rattle.jsx_token.specs.Seen.{IsNext}
 use Rattle.jsx_token.specs.Places.{begin_of}
-use Rattle.jsx_token.proofs.Taking.{taken_by, begins_by, shorter_by, kind_some, leaf_some, leaf_skips, leaf_by, leaf_full, leaf_it}
+use Rattle.jsx_token.proofs.Taking.{begins_alike, taken_by, begins_by, shorter_by, kind_some, leaf_some, leaf_skips, leaf_by, leaf_full, leaf_it}
 use Rattle.jsx_token.proofs.lexer.Lexer.leaf.Goals as goal
 
 pub step-requires-clause-full : goal.step-requires-clause-full
@@ -20,7 +20,7 @@ returns-clause-taken c =
 pub returns-clause-begins : goal.returns-clause-begins
 returns-clause-begins c =
     let n = subst (λ m. IsNext m c.args.self.now c.in-Some.seen.token c.in-Some.seen.behind) c.mode.ensures c.in-Some.ensures.found in
-    ap begin_of c.step.ensures ∙ begins_by n (leaf_skips c.args.leaf) (kind_some _ (leaf_kind c.args.leaf) (leaf_some c.args.leaf) (sym c.is.ensures ∙ c.if-not-is.false))
+    ap begin_of c.step.ensures ∙ begins_alike c.in-Some.seen.token.raw.now c.in-Some.seen.behind c.look.ensures.stays ∙ begins_by n (leaf_skips c.args.leaf) (kind_some _ (leaf_kind c.args.leaf) (leaf_some c.args.leaf) (sym c.is.ensures ∙ c.if-not-is.false))
 
 pub returns-clause-shorter : goal.returns-clause-shorter
 returns-clause-shorter c =
@@ -35,6 +35,4 @@ returns-clause-whole c =
     leaf_by c.args.leaf n (sym c.is.ensures ∙ c.if-not-is.false)
 
 pub returns-clause-takes : goal.returns-clause-takes
-returns-clause-takes c =
-    let n = subst (λ m. IsNext m c.args.self.now c.in-Some.seen.token c.in-Some.seen.behind) c.mode.ensures c.in-Some.ensures.found in
-    record { leads = sym (returns-clause-taken c); same = ap (λ h. h.end) c.step.ensures ∙ n.whole }
+returns-clause-takes c = record { leads = sym (returns-clause-taken c); same = ap (λ h. h.end) c.step.ensures ∙ ap (λ h. h.end) c.look.ensures.stays }

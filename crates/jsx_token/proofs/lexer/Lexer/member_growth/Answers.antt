@@ -29,7 +29,7 @@ pub returns-clause-taken : goal.returns-clause-taken
 returns-clause-taken c = ap place_of c.step.ensures ∙ (growth_took c.in-Some-growth_of.growth c.in-Some.ensures.found (sym c.growth_of.ensures ∙ c.in-Some-growth_of.is)).taken
 
 pub returns-clause-takes : goal.returns-clause-takes
-returns-clause-takes c = record { leads = sym (ap place_of c.step.ensures ∙ (growth_took c.in-Some-growth_of.growth c.in-Some.ensures.found (sym c.growth_of.ensures ∙ c.in-Some-growth_of.is)).taken); same = ap (λ h. h.end) c.step.ensures ∙ c.in-Some.ensures.found.whole }
+returns-clause-takes c = record { leads = sym (ap place_of c.step.ensures ∙ (growth_took c.in-Some-growth_of.growth c.in-Some.ensures.found (sym c.growth_of.ensures ∙ c.in-Some-growth_of.is)).taken); same = ap (λ h. h.end) c.step.ensures ∙ ap (λ h. h.end) c.look.ensures.stays }
 
 pub returns-clause-shorter : goal.returns-clause-shorter
 returns-clause-shorter c = subst (λ y. left y < left c.args.self.now) (sym c.step.ensures) (growth_took c.in-Some-growth_of.growth c.in-Some.ensures.found (sym c.growth_of.ensures ∙ c.in-Some-growth_of.is)).shorter

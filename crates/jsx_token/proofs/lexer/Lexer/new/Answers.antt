@@ -1,4 +1,4 @@
-use Rattle.std.proofs.Common.{sym, ap, ◌∙◌, length}
+use Rattle.std.proofs.Common.{sym, ap, ◌∙◌}
 use Rattle.std.proofs.lemmas.Str.{chars-nil}
 use Rattle.std.proofs.lemmas.Option.{none-some}
 use Rattle.jsx_base.specs.Token.{same}
@@ -10,4 +10,4 @@ returns-clause-last c = chars-nil
 
 pub invariant_of-result : goal.invariant_of-result
 invariant_of-result c =
-    (c.requires, (ap length c.new.ensures.text, (c.new.ensures.first ∙ sym (ap (λ t. same t []) chars-nil), (c.new.ensures.unsettled, ((λ x e. absurd (none-some x e)), tt)))))
+    (c.new.ensures.first ∙ sym (ap (λ t. same t []) chars-nil), (c.new.ensures.unsettled, ((λ x e. absurd (none-some x e)), tt)))

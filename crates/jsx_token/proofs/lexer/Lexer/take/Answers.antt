@@ -4,7 +4,7 @@ use Rattle.jsx_token.specs.Here.{place_of, left}
 use Rattle.jsx_token.specs.Seen.{IsNext, is_it}
 use Rattle.jsx_token.specs.Places.{begin_of}
 use Rattle.jsx_token.specs.Spelled.{fixed_kind, fixed_text}
-use Rattle.jsx_token.proofs.Taking.{taken_by, missing_by, begins_by, shorter_by, fixed_kind_is, fixed_raw, fixed_skips, sign_is}
+use Rattle.jsx_token.proofs.Taking.{begins_alike, taken_by, missing_by, begins_by, shorter_by, fixed_kind_is, fixed_raw, fixed_skips, sign_is}
 use Rattle.jsx_token.proofs.lexer.Lexer.take.Goals as goal
 
 pub returns-then-not-is-clause-missing : goal.returns-then-not-is-clause-missing
@@ -24,7 +24,7 @@ returns-clause-taken c =
 pub returns-clause-begins : goal.returns-clause-begins
 returns-clause-begins c =
     let n = subst (λ m. IsNext m c.args.self.now c.in-Some.seen.token c.in-Some.seen.behind) c.mode.ensures c.in-Some.ensures.found in
-    λ _. ap begin_of c.step.ensures ∙ begins_by n (fixed_skips c.args.fixed) (fixed_kind_is c.args.fixed c.in-Some.seen.token (sym c.is.ensures ∙ c.if-not-is.false))
+    λ _. ap begin_of c.step.ensures ∙ begins_alike c.in-Some.seen.token.raw.now c.in-Some.seen.behind c.look.ensures.stays ∙ begins_by n (fixed_skips c.args.fixed) (fixed_kind_is c.args.fixed c.in-Some.seen.token (sym c.is.ensures ∙ c.if-not-is.false))
 
 pub returns-clause-shorter : goal.returns-clause-shorter
 returns-clause-shorter c =
@@ -34,6 +34,4 @@ returns-clause-shorter c =
     (shorter_by n (fixed_skips c.args.fixed) (fixed_kind_is c.args.fixed c.in-Some.seen.token is) (fixed_raw c.args.fixed c.in-Some.seen.token is))
 
 pub returns-clause-takes : goal.returns-clause-takes
-returns-clause-takes c =
-    let n = subst (λ m. IsNext m c.args.self.now c.in-Some.seen.token c.in-Some.seen.behind) c.mode.ensures c.in-Some.ensures.found in
-    λ i. record { leads = sym (returns-clause-taken c i); same = ap (λ h. h.end) c.step.ensures ∙ n.whole }
+returns-clause-takes c = λ i. record { leads = sym (returns-clause-taken c i); same = ap (λ h. h.end) c.step.ensures ∙ ap (λ h. h.end) c.look.ensures.stays }

@@ -1,0 +1,4 @@
+pub mod Bytes
+pub mod Code
+pub mod Early
+pub mod Said
